@@ -1,0 +1,75 @@
+ghost use Rattle.std.specs.Prelude.{◌≡◌, ◌+◌, ◌≤◌, ◌<◌, ◌++◌, length, take, drop, replicate, slice_set, slice_index, IfOk};
+
+use std::alloc::{AllocError, Global};
+use std::marker::Model;
+
+/// How many bytes a page has (RISC-V privileged manual, Sv32: 4 KiB).
+pub const PAGE_SIZE: usize = 4096;
+
+/// The content of a page: a list of 4,096 bytes.
+#[derive(Debug, Drop)]
+pub struct Page {
+    bytes: Box<[u8; PAGE_SIZE]>,
+}
+
+impl Model for Page {
+    ghost use Rattle.std.specs.Prelude.{ℕ, ◌≡◌, List, length};
+    ghost use Rattle.sys_abi.specs.declared.page.TheConstants.{PAGE_SIZE};
+
+    ghost Value = { List ℕ };
+
+    ghost view = { λ p. p.bytes.value };
+
+    ghost invariant = { λ p. length p.bytes.value ≡ PAGE_SIZE };
+}
+
+impl Page {
+    pub fn zeroed(alloc: Global) -> Result<Page, AllocError>
+        ensures { IfOk result (λ page. page ≡ replicate PAGE_SIZE 0) }
+    {
+        Ok(Page {
+            bytes: Box::new(alloc, [0; PAGE_SIZE])?,
+        })
+    }
+
+    /// The page with these bytes.
+    pub fn of_slice(alloc: Global, bytes: &[u8]) -> Result<Page, AllocError>
+        requires { length bytes.now ≡ PAGE_SIZE }
+        ensures { IfOk result (λ page. page ≡ bytes.now) }
+    {
+        let mut page = Page::zeroed(alloc)?;
+        page.write(0, bytes);
+        Ok(page)
+    }
+
+    pub fn as_slice(&self) -> &[u8]
+        ensures bytes { result.now ≡ self.now }
+        ensures size { length self.now ≡ PAGE_SIZE }
+    {
+        self.bytes.as_slice()
+    }
+
+    /// Puts the piece at an offset. Takes no memory.
+    pub fn write(&mut self, at: usize, piece: &[u8])
+        requires { at + length piece.now ≤ PAGE_SIZE }
+        ensures { self.new ≡ take at self.old ++ piece.now ++ drop (at + length piece.now) self.old }
+    {
+        self.bytes[at..at + piece.len()].copy_from_slice(piece);
+    }
+
+    /// The byte at an offset.
+    pub fn byte(&self, at: usize) -> u8
+        requires { at < PAGE_SIZE }
+        ensures { result ≡ slice_index self.now at }
+    {
+        self.bytes[at]
+    }
+
+    /// Puts one byte at an offset. Takes no memory.
+    pub fn set_byte(&mut self, at: usize, byte: u8)
+        requires { at < PAGE_SIZE }
+        ensures { self.new ≡ slice_set self.old at byte }
+    {
+        self.bytes[at] = byte;
+    }
+}
