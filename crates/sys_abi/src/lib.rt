@@ -9,6 +9,13 @@
 //! on Linux for RISC-V (`man 2 syscalls`, `asm-generic/unistd.h`, `man 3 errno`) and are this project's own list.
 #![tactic(auto)]
 
+pub mod by_address;
+pub mod by_conn;
+pub mod by_desc;
+pub mod by_dir;
+pub mod by_name;
+pub mod by_pid;
+pub mod by_slot;
 pub mod calls;
 pub mod errors;
 pub mod flags;
@@ -19,6 +26,13 @@ pub mod reply;
 pub mod request;
 pub mod transfer;
 
+pub use by_address::ByAddress;
+pub use by_conn::ByConn;
+pub use by_desc::ByDesc;
+pub use by_dir::ByDir;
+pub use by_name::{ByName, Named};
+pub use by_pid::ByPid;
+pub use by_slot::BySlot;
 pub use identity::{ConnId, DescId, Dir, Fd, RealAddr, RealPid, Signal, Slot, Tid, VPid, VirtAddr};
 pub use page::Page;
 pub use record::{Cause, Kind, Record};
