@@ -1,1 +1,3 @@
 pub mod FaultCounts
+pub mod TreeMaps
+pub mod NextKeys

@@ -9,4 +9,6 @@
 //! does, and a failed allocation leaves the value as it was. Nothing here restates a standard.
 #![tactic(auto)]
 
+pub mod duplicate;
 pub mod list_of;
+pub mod number_map;
