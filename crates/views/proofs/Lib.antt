@@ -1,3 +1,4 @@
 pub mod FaultCounts
 pub mod TreeMaps
 pub mod NextKeys
+pub mod MapLaws
