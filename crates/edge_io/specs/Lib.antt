@@ -1,0 +1,5 @@
+pub mod Inputs
+pub mod Sink
+pub mod NamedBytes
+pub mod Calls
+pub mod MemSink
