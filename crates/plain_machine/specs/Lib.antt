@@ -1,0 +1,14 @@
+pub mod Memory
+pub mod Registers
+pub mod Instructions
+pub mod Steps
+pub mod Attempts
+pub mod Kernel
+pub mod Rows
+pub mod Serve
+pub mod Buffers
+pub mod Put
+pub mod Records
+pub mod Runs
+pub mod Start
+pub mod Tests

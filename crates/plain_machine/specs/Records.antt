@@ -1,0 +1,116 @@
+-- One record from a plain state: which state follows and what goes to the console, or nothing where the record is no step of that state.
+--     outcome g r      both      step g r      the state alone
+use Rattle.std.specs.Prelude.{◌==◌, ◌&&◌, ◌||◌, ℕ, ◌+◌, Bool, true, false, nat_le, List, [], length, Option, Some, None, option_and_then, if◌then◌else◌}
+use Rattle.std.specs.Option.{option_map}
+use Rattle.std.specs.FinMap as map
+use Rattle.sys_abi.specs.declared.identity.VPid.{VPid}
+use Rattle.sys_abi.specs.declared.identity.Dir.{Dir}
+use Rattle.sys_abi.specs.declared.record.Record.{Record}
+use Rattle.sys_abi.specs.declared.record.Record.TheVariants.{User, Call, Deliver, Arrive, Cut, Drained, Refilled, Complete, Refused, Lapsed}
+use Rattle.sys_abi.specs.declared.request.Request.{Request}
+use Rattle.sys_abi.specs.Requests.{is_local}
+use Rattle.plain_machine.specs.declared.plain.Plain.{Plain}
+use Rattle.plain_machine.specs.declared.kernel.PlainKernel.{PlainKernel}
+use Rattle.plain_machine.specs.declared.channel.Direction.{Direction}
+use Rattle.plain_machine.specs.declared.user_part.UserPart.{UserPart}
+use Rattle.plain_machine.specs.Attempts.{Served}
+use Rattle.plain_machine.specs.Kernel.{is_live, after_end}
+use Rattle.plain_machine.specs.Steps.{UserStep, Stepped, Asks, Trapped, Waits, NoThread, user_step, user_steps}
+use Rattle.plain_machine.specs.Buffers.{lent}
+use Rattle.plain_machine.specs.Put.{put, put_fault, local_row}
+use Rattle.plain_machine.specs.Serve.{serve}
+
+-- how many instructions a thread runs at most in one record
+abbrev pub QUANTUM : ℕ
+QUANTUM = 4096
+
+pub record Outcome : Type 0 where
+  pub state : Plain
+  pub console : List ℕ
+
+abbrev pub quiet : Plain → Outcome
+quiet g = record { state = g; console = [] }
+
+abbrev pub with_user : Plain → VPid → UserPart → Plain
+with_user g p user = record { kernel = g.kernel; users = map.insert g.users p user }
+
+-- the user parts of the processes that live
+abbrev pub living : Plain → Plain
+living g = record { kernel = g.kernel; users = map.retain_keys g.users (is_live g.kernel) }
+
+-- the thread stands at a call or a trap
+abbrev pub stands : UserStep → Bool
+stands (Asks q) = true
+stands (Trapped s) = true
+stands _ = false
+
+abbrev pub user_ends : ℕ → ℕ → UserPart → Bool
+user_ends n t user = (n == QUANTUM) || stands (user_step user t)
+
+abbrev pub if_ends : Plain → VPid → ℕ → ℕ → UserPart → Option Outcome
+if_ends g p t n user = if user_ends n t user then Some (quiet (with_user g p user)) else None
+
+abbrev pub outcome_of_user : Plain → VPid → ℕ → ℕ → Option UserPart → Option Outcome
+outcome_of_user g p t n None = None
+outcome_of_user g p t n (Some user) = if nat_le 1 n && nat_le n QUANTUM then option_and_then (if_ends g p t n) (user_steps n user t) else None
+
+abbrev pub outcome_of_serve : Plain → VPid → ℕ → UserPart → Request → Option Served → Option Outcome
+outcome_of_serve g p t user q None = None
+outcome_of_serve g p t user q (Some served) =
+    Some (record {
+      state = living (record { kernel = served.kernel; users = map.insert g.users p (put user t q served.reply served.bytes) });
+      console = served.console;
+    })
+
+abbrev pub outcome_of_lent : Plain → VPid → ℕ → UserPart → Request → Option (List ℕ) → Option Outcome
+outcome_of_lent g p t user q None = Some (quiet (with_user g p (put_fault user t q)))
+outcome_of_lent g p t user q (Some given) =
+    if is_local q then Some (quiet (with_user g p (local_row user t q))) else outcome_of_serve g p t user q (serve g.kernel p t q given)
+
+abbrev pub outcome_of_ask : Plain → VPid → ℕ → UserPart → UserStep → Option Outcome
+outcome_of_ask g p t user (Asks q) = outcome_of_lent g p t user q (lent user.memory q)
+outcome_of_ask g p t user _ = None
+
+abbrev pub outcome_of_call : Plain → VPid → ℕ → Option UserPart → Option Outcome
+outcome_of_call g p t None = None
+outcome_of_call g p t (Some user) = outcome_of_ask g p t user (user_step user t)
+
+-- a trap with a signal that has no handler ends the process; no call makes a signal pending or sets a handler yet
+abbrev pub ended_by_signal : Plain → VPid → Plain
+ended_by_signal g p = living (record { kernel = after_end g.kernel p; users = g.users })
+
+abbrev pub outcome_of_trap : Plain → VPid → ℕ → UserStep → Option Outcome
+outcome_of_trap g p s (Trapped trap) = if trap == s then Some (quiet (ended_by_signal g p)) else None
+outcome_of_trap g p s _ = None
+
+abbrev pub outcome_of_signal : Plain → VPid → ℕ → ℕ → Option UserPart → Option Outcome
+outcome_of_signal g p t s None = None
+outcome_of_signal g p t s (Some user) = outcome_of_trap g p s (user_step user t)
+
+abbrev pub with_arrived : Plain → Dir → Direction → ℕ → Plain
+with_arrived g dir direction n = record {
+  kernel = record g.kernel {
+    directions = map.insert g.kernel.directions dir (record { left = direction.left; arrived = direction.arrived + n; ended = direction.ended; unread = direction.unread });
+  };
+  users = g.users;
+}
+
+abbrev pub outcome_of_arrival : Plain → Dir → ℕ → Option Direction → Option Outcome
+outcome_of_arrival g dir n None = None
+outcome_of_arrival g dir n (Some direction) =
+    if nat_le 1 n && nat_le (direction.arrived + n) (length direction.left) then Some (quiet (with_arrived g dir direction n)) else None
+
+unfoldable pub outcome : Plain → Record → Option Outcome
+outcome g (User p t n) = outcome_of_user g p t.0 n (map.get g.users p)
+outcome g (Call p t) = outcome_of_call g p t.0 (map.get g.users p)
+outcome g (Deliver p t s) = outcome_of_signal g p t.0 s.0 (map.get g.users p)
+outcome g (Arrive dir n) = outcome_of_arrival g dir n (map.get g.kernel.directions dir)
+outcome g (Cut generation) = Some (quiet g)
+outcome g (Drained dir n) = Some (quiet g)
+outcome g (Refilled dir n) = Some (quiet g)
+outcome g (Complete generation) = Some (quiet g)
+outcome g (Refused cause) = Some (quiet g)
+outcome g Lapsed = Some (quiet g)
+
+abbrev pub step : Plain → Record → Option Plain
+step g r = option_map (λ o. o.state) (outcome g r)

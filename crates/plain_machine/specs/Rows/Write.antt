@@ -1,0 +1,19 @@
+-- write(fd, buffer, count) (`man 2 write`): EBADF unless the descriptor is open for writing. The console takes all of it.
+use Rattle.std.specs.Prelude.{ℕ, List, length}
+use Rattle.sys_abi.specs.declared.identity.VPid.{VPid}
+use Rattle.sys_abi.specs.declared.errors.TheConstants.{EBADF, ENOSYS}
+use Rattle.plain_machine.specs.declared.kernel.PlainKernel.{PlainKernel}
+use Rattle.plain_machine.specs.declared.description.Object.{Object}
+use Rattle.plain_machine.specs.declared.description.Object.TheVariants.{Console}
+use Rattle.plain_machine.specs.Attempts.{Try, Fails, Served, ◌>>=◌, ◌>>◌, need, found, replied_on_console}
+use Rattle.plain_machine.specs.Kernel.{description_at, may_write}
+
+unfoldable pub write_object : PlainKernel → Object → List ℕ → Try Served
+write_object k Console bytes = replied_on_console k (length bytes) bytes
+write_object k _ bytes = Fails ENOSYS
+
+unfoldable pub write_row : PlainKernel → VPid → ℕ → List ℕ → Try Served
+write_row k p fd bytes = do
+  description ← found (description_at k p fd) EBADF
+  need (may_write description.flags) EBADF
+  write_object k description.object bytes

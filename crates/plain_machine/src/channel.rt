@@ -1,0 +1,44 @@
+use sys_abi::{ConnId, VirtAddr};
+use views::list_of::ListOf;
+
+#[derive(Clone, Copy, Debug, PartialEq, Eq)]
+pub enum ChannelKind {
+    /// A pair of stream ends (`man 2 socketpair`).
+    Pair,
+    /// A connection between two addresses (`man 7 tcp`).
+    Internet,
+    /// A pipe (`man 7 pipe`).
+    Pipe,
+}
+
+/// One side of a channel: its address, where the channel is an internet connection, and whether it is open.
+#[derive(Clone, Copy, Debug, PartialEq, Eq)]
+pub struct ChannelEnd {
+    pub address: Option<VirtAddr>,
+    pub is_open: bool,
+}
+
+/// A channel without its bytes: its kind and its sides 0 and 1. Side 0 of an internet connection is the client's.
+#[derive(Clone, Copy, Debug, PartialEq, Eq)]
+pub struct Channel {
+    pub kind: ChannelKind,
+    pub first: ChannelEnd,
+    pub second: ChannelEnd,
+}
+
+/// A direction of a channel: the bytes sent and not yet read, in order, how many of them can be read now, whether its
+/// sender sends no more, and whether its receiver reads no more.
+#[derive(Drop)]
+pub struct Direction {
+    pub left: ListOf<u8>,
+    pub arrived: u32,
+    pub ended: bool,
+    pub unread: bool,
+}
+
+/// A listening socket's backlog and the connections that wait to be accepted, oldest first (`man 2 listen`).
+#[derive(Drop)]
+pub struct Listening {
+    pub backlog: u32,
+    pub queue: ListOf<ConnId>,
+}

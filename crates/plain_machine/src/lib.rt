@@ -1,0 +1,31 @@
+//! The plain machine: what a run of the computation is, with no node, real number, ring, agent, image, disk or thread of
+//! the host. Every promise of the crates above is said in its words.
+//!
+//! A plain state has a kernel part and, for each live process, a user part. A record is one event; `step` says which
+//! state follows, `run` folds it over a trace, and `console` collects what was written. `specs/` has these definitions, a
+//! file a notion, each with the place of the public standard that it restates: the RISC-V unprivileged manual for
+//! instructions and memory, the ELF ABI for the start, Linux's manual pages for the calls.
+//!
+//! Proved: `serve_slowly` and its twin in place are the rows of the calls; `start` is valid and `step` keeps valid; a
+//! record of one process leaves every other process's part. Not claimed: that any hardware or kernel behaves so.
+#![tactic(auto)]
+
+pub mod channel;
+pub mod description;
+pub mod instruction;
+pub mod kernel;
+pub mod memory;
+pub mod plain;
+pub mod process;
+pub mod regs;
+pub mod user_part;
+
+pub use channel::{Channel, ChannelEnd, ChannelKind, Direction, Listening};
+pub use description::{Description, Descriptor, Object};
+pub use instruction::{Insn, Op};
+pub use kernel::PlainKernel;
+pub use memory::{Frame, Right};
+pub use plain::Plain;
+pub use process::{Life, Maker, Process};
+pub use regs::Regs;
+pub use user_part::{Context, SignalAction, ThreadPart, UserPart, Waiter};

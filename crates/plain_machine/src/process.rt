@@ -1,0 +1,26 @@
+use views::number_map::NumberMap;
+
+/// Whether a process lives, or has ended and its parent has not waited for it (`man 2 wait4`).
+#[derive(Clone, Copy, Debug, PartialEq, Eq)]
+pub enum Life {
+    Live,
+    /// With the status that its parent reads.
+    Zombie(u32),
+}
+
+/// A process as the kernel knows it: its parent (1: nobody), its life, the signals that are pending for it, and for each
+/// of its threads those that are pending for it. Bit s - 1 of a set of signals stands for signal s.
+#[derive(Drop)]
+pub struct Process {
+    pub parent: u32,
+    pub life: Life,
+    pub pending: u32,
+    pub threads: NumberMap<u32>,
+}
+
+/// Where a process runs, and its running number for the channels and descriptions that it makes.
+#[derive(Clone, Copy, Debug, PartialEq, Eq)]
+pub struct Maker {
+    pub host: u32,
+    pub made: u32,
+}

@@ -1,0 +1,48 @@
+use crate::memory::Frame;
+use crate::regs::Regs;
+use views::list_of::ListOf;
+use views::number_map::NumberMap;
+
+/// What a signal handler interrupted: registers, program counter and signal mask.
+#[derive(Clone, Copy, Debug, PartialEq, Eq)]
+pub struct Context {
+    pub regs: Regs,
+    pub mask: u32,
+}
+
+/// A thread of a process: its registers, its signal mask, the word that its end clears (0: none), and the contexts that
+/// its handlers interrupted, oldest first.
+#[derive(Debug, Drop)]
+pub struct ThreadPart {
+    pub regs: Regs,
+    pub mask: u32,
+    pub clear_tid: u32,
+    pub contexts: ListOf<Context>,
+}
+
+/// What a process does on a signal: handler (0 default, 1 ignore, else its address), flags, and mask while it runs.
+#[derive(Clone, Copy, Debug, PartialEq, Eq)]
+pub struct SignalAction {
+    pub handler: u32,
+    pub flags: u32,
+    pub mask: u32,
+}
+
+/// A thread that waits on the word at an address (`man 2 futex`).
+#[derive(Clone, Copy, Debug, PartialEq, Eq)]
+pub struct Waiter {
+    pub tid: u32,
+    pub address: u32,
+}
+
+/// The part of a process that only its own instructions and the answers to its calls change: memory by page number, the
+/// break, threads by number, what it does on the signals 1 to 31, and who waits on its words, in waking order.
+#[derive(Drop)]
+pub struct UserPart {
+    pub memory: NumberMap<Frame>,
+    pub break_start: u32,
+    pub break_end: u32,
+    pub threads: NumberMap<ThreadPart>,
+    pub actions: ListOf<SignalAction>,
+    pub waiters: ListOf<Waiter>,
+}
