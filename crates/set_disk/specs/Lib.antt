@@ -1,0 +1,4 @@
+pub mod Files
+pub mod Crash
+pub mod Moments
+pub mod Faults
