@@ -1,2 +1,3 @@
+pub mod LentValues
 pub mod Orders
 pub mod Requests

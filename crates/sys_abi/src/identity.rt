@@ -1,5 +1,8 @@
 ghost use Rattle.std.specs.Prelude.{◌≡◌, ℕ};
 
+use std::alloc::{AllocError, Global};
+use views::duplicate::Duplicate;
+
 /// A virtual process number, as guests see it. It stays the same over a restart.
 #[derive(Clone, Copy, Debug, PartialEq, Eq, PartialOrd, Ord)]
 pub struct VPid(pub u32);
@@ -63,4 +66,70 @@ pub struct RealAddr {
 pub struct VirtAddr {
     pub host: u32,
     pub port: u32,
+}
+
+impl Duplicate for VPid {
+    fn duplicate(&self, alloc: Global) -> Result<Self, AllocError> {
+        Ok(*self)
+    }
+}
+
+impl Duplicate for Tid {
+    fn duplicate(&self, alloc: Global) -> Result<Self, AllocError> {
+        Ok(*self)
+    }
+}
+
+impl Duplicate for Fd {
+    fn duplicate(&self, alloc: Global) -> Result<Self, AllocError> {
+        Ok(*self)
+    }
+}
+
+impl Duplicate for Signal {
+    fn duplicate(&self, alloc: Global) -> Result<Self, AllocError> {
+        Ok(*self)
+    }
+}
+
+impl Duplicate for ConnId {
+    fn duplicate(&self, alloc: Global) -> Result<Self, AllocError> {
+        Ok(*self)
+    }
+}
+
+impl Duplicate for DescId {
+    fn duplicate(&self, alloc: Global) -> Result<Self, AllocError> {
+        Ok(*self)
+    }
+}
+
+impl Duplicate for Dir {
+    fn duplicate(&self, alloc: Global) -> Result<Self, AllocError> {
+        Ok(*self)
+    }
+}
+
+impl Duplicate for Slot {
+    fn duplicate(&self, alloc: Global) -> Result<Self, AllocError> {
+        Ok(*self)
+    }
+}
+
+impl Duplicate for RealPid {
+    fn duplicate(&self, alloc: Global) -> Result<Self, AllocError> {
+        Ok(*self)
+    }
+}
+
+impl Duplicate for RealAddr {
+    fn duplicate(&self, alloc: Global) -> Result<Self, AllocError> {
+        Ok(*self)
+    }
+}
+
+impl Duplicate for VirtAddr {
+    fn duplicate(&self, alloc: Global) -> Result<Self, AllocError> {
+        Ok(*self)
+    }
 }

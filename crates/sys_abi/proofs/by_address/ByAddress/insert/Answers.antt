@@ -1,0 +1,13 @@
+use Rattle.std.proofs.Common.{sym, ap, ◌∙◌}
+use Rattle.sys_abi.proofs.OrderLaws.{address_total, address_exact}
+use Rattle.std.specs.FinMap as map
+use Rattle.views.proofs.TreeMaps.{get-view, view-insert}
+use Rattle.sys_abi.proofs.by_address.ByAddress.insert.Goals as goal
+
+pub returns-clause-before : goal.returns-clause-before
+returns-clause-before g c = c.in_ok-insert.ensures.old ∙ sym (get-view address_total c.self.inside.entries c.args.key) ∙ ap (λ m. map.get m c.args.key) c.self.view_is
+
+pub returns-clause-ok : goal.returns-clause-ok
+returns-clause-ok g c =
+    view-insert address_total address_exact c.self.inside.entries c.insert.new.self c.args.key c.args.value c.in_ok-insert.ensures.updates.0
+    ∙ ap (λ m. map.insert m c.args.key c.args.value) c.self.view_is

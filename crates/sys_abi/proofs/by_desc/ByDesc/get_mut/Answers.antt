@@ -1,0 +1,20 @@
+use Rattle.std.proofs.Common.{refl, sym, ap, ◌∙◌}
+use Rattle.sys_abi.specs.Orders.{desc_cmp}
+use Rattle.sys_abi.proofs.OrderLaws.{desc_total, desc_exact}
+use Rattle.std.specs.FinMap as map
+use Rattle.views.proofs.TreeMaps.{view, get-view, view-lent}
+use Rattle.sys_abi.proofs.by_desc.ByDesc.get_mut.Goals as goal
+
+pub returns : goal.returns
+returns g c =
+    let lent = c.get_mut.follows in (
+      (
+        refl,
+        λ w. view-lent desc_total desc_exact c.self.inside.entries (lent.lender w) c.args.key w c.get_mut.result c.get_mut.ensures.value (λ some. ((lent.holds w).3 some).0) c.args.self.now c.self.view_is,
+        ap (view desc_cmp) lent.holds-at-none ∙ c.self.view_is,
+      ),
+      record {
+        writes_back = tt;
+        value = c.get_mut.ensures.value ∙ sym (get-view desc_total c.self.inside.entries c.args.key) ∙ ap (λ m. map.get m c.args.key) c.self.view_is;
+      },
+    )
