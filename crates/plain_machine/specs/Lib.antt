@@ -12,3 +12,5 @@ pub mod Records
 pub mod Runs
 pub mod Start
 pub mod Tests
+pub mod Valid
+pub mod Laws

@@ -10,6 +10,7 @@ use Rattle.sys_abi.specs.Orders.{vpid_cmp}
 use Rattle.sys_abi.specs.declared.flags.TheConstants.{O_RDWR}
 use Rattle.elf32.specs.declared.program.Program.{Program}
 use Rattle.elf32.specs.declared.program.Segment.{Segment}
+use Rattle.elf32.specs.Pages.{is_touched, page_rights}
 use Rattle.plain_machine.specs.declared.memory.Frame.{Frame}
 use Rattle.plain_machine.specs.declared.regs.Regs.{Regs}
 use Rattle.plain_machine.specs.declared.user_part.UserPart.{UserPart}
@@ -60,31 +61,13 @@ unfoldable pub segment_bytes : List Segment → ℕ → ℕ → List ℕ
 segment_bytes segments address zero = []
 segment_bytes segments address (suc n) = segment_bytes segments address n ++ segment_byte segments (address + n) ∷ []
 
-abbrev pub first_page : Segment → ℕ
-first_page segment = segment.vaddr / 4096
-
-abbrev pub page_count : Segment → ℕ
-page_count segment = (segment.vaddr + segment.memsz + 4095) / 4096 - first_page segment
-
-abbrev pub touches : ℕ → Segment → Bool
-touches page segment = nat_le (first_page segment) page && nat_lt page (first_page segment + page_count segment)
-
--- the union of the rights of the segments that a page has bytes of
-unfoldable pub segment_rights : List Segment → ℕ → ℕ
-segment_rights [] page = 0
-segment_rights (segment ∷ rest) page = bit_or (if touches page segment then segment.rights else 0) (segment_rights rest page)
-
 abbrev pub segment_page : List Segment → ℕ → Frame
-segment_page segments page = record { rights = segment_rights segments page; page = segment_bytes segments (4096 * page) 4096 }
+segment_page segments number = record { rights = page_rights segments number; page = segment_bytes segments (4096 * number) 4096 }
 
-unfoldable pub with_segment_pages : List Segment → Memory → ℕ → ℕ → Memory
-with_segment_pages segments memory first zero = memory
-with_segment_pages segments memory first (suc n) = map.insert (with_segment_pages segments memory first n) (first + n) (segment_page segments (first + n))
-
--- the pages of some of the segments
-unfoldable pub with_segments : List Segment → Memory → List Segment → Memory
-with_segments segments memory [] = memory
-with_segments segments memory (segment ∷ rest) = with_segments segments (with_segment_pages segments memory (first_page segment) (page_count segment)) rest
+-- of the pages below n, those that some of the segments touch
+unfoldable pub segment_pages : List Segment → ℕ → Memory
+segment_pages segments zero = map.empty
+segment_pages segments (suc n) = if is_touched segments n then map.insert (segment_pages segments n) n (segment_page segments n) else segment_pages segments n
 
 abbrev pub highest_end : List Segment → ℕ
 highest_end segments = fold (λ highest segment. max highest (segment.vaddr + segment.memsz)) 0 segments
@@ -146,8 +129,8 @@ return_code = low_bytes 4 0x08B00893 ++ low_bytes 4 0x00000073
 -- rights are 4 to read, 2 to write, 1 to execute
 unfoldable pub start_memory : Program → List ℕ → Memory
 start_memory program arguments =
-    let segments = with_segments program.segments map.empty program.segments in
-    with_pages (with_pages segments STACK_PAGE STACK_PAGES 6 (start_stack arguments)) RETURN_PAGE 1 5 return_code
+    let program_pages = segment_pages program.segments (2 ^ 20) in
+    with_pages (with_pages program_pages STACK_PAGE STACK_PAGES 6 (start_stack arguments)) RETURN_PAGE 1 5 return_code
 
 -- sp is x2
 unfoldable pub start_regs : Program → List ℕ → Regs
