@@ -1,0 +1,8 @@
+use Rattle.plain_machine.proofs.RunLaws.{run_of_one_more, console_of_one_more}
+use Rattle.plain_machine.proofs.laws.run_laws.Goals as goal
+
+pub returns-clause-run : goal.returns-clause-run
+returns-clause-run c = run_of_one_more
+
+pub returns-clause-console : goal.returns-clause-console
+returns-clause-console c = console_of_one_more
