@@ -2,3 +2,4 @@ pub mod FaultCounts
 pub mod TreeMaps
 pub mod NextKeys
 pub mod MapLaws
+pub mod MapValues

@@ -16,7 +16,8 @@ use Rattle.std.specs.FinMap.{FinMap, IsAntisymmetric}
 use Rattle.std.specs.FinMap.Entries.{put}
 use Rattle.views.proofs.TreeMaps.{entries-empty as no_entries}
 
-true_false : {A : Type 0} → true ≡ false → A
+-- from a contradiction
+pub true_false : {A : Type 0} → true ≡ false → A
 true_false e = absurd (subst (λ b. cond b (Unit {0}) ⊥) e tt)
 
 covered : {A : Type 0} (b : Bool) (x y z : A) → cond b x (cond b y z) ≡ cond b x z

@@ -1,6 +1,6 @@
 -- A `BTreeMap` seen as a finite map, `from_entries m.entries`, at a total order of its keys. Crates above
 -- prove their ordered maps by these.
---     get-view          a look-up in the tree is one in the map
+--     get-view, get-seen      a look-up in the tree is one in the map
 --     view-insert, view-remove, view-update       what an insert, a removal and a write do to the map
 --     entries-view      the map's entries are the tree's
 --     find-lookup       the two words for a look-up in a list of entries agree
@@ -35,6 +35,10 @@ entries-empty R X = no_length _ (sym (map.len-entries _) ∙ map.len-empty R X)
 module _ {K X : Type 0} {R : K → K → Ordering} (o : IsTotalOrder R) where
   pub get-view : (m : BTreeMap K X) (q : K) → map.get (view R m) q ≡ tree.get R m q
   get-view m q = map.get-from_entries o m.entries q ∙ find-lookup R q m.entries
+
+  -- what a look-up in the tree finds, a look-up in what the tree is seen as finds
+  pub get-seen : (m : BTreeMap K X) (now : map.FinMap R X) (k : K) (found : Option X) → found ≡ tree.get R m k → view R m ≡ now → found ≡ map.get now k
+  get-seen m now k found is seen = is ∙ sym (get-view m k) ∙ ap (λ (w : map.FinMap R X). map.get w k) seen
 
   -- after `insert`, whose clause `updates.0` is the premise
   pub view-insert : map.IsAntisymmetric R → (m n : BTreeMap K X) (k : K) (v : X) → ((q : K) → tree.get R n q ≡ cond (eq_by_cmp R k q) (Some v) (tree.get R m q)) → view R n ≡ map.insert (view R m) k v

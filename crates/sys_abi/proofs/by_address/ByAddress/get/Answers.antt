@@ -1,8 +1,8 @@
 use Rattle.std.proofs.Common.{sym, ap, ◌∙◌}
 use Rattle.sys_abi.proofs.OrderLaws.{address_total}
 use Rattle.std.specs.FinMap as map
-use Rattle.views.proofs.TreeMaps.{get-view}
+use Rattle.views.proofs.TreeMaps.{get-seen}
 use Rattle.sys_abi.proofs.by_address.ByAddress.get.Goals as goal
 
 pub returns : goal.returns
-returns g c = c.get.ensures.value ∙ sym (get-view address_total c.self.inside.entries c.args.key) ∙ ap (λ m. map.get m c.args.key) c.self.view_is
+returns g c = get-seen address_total c.self.inside.entries c.args.self.now c.args.key _ c.get.ensures.value c.self.view_is

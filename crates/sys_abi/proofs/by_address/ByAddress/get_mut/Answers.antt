@@ -2,7 +2,7 @@ use Rattle.std.proofs.Common.{refl, sym, ap, ◌∙◌}
 use Rattle.sys_abi.specs.Orders.{address_cmp}
 use Rattle.sys_abi.proofs.OrderLaws.{address_total, address_exact}
 use Rattle.std.specs.FinMap as map
-use Rattle.views.proofs.TreeMaps.{view, get-view, view-lent}
+use Rattle.views.proofs.TreeMaps.{view, get-seen, view-lent}
 use Rattle.sys_abi.proofs.by_address.ByAddress.get_mut.Goals as goal
 
 pub returns : goal.returns
@@ -15,6 +15,6 @@ returns g c =
       ),
       record {
         writes_back = tt;
-        value = c.get_mut.ensures.value ∙ sym (get-view address_total c.self.inside.entries c.args.key) ∙ ap (λ m. map.get m c.args.key) c.self.view_is;
+        value = get-seen address_total c.self.inside.entries c.args.self.now c.args.key _ c.get_mut.ensures.value c.self.view_is;
       },
     )

@@ -1,11 +1,11 @@
 use Rattle.std.proofs.Common.{sym, ap, ◌∙◌}
 use Rattle.sys_abi.proofs.OrderLaws.{conn_total, conn_exact}
 use Rattle.std.specs.FinMap as map
-use Rattle.views.proofs.TreeMaps.{get-view, view-insert}
+use Rattle.views.proofs.TreeMaps.{get-seen, view-insert}
 use Rattle.sys_abi.proofs.by_conn.ByConn.insert.Goals as goal
 
 pub returns-clause-before : goal.returns-clause-before
-returns-clause-before g c = c.in_ok-insert.ensures.old ∙ sym (get-view conn_total c.self.inside.entries c.args.key) ∙ ap (λ m. map.get m c.args.key) c.self.view_is
+returns-clause-before g c = get-seen conn_total c.self.inside.entries c.args.self.now c.args.key _ c.in_ok-insert.ensures.old c.self.view_is
 
 pub returns-clause-ok : goal.returns-clause-ok
 returns-clause-ok g c =

@@ -1,8 +1,8 @@
-use Rattle.std.proofs.Common.{refl, sym, ap, ◌∙◌}
+use Rattle.std.proofs.Common.{refl, ap, ◌∙◌}
 use Rattle.std.specs.Ordering.{nat_cmp}
 use Rattle.std.specs.Cmp.{nat_cmp_total}
 use Rattle.std.specs.FinMap as map
-use Rattle.views.proofs.TreeMaps.{view, get-view, view-lent}
+use Rattle.views.proofs.TreeMaps.{view, get-seen, view-lent}
 use Rattle.views.proofs.number_map.NumberMap.get_mut.Goals as goal
 
 pub returns : goal.returns
@@ -15,6 +15,6 @@ returns g c =
       ),
       record {
         writes_back = tt;
-        value = c.get_mut.ensures.value ∙ sym (get-view nat_cmp_total c.self.inside.tree c.args.key) ∙ ap (λ m. map.get m c.args.key) c.self.view_is;
+        value = get-seen nat_cmp_total c.self.inside.tree c.args.self.now c.args.key _ c.get_mut.ensures.value c.self.view_is;
       },
     )

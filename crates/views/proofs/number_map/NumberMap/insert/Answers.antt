@@ -1,11 +1,11 @@
-use Rattle.std.proofs.Common.{sym, ap, ◌∙◌}
+use Rattle.std.proofs.Common.{ap, ◌∙◌}
 use Rattle.std.specs.Cmp.{nat_cmp_total}
 use Rattle.std.specs.FinMap as map
-use Rattle.views.proofs.TreeMaps.{get-view, view-insert}
+use Rattle.views.proofs.TreeMaps.{get-seen, view-insert}
 use Rattle.views.proofs.number_map.NumberMap.insert.Goals as goal
 
 pub returns-clause-before : goal.returns-clause-before
-returns-clause-before g c = c.in_ok-insert.ensures.old ∙ sym (get-view nat_cmp_total c.self.inside.tree c.args.key) ∙ ap (λ m. map.get m c.args.key) c.self.view_is
+returns-clause-before g c = get-seen nat_cmp_total c.self.inside.tree c.args.self.now c.args.key _ c.in_ok-insert.ensures.old c.self.view_is
 
 pub returns-clause-ok : goal.returns-clause-ok
 returns-clause-ok g c =
