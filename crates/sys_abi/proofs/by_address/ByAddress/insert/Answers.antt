@@ -1,4 +1,4 @@
-use Rattle.std.proofs.Common.{sym, ap, ◌∙◌}
+use Rattle.std.proofs.Common.{ap, ◌∙◌}
 use Rattle.sys_abi.proofs.OrderLaws.{address_total, address_exact}
 use Rattle.std.specs.FinMap as map
 use Rattle.views.proofs.TreeMaps.{get-seen, view-insert}

@@ -1,6 +1,4 @@
-use Rattle.std.proofs.Common.{sym, ap, ◌∙◌}
 use Rattle.sys_abi.proofs.OrderLaws.{conn_total}
-use Rattle.std.specs.FinMap as map
 use Rattle.views.proofs.TreeMaps.{get-seen}
 use Rattle.sys_abi.proofs.by_conn.ByConn.get.Goals as goal
 

@@ -1,6 +1,4 @@
-use Rattle.std.proofs.Common.{sym, ap, ◌∙◌}
 use Rattle.sys_abi.proofs.OrderLaws.{desc_total}
-use Rattle.std.specs.FinMap as map
 use Rattle.views.proofs.TreeMaps.{get-seen}
 use Rattle.sys_abi.proofs.by_desc.ByDesc.get.Goals as goal
 

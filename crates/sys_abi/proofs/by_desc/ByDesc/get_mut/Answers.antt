@@ -1,7 +1,6 @@
-use Rattle.std.proofs.Common.{refl, sym, ap, ◌∙◌}
+use Rattle.std.proofs.Common.{refl, ap, ◌∙◌}
 use Rattle.sys_abi.specs.Orders.{desc_cmp}
 use Rattle.sys_abi.proofs.OrderLaws.{desc_total, desc_exact}
-use Rattle.std.specs.FinMap as map
 use Rattle.views.proofs.TreeMaps.{view, get-seen, view-lent}
 use Rattle.sys_abi.proofs.by_desc.ByDesc.get_mut.Goals as goal
 

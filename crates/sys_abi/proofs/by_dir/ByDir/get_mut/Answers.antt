@@ -1,7 +1,6 @@
-use Rattle.std.proofs.Common.{refl, sym, ap, ◌∙◌}
+use Rattle.std.proofs.Common.{refl, ap, ◌∙◌}
 use Rattle.sys_abi.specs.Orders.{dir_cmp}
 use Rattle.sys_abi.proofs.OrderLaws.{dir_total, dir_exact}
-use Rattle.std.specs.FinMap as map
 use Rattle.views.proofs.TreeMaps.{view, get-seen, view-lent}
 use Rattle.sys_abi.proofs.by_dir.ByDir.get_mut.Goals as goal
 
