@@ -1,0 +1,25 @@
+ghost use Rattle.std.specs.Prelude.{◌≡◌, ℕ};
+
+use views::list_of::ListOf;
+
+/// What a static executable puts into memory, and where it starts.
+#[derive(Debug, Drop, PartialEq, Eq)]
+pub struct Program {
+    /// The address of the first instruction.
+    pub entry: u32,
+    /// The loadable segments that are not empty, in the order of their program headers.
+    pub segments: ListOf<Segment>,
+}
+
+/// A piece of memory that a program header describes.
+#[derive(Debug, Drop, PartialEq, Eq)]
+pub struct Segment {
+    /// The address of its first byte.
+    pub vaddr: u32,
+    /// How many bytes of memory it takes.
+    pub memsz: u32,
+    /// What its pages may be used for: 4 to be read, 2 to be written, 1 to be executed, summed.
+    pub rights: u8,
+    /// Its first bytes, from the file. Its other bytes are zero.
+    pub bytes: ListOf<u8>,
+}
