@@ -1,2 +1,3 @@
-pub mod FirstOf
 pub mod Bytes
+pub mod FirstOf
+pub mod PageCounts

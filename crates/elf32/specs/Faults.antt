@@ -2,8 +2,9 @@
 --     fault_at reason place     the fault at this byte of the file
 --     needs holds reason place  no fault where the rule holds, else the fault at this byte
 --     first_of faults           the first fault of the list, in its order
+--     Reports result first      the result reports this first fault, or that there is none
 --     word_of reason            the reason in lower case
-use Rattle.std.specs.Prelude.{ℕ, ◌-◌, ◌^◌, Bool, if◌then◌else◌, List, [], ◌∷◌, Option, Some, None, min, codes}
+use Rattle.std.specs.Prelude.{◌≡◌, ℕ, ◌-◌, ◌^◌, Bool, if◌then◌else◌, List, [], ◌∷◌, ◌⊎◌, Option, Some, None, Result, Ok, Err, min, codes}
 use Rattle.elf32.specs.declared.fault.ElfFault.{ElfFault}
 use Rattle.elf32.specs.declared.fault.ElfReason.{ElfReason}
 use Rattle.elf32.specs.declared.fault.ElfReason.TheVariants.{Short, Magic, Class, Machine, FileType, Flags, Dynamic, Segment, Overlap, TooLarge, Memory}
@@ -22,6 +23,11 @@ unfoldable pub first_of : List (Option ElfFault) → Option ElfFault
 first_of [] = None
 first_of (None ∷ faults) = first_of faults
 first_of (Some fault ∷ _) = Some fault
+
+-- a result of trying these rules: a value where each holds, else the first fault. Want of memory may stand in place of either
+abbrev pub Reports : {A : Type 0} → Result A ElfFault → Option ElfFault → Type 0
+Reports (Ok value) first = first ≡ None
+Reports (Err fault) first = (fault ≡ no_memory) ⊎ (first ≡ Some fault)
 
 abbrev pub word_of : ElfReason → List ℕ
 word_of Short = codes "short"

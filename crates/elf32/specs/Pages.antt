@@ -21,6 +21,10 @@ touches segment p = meets (range_of segment) (page_range p)
 abbrev pub is_touched : List Segment → ℕ → Bool
 is_touched segments p = list_any (λ s. touches s p) segments
 
+-- 1 where none of the segments touches the page, else 0
+abbrev pub untouched : List Segment → ℕ → ℕ
+untouched segments p = if is_touched segments p then 0 else 1
+
 -- of the pages below n, how many some of the segments touch
 unfoldable pub pages_below : ℕ → List Segment → ℕ
 pages_below n segments = count_by (is_touched segments) (range_with_len 0 n)

@@ -3,12 +3,14 @@
 --     program_header file i    its fields
 --     describes_memory h       it describes a piece of memory: its type is PT_LOAD, and p_memsz is not 0
 --     segment_of file h        that piece of memory. Its rights are the bits PF_R 4, PF_W 2 and PF_X 1 of p_flags
+--     memory_of h              its addresses
 --     segments_before file n   the pieces that the first n headers describe, in their order
 use Rattle.std.specs.Prelude.{ℕ, ◌+◌, ◌*◌, ◌==◌, Bool, true, false, ◌&&◌, nat_lt, if◌then◌else◌, List, [], ◌∷◌, ◌++◌, slice_range, bit_and, zero, suc}
 use Rattle.elf32.specs.declared.program.Segment.{Segment}
 use Rattle.elf32.specs.declared.program_header.ProgramHeader.{ProgramHeader}
 use Rattle.elf32.specs.declared.program_header.SegmentType.{SegmentType}
 use Rattle.elf32.specs.declared.program_header.SegmentType.TheVariants.{Load, Dynamic, Interpreter, Other}
+use Rattle.elf32.specs.declared.range.AddressRange.{AddressRange}
 use Rattle.elf32.specs.Fields.{word_at}
 use Rattle.elf32.specs.FileHeader.{e_phoff}
 
@@ -50,6 +52,9 @@ segment_of file h = record {
   rights = bit_and h.flags 7;
   bytes = slice_range file h.offset (h.offset + h.filesz);
 }
+
+abbrev pub memory_of : ProgramHeader → AddressRange
+memory_of h = record { start = h.vaddr; end = h.vaddr + h.memsz }
 
 abbrev pub segments_of : List ℕ → ProgramHeader → List Segment
 segments_of file h = if describes_memory h then segment_of file h ∷ [] else []

@@ -15,7 +15,7 @@ use Rattle.elf32.specs.declared.program_header.SegmentType.TheVariants.{Load, Dy
 use Rattle.elf32.specs.Faults.{needs, first_of}
 use Rattle.elf32.specs.FileHeader.{e_type, e_machine, e_entry, e_phoff, e_flags, e_phentsize, e_phnum}
 use Rattle.elf32.specs.Pages.{range_of, page_count, page_rights}
-use Rattle.elf32.specs.ProgramHeaders.{place_of, program_header, describes_memory, segment_of, segments_before}
+use Rattle.elf32.specs.ProgramHeaders.{place_of, program_header, describes_memory, memory_of, segment_of, segments_before}
 use Rattle.elf32.specs.Ranges.{meets}
 
 -- the bytes from a place on are these; the fault is at the first that differs
@@ -59,7 +59,7 @@ is_well_placed file h =
 unfoldable pub memory_rules : List ℕ → List MemorySegment → ℕ → ProgramHeader → List (Option ElfFault)
 memory_rules file before place h =
     needs (is_well_placed file h) Segment place
-    ∷ needs (not (list_any (λ s. meets (range_of s) (range_of (segment_of file h))) before)) Overlap place
+    ∷ needs (not (list_any (λ s. meets (range_of s) (memory_of h)) before)) Overlap place
     ∷ needs (nat_le (page_count (before ++ segment_of file h ∷ [])) 1536) TooLarge place
     ∷ []
 

@@ -4,6 +4,8 @@
 pub mod fault;
 mod fields;
 mod file_header;
+mod layout;
+mod page;
 pub mod program;
 mod program_header;
 mod range;

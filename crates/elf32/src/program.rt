@@ -1,5 +1,7 @@
 ghost use Rattle.std.specs.Prelude.{◌≡◌, ℕ};
+ghost use Rattle.elf32.specs.Pages.{range_of};
 
+use crate::range::AddressRange;
 use views::list_of::ListOf;
 
 /// What a static executable puts into memory, and where it starts.
@@ -22,4 +24,17 @@ pub struct Segment {
     pub rights: u8,
     /// Its first bytes, from the file. Its other bytes are zero.
     pub bytes: ListOf<u8>,
+}
+
+impl Segment {
+    /// The addresses of the segment.
+    pub(crate) fn memory(&self) -> AddressRange
+        ensures { result ≡ range_of self.now }
+    {
+        let start = u64::from(self.vaddr);
+        AddressRange {
+            start,
+            end: start + u64::from(self.memsz),
+        }
+    }
 }

@@ -1,7 +1,13 @@
 ghost use Rattle.std.specs.Prelude.{◌≡◌, ◌+◌, ◌≤◌, length};
-ghost use Rattle.elf32.specs.ProgramHeaders.{type_of, header_at, describes_memory};
+ghost use Rattle.std.specs.Prelude.{IfOk};
+ghost use Rattle.elf32.specs.ProgramHeaders.{type_of, header_at, describes_memory, memory_of, segment_of};
+ghost use Rattle.elf32.specs.Rules.{is_well_placed, is_dynamic};
 
 use crate::fields::word_at;
+use crate::program::Segment;
+use crate::range::AddressRange;
+use std::alloc::{AllocError, Global};
+use views::list_of::ListOf;
 
 /// What a program header is for: its `p_type`, as far as this crate tells types apart.
 #[derive(Clone, Copy)]
@@ -26,6 +32,13 @@ impl SegmentType {
             3 => SegmentType::Interpreter,
             _ => SegmentType::Other,
         }
+    }
+
+    /// Whether such a header asks for a dynamic linker or an interpreter.
+    pub fn is_dynamic(self) -> bool
+        ensures { result ≡ is_dynamic self }
+    {
+        matches!(self, SegmentType::Dynamic | SegmentType::Interpreter)
     }
 }
 
@@ -70,5 +83,44 @@ impl ProgramHeader {
         ensures { result ≡ describes_memory self.now }
     {
         matches!(self.kind, SegmentType::Load) && self.memsz > 0
+    }
+
+    /// The addresses of the memory that the header describes.
+    pub fn memory(&self) -> AddressRange
+        ensures { result ≡ memory_of self.now }
+    {
+        let start = u64::from(self.vaddr);
+        AddressRange {
+            start,
+            end: start + u64::from(self.memsz),
+        }
+    }
+
+    /// Whether the segment's bytes stand in the file and fit into its memory, and that lies where
+    /// programs may lie.
+    pub fn is_well_placed(&self, file: &[u8]) -> bool
+        ensures { result ≡ is_well_placed file.now self.now }
+    {
+        let file_end = self.offset as usize + self.filesz as usize;
+        let memory = self.memory();
+        file_end <= file.len()
+            && self.filesz <= self.memsz
+            && memory.start >= AddressRange::PROGRAMS.start
+            && memory.end <= AddressRange::PROGRAMS.end
+    }
+
+    /// The segment that the header describes, with its bytes from the file.
+    pub fn segment(&self, alloc: Global, file: &[u8]) -> Result<Segment, AllocError>
+        requires { self.now.offset + self.now.filesz ≤ length file.now }
+        ensures { IfOk result (λ segment. segment ≡ segment_of file.now self.now) }
+    {
+        let start = self.offset as usize;
+        let bytes = Vec::from_slice(alloc, &file[start..start + self.filesz as usize])?;
+        Ok(Segment {
+            vaddr: self.vaddr,
+            memsz: self.memsz,
+            rights: (self.flags & 7) as u8,
+            bytes: ListOf::from_vec(bytes),
+        })
     }
 }
