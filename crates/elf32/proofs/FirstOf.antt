@@ -1,9 +1,9 @@
 -- The first fault of a list, where its front is known.
 use Rattle.std.proofs.lemmas.Result.{err_from_is_err_and}
 use Rattle.std.specs.Result.{result_err, IsErrAnd}
-use Rattle.std.proofs.Common.{◌≡◌, Result, List, [], ◌∷◌, ◌++◌, Option, Some, None, refl, ◌∙◌, ap}
+use Rattle.std.proofs.Common.{◌≡◌, ◌⊎◌, Result, List, [], ◌∷◌, ◌++◌, Option, Some, None, refl, ◌∙◌, ap}
 use Rattle.elf32.specs.declared.fault.ElfFault.{ElfFault}
-use Rattle.elf32.specs.Faults.{first_of}
+use Rattle.elf32.specs.Faults.{first_of, no_memory, Reports}
 
 pub first_of-none : (fault : Option ElfFault) (faults : List (Option ElfFault)) → fault ≡ None → first_of (fault ∷ faults) ≡ first_of faults
 unfolding first_of
@@ -57,3 +57,6 @@ first_of-back (Some found ∷ front) back h = cc
 -- what the exit of a `?` gives back
 pub result_err-exit : {A : Type 0} (r : Result A ElfFault) (fault : ElfFault) → IsErrAnd r (λ e. e ≡ fault) → result_err r ≡ Some fault
 result_err-exit r fault h = let p = err_from_is_err_and r h in rw (p.1, p.2) refl
+
+pub Reports-exit : {A : Type 0} (r : Result A ElfFault) (fault : ElfFault) (first : Option ElfFault) → IsErrAnd r (λ e. e ≡ fault) → (fault ≡ no_memory) ⊎ (first ≡ Some fault) → Reports r first
+Reports-exit r fault first h is = let p = err_from_is_err_and r h in rw (p.1, p.2) is

@@ -23,7 +23,7 @@ range_with_len-push a zero = rw add-zero refl
 range_with_len-push a (suc n) =
     let same : a + 1 + n ≡ a + suc n = omega arith in
     ap (λ (xs : List ℕ). a ∷ xs)
-      (subst (λ (k : ℕ). range_with_len (a + 1) (suc n) ≡ range_with_len (a + 1) n ++ k ∷ []) same (range_with_len-push (a + 1) n))
+    (subst (λ (k : ℕ). range_with_len (a + 1) (suc n) ≡ range_with_len (a + 1) n ++ k ∷ []) same (range_with_len-push (a + 1) n))
 
 count_by-range : (p : ℕ → Bool) (a n : ℕ) → count_by p (range_with_len a (suc n)) ≡ count_by p (range_with_len a n) + cond (p (a + n)) 1 0
 count_by-range p a n =
@@ -35,7 +35,12 @@ pages_below-suc : (n : ℕ) (segments : List Segment) → pages_below (suc n) se
 unfolding pages_below
 pages_below-suc n segments =
     subst (λ k. count_by (is_touched segments) (range_with_len 0 (suc n)) ≡ count_by (is_touched segments) (range_with_len 0 n) + cond (is_touched segments k) 1 0)
-      (zero-add n) (count_by-range (is_touched segments) 0 n)
+    (zero-add n) (count_by-range (is_touched segments) 0 n)
+
+pub pages_below-empty : (n : ℕ) → pages_below n [] ≡ 0
+unfolding pages_below
+pages_below-empty zero = refl
+pages_below-empty (suc n) = omega (arith, pages_below-suc n [], pages_below-empty n)
 
 is_touched-push : (segments : List Segment) (segment : Segment) (p : ℕ) → is_touched (segments ++ segment ∷ []) p ≡ (is_touched segments p || touches segment p)
 is_touched-push segments segment p = list_any-append _ segments (segment ∷ []) ∙ ap (λ b. is_touched segments p || b) (or-false (touches segment p))
@@ -115,7 +120,7 @@ adds-first : (segments : List Segment) (segment : Segment) (first last : ℕ) �
     Adds segments segment (suc first) (untouched segments first)
 adds-first segments segment first last spans order =
     rw (zero-add (untouched segments first)) at
-      (step_inside first segments segment 0 (adds-before segments segment first last first spans (omega arith)) (touches-inside (range_of segment) first last first spans (omega arith) order))
+    (step_inside first segments segment 0 (adds-before segments segment first last first spans (omega arith)) (touches-inside (range_of segment) first last first spans (omega arith) order))
 
 adds-between : (segments : List Segment) (segment : Segment) (first last k j : ℕ) → Spans (range_of segment) first last → suc first + j ≤ last →
     list_any (λ s. meets (range_of s) (range_of segment)) segments ≡ false → Adds segments segment (suc first) k → Adds segments segment (suc first + j) (k + j)
@@ -134,8 +139,8 @@ adds-after : (segments : List Segment) (segment : Segment) (first last k j : ℕ
 adds-after segments segment first last k zero spans start = rw (add-zero (suc last)) start
 adds-after segments segment first last k (suc j) spans start =
     rw (add-suc (suc last) j)
-      (step_outside (suc last + j) segments segment k (adds-after segments segment first last k j spans start)
-        (touches-after (range_of segment) first last (suc last + j) spans (omega arith)))
+    (step_outside (suc last + j) segments segment k (adds-after segments segment first last k j spans start)
+    (touches-after (range_of segment) first last (suc last + j) spans (omega arith)))
 
 adds-all : (segments : List Segment) (segment : Segment) (first last k n : ℕ) → Spans (range_of segment) first last → last < n →
     Adds segments segment (suc last) k → Adds segments segment n k
@@ -157,11 +162,11 @@ adds-several segments segment first last n spans order below apart =
     let k = untouched segments first + (last - first - 1) in
     let same : suc first + (last - first - 1) ≡ last = omega arith in
     let between : Adds segments segment last k =
-      subst (λ (m : ℕ). Adds segments segment m k) same
-        (adds-between segments segment first last (untouched segments first) (last - first - 1) spans (omega arith) apart
-          (adds-first segments segment first last spans (omega arith))) in
+    subst (λ (m : ℕ). Adds segments segment m k) same
+    (adds-between segments segment first last (untouched segments first) (last - first - 1) spans (omega arith) apart
+    (adds-first segments segment first last spans (omega arith))) in
     adds-all segments segment first last _ n spans below
-      (step_inside last segments segment k between (touches-inside (range_of segment) first last last spans (omega arith) (omega arith)))
+    (step_inside last segments segment k between (touches-inside (range_of segment) first last last spans (omega arith) (omega arith)))
 
 pub page_count-one : (segments : List Segment) (segment : Segment) (memory : AddressRange) (page n r : ℕ) → range_of segment ≡ memory →
     Spans memory page page → page < n → r ≡ untouched segments page →
@@ -177,5 +182,5 @@ pub page_count-several : (segments : List Segment) (segment : Segment) (memory :
 page_count-several segments segment memory first last n r q same spans order below apart is is' =
     let here : Spans (range_of segment) first last = subst (λ (m : AddressRange). Spans m first last) (sym same) spans in
     let alone : list_any (λ s. meets (range_of s) (range_of segment)) segments ≡ false =
-      subst (λ (m : AddressRange). list_any (λ s. meets (range_of s) m) segments ≡ false) (sym same) apart in
+    subst (λ (m : AddressRange). list_any (λ s. meets (range_of s) m) segments ≡ false) (sym same) apart in
     rw (is, is') (adds-several segments segment first last n here order below alone)

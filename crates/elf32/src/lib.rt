@@ -9,3 +9,4 @@ mod page;
 pub mod program;
 mod program_header;
 mod range;
+pub mod reader;

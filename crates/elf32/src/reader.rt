@@ -1,0 +1,62 @@
+ghost use Rattle.std.specs.Prelude.{◌≡◌, ℕ, ◌+◌, ◌*◌, ◌<◌, ◌≤◌, ◌++◌, ◌⊎◌, length, IfOk, OnOk, IfErr, None, Some};
+ghost use Rattle.elf32.specs.Faults.{first_of, no_memory, Reports};
+ghost use Rattle.elf32.specs.FileHeader.{header_of, e_phnum};
+ghost use Rattle.elf32.specs.Pages.{page_rights};
+ghost use Rattle.elf32.specs.ProgramHeaders.{segments_before, segments_of, header_at};
+ghost use Rattle.elf32.specs.Programs.{program_of};
+ghost use Rattle.elf32.specs.Rules.{first_fault, program_header_rules, rules_at, is_entry};
+
+use crate::fault::{ElfFault, ElfReason, check};
+use crate::file_header::FileHeader;
+use crate::layout::Layout;
+use crate::page::{PAGE_SIZE, page_rights};
+use crate::program::{Program, Segment};
+use crate::program_header::ProgramHeader;
+use std::alloc::Global;
+use views::list_of::ListOf;
+
+/// The program that the bytes of a file describe.
+///
+/// # Errors
+///
+/// The first rule of the format that the file breaks, or `Memory`, which may come in place of any
+/// other answer.
+pub fn read_elf(alloc: Global, bytes: &[u8]) -> Result<Program, ElfFault>
+    ensures rules { Reports result (first_fault bytes.now) }
+    ensures program { IfOk result (λ program. program ≡ program_of bytes.now) }
+{
+    let header = FileHeader::read(bytes)?;
+    let segments = read_segments(alloc, bytes, header)?;
+    let starts = is_entry(header.entry, segments.as_slice());
+    check(starts, ElfReason::Segment, 24)?;
+    Ok(Program {
+        entry: header.entry,
+        segments,
+    })
+}
+
+/// The segments that the program headers of the file describe.
+fn read_segments(
+    alloc: Global,
+    file: &[u8],
+    header: FileHeader,
+) -> Result<ListOf<Segment>, ElfFault>
+    requires fields { header ≡ header_of file.now }
+    requires table { header.phoff + 32 * header.phnum ≤ length file.now }
+    ensures rules { Reports result (first_of (program_header_rules file.now header.phnum)) }
+    ensures segments { IfOk result (λ segments. segments ≡ segments_before file.now header.phnum) }
+{
+    let mut layout = Layout::new(alloc);
+    for index in 0..header.phnum as usize {
+        let place = header.phoff as usize + ProgramHeader::SIZE * index;
+        layout.add(alloc, file, place)?;
+    }
+    Ok(layout.segments)
+}
+
+/// Whether a program of these segments may start at this address.
+fn is_entry(address: u32, segments: &[Segment]) -> bool
+    ensures { result ≡ is_entry address segments.now }
+{
+    address % 4 == 0 && page_rights(segments, u64::from(address) / PAGE_SIZE) & 1 == 1
+}
