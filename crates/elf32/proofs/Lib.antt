@@ -1,3 +1,5 @@
 pub mod Bytes
 pub mod FirstOf
+pub mod HeaderRules
 pub mod PageCounts
+pub mod WholeFile
