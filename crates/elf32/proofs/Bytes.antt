@@ -1,5 +1,5 @@
 -- A comparison of bytes, one after the other.
-use Rattle.std.proofs.Common.{◌≡◌, ℕ, ◌+◌, ◌<◌, List, [], ◌∷◌, length, drop, get_or, Option, Some, None, refl, ◌∙◌, ap, sym, add-one, add-suc, drop-cons}
+use Rattle.std.proofs.Common.{◌≡◌, ℕ, ◌+◌, ◌<◌, List, [], ◌∷◌, length, drop, get_or, Some, None, refl, ◌∙◌, sym, add-one, add-suc, drop-cons}
 use Rattle.std.proofs.Math.ListN.{drop_of_length-le}
 use Rattle.std.specs.Prelude.{◌==◌, ◌≤◌}
 use Rattle.elf32.specs.declared.fault.ElfFault.{ElfFault}

@@ -1,7 +1,7 @@
 -- The first fault of a list, where its front is known.
 use Rattle.std.proofs.lemmas.Result.{err_from_is_err_and}
 use Rattle.std.specs.Result.{result_err, IsErrAnd}
-use Rattle.std.proofs.Common.{◌≡◌, ◌⊎◌, Result, List, [], ◌∷◌, ◌++◌, Option, Some, None, refl, ◌∙◌, ap}
+use Rattle.std.proofs.Common.{◌≡◌, ◌⊎◌, Result, List, [], ◌∷◌, ◌++◌, Option, Some, None, refl}
 use Rattle.elf32.specs.declared.fault.ElfFault.{ElfFault}
 use Rattle.elf32.specs.Faults.{first_of, no_memory, Reports}
 

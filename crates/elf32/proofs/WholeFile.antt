@@ -1,5 +1,5 @@
 -- The rules of a whole file, part by part.
-use Rattle.std.proofs.Common.{◌≡◌, ◌⊎◌, ℕ, Bool, List, [], ◌∷◌, ◌++◌, Option, Some, None, refl, ◌∙◌, sym, subst, inl, inr}
+use Rattle.std.proofs.Common.{◌≡◌, ◌⊎◌, ℕ, Bool, List, [], ◌∷◌, ◌++◌, Some, None, refl, ◌∙◌, sym, subst, inl, inr}
 use Rattle.elf32.specs.declared.fault.ElfFault.{ElfFault}
 use Rattle.elf32.specs.declared.fault.ElfReason.TheVariants.{Segment as SegmentReason}
 use Rattle.elf32.specs.declared.file_header.FileHeader.{FileHeader}

@@ -1,5 +1,5 @@
 -- Ranges of addresses, each from its start to before its end.
-use Rattle.std.specs.Prelude.{ℕ, Bool, ◌&&◌, nat_lt}
+use Rattle.std.specs.Prelude.{Bool, ◌&&◌, nat_lt}
 use Rattle.elf32.specs.declared.range.AddressRange.{AddressRange}
 
 -- some address is in both of two ranges that are not empty

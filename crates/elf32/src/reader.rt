@@ -1,9 +1,9 @@
-ghost use Rattle.std.specs.Prelude.{◌≡◌, ℕ, ◌+◌, ◌*◌, ◌<◌, ◌≤◌, ◌++◌, ◌⊎◌, length, IfOk, OnOk, IfErr, None, Some};
+ghost use Rattle.std.specs.Prelude.{◌≡◌, ℕ, ◌+◌, ◌*◌, ◌<◌, ◌≤◌, ◌++◌, ◌⊎◌, length, IsTrue, All, AllPairs, IfOk, OnOk, IfErr, None, Some};
 ghost use Rattle.elf32.specs.Faults.{first_of, no_memory, Reports};
 ghost use Rattle.elf32.specs.FileHeader.{header_of, e_phnum};
-ghost use Rattle.elf32.specs.Pages.{page_rights};
+ghost use Rattle.elf32.specs.Pages.{page_count};
 ghost use Rattle.elf32.specs.ProgramHeaders.{segments_before, segments_of, header_at};
-ghost use Rattle.elf32.specs.Programs.{program_of};
+ghost use Rattle.elf32.specs.Programs.{program_of, IsWellPlaced, IsApart};
 ghost use Rattle.elf32.specs.Rules.{first_fault, program_header_rules, rules_at, is_entry};
 
 use crate::fault::{ElfFault, ElfReason, check};
@@ -24,6 +24,12 @@ use views::list_of::ListOf;
 pub fn read_elf(alloc: Global, bytes: &[u8]) -> Result<Program, ElfFault>
     ensures rules { Reports result (first_fault bytes.now) }
     ensures program { IfOk result (λ program. program ≡ program_of bytes.now) }
+
+    // What follows for each program that is read.
+    ensures placed { IfOk result (λ program. All IsWellPlaced program.segments) }
+    ensures apart { IfOk result (λ program. AllPairs IsApart program.segments) }
+    ensures pages { IfOk result (λ program. page_count program.segments ≤ 1536) }
+    ensures entry { IfOk result (λ program. IsTrue (is_entry program.entry program.segments)) }
 {
     let header = FileHeader::read(bytes)?;
     let segments = read_segments(alloc, bytes, header)?;

@@ -1,5 +1,4 @@
-use Rattle.std.proofs.Common.{◌≡◌, ◌-◌, ◌/◌, ◌<◌, ◌^◌, ◌∙◌, sym, subst, arith}
-use Rattle.elf32.specs.declared.program.Segment.{Segment}
+use Rattle.std.proofs.Common.{◌-◌, ◌/◌, ◌^◌, arith}
 use Rattle.elf32.proofs.PageCounts.{Spans, page_count-one, page_count-several}
 use Rattle.elf32.proofs.layout.new_pages.Goals as goal
 

@@ -1,4 +1,4 @@
-use Rattle.std.proofs.Common.{◌≡◌, refl, ap, sym, ◌∙◌}
+use Rattle.std.proofs.Common.{refl, ap, ◌∙◌}
 use Rattle.elf32.specs.Faults.{first_of}
 use Rattle.elf32.specs.ProgramHeaders.{segments_before}
 use Rattle.elf32.specs.Rules.{program_header_rules}

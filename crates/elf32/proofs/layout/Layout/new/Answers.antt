@@ -1,4 +1,4 @@
-use Rattle.std.proofs.Common.{◌≡◌, ◌^◌, sym, rules}
+use Rattle.std.proofs.Common.{◌^◌, sym}
 use Rattle.elf32.proofs.PageCounts.{pages_below-empty}
 use Rattle.elf32.proofs.layout.Layout.new.Goals as goal
 
