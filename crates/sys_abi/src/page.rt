@@ -3,6 +3,7 @@ ghost use Rattle.std.specs.Prelude.{◌≡◌, ◌+◌, ◌≤◌, ◌<◌, ◌*
 
 use std::alloc::{AllocError, Global};
 use std::marker::Model;
+use views::duplicate::Duplicate;
 
 /// How many bytes a page has (RISC-V privileged manual, Sv32: 4 KiB).
 pub const PAGE_SIZE: usize = 4096;
@@ -118,5 +119,11 @@ impl Page {
         ensures { self.new ≡ take at self.old ++ to_le_bytes w32 value ++ drop (at + 4) self.old }
     {
         self.write(at, &value.to_le_bytes());
+    }
+}
+
+impl Duplicate for Page {
+    fn duplicate(&self, alloc: Global) -> Result<Self, AllocError> {
+        Page::of_slice(alloc, self.as_slice())
     }
 }
