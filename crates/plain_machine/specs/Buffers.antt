@@ -1,8 +1,8 @@
 -- The buffers of a call: which bytes it reads from its process's memory, and which its answer may write there.
 -- Source: `man 2` of each call; a length is cut to 65,536, and a path ends with its first zero byte, within 256 bytes.
---     reads_of q      what the call reads      writes_of q given      what its answer may write, where given are the bytes that it read
+--     reads_of q      what the call reads      writes_of q size      what its answer may write, where size is the length of the address that it writes
 --     lent memory q   the bytes that it reads, none where some buffer isn't readable or writable as needed (EFAULT)
-use Rattle.std.specs.Prelude.{◌==◌, ◌||◌, ℕ, zero, suc, ◌+◌, ◌/◌, ◌%◌, min, Bool, true, false, List, [], ◌∷◌, ◌++◌, Option, Some, None, is_some, is_none, option_and_then, if◌then◌else◌}
+use Rattle.std.specs.Prelude.{◌==◌, ◌||◌, ℕ, zero, suc, ◌+◌, ◌/◌, ◌%◌, min, Bool, true, false, List, [], ◌∷◌, ◌++◌, Option, Some, None, is_some, unwrap_or, option_and_then, if◌then◌else◌}
 use Rattle.std.specs.Option.{option_map}
 use Rattle.std.specs.List.{list_all}
 use Rattle.sys_abi.specs.declared.request.Request.{Request}
@@ -10,20 +10,14 @@ use Rattle.sys_abi.specs.declared.request.Request.TheVariants.{Unlinkat, Openat,
 use Rattle.sys_abi.specs.declared.flags.TheConstants.{CLONE_PARENT_SETTID, CLONE_CHILD_SETTID}
 use Rattle.sys_abi.specs.declared.transfer.TheConstants.{TRANSFER_LIMIT}
 use Rattle.plain_machine.specs.declared.memory.Right.TheVariants.{Read as ToRead, Write as ToWrite}
-use Rattle.plain_machine.specs.Memory.{Memory, byte_at, bytes_at, little_endian}
-
-pub record Span : Type 0 where
-  pub address : ℕ
-  pub length : ℕ
+use Rattle.plain_machine.specs.declared.buffers.Span.{Span}
+use Rattle.plain_machine.specs.declared.buffers.Source.{Source}
+use Rattle.plain_machine.specs.declared.buffers.Source.TheVariants.{Nothing, Bytes, Text}
+use Rattle.plain_machine.specs.declared.buffers.Spans.{Spans}
+use Rattle.plain_machine.specs.Memory.{Memory, byte_at, bytes_at, load}
 
 abbrev pub span : ℕ → ℕ → Span
 span address length = record { address = address; length = min length TRANSFER_LIMIT }
-
--- what a call reads: nothing, so many bytes, or a text with its zero byte
-pub data Source : Type 0 where
-  Nothing : Source
-  Bytes : Span → Source
-  Text : ℕ → Source
 
 abbrev pub unless_zero : ℕ → Source → Source
 unless_zero address source = if address == 0 then Nothing else source
@@ -67,12 +61,27 @@ bytes_of memory (Text address) = text_at memory address PATH_LIMIT
 unfoldable pub given_of : Memory → Request → Option (List ℕ)
 given_of memory q = bytes_of memory (reads_of q)
 
+-- where a call finds the length of the address that it writes
+unfoldable pub length_place : Request → Option ℕ
+length_place (Accept fd address length) = Some length
+length_place (Getsockname fd address length) = Some length
+length_place (Getpeername fd address length) = Some length
+length_place _ = None
+
+abbrev pub length_at : Memory → Option ℕ → ℕ
+length_at memory None = 0
+length_at memory (Some place) = unwrap_or (load memory place 4) 0
+
+-- that length, 0 where the call writes no address
+unfoldable pub size_of : Memory → Request → ℕ
+size_of memory q = length_at memory (length_place q)
+
 abbrev pub span_unless_zero : ℕ → ℕ → List Span
 span_unless_zero address length = if address == 0 then [] else span address length ∷ []
 
 -- an address and its true length, which answers of accept and getsockname write
-abbrev pub address_spans : ℕ → ℕ → List ℕ → List Span
-address_spans address length given = span address (little_endian given) ∷ span length 4 ∷ []
+abbrev pub address_spans : ℕ → ℕ → ℕ → List Span
+address_spans address length size = span address size ∷ span length 4 ∷ []
 
 abbrev pub has_flag : ℕ → ℕ → Bool
 has_flag flags flag = flags / flag % 2 == 1
@@ -80,24 +89,40 @@ has_flag flags flag = flags / flag % 2 == 1
 abbrev pub span_if : Bool → ℕ → List Span
 span_if wanted address = if wanted then span address 4 ∷ [] else []
 
-unfoldable pub writes_of : Request → List ℕ → List Span
-writes_of (RtSigaction signal action old_action size) given = span_unless_zero old_action 16
-writes_of (RtSigprocmask how set old_set size) given = span_unless_zero old_set 8
-writes_of (Pipe2 fds flags) given = span fds 8 ∷ []
-writes_of (Socketpair domain socket_type protocol fds) given = span fds 8 ∷ []
-writes_of (Read fd buffer count) given = span buffer count ∷ []
-writes_of (Accept fd address length) given = if address == 0 then [] else address_spans address length given
-writes_of (Getsockname fd address length) given = address_spans address length given
-writes_of (Getpeername fd address length) given = address_spans address length given
-writes_of (Clone flags stack parent_tid tls child_tid) given = span_if (has_flag flags CLONE_PARENT_SETTID) parent_tid ++ span_if (has_flag flags CLONE_CHILD_SETTID) child_tid
-writes_of (Wait4 pid status options usage) given = span_unless_zero status 4
-writes_of _ given = []
+-- where clone writes the new number
+abbrev pub thread_spans : ℕ → ℕ → ℕ → List Span
+thread_spans flags parent_tid child_tid = span_if (has_flag flags CLONE_PARENT_SETTID) parent_tid ++ span_if (has_flag flags CLONE_CHILD_SETTID) child_tid
+
+unfoldable pub writes_of : Request → ℕ → List Span
+writes_of (RtSigaction signal action old_action size) length = span_unless_zero old_action 16
+writes_of (RtSigprocmask how set old_set size) length = span_unless_zero old_set 8
+writes_of (Pipe2 fds flags) length = span fds 8 ∷ []
+writes_of (Socketpair domain socket_type protocol fds) length = span fds 8 ∷ []
+writes_of (Read fd buffer count) length = span buffer count ∷ []
+writes_of (Accept fd address place) length = if address == 0 then [] else address_spans address place length
+writes_of (Getsockname fd address place) length = address_spans address place length
+writes_of (Getpeername fd address place) length = address_spans address place length
+writes_of (Clone flags stack parent_tid tls child_tid) length = thread_spans flags parent_tid child_tid
+writes_of (Wait4 pid status options usage) length = span_unless_zero status 4
+writes_of _ length = []
+
+-- the spans of a pair of optional ones
+abbrev pub optional : Option Span → List Span
+optional None = []
+optional (Some at) = at ∷ []
+
+abbrev pub listed : Spans → List Span
+listed spans = optional spans.first ++ optional spans.second
 
 abbrev pub can_write : Memory → Span → Bool
 can_write memory at = is_some (bytes_at memory ToWrite at.address at.length)
 
+-- the spans that the answer may write
+abbrev pub written_spans : Memory → Request → List Span
+written_spans memory q = writes_of q (size_of memory q)
+
 abbrev pub if_writable : Memory → Request → List ℕ → Option (List ℕ)
-if_writable memory q given = if list_all (can_write memory) (writes_of q given) then Some given else None
+if_writable memory q given = if list_all (can_write memory) (written_spans memory q) then Some given else None
 
 unfoldable pub lent : Memory → Request → Option (List ℕ)
 lent memory q = option_and_then (if_writable memory q) (given_of memory q)

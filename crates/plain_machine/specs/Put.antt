@@ -1,7 +1,7 @@
 -- The part of a process after a call's answer: a0 holds the answer, the thread goes on after the call, and the bytes stand where the call asked for them.
 -- Source: the system call convention of RISC-V Linux (`man 2 syscall`): an error is the negative of its number in a0.
 --     put user t q reply bytes      after the answer of a call      local_row user t q      after a call that the process answers alone
-use Rattle.std.specs.Prelude.{ℕ, ◌+◌, ◌-◌, ◌%◌, ◌^◌, List, [], ◌∷◌, length, take, drop, Option, Some, None, unwrap_or}
+use Rattle.std.specs.Prelude.{ℕ, ◌+◌, ◌-◌, ◌%◌, ◌^◌, List, [], ◌∷◌, length, take, drop, Option, Some, None}
 use Rattle.std.specs.FinMap as map
 use Rattle.sys_abi.specs.declared.request.Request.{Request}
 use Rattle.sys_abi.specs.declared.reply.Reply.{Reply}
@@ -12,7 +12,8 @@ use Rattle.plain_machine.specs.declared.user_part.ThreadPart.{ThreadPart}
 use Rattle.plain_machine.specs.Memory.{Memory, with_bytes}
 use Rattle.plain_machine.specs.Registers.{with_reg, at_pc, next_pc}
 use Rattle.plain_machine.specs.Steps.{with_thread, with_regs}
-use Rattle.plain_machine.specs.Buffers.{Span, given_of, writes_of}
+use Rattle.plain_machine.specs.declared.buffers.Span.{Span}
+use Rattle.plain_machine.specs.Buffers.{written_spans}
 
 -- a0 is x10
 abbrev pub A0 : ℕ
@@ -41,7 +42,7 @@ put_by user t value memory (Some thread) = with_thread user t (after_call thread
 
 unfoldable pub put : UserPart → ℕ → Request → Reply → List ℕ → UserPart
 put user t q reply bytes =
-    let spans = writes_of q (unwrap_or (given_of user.memory q) []) in put_by user t (word_of reply) (with_spans user.memory spans bytes) (map.get user.threads t)
+    put_by user t (word_of reply) (with_spans user.memory (written_spans user.memory q) bytes) (map.get user.threads t)
 
 -- the answer of a call with a buffer that isn't readable or writable as needed
 abbrev pub put_fault : UserPart → ℕ → Request → UserPart

@@ -10,6 +10,7 @@
 //! record of one process leaves every other process's part. Not claimed: that any hardware or kernel behaves so.
 #![tactic(auto)]
 
+pub mod buffers;
 pub mod channel;
 pub mod description;
 pub mod instruction;
@@ -21,6 +22,7 @@ pub mod process;
 pub mod regs;
 pub mod user_part;
 
+pub use buffers::{Source, Span, Spans, length_place, reads_of, writes_of};
 pub use channel::{Channel, ChannelEnd, ChannelKind, Direction, Listening};
 pub use description::{Description, Descriptor, Object};
 pub use instruction::{Insn, Op};
