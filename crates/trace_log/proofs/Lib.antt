@@ -1,0 +1,4 @@
+pub mod OneRecord
+pub mod Pieces
+pub mod Bytes
+pub mod Lists

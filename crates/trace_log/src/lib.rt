@@ -1,0 +1,17 @@
+//! The trace of a run: its records in order, the bytes that spell them, and the lines of its log.
+//!
+//! A [`Trace`] is a list of records with room for a number of further ones. The room is made
+//! beforehand, so that to append a record takes no memory and can't fail. `to_bytes` gives the bytes
+//! of the trace's file, 16 for each record, and `from_bytes` reads them: it is Ok exactly on such
+//! bytes, and else names the place of the first ones that spell no record. [`log_text`] gives the
+//! lines that a run writes on its log for the checkpoints in its trace.
+//!
+//! Proved: all of that, and that a record has one spelling and different records differ in theirs.
+//! Not proved here: that the records are the steps of a run. Both formats are this project's own
+//! and restate no standard.
+#![tactic(auto)]
+
+pub mod fields;
+pub mod trace;
+
+pub use trace::{Trace, TraceFault};
