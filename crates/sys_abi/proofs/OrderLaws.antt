@@ -2,7 +2,9 @@
 use Rattle.std.proofs.Common.{ℕ, ap}
 use Rattle.std.specs.Ordering.{nat_cmp}
 use Rattle.std.specs.Cmp.{IsTotalOrder, nat_cmp_total}
-use Rattle.std.specs.FinMap.{IsAntisymmetric, nat_cmp-IsAntisymmetric}
+use Rattle.std.specs.FinMap.{IsAntisymmetric, nat_cmp-IsAntisymmetric, slice_cmp-IsAntisymmetric}
+use Rattle.std.specs.Cmp.Lexicographic.{nat_list_cmp_total}
+use Rattle.sys_abi.specs.Names.{name_cmp}
 use Rattle.std.proofs.lemmas.Cmp.{on_total, then_total}
 use Rattle.std.proofs.lemmas.Map.Lookups.{exact_pairs}
 use Rattle.sys_abi.specs.declared.identity.VPid.{VPid}
@@ -44,3 +46,9 @@ address_total = then_total (on_total (λ a. a.host) nat_cmp_total) (on_total (λ
 
 pub address_exact : IsAntisymmetric address_cmp
 address_exact a b e = ap (λ (p : ℕ × ℕ). record { host = p.0; port = p.1 }) (exact_pairs nat_cmp nat_cmp nat_cmp-IsAntisymmetric nat_cmp-IsAntisymmetric (a.host, a.port) (b.host, b.port) e)
+
+pub name_total : IsTotalOrder name_cmp
+name_total = nat_list_cmp_total
+
+pub name_exact : IsAntisymmetric name_cmp
+name_exact = slice_cmp-IsAntisymmetric nat_cmp-IsAntisymmetric

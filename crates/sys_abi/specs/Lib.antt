@@ -1,3 +1,4 @@
 pub mod LentValues
+pub mod Names
 pub mod Orders
 pub mod Requests

@@ -30,7 +30,7 @@ pub use by_address::ByAddress;
 pub use by_conn::ByConn;
 pub use by_desc::ByDesc;
 pub use by_dir::ByDir;
-pub use by_name::{ByName, Named};
+pub use by_name::ByName;
 pub use by_pid::ByPid;
 pub use by_slot::BySlot;
 pub use identity::{ConnId, DescId, Dir, Fd, RealAddr, RealPid, Signal, Slot, Tid, VPid, VirtAddr};

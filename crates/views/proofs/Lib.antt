@@ -3,3 +3,4 @@ pub mod TreeMaps
 pub mod NextKeys
 pub mod MapLaws
 pub mod MapValues
+pub mod SeenKeys

@@ -63,7 +63,7 @@ module _ {K X : Type 0} {R : K → K → Ordering} (o : IsTotalOrder R) where
   first_put e [] sorted = refl
   first_put e (f ∷ es) sorted = ap (λ r. by_order r (e ∷ f ∷ es) ((f.0, e.1) ∷ es) (f ∷ put R e.0 e.1 es)) sorted.0.0
 
-  entries-from_entries : (es : List (K × X)) → IsStrictlySortedBy R (keys_of es) → map.entries (map.from_entries {R = R} es) ≡ es
+  pub entries-from_entries : (es : List (K × X)) → IsStrictlySortedBy R (keys_of es) → map.entries (map.from_entries {R = R} es) ≡ es
   unfolding IsStrictlySortedBy
   entries-from_entries [] sorted = entries-empty R X
   entries-from_entries (e ∷ es) sorted = map.entries-insert o (map.from_entries es) e.0 e.1 ∙ ap (put R e.0 e.1) (entries-from_entries es sorted.1) ∙ first_put e es sorted
