@@ -1,7 +1,7 @@
 -- The start of a job: each program in a process of its own, with its segments, its stack, its arguments and the console on 0, 1 and 2.
 -- Source: System V ABI, chapter 5 (program loading, process initialization), and the RISC-V ELF psABI (the stack pointer is a multiple of 16).
 --     start jobs files      the plain state of programs in the order of the words and of named files
-use Rattle.std.specs.Prelude.{◌==◌, ◌&&◌, ℕ, zero, suc, ◌+◌, ◌-◌, ◌*◌, ◌/◌, ◌%◌, ◌^◌, max, nat_le, nat_lt, bit_or, Bool, true, false, List, [], ◌∷◌, ◌++◌, map as mapped, find, fold, length, take, drop, replicate, slice_index, slice_set, Option, Some, None, if◌then◌else◌}
+use Rattle.std.specs.Prelude.{◌==◌, ◌&&◌, ◌≤◌, All, ℕ, zero, suc, ◌+◌, ◌-◌, ◌*◌, ◌/◌, ◌%◌, ◌^◌, max, nat_le, nat_lt, bit_or, Bool, true, false, List, [], ◌∷◌, ◌++◌, map as mapped, find, fold, length, take, drop, replicate, slice_index, slice_set, Option, Some, None, if◌then◌else◌}
 use Rattle.std.specs.List.{flat_map}
 use Rattle.std.specs.FinMap as map
 use Rattle.sys_abi.specs.declared.identity.VPid.{VPid}
@@ -10,7 +10,8 @@ use Rattle.sys_abi.specs.Orders.{vpid_cmp}
 use Rattle.sys_abi.specs.declared.flags.TheConstants.{O_RDWR}
 use Rattle.elf32.specs.declared.program.Program.{Program}
 use Rattle.elf32.specs.declared.program.Segment.{Segment}
-use Rattle.elf32.specs.Pages.{is_touched, page_rights}
+use Rattle.elf32.specs.Pages.{is_touched, page_rights, page_count}
+use Rattle.elf32.specs.Programs.{IsWellPlaced}
 use Rattle.plain_machine.specs.declared.memory.Frame.{Frame}
 use Rattle.plain_machine.specs.declared.regs.Regs.{Regs}
 use Rattle.plain_machine.specs.declared.user_part.UserPart.{UserPart}
@@ -35,6 +36,11 @@ pub record Launched : Type 0 where
 pub record NamedFile : Type 0 where
   pub name : List ℕ
   pub bytes : List ℕ
+
+-- what a program keeps that was read from a file
+pub record IsLoadable (program : Program) : Type 0 where
+  pub placed : All IsWellPlaced program.segments
+  pub pages : page_count program.segments ≤ 1536
 
 -- a page's worth of a content, with zeros after its end
 abbrev pub page_of : List ℕ → List ℕ
@@ -126,10 +132,14 @@ RETURN_PAGE = 0x80000
 abbrev pub return_code : List ℕ
 return_code = low_bytes 4 0x08B00893 ++ low_bytes 4 0x00000073
 
+-- programs lie below 0x40000000
+abbrev pub PROGRAM_PAGES : ℕ
+PROGRAM_PAGES = 2 ^ 18
+
 -- rights are 4 to read, 2 to write, 1 to execute
 unfoldable pub start_memory : Program → List ℕ → Memory
 start_memory program arguments =
-    let program_pages = segment_pages program.segments (2 ^ 20) in
+    let program_pages = segment_pages program.segments PROGRAM_PAGES in
     with_pages (with_pages program_pages STACK_PAGE STACK_PAGES 6 (start_stack arguments)) RETURN_PAGE 1 5 return_code
 
 -- sp is x2
