@@ -1,4 +1,6 @@
+use std::alloc::{AllocError, Global};
 use sys_abi::{ConnId, VirtAddr};
+use views::duplicate::Duplicate;
 use views::list_of::ListOf;
 
 #[derive(Clone, Copy, Debug, PartialEq, Eq)]
@@ -41,4 +43,30 @@ pub struct Direction {
 pub struct Listening {
     pub backlog: u32,
     pub queue: ListOf<ConnId>,
+}
+
+impl Duplicate for Channel {
+    fn duplicate(&self, alloc: Global) -> Result<Self, AllocError> {
+        Ok(*self)
+    }
+}
+
+impl Duplicate for Direction {
+    fn duplicate(&self, alloc: Global) -> Result<Self, AllocError> {
+        Ok(Direction {
+            left: self.left.duplicate(alloc)?,
+            arrived: self.arrived,
+            ended: self.ended,
+            unread: self.unread,
+        })
+    }
+}
+
+impl Duplicate for Listening {
+    fn duplicate(&self, alloc: Global) -> Result<Self, AllocError> {
+        Ok(Listening {
+            backlog: self.backlog,
+            queue: self.queue.duplicate(alloc)?,
+        })
+    }
 }

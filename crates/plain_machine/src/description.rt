@@ -1,4 +1,6 @@
+use std::alloc::{AllocError, Global};
 use sys_abi::{ConnId, DescId, VirtAddr};
+use views::duplicate::Duplicate;
 
 /// What an open description stands for.
 #[derive(Clone, Copy, Debug, PartialEq, Eq)]
@@ -31,4 +33,16 @@ pub struct Description {
 pub struct Descriptor {
     pub desc: DescId,
     pub cloexec: bool,
+}
+
+impl Duplicate for Description {
+    fn duplicate(&self, alloc: Global) -> Result<Self, AllocError> {
+        Ok(*self)
+    }
+}
+
+impl Duplicate for Descriptor {
+    fn duplicate(&self, alloc: Global) -> Result<Self, AllocError> {
+        Ok(*self)
+    }
 }

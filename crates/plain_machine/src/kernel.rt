@@ -1,7 +1,9 @@
 use crate::channel::{Channel, Direction, Listening};
 use crate::description::{Description, Descriptor};
 use crate::process::{Maker, Process};
+use std::alloc::{AllocError, Global};
 use sys_abi::{ByAddress, ByConn, ByDesc, ByDir, ByName, ByPid, BySlot};
+use views::duplicate::Duplicate;
 use views::list_of::ListOf;
 use views::number_map::NumberMap;
 
@@ -25,4 +27,23 @@ pub struct PlainKernel {
     pub inboxes: ByDesc<ListOf<ListOf<u8>>>,
     /// The number that the next new process or thread gets.
     pub next_id: u32,
+}
+
+impl Duplicate for PlainKernel {
+    fn duplicate(&self, alloc: Global) -> Result<Self, AllocError> {
+        Ok(PlainKernel {
+            processes: self.processes.duplicate(alloc)?,
+            makers: self.makers.duplicate(alloc)?,
+            descriptors: self.descriptors.duplicate(alloc)?,
+            descriptions: self.descriptions.duplicate(alloc)?,
+            names: self.names.duplicate(alloc)?,
+            files: self.files.duplicate(alloc)?,
+            next_file: self.next_file,
+            channels: self.channels.duplicate(alloc)?,
+            directions: self.directions.duplicate(alloc)?,
+            listeners: self.listeners.duplicate(alloc)?,
+            inboxes: self.inboxes.duplicate(alloc)?,
+            next_id: self.next_id,
+        })
+    }
 }

@@ -1,4 +1,6 @@
+use std::alloc::{AllocError, Global};
 use sys_abi::Page;
+use views::duplicate::Duplicate;
 
 /// What an access needs of its page: a load reads, a store writes, a fetch executes (ELF's `PF_R`, `PF_W`, `PF_X`).
 #[derive(Clone, Copy, Debug, PartialEq, Eq)]
@@ -13,4 +15,13 @@ pub enum Right {
 pub struct Frame {
     pub rights: u8,
     pub page: Page,
+}
+
+impl Duplicate for Frame {
+    fn duplicate(&self, alloc: Global) -> Result<Self, AllocError> {
+        Ok(Frame {
+            rights: self.rights,
+            page: self.page.duplicate(alloc)?,
+        })
+    }
 }

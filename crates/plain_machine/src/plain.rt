@@ -1,10 +1,21 @@
 use crate::kernel::PlainKernel;
 use crate::user_part::UserPart;
+use std::alloc::{AllocError, Global};
 use sys_abi::ByPid;
+use views::duplicate::Duplicate;
 
 /// A plain state: the kernel part, and the user part of each live process.
 #[derive(Drop)]
 pub struct Plain {
     pub kernel: PlainKernel,
     pub users: ByPid<UserPart>,
+}
+
+impl Duplicate for Plain {
+    fn duplicate(&self, alloc: Global) -> Result<Self, AllocError> {
+        Ok(Plain {
+            kernel: self.kernel.duplicate(alloc)?,
+            users: self.users.duplicate(alloc)?,
+        })
+    }
 }

@@ -1,3 +1,5 @@
+use std::alloc::{AllocError, Global};
+use views::duplicate::Duplicate;
 use views::number_map::NumberMap;
 
 /// Whether a process lives, or has ended and its parent has not waited for it (`man 2 wait4`).
@@ -23,4 +25,21 @@ pub struct Process {
 pub struct Maker {
     pub host: u32,
     pub made: u32,
+}
+
+impl Duplicate for Process {
+    fn duplicate(&self, alloc: Global) -> Result<Self, AllocError> {
+        Ok(Process {
+            parent: self.parent,
+            life: self.life,
+            pending: self.pending,
+            threads: self.threads.duplicate(alloc)?,
+        })
+    }
+}
+
+impl Duplicate for Maker {
+    fn duplicate(&self, alloc: Global) -> Result<Self, AllocError> {
+        Ok(*self)
+    }
 }

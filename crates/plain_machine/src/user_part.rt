@@ -1,5 +1,7 @@
 use crate::memory::Frame;
 use crate::regs::Regs;
+use std::alloc::{AllocError, Global};
+use views::duplicate::Duplicate;
 use views::list_of::ListOf;
 use views::number_map::NumberMap;
 
@@ -45,4 +47,46 @@ pub struct UserPart {
     pub threads: NumberMap<ThreadPart>,
     pub actions: ListOf<SignalAction>,
     pub waiters: ListOf<Waiter>,
+}
+
+impl Duplicate for Context {
+    fn duplicate(&self, alloc: Global) -> Result<Self, AllocError> {
+        Ok(*self)
+    }
+}
+
+impl Duplicate for ThreadPart {
+    fn duplicate(&self, alloc: Global) -> Result<Self, AllocError> {
+        Ok(ThreadPart {
+            regs: self.regs,
+            mask: self.mask,
+            clear_tid: self.clear_tid,
+            contexts: self.contexts.duplicate(alloc)?,
+        })
+    }
+}
+
+impl Duplicate for SignalAction {
+    fn duplicate(&self, alloc: Global) -> Result<Self, AllocError> {
+        Ok(*self)
+    }
+}
+
+impl Duplicate for Waiter {
+    fn duplicate(&self, alloc: Global) -> Result<Self, AllocError> {
+        Ok(*self)
+    }
+}
+
+impl Duplicate for UserPart {
+    fn duplicate(&self, alloc: Global) -> Result<Self, AllocError> {
+        Ok(UserPart {
+            memory: self.memory.duplicate(alloc)?,
+            break_start: self.break_start,
+            break_end: self.break_end,
+            threads: self.threads.duplicate(alloc)?,
+            actions: self.actions.duplicate(alloc)?,
+            waiters: self.waiters.duplicate(alloc)?,
+        })
+    }
 }
