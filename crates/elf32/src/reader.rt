@@ -66,3 +66,6 @@ fn is_entry(address: u32, segments: &[Segment]) -> bool
 {
     address % 4 == 0 && page_rights(segments, u64::from(address) / PAGE_SIZE) & 1 == 1
 }
+
+#[cfg(test)]
+mod tests;
