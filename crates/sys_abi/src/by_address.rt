@@ -1,4 +1,4 @@
-ghost use Rattle.std.specs.Prelude.{◌≡◌, ◌↔◌, is_some, IsTrue, IfOk, OnOk, OnErr};
+ghost use Rattle.std.specs.Prelude.{◌≡◌, ◌↔◌, Bool, is_some, IsTrue, IfOk, OnOk, OnErr};
 ghost use Rattle.std.specs.Option.{option_copied, option_copied_mut};
 ghost use Rattle.std.specs.Borrow.{sem};
 ghost use Rattle.std.specs.FinMap as map;
@@ -87,6 +87,18 @@ impl<V> ByAddress<V> {
         ensures removed { self.new ≡ map.remove self.old key }
     {
         self.entries.remove(&key)
+    }
+
+    /// Keeps the entries whose keys pass the test, which each result of the closure is. Takes no memory.
+    pub fn retain<F: Fn(VirtAddr) -> bool>(&mut self, keep: F)
+    where
+        V: Drop,
+        ghost test: { VirtAddr → Bool }
+        requires callable { F.IsAlwaysCallable keep }
+        requires tests { (key : VirtAddr) (kept : Bool) → F.post keep key kept → kept ≡ test key }
+        ensures { self.new ≡ map.retain_keys self.old test }
+    {
+        self.entries.retain(|key, _| keep(*key));
     }
 
     /// The entries, in the order of their keys.
