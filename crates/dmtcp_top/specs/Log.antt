@@ -1,0 +1,30 @@
+-- The last line of a log, by the way in which the call ended. Each line ends with a newline.
+use Rattle.std.specs.Prelude.{ℕ, List, ◌++◌, codes}
+use Rattle.std.specs.Fmt.{decimal}
+use Rattle.elf32.specs.declared.fault.ElfFault.{ElfFault}
+use Rattle.elf32.specs.Faults.{word_of}
+
+abbrev pub line : List ℕ → List ℕ
+line text = text ++ codes "\n"
+
+abbrev pub done_line : List ℕ
+done_line = line (codes "done")
+
+abbrev pub usage_line : List ℕ
+usage_line = line (codes "usage")
+
+abbrev pub input_fault_line : List ℕ → List ℕ
+input_fault_line name = line (codes "input fault: " ++ name)
+
+abbrev pub missing_line : List ℕ → List ℕ
+missing_line name = line (codes "missing: " ++ name)
+
+-- as `bad program: NAME: short at 51`
+abbrev pub bad_program_line : List ℕ → ElfFault → List ℕ
+bad_program_line name fault = line (codes "bad program: " ++ name ++ codes ": " ++ word_of fault.reason ++ codes " at " ++ decimal fault.offset)
+
+abbrev pub budget_line : ℕ → List ℕ
+budget_line records = line (codes "budget spent: " ++ decimal records ++ codes " records")
+
+abbrev pub memory_line : List ℕ
+memory_line = line (codes "memory")

@@ -1,0 +1,96 @@
+-- The order in which one thread of the host runs the threads of all processes: round after round. A round has the processes that live at its start, in
+-- rising order. When a process's turn comes, the threads that it has then follow each other in rising order. In its turn a thread runs one quantum,
+-- unless it stands at a call or a trap; if it then stands at one, the call is served or the trap is delivered. Who has ended meanwhile is passed over.
+--     new_round g                  the first turn of a round that starts at this state
+--     in_rounds g place records    each of the records is due when it comes, from this state and this place in the rounds on
+use Rattle.std.specs.Prelude.{◌≡◌, ◌==◌, ◌&&◌, ℕ, Bool, true, false, not, List, [], ◌∷◌, Option, Some, None, is_some, option_and_then, if◌then◌else◌}
+use Rattle.std.specs.FinMap as map
+use Rattle.sys_abi.specs.declared.identity.VPid.{VPid}
+use Rattle.sys_abi.specs.declared.identity.Tid.{Tid}
+use Rattle.sys_abi.specs.declared.record.Record.{Record}
+use Rattle.sys_abi.specs.declared.record.Record.TheVariants.{User, Call, Deliver}
+use Rattle.plain_machine.specs.declared.plain.Plain.{Plain}
+use Rattle.plain_machine.specs.declared.user_part.UserPart.{UserPart}
+use Rattle.plain_machine.specs.Records.{step, stands}
+use Rattle.plain_machine.specs.Steps.{user_step}
+
+-- a place in the rounds: whose turn it is, and whether that thread has run its quantum
+pub record Place : Type 0 where
+  pub p : VPid
+  pub t : ℕ
+  pub has_run : Bool
+  pub threads : List ℕ  -- those of p whose turn is still to come
+  pub processes : List VPid  -- those of this round whose turn is still to come
+
+abbrev pub or_else : {A : Type 0} → Option A → Option A → Option A
+or_else None other = other
+or_else (Some a) other = Some a
+
+abbrev pub has_thread : Option UserPart → ℕ → Bool
+has_thread None t = false
+has_thread (Some user) t = is_some (map.get user.threads t)
+
+abbrev pub threads_in : Option UserPart → List ℕ
+threads_in None = []
+threads_in (Some user) = map.keys user.threads
+
+-- the turn of the first of these threads of a process that is still there
+unfoldable pub first_thread : Plain → VPid → List VPid → List ℕ → Option Place
+first_thread g p processes [] = None
+first_thread g p processes (t ∷ threads) =
+    if has_thread (map.get g.users p) t then
+    Some (record { p = p; t = t; has_run = false; threads = threads; processes = processes })
+    else
+    first_thread g p processes threads
+
+-- the first turn of the first of these processes that is still there
+unfoldable pub first_turn : Plain → List VPid → Option Place
+first_turn g [] = None
+first_turn g (p ∷ processes) = or_else (first_thread g p processes (threads_in (map.get g.users p))) (first_turn g processes)
+
+abbrev pub new_round : Plain → Option Place
+new_round g = first_turn g (map.keys g.users)
+
+abbrev pub next_turn : Plain → Place → Option Place
+next_turn g here = or_else (first_thread g here.p here.processes here.threads) (or_else (first_turn g here.processes) (new_round g))
+
+abbrev pub is_turn_of : Place → VPid → Tid → Bool
+is_turn_of here p t = (here.p.0 == p.0) && (here.t == t.0)
+
+abbrev pub is_due_in : Place → Record → Bool
+is_due_in here (User p t n) = is_turn_of here p t && not here.has_run
+is_due_in here (Call p t) = is_turn_of here p t
+is_due_in here (Deliver p t s) = is_turn_of here p t
+is_due_in here _ = false
+
+abbrev pub is_due : Option Place → Record → Bool
+is_due None r = false
+is_due (Some here) r = is_due_in here r
+
+abbrev pub stands_in : Option UserPart → ℕ → Bool
+stands_in None t = false
+stands_in (Some user) t = stands (user_step user t)
+
+-- the place after a record, where g is the state after it
+abbrev pub place_after : Plain → Place → Record → Option Place
+place_after g here (User p t n) =
+    if stands_in (map.get g.users here.p) here.t then
+    Some (record { p = here.p; t = here.t; has_run = true; threads = here.threads; processes = here.processes })
+    else
+    next_turn g here
+place_after g here _ = next_turn g here
+
+abbrev pub moved : Plain → Option Place → Record → Option Place
+moved g place r = option_and_then (λ here. place_after g here r) place
+
+abbrev pub then_so : {A : Type 0} → Option A → (A → Bool) → Bool
+then_so None test = false
+then_so (Some a) test = test a
+
+unfoldable pub in_rounds : Plain → Option Place → List Record → Bool
+in_rounds g place [] = true
+in_rounds g place (r ∷ records) = is_due place r && then_so (step g r) (λ next. in_rounds next (moved next place r) records)
+
+-- the records are those of the rounds that start at this state
+abbrev pub GoesInRounds : Plain → List Record → Type 0
+GoesInRounds g records = in_rounds g (new_round g) records ≡ true

@@ -1,0 +1,8 @@
+//! The top call of the checkpointer.
+#![tactic(auto)]
+
+pub mod job;
+pub mod status;
+
+pub use job::Job;
+pub use status::Status;
