@@ -2,3 +2,9 @@ pub mod Files
 pub mod Crash
 pub mod Moments
 pub mod Faults
+pub mod History
+pub mod InMemory
+pub mod FileTable
+pub mod FilesCode
+pub mod HistoryCode
+pub mod InMemoryLaws

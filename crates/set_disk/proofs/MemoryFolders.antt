@@ -1,0 +1,88 @@
+-- A folder in memory keeps the promises of a `Folder`.
+use Rattle.std.proofs.Common.{◌≡◌, ℕ, ◌+◌, ◌<◌, ◌≤◌, Bool, true, false, List, [], ◌∷◌, ◌++◌, length, take, inl, inr, refl, sym, ap, subst, ◌∙◌, arith, length-append}
+use Rattle.std.specs.Prelude.{◌⊎◌, Option, Some, None, Result, Ok, Err, OnOk}
+use Rattle.std.proofs.lemmas.List.{take-append-le, take_all}
+use Rattle.std.proofs.lemmas.Bool.{cases_lt}
+use Rattle.set_disk.specs.Files.{with_write, with_cut}
+use Rattle.set_disk.specs.Files.{Files}
+use Rattle.set_disk.specs.Crash.{AfterStep, Same, IsSettled}
+use Rattle.set_disk.specs.Moments.{Passes}
+use Rattle.set_disk.specs.History.{History, image_after, MayLeave, durable, pending, reads_after, settles, torn_by, with_call}
+use Rattle.set_disk.specs.InMemory.{reads_of, MayLeaveNow, moment_of, LeftSince, faults_of, Answers}
+use Rattle.set_disk.specs.declared.call.Call.{Call}
+use Rattle.set_disk.specs.declared.request.Request.{Request}
+use Rattle.set_disk.specs.declared.request.Request.TheVariants.{Look, Write, Cut, Sync}
+use Rattle.set_disk.specs.declared.disk_fault.DiskFault.{DiskFault}
+use Rattle.set_disk.specs.declared.disk_fault.DiskFault.TheVariants.{Failed, Memory}
+use Rattle.set_disk.proofs.Histories.{pending_leave, none_torn, MayLeave-next, MayLeave-settled, reads-push}
+
+pub image_left : (v h : History) (k pattern : ℕ) (image : Files) → v ≡ h → k ≤ length h.calls → image ≡ image_after pattern v.start (take k v.calls) → LeftSince h k image
+image_left v h k pattern image is within made =
+    let made_of : image ≡ image_after pattern h.start (take k h.calls) = subst (λ (w : History). image ≡ image_after pattern w.start (take k w.calls)) is made in
+    let calls = take k h.calls in
+    (k, omega arith, within, subst (MayLeave h.start calls) (sym made_of) (inr (pending_leave pattern (durable h.start calls) (pending calls))))
+
+since_call : (h : History) (request : Request) (is_done : Bool) (t k : ℕ) (image : Files) → t ≤ length h.calls → t ≤ k → k ≤ length h.calls + 1 → MayLeave h.start (take k (h.calls ++ record { request = request; done = is_done } ∷ [])) image
+    → (length h.calls < k) ⊎ (k ≤ length h.calls) → LeftSince h t image ⊎ AfterStep (torn_by request) (MayLeaveNow h) image
+since_call h request is_done t k image early since within left (inl last) =
+    let call : Call = record { request = request; done = is_done } in
+    let whole : take k (h.calls ++ call ∷ []) ≡ h.calls ++ call ∷ [] = take_all k (h.calls ++ call ∷ []) (omega (arith, length-append h.calls (call ∷ []))) in
+    inr (MayLeave-next h.start h.calls call image (subst (λ calls. MayLeave h.start calls image) whole left))
+since_call h request is_done t k image early since within left (inr before) =
+    let call : Call = record { request = request; done = is_done } in
+    inl (k, since, before, subst (λ calls. MayLeave h.start calls image) (take-append-le k h.calls (call ∷ []) before) left)
+
+pub one_more : (h : History) (request : Request) (is_done : Bool) → Passes moment_of MayLeaveNow LeftSince (torn_by request) h (with_call h request is_done)
+one_more h request is_done =
+    let call : Call = record { request = request; done = is_done } in
+    let size : length (h.calls ++ call ∷ []) ≡ length h.calls + 1 = length-append h.calls (call ∷ []) in
+    record {
+      later = omega (arith, size);
+      now = λ image left. MayLeave-next h.start h.calls call image left;
+      since = λ t image early left. since_call h request is_done t left.0 image early left.1 (let within = left.2 in omega (arith, size)) left.3 (cases_lt (length h.calls) left.0);
+      keeps = λ t image early left. (
+        left.0,
+        left.1,
+        (let within = left.2 in omega (arith, size)),
+        subst (λ calls. MayLeave h.start calls image) (sym (take-append-le left.0 h.calls (call ∷ []) left.2)) left.3,
+      );
+    }
+
+pub stays : (h : History) (step : Files → Files → Type 0) → ((files : Files) → step files files) → Passes moment_of MayLeaveNow LeftSince step h h
+stays h step none = record {
+  later = omega arith;
+  now = λ image left. (image, left, none image);
+  since = λ t image early left. inl left;
+  keeps = λ t image early left. left;
+}
+
+pub stays_as : (h n : History) (step : Files → Files → Type 0) → ((files : Files) → step files files) → n ≡ h → Passes moment_of MayLeaveNow LeftSince step h n
+stays_as h n step none same = subst (λ (m : History). Passes moment_of MayLeaveNow LeftSince step h m) (sym same) (stays h step none)
+
+one_more_as : (h n : History) (request : Request) (is_done : Bool) → n ≡ with_call h request is_done → Passes moment_of MayLeaveNow LeftSince (torn_by request) h n
+one_more_as h n request is_done is = subst (λ (m : History). Passes moment_of MayLeaveNow LeftSince (torn_by request) h m) (sym is) (one_more h request is_done)
+
+-- a call, whatever it answers
+pub passes : {A : Type 0} (request : Request) (h n : History) (r : Result A DiskFault) → Answers request h n r → Passes moment_of MayLeaveNow LeftSince (torn_by request) h n
+passes request h n (Ok value) answers = one_more_as h n request true answers.1
+passes request h n (Err Failed) answers = one_more_as h n request false answers.1
+passes request h n (Err Memory) answers = stays_as h n (torn_by request) (none_torn request) answers
+
+memory_is : {A : Type 0} (request : Request) (h n : History) (r : Result A DiskFault) → Answers request h n r → r ≡ Err Memory → n ≡ h
+memory_is {A} request h n r answers is = let P : Result A DiskFault → Type 0 = Answers request h n in subst P is answers
+
+pub memory_passes : {A : Type 0} (request : Request) (h n : History) (r : Result A DiskFault) → Answers request h n r → r ≡ Err Memory → Passes moment_of MayLeaveNow LeftSince Same h n
+memory_passes request h n r answers is = stays_as h n Same (λ files. refl) (memory_is request h n r answers is)
+
+-- a call that failed has changed nothing of what reads give
+pub failed_reads : {A : Type 0} (request : Request) (h n : History) (r : Result A DiskFault) → Answers request h n r → r ≡ Err Failed → reads_of n ≡ reads_of h
+failed_reads {A} request h n r answers is =
+    let P : Result A DiskFault → Type 0 = Answers request h n in
+    let failed = subst P is answers in
+    ap reads_of failed.1 ∙ ap Some (reads-push h.start h.calls (record { request = request; done = false }))
+
+-- a sync that was done
+pub settled_by : {A : Type 0} (h n : History) (r : Result A DiskFault) → Answers Sync h n r → OnOk r (IsSettled (reads_of n) (MayLeaveNow n))
+settled_by h n (Ok value) answers =
+    subst (λ (m : History). IsSettled (reads_of m) (MayLeaveNow m)) (sym answers.1) (λ image left. MayLeave-settled h.start h.calls (record { request = Sync; done = true }) image refl left)
+settled_by h n (Err fault) answers = tt
