@@ -16,10 +16,12 @@ pub mod description;
 pub mod instruction;
 pub mod kernel;
 pub mod laws;
+pub mod look_ups;
 pub mod memory;
 pub mod plain;
 pub mod process;
 pub mod regs;
+pub mod start;
 pub mod user_part;
 
 pub use buffers::{Source, Span, Spans, length_place, reads_of, writes_of};
@@ -32,4 +34,5 @@ pub use memory::{Frame, Right};
 pub use plain::Plain;
 pub use process::{Life, Maker, Process};
 pub use regs::Regs;
+pub use start::{FIRST_PID, NOBODY};
 pub use user_part::{Context, SignalAction, ThreadPart, UserPart, Waiter};

@@ -1,0 +1,105 @@
+ghost use Rattle.std.specs.Prelude.{◌≡◌, ◌+◌, ◌^◌, ◌<◌, IfOk, OnOk, OnErr};
+ghost use Rattle.std.specs.FinMap as map;
+ghost use Rattle.plain_machine.specs.Kernel.{slot};
+ghost use Rattle.plain_machine.specs.Start as words;
+
+use crate::description::{Description, Descriptor, Object};
+use crate::kernel::PlainKernel;
+use crate::process::{Life, Maker, Process};
+use std::alloc::{AllocError, Global};
+use sys_abi::flags::O_RDWR;
+use sys_abi::{ByAddress, ByConn, ByDesc, ByDir, ByName, ByPid, BySlot, DescId, Slot, VPid};
+use views::duplicate::Duplicate;
+use views::number_map::NumberMap;
+
+/// The number of the first process.
+pub const FIRST_PID: u32 = 40_000;
+
+/// The parent of a process that nobody waits for.
+pub const NOBODY: u32 = 1;
+
+impl PlainKernel {
+    /// The kernel part with no process and no file, which holds no memory yet.
+    #[tactic(auto, unfolding(crate::specs::Start::empty_kernel))]
+    pub fn empty(alloc: Global) -> PlainKernel
+        ensures { result ≡ words.empty_kernel }
+    {
+        PlainKernel {
+            processes: ByPid::new(alloc),
+            makers: ByPid::new(alloc),
+            descriptors: BySlot::new(alloc),
+            descriptions: ByDesc::new(alloc),
+            names: ByName::new(alloc),
+            files: NumberMap::new(alloc),
+            next_file: 1,
+            channels: ByConn::new(alloc),
+            directions: ByDir::new(alloc),
+            listeners: ByAddress::new(alloc),
+            inboxes: ByDesc::new(alloc),
+            next_id: FIRST_PID,
+        }
+    }
+
+    /// Adds a live process with one thread of its own number, the console on descriptors 0, 1 and 2, and nobody for a
+    /// parent; the next process or thread gets the number after it. Without memory the kernel part is as before.
+    #[tactic(auto, unfolding(crate::specs::Start::with_process))]
+    pub fn add_process(&mut self, alloc: Global, p: u32, host: u32) -> Result<(), AllocError>
+        requires { p + 1 < 2 ^ 32 }
+        ensures ok { OnOk result (self.new ≡ words.with_process self.old p host) }
+        ensures err { OnErr result (self.new ≡ self.old) }
+    {
+        let pid = VPid(p);
+        let console = DescId { pid, num: 0 };
+        let mut processes = self.processes.duplicate(alloc)?;
+        processes.insert(pid, start_process(alloc, p)?)?;
+        let mut makers = self.makers.duplicate(alloc)?;
+        makers.insert(pid, Maker { host, made: 1 })?;
+        let descriptor = Descriptor {
+            desc: console,
+            cloexec: false,
+        };
+        let descriptors = with_standard(alloc, &self.descriptors, pid, descriptor)?;
+        self.descriptions.insert(console, CONSOLE)?;
+        self.processes = processes;
+        self.makers = makers;
+        self.descriptors = descriptors;
+        self.next_id = p + 1;
+        Ok(())
+    }
+}
+
+const CONSOLE: Description = Description {
+    object: Object::Console,
+    flags: O_RDWR,
+    owner: 0,
+};
+
+fn start_process(alloc: Global, p: u32) -> Result<Process, AllocError>
+    ensures { IfOk result (λ process. process ≡ words.start_process p) }
+{
+    let mut threads = NumberMap::new(alloc);
+    threads.insert(p, 0)?;
+    Ok(Process {
+        parent: NOBODY,
+        life: Life::Live,
+        pending: 0,
+        threads,
+    })
+}
+
+/// A copy of the descriptors, with this one as 0, 1 and 2 of the process.
+fn with_standard(
+    alloc: Global,
+    descriptors: &BySlot<Descriptor>,
+    pid: VPid,
+    descriptor: Descriptor,
+) -> Result<BySlot<Descriptor>, AllocError>
+    ensures { IfOk result (λ added. added ≡
+        map.insert (map.insert (map.insert descriptors.now (slot pid 0) descriptor) (slot pid 1) descriptor) (slot pid 2) descriptor) }
+{
+    let mut added = descriptors.duplicate(alloc)?;
+    added.insert(Slot { pid, fd: 0 }, descriptor)?;
+    added.insert(Slot { pid, fd: 1 }, descriptor)?;
+    added.insert(Slot { pid, fd: 2 }, descriptor)?;
+    Ok(added)
+}
