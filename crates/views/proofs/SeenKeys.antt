@@ -86,7 +86,7 @@ module _ {J K X : Type 0} (shows : J → K) where
   seen-insert_entry R [] j v = refl
   seen-insert_entry R (e ∷ es) j v =
       elim (R (shows j) (shows e.0)) as (λ r. seen (match_ordering r ((j, v) ∷ e ∷ es) ((e.0, v) ∷ es) (e ∷ insert_entry (λ i j. R (shows i) (shows j)) es j v))
-          ≡ match_ordering r ((shows j, v) ∷ (shows e.0, e.1) ∷ seen es) ((shows e.0, v) ∷ seen es) ((shows e.0, e.1) ∷ insert_entry R (seen es) (shows j) v)) [
+      ≡ match_ordering r ((shows j, v) ∷ (shows e.0, e.1) ∷ seen es) ((shows e.0, v) ∷ seen es) ((shows e.0, e.1) ∷ insert_entry R (seen es) (shows j) v)) [
         | Less ↦ refl
         | Equal ↦ refl
         | Greater ↦ ap (λ l. (shows e.0, e.1) ∷ l) (seen-insert_entry R es j v)
@@ -111,4 +111,4 @@ module _ {J K X : Type 0} (shows : J → K) where
         → before ≡ after ++ (j, w) ∷ [] → shows i ≡ shows j → v ≡ w → next ≡ insert_entry (λ i j. R (shows i) (shows j)) copy i v → seen after ++ seen next ≡ seen all
     copied_seen before after copy next all i j v w is sorted last same_key same_value inserted =
         copied_one o (seen before) (seen after) (seen copy) (seen next) (seen all) (shows i) v (shows j, w) is (sorted_seen R all sorted)
-          (ap seen last ∙ seen-append after ((j, w) ∷ [])) same_key same_value (ap seen inserted ∙ seen-insert_entry R copy i v)
+        (ap seen last ∙ seen-append after ((j, w) ∷ [])) same_key same_value (ap seen inserted ∙ seen-insert_entry R copy i v)
