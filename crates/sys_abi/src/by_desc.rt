@@ -89,14 +89,13 @@ impl<V> ByDesc<V> {
         self.entries.remove(&key)
     }
 
-    /// Keeps the entries whose keys pass the test, which each result of the closure is. Takes no memory.
+    /// Keeps the entries at whose keys the closure answers true. Takes no memory.
     pub fn retain<F: Fn(DescId) -> bool>(&mut self, keep: F)
     where
         V: Drop,
-        ghost test: { DescId → Bool }
-        requires callable { F.IsAlwaysCallable keep }
-        requires tests { (key : DescId) (kept : Bool) → F.post keep key kept → kept ≡ test key }
-        ensures { self.new ≡ map.retain_keys self.old test }
+        requires { F.IsAlwaysCallable keep }
+        ensures { (test : DescId → Bool) → ((key : DescId) (kept : Bool) → F.post keep key kept → kept ≡ test key)
+            → self.new ≡ map.retain_keys self.old test }
     {
         self.entries.retain(|key, _| keep(*key));
     }
