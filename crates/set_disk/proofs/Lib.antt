@@ -4,3 +4,4 @@ pub mod TornFiles
 pub mod Stretches
 pub mod Histories
 pub mod MemoryFolders
+pub mod UntoldPasses

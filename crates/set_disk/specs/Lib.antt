@@ -8,3 +8,4 @@ pub mod FileTable
 pub mod FilesCode
 pub mod HistoryCode
 pub mod InMemoryLaws
+pub mod Untold
