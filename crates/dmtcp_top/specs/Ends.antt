@@ -1,7 +1,7 @@
 -- How a call ends: for each status what holds of the trace, the console and the log, in one line.
 --     Reaches status session last     the call came to this status, with which this last line belongs on the log
 --     Ends status session             the same with the log that it left
-use Rattle.std.specs.Prelude.{◌≡◌, ◌≢◌, ℕ, ◌⊎◌, ◌↔◌, true, false, List, [], length, Option, Some, None}
+use Rattle.std.specs.Prelude.{◌≡◌, ◌≢◌, ℕ, ◌⊎◌, ◌↔◌, true, false, List, [], length, Some, None}
 use Rattle.std.specs.FinMap as map
 use Rattle.elf32.specs.declared.fault.ElfFault.{ElfFault}
 use Rattle.elf32.specs.Rules.{first_fault}

@@ -1,5 +1,5 @@
 -- A launch: the program that the words name, its start, and what it means that the trace of a call is its run.
-use Rattle.std.specs.Prelude.{◌≡◌, ℕ, ◌≤◌, Bool, true, false, List, [], ◌∷◌, ◌++◌, length, All, Option, Some, None}
+use Rattle.std.specs.Prelude.{◌≡◌, ℕ, ◌≤◌, Bool, true, false, List, [], ◌∷◌, ◌++◌, length, All, Some, None}
 use Rattle.sys_abi.specs.declared.record.Record.{Record}
 use Rattle.sys_abi.specs.declared.record.Record.TheVariants.{User, Call, Deliver, Arrive}
 use Rattle.elf32.specs.Programs.{program_of}
@@ -9,7 +9,7 @@ use Rattle.plain_machine.specs.Start.{start}
 use Rattle.plain_machine.specs.Runs.{run, console}
 use Rattle.dmtcp_top.specs.Words.{IsLaunch}
 use Rattle.dmtcp_top.specs.Rounds.{GoesInRounds}
-use Rattle.dmtcp_top.specs.Sessions.{Session, IsInput, Took, TookFront}
+use Rattle.dmtcp_top.specs.Sessions.{Session, IsInput}
 
 -- the one argument of a program is its name, with a zero byte at its end
 abbrev pub arguments_of : List ℕ → List ℕ

@@ -1,4 +1,4 @@
-ghost use Rattle.std.specs.Prelude.{◌≡◌, ℕ, List, map, string_bytes, IsTrue, ◌↔◌, IfSome, IfNone};
+ghost use Rattle.std.specs.Prelude.{◌≡◌, ℕ, List, [], ◌∷◌, map, string_bytes, IsTrue, ◌↔◌, IfSome, IfNone};
 ghost use Rattle.std.specs.Fmt.{decimal};
 ghost use Rattle.dmtcp_top.specs.Words.{IsName, IsBudget, IsLaunch, NoLaunch, program_word};
 
@@ -25,21 +25,48 @@ impl<'a> Job<'a> {
         ensures some { IfSome result (λ job. IsLaunch (map string_bytes words.now) job.name.now job.records) }
         ensures none { IfNone result (NoLaunch (map string_bytes words.now)) }
     {
-        let (command, rest) = words.split_first()?;
-        if command.as_str() != "launch" {
-            return None;
-        }
-        match rest {
-            [program] => Some(Job {
-                name: name_in(program.as_str())?,
-                records: DEFAULT_BUDGET,
-            }),
-            [option, records, program] if option.as_str() == "--records" => Some(Job {
-                name: name_in(program.as_str())?,
-                records: budget_in(records.as_str())?,
-            }),
+        match words {
+            [command, program] => Job::plain(command.as_str(), program.as_str()),
+            [command, option, records, program] => Job::with_records(
+                command.as_str(),
+                option.as_str(),
+                records.as_str(),
+                program.as_str(),
+            ),
             _ => None,
         }
+    }
+
+    fn plain(command: &str, program: &'a str) -> Option<Self>
+        ensures some { IfSome result
+            (λ job. IsLaunch (command.now ∷ program.now ∷ []) job.name.now job.records) }
+        ensures none { IfNone result (NoLaunch (command.now ∷ program.now ∷ [])) }
+    {
+        if command != "launch" {
+            return None;
+        }
+        Some(Job {
+            name: name_in(program)?,
+            records: DEFAULT_BUDGET,
+        })
+    }
+
+    fn with_records(command: &str, option: &str, records: &str, program: &'a str) -> Option<Self>
+        ensures some { IfSome result (λ job. IsLaunch
+            (command.now ∷ option.now ∷ records.now ∷ program.now ∷ []) job.name.now job.records) }
+        ensures none { IfNone result
+            (NoLaunch (command.now ∷ option.now ∷ records.now ∷ program.now ∷ [])) }
+    {
+        if command != "launch" {
+            return None;
+        }
+        if option != "--records" {
+            return None;
+        }
+        Some(Job {
+            name: name_in(program)?,
+            records: budget_in(records)?,
+        })
     }
 }
 
@@ -68,8 +95,9 @@ fn budget_in(word: &str) -> Option<u32>
     ensures some { IfSome result (λ records. IsBudget records × (word.now ≡ decimal records)) }
     ensures none { IfNone result ((records : ℕ) → IsBudget records → word.now ≡ decimal records → ⊥) }
 {
+    // `parse` takes a sign and leading zeros too.
     let first = word.as_bytes().first()?;
-    if *first < b'1' || b'9' < *first {
+    if *first <= b'0' {
         return None;
     }
     let records = word.parse::<u32>().ok()?;
