@@ -89,14 +89,13 @@ impl<V> ByDir<V> {
         self.entries.remove(&key)
     }
 
-    /// Keeps the entries whose keys pass the test, which each result of the closure is. Takes no memory.
+    /// Keeps the entries at whose keys the closure answers true. Takes no memory.
     pub fn retain<F: Fn(Dir) -> bool>(&mut self, keep: F)
     where
         V: Drop,
-        ghost test: { Dir → Bool }
-        requires callable { F.IsAlwaysCallable keep }
-        requires tests { (key : Dir) (kept : Bool) → F.post keep key kept → kept ≡ test key }
-        ensures { self.new ≡ map.retain_keys self.old test }
+        requires { F.IsAlwaysCallable keep }
+        ensures { (test : Dir → Bool) → ((key : Dir) (kept : Bool) → F.post keep key kept → kept ≡ test key)
+            → self.new ≡ map.retain_keys self.old test }
     {
         self.entries.retain(|key, _| keep(*key));
     }

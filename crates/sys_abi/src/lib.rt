@@ -20,6 +20,8 @@ pub mod calls;
 pub mod errors;
 pub mod flags;
 pub mod identity;
+#[cfg(test)]
+mod map_tests;
 pub mod page;
 pub mod record;
 pub mod reply;

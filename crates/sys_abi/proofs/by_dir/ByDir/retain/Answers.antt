@@ -6,7 +6,7 @@ use Rattle.sys_abi.proofs.RetainedKeys.{view-retain}
 use Rattle.sys_abi.proofs.by_dir.ByDir.retain.Goals as goal
 
 pub returns : goal.returns
-returns g c =
-    view-retain dir_total dir_exact c.self.inside.entries c.retain.new.self g.test
-    (filter_same_pairs _ (λ e. g.test e.0) _ (λ k v b w f' t. search rules) c.self.inside.entries.entries c.retain.new.self.entries c.retain.ensures.filtered)
-    ∙ ap (λ m. map.retain_keys m g.test) c.self.view_is
+returns g c test tests =
+    view-retain dir_total dir_exact c.self.inside.entries c.retain.new.self test
+    (filter_same_pairs _ (λ e. test e.0) _ (λ k v b w f' t. search (rules, tests)) c.self.inside.entries.entries c.retain.new.self.entries c.retain.ensures.filtered)
+    ∙ ap (λ m. map.retain_keys m test) c.self.view_is
