@@ -1,6 +1,6 @@
 -- The 16 bytes of a record are those of no other record
-use Rattle.std.proofs.Common.{◌≡◌, ℕ, ◌/◌, ◌%◌, ◌^◌, ◌<◌, ◌≤◌, ◌&&◌, nat_le, nat_lt, Bool, true, false, IsTrue, List, [], ◌∷◌, ◌++◌, take, drop, get_or, Option, Some, None, IfNone, refl, sym, ap, ◌∙◌, arith, lit<}
-use Rattle.std.specs.Int.{w16, w32, to_le_bytes, from_le_bytes}
+use Rattle.std.proofs.Common.{◌≡◌, ℕ, ◌/◌, ◌%◌, ◌^◌, ◌<◌, ◌&&◌, nat_le, nat_lt, Bool, IsTrue, List, ◌++◌, take, drop, get_or, Option, Some, None, IfNone, refl, sym, ap, ◌∙◌, arith, lit<}
+use Rattle.std.specs.Int.{w16, w32, from_le_bytes}
 use Rattle.std.proofs.lemmas.Bool.Decides.{nat_tests}
 use Rattle.std.proofs.lemmas.Nat.{from_le_bytes-to_le_bytes_2, from_le_bytes-to_le_bytes_4}
 use Rattle.sys_abi.specs.declared.record.Record.{Record}
@@ -9,8 +9,7 @@ use Rattle.sys_abi.specs.declared.record.Cause.TheVariants.{Unsupported, DiskFau
 use Rattle.sys_abi.specs.declared.record.Kind.{Kind}
 use Rattle.sys_abi.specs.declared.record.Kind.TheVariants.{Console, File, Stream, Socket, Listener, Datagram, Counter}
 use Rattle.trace_log.specs.declared.fields.Fields.{Fields}
-use Rattle.trace_log.specs.Spelling.{fields_of, is_spellable, IsInRange, IsSmall, HasSpelling, bytes_of, spelling, BeginsWithNone, kind_number}
-use Rattle.trace_log.specs.Candidate.{candidate}
+use Rattle.trace_log.specs.Spelling.{fields_of, IsInRange, IsSmall, HasSpelling, bytes_of, spelling, BeginsWithNone, kind_number}
 use Rattle.trace_log.proofs.OneRecord.{candidate-fields_of}
 
 -- the fields at the front of the bytes
@@ -62,7 +61,7 @@ fd_below : (fd : ℕ) (listed : Bool) → IsTrue (nat_lt fd (2 ^ 16) && listed) 
 fd_below fd listed h = grind (arith, nat_tests)
 
 pub fields_of-IsSmall : (r : Record) → HasSpelling r → IsSmall (fields_of r)
-unfolding fields_of is_spellable IsInRange
+unfolding fields_of IsInRange
 fields_of-IsSmall (User p t n) h = let range = h.in_range in small_thread 1 p.0 t.0 n 0 (lit< tt) (lit< tt) range.0 range.1 range.2
 fields_of-IsSmall (Call p t) h = let range = h.in_range in small_thread 2 p.0 t.0 0 0 (lit< tt) (lit< tt) range.0 range.1 (lit< tt)
 fields_of-IsSmall (Deliver p t s) h = let range = h.in_range in small_thread 3 p.0 t.0 0 s.0 (lit< tt) (signal_below s.0 h.spellable) range.0 range.1 (lit< tt)

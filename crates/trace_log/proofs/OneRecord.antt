@@ -1,14 +1,12 @@
 -- The fields of a record are those of no other record
-use Rattle.std.proofs.Common.{◌≡◌, ℕ, ◌+◌, ◌*◌, ◌/◌, ◌%◌, ◌^◌, ◌<◌, ◌≤◌, Bool, true, false, cond, ◌&&◌, nat_le, nat_lt, IsTrue, Option, Some, None, refl, sym, ap, ◌∙◌, arith, eqb}
+use Rattle.std.proofs.Common.{◌≡◌, ℕ, ◌+◌, ◌*◌, ◌/◌, ◌%◌, ◌^◌, Bool, true, false, cond, ◌&&◌, nat_le, nat_lt, IsTrue, Some, None, refl, ap, ◌∙◌, arith, eqb}
 use Rattle.std.proofs.lemmas.Bool.{eq-eqb}
 use Rattle.sys_abi.specs.declared.record.Record.{Record}
 use Rattle.sys_abi.specs.declared.record.Record.TheVariants.{User, Call, Deliver, Arrive, Cut, Drained, Refilled, Complete, Refused, Lapsed}
 use Rattle.sys_abi.specs.declared.record.Cause.TheVariants.{Unsupported, DiskFault, Memory}
 use Rattle.sys_abi.specs.declared.record.Kind.{Kind}
 use Rattle.sys_abi.specs.declared.record.Kind.TheVariants.{Console, File, Stream, Socket, Listener, Datagram, Counter}
-use Rattle.sys_abi.specs.declared.identity.Signal.{Signal}
 use Rattle.sys_abi.specs.declared.identity.VPid.{VPid}
-use Rattle.sys_abi.specs.declared.identity.Tid.{Tid}
 use Rattle.sys_abi.specs.declared.identity.Fd.{Fd}
 use Rattle.trace_log.specs.declared.fields.Fields.{Fields}
 use Rattle.trace_log.specs.Spelling.{fields_of, is_spellable, HasSpelling}
@@ -26,7 +24,7 @@ no_kind true h = cc
 no_kind false h = cc
 
 refused_of : (p : VPid) (fd : Fd) (kind : Kind) → IsTrue (is_spellable (Refused (Unsupported p fd kind))) → candidate (fields_of (Refused (Unsupported p fd kind))) ≡ Some (Refused (Unsupported p fd kind))
-unfolding fields_of is_spellable candidate refusal_in
+unfolding fields_of candidate refusal_in
 refused_of p fd Datagram h = refl
 refused_of p fd Counter h = refl
 refused_of p fd Console h = absurd (no_kind (nat_lt fd.0 (2 ^ 16)) h)
@@ -37,7 +35,7 @@ refused_of p fd Listener h = absurd (no_kind (nat_lt fd.0 (2 ^ 16)) h)
 
 -- what the fields of a record can be those of is that record
 pub candidate-fields_of : (r : Record) → HasSpelling r → candidate (fields_of r) ≡ Some r
-unfolding fields_of is_spellable candidate refusal_in
+unfolding fields_of candidate refusal_in
 candidate-fields_of (User p t n) h = refl
 candidate-fields_of (Call p t) h = refl
 candidate-fields_of (Deliver p t s) h = chosen (nat_le 1 s.0 && nat_le s.0 31) (Some (Deliver p t s)) None h.spellable

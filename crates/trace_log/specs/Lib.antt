@@ -1,3 +1,4 @@
 pub mod Spelling
 pub mod Candidate
 pub mod Trace
+pub mod LogText

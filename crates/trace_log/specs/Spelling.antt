@@ -5,7 +5,7 @@
 --     5 8      Cut, Complete                    b the low half of the generation, n the high half
 --     9        Refused                          x 1 unsupported (fd the descriptor, a its process, b 5 a datagram pair or 6 a counter), 2 disk, 3 memory
 --     10       Lapsed
-use Rattle.std.specs.Prelude.{◌≡◌, ℕ, ◌/◌, ◌%◌, ◌^◌, ◌<◌, Bool, true, false, ◌&&◌, nat_le, nat_lt, IsTrue, List, [], ◌∷◌, ◌++◌, length}
+use Rattle.std.specs.Prelude.{◌≡◌, ℕ, ◌/◌, ◌%◌, ◌^◌, ◌<◌, Bool, true, ◌&&◌, nat_le, nat_lt, IsTrue, List, [], ◌∷◌, ◌++◌, length}
 use Rattle.std.specs.Int.{w16, w32, to_le_bytes}
 use Rattle.sys_abi.specs.declared.record.Record.{Record}
 use Rattle.sys_abi.specs.declared.record.Record.TheVariants.{User, Call, Deliver, Arrive, Cut, Drained, Refilled, Complete, Refused, Lapsed}
@@ -71,7 +71,7 @@ spellings (r ∷ rs) = spelling r ++ spellings rs
 
 -- what has to hold for a record to have a spelling, beyond what the types of its numbers say: a descriptor fits its field, a signal is one, and an
 -- unsupported kind has a number
-unfoldable pub is_spellable : Record → Bool
+abbrev pub is_spellable : Record → Bool
 is_spellable (Deliver p t s) = nat_le 1 s.0 && nat_le s.0 31
 is_spellable (Refused (Unsupported p fd kind)) = nat_lt fd.0 (2 ^ 16) && nat_lt 0 (kind_number kind)
 is_spellable _ = true

@@ -49,7 +49,7 @@ const COUNTER: u32 = 6;
 
 impl Fields {
     /// The fields of the record.
-    #[tactic(auto, unfolding(crate::specs::Spelling::fields_of, crate::specs::Spelling::is_spellable, crate::specs::Spelling::IsInRange))]
+    #[tactic(auto, unfolding(crate::specs::Spelling::fields_of, crate::specs::Spelling::IsInRange))]
     pub fn of(event: &Record) -> Fields
         requires { IsTrue (is_spellable event.now) }
         ensures value { result ≡ fields_of event.now }
@@ -118,7 +118,7 @@ impl Fields {
         }
     }
 
-    #[tactic(auto, unfolding(crate::specs::Spelling::fields_of, crate::specs::Spelling::is_spellable, crate::specs::Spelling::IsInRange))]
+    #[tactic(auto, unfolding(crate::specs::Spelling::fields_of, crate::specs::Spelling::IsInRange))]
     fn of_refusal(cause: Cause) -> Fields
         requires { IsTrue (is_spellable (Record.Refused cause)) }
         ensures value { result ≡ fields_of (Record.Refused cause) }
@@ -158,7 +158,7 @@ impl Fields {
     }
 
     /// The one record that can have these fields, whatever stands in those that it doesn't use.
-    #[tactic(auto, unfolding(crate::specs::Candidate::candidate, crate::specs::Spelling::is_spellable, crate::specs::Spelling::IsInRange))]
+    #[tactic(auto, unfolding(crate::specs::Candidate::candidate, crate::specs::Spelling::IsInRange))]
     fn candidate(self) -> Option<Record>
         ensures value { result ≡ candidate self }
         ensures spellable { IfSome result (λ event. IsTrue (is_spellable event)) }
@@ -187,7 +187,7 @@ impl Fields {
         }
     }
 
-    #[tactic(auto, unfolding(crate::specs::Candidate::refusal_in, crate::specs::Spelling::is_spellable, crate::specs::Spelling::IsInRange))]
+    #[tactic(auto, unfolding(crate::specs::Candidate::refusal_in, crate::specs::Spelling::IsInRange))]
     fn refusal(self) -> Option<Record>
         ensures value { result ≡ refusal_in self }
         ensures spellable { IfSome result (λ event. IsTrue (is_spellable event)) }

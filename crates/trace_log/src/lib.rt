@@ -11,7 +11,12 @@
 //! and restate no standard.
 #![tactic(auto)]
 
-pub mod fields;
+mod fields;
+pub mod log_lines;
 pub mod trace;
 
+pub use log_lines::{Progress, log_text};
 pub use trace::{Trace, TraceFault};
+
+#[cfg(test)]
+mod tests;

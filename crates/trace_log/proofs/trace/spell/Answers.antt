@@ -1,4 +1,3 @@
-use Rattle.std.proofs.Common.{arith}
 use Rattle.trace_log.proofs.Lists.{Spell-more}
 use Rattle.trace_log.proofs.trace.spell.Goals as goal
 

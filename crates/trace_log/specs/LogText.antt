@@ -1,0 +1,60 @@
+-- The lines of a run's log for the checkpoints in its trace, one for each outcome of a request:
+--     checkpoint I complete: generation G, drained N
+--     checkpoint I refused: process P descriptor D is a datagram pair        or an event counter
+--     checkpoint I refused: disk fault
+--     checkpoint I refused: memory
+--     checkpoint I lapsed
+-- I counts the outcomes from 1, and N is the sum of the bytes drained since the outcome before.
+use Rattle.std.specs.Prelude.{ℕ, ◌+◌, List, [], ◌∷◌, ◌++◌, codes}
+use Rattle.std.specs.Fmt.{decimal}
+use Rattle.sys_abi.specs.declared.record.Record.{Record}
+use Rattle.sys_abi.specs.declared.record.Record.TheVariants.{Drained, Complete, Refused, Lapsed}
+use Rattle.sys_abi.specs.declared.record.Cause.TheVariants.{Unsupported, DiskFault, Memory}
+use Rattle.sys_abi.specs.declared.record.Kind.{Kind}
+use Rattle.sys_abi.specs.declared.record.Kind.TheVariants.{Console, File, Stream, Socket, Listener, Datagram, Counter}
+use Rattle.trace_log.specs.declared.log_lines.Progress.{Progress}
+
+-- a checkpoint is refused for a datagram pair or an event counter alone. The other kinds have a text so that each record has its line
+unfoldable pub kind_text : Kind → List ℕ
+kind_text Console = codes "the console"
+kind_text File = codes "a file"
+kind_text Stream = codes "a stream"
+kind_text Socket = codes "a socket"
+kind_text Listener = codes "a listener"
+kind_text Datagram = codes "a datagram pair"
+kind_text Counter = codes "an event counter"
+
+-- the line of a record, or nothing where it is no outcome
+unfoldable pub line_of : Progress → Record → List ℕ
+line_of so_far (Complete generation) =
+    codes "checkpoint " ++ decimal so_far.request ++ codes " complete: generation " ++ decimal generation ++ codes ", drained " ++ decimal so_far.drained ++ codes "\n"
+line_of so_far (Refused (Unsupported p fd kind)) =
+    codes "checkpoint " ++ decimal so_far.request ++ codes " refused: process " ++ decimal p.0 ++ codes " descriptor " ++ decimal fd.0 ++ codes " is " ++ kind_text kind ++ codes "\n"
+line_of so_far (Refused DiskFault) = codes "checkpoint " ++ decimal so_far.request ++ codes " refused: disk fault\n"
+line_of so_far (Refused Memory) = codes "checkpoint " ++ decimal so_far.request ++ codes " refused: memory\n"
+line_of so_far Lapsed = codes "checkpoint " ++ decimal so_far.request ++ codes " lapsed\n"
+line_of so_far _ = []
+
+-- how far things are after the record
+unfoldable pub after : Progress → Record → Progress
+after so_far (Drained dir n) = record so_far { drained = so_far.drained + n }
+after so_far (Complete generation) = record { request = so_far.request + 1; drained = 0 }
+after so_far (Refused cause) = record { request = so_far.request + 1; drained = 0 }
+after so_far Lapsed = record { request = so_far.request + 1; drained = 0 }
+after so_far _ = so_far
+
+-- how far things are after the records
+abbrev pub after_all : Progress → List Record → Progress
+after_all so_far [] = so_far
+after_all so_far (r ∷ rs) = after_all (after so_far r) rs
+
+-- the lines of the records, from there on
+abbrev pub lines_from : Progress → List Record → List ℕ
+lines_from so_far [] = []
+lines_from so_far (r ∷ rs) = line_of so_far r ++ lines_from (after so_far r) rs
+
+abbrev pub at_start : Progress
+at_start = record { request = 1; drained = 0 }
+
+abbrev pub log_text : List Record → List ℕ
+log_text trace = lines_from at_start trace
