@@ -1,1 +1,3 @@
 pub mod RunLaws
+pub mod Giving
+pub mod Locality

@@ -14,3 +14,4 @@ pub mod Start
 pub mod Tests
 pub mod Valid
 pub mod Laws
+pub mod Answers

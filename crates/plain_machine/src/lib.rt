@@ -13,6 +13,7 @@
 pub mod buffers;
 pub mod channel;
 pub mod description;
+pub mod end;
 pub mod instruction;
 pub mod kernel;
 pub mod laws;
@@ -21,6 +22,8 @@ pub mod memory;
 pub mod plain;
 pub mod process;
 pub mod regs;
+pub mod serve;
+pub mod served;
 pub mod start;
 pub mod user_part;
 
@@ -34,5 +37,7 @@ pub use memory::{Frame, Right};
 pub use plain::Plain;
 pub use process::{Life, Maker, Process};
 pub use regs::Regs;
+pub use serve::Answer;
+pub use served::{Served, serve_slowly};
 pub use start::{FIRST_PID, NOBODY};
 pub use user_part::{Context, SignalAction, ThreadPart, UserPart, Waiter};

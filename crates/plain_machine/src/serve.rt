@@ -1,0 +1,96 @@
+ghost use Rattle.std.specs.Prelude.{◌≡◌, ◌≤◌, false, [], None, length, IfOk, OnErr};
+ghost use Rattle.sys_abi.specs.declared.reply.Reply.TheVariants.{Value};
+ghost use Rattle.sys_abi.specs.declared.transfer.TheConstants.{TRANSFER_LIMIT};
+ghost use Rattle.plain_machine.specs.Rows.Write as write;
+ghost use Rattle.plain_machine.specs.Serve.{serve};
+ghost use Rattle.plain_machine.specs.Answers.{row_told, answer_of, answer_told};
+
+use crate::description::Object;
+use crate::kernel::PlainKernel;
+use std::alloc::{AllocError, Global};
+use sys_abi::errors::{EBADF, ENOSYS};
+use sys_abi::{Errno, Reply, Request, Tid, VPid};
+use views::list_of::ListOf;
+
+/// What a call answers, apart from the change of the kernel part.
+#[derive(Debug, Drop)]
+pub struct Answer {
+    pub reply: Reply,
+    /// The bytes for the guest's memory.
+    pub bytes: ListOf<u8>,
+    /// Whether the bytes that the call read go to the console.
+    pub is_shown: bool,
+}
+
+impl PlainKernel {
+    /// Serves a call of a thread, where `given` are the bytes that the call reads. It answers None where the call waits.
+    /// Then, and after a failed allocation, the kernel part is as before.
+    #[tactic(auto, unfolding(crate::specs::Serve::serve, crate::specs::Serve::row, crate::specs::Rows::End::exit_group_row))]
+    pub fn serve(
+        &mut self,
+        alloc: Global,
+        p: VPid,
+        t: Tid,
+        request: &Request,
+        given: &[u8],
+    ) -> Result<Option<Answer>, AllocError>
+        requires { length given.now ≤ TRANSFER_LIMIT }
+        ensures ok { IfOk result (λ answer. serve self.old p t.0 request.now given.now ≡ answer_told self.new given.now answer) }
+        ensures waits { IfOk result (λ answer. answer ≡ None → self.new ≡ self.old) }
+        ensures err { OnErr result (self.new ≡ self.old) }
+    {
+        let _ = t;
+        match request {
+            Request::Write { fd, .. } => Ok(Some(settled(alloc, self.write(alloc, p, *fd, given)))),
+            Request::ExitGroup { .. } => {
+                self.end_process(p);
+                Ok(Some(value(alloc, 0)))
+            }
+            _ => Ok(Some(settled(alloc, Err(Errno(ENOSYS))))),
+        }
+    }
+
+    /// write (`man 2 write`), of these bytes.
+    #[tactic(auto, unfolding(crate::specs::Rows::Write::write_row, crate::specs::Rows::Write::write_object, crate::specs::Attempts::and_then, crate::specs::Attempts::need, crate::specs::Attempts::found))]
+    fn write(&self, alloc: Global, p: VPid, fd: u32, given: &[u8]) -> Result<Answer, Errno>
+        requires { length given.now ≤ TRANSFER_LIMIT }
+        ensures { write.write_row self.now p fd given.now ≡ row_told self.now given.now result }
+    {
+        let description = self.description_at(p, fd).ok_or(Errno(EBADF))?;
+        if !description.may_write() {
+            return Err(Errno(EBADF));
+        }
+        match description.object {
+            Object::Console => Ok(Answer {
+                reply: Reply::Value(given.len() as u32),
+                bytes: ListOf::new(alloc),
+                is_shown: true,
+            }),
+            _ => Err(Errno(ENOSYS)),
+        }
+    }
+}
+
+fn value(alloc: Global, number: u32) -> Answer
+    ensures { result ≡ record { reply = Value number; bytes = []; is_shown = false } }
+{
+    Answer {
+        reply: Reply::Value(number),
+        bytes: ListOf::new(alloc),
+        is_shown: false,
+    }
+}
+
+/// The answer that a row gave, or its error as an answer.
+fn settled(alloc: Global, attempt: Result<Answer, Errno>) -> Answer
+    ensures { result ≡ answer_of attempt }
+{
+    match attempt {
+        Ok(answer) => answer,
+        Err(error) => Answer {
+            reply: Reply::Error(error),
+            bytes: ListOf::new(alloc),
+            is_shown: false,
+        },
+    }
+}
