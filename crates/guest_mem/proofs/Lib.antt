@@ -1,0 +1,5 @@
+pub mod InPage
+pub mod Ranges
+pub mod Writes
+pub mod Checks
+pub mod Copies

@@ -1,0 +1,12 @@
+-- Bytes within a page.
+--     bytes_from page offset n               n of its bytes, from an offset on
+--     with_piece frame offset piece          the frame, with the piece in the place of as many bytes
+use Rattle.std.specs.Prelude.{ℕ, zero, suc, ◌+◌, List, [], ◌∷◌, ◌++◌, length, take, drop, slice_index}
+use Rattle.plain_machine.specs.declared.memory.Frame.{Frame}
+
+unfoldable pub bytes_from : List ℕ → ℕ → ℕ → List ℕ
+bytes_from page offset zero = []
+bytes_from page offset (suc n) = bytes_from page offset n ++ slice_index page (offset + n) ∷ []
+
+abbrev pub with_piece : Frame → ℕ → List ℕ → Frame
+with_piece frame offset piece = record { rights = frame.rights; page = take offset frame.page ++ piece ++ drop (offset + length piece) frame.page }

@@ -1,0 +1,315 @@
+ghost use Rattle.std.specs.Prelude.{◌≡◌, ◌+◌, ◌≤◌, ◌<◌, ◌*◌, ◌/◌, ◌%◌, ◌^◌, ◌⊎◌, ◌↔◌, ◌++◌, Some, None, length, is_some, IsSome, IsTrue, Err, IfErr, IfOk, OnOk, OnErr, option_map};
+ghost use Rattle.std.specs.Option.{option_copied};
+ghost use Rattle.std.specs.Result.{result_ok, result_err, result_map_both};
+ghost use Rattle.std.specs.FinMap as map;
+ghost use Rattle.plain_machine.specs.Memory.{bytes_at, byte_at, with_bytes, little_endian, low_bytes, load as load_of, fetch as fetch_of, store as memory_after};
+ghost use Rattle.plain_machine.specs.declared.memory.Right.TheVariants as right;
+ghost use Rattle.sys_abi.specs.declared.transfer.TheConstants.{TRANSFER_LIMIT};
+ghost use Rattle.guest_mem.specs.Refusals.{granted, refusal, stored, IsRoomFault};
+ghost use Rattle.guest_mem.specs.Pages.{IsFree, without_pages};
+
+use crate::access::{allows, number_at, put_number, room_in_page, write_piece};
+use crate::mem_fault::MemFault;
+use plain_machine::{Frame, Right};
+use std::alloc::{AllocError, Global};
+use std::marker::Model;
+use sys_abi::Transfer;
+use sys_abi::page::PAGE_SIZE;
+use views::number_map::NumberMap;
+
+/// How many pages a space has at most: 8 MiB.
+pub const PAGE_LIMIT: usize = 2048;
+
+/// The memory of a process: a finite map from page numbers to frames.
+#[derive(Drop)]
+pub struct Space {
+    frames: NumberMap<Frame>,
+}
+
+impl Model for Space {
+    ghost use Rattle.std.specs.Coded.{coded_ℕ};
+    ghost use Rattle.std.specs.FinMap as map;
+    ghost use Rattle.plain_machine.specs.contracts.memory.Frame as frame;
+    ghost use Rattle.plain_machine.specs.Memory.{Memory};
+    ghost use Rattle.guest_mem.specs.Pages.{IsSpace};
+
+    ghost Value = { Memory };
+
+    ghost coded = { map.code coded_ℕ frame.the_row.coded };
+
+    ghost view = { λ s. s.frames };
+
+    ghost invariant = { λ s. IsSpace s.frames };
+}
+
+impl Space {
+    /// A space with no page, which holds no memory yet.
+    pub fn new(alloc: Global) -> Space
+        ensures { result ≡ map.empty }
+    {
+        Space {
+            frames: NumberMap::new(alloc),
+        }
+    }
+
+    /// How many pages stand.
+    pub fn len(&self) -> usize
+        ensures { result ≡ map.len self.now }
+    {
+        self.frames.len()
+    }
+
+    pub fn contains_page(&self, page: u32) -> bool
+        ensures { result ≡ is_some (map.get self.now page) }
+    {
+        self.frames.contains_key(page)
+    }
+
+    /// The number that the `size` bytes at an address spell, the least significant first. It needs the right to read.
+    #[inline]
+    pub fn load(&self, address: u32, size: u32) -> Result<u32, MemFault>
+        requires { (size ≡ 1) ⊎ (size ≡ 2) ⊎ (size ≡ 4) }
+        ensures value { result_ok result ≡ load_of self.now address size }
+        ensures refused { result_err result ≡ refusal self.now right.Read address size }
+    {
+        self.read(Right::Read, address, size)
+    }
+
+    /// The instruction word at an address. It needs the right to execute.
+    #[inline]
+    pub fn fetch(&self, address: u32) -> Result<u32, MemFault>
+        ensures value { result_ok result ≡ fetch_of self.now address }
+        ensures refused { result_err result ≡ refusal self.now right.Execute address 4 }
+    {
+        self.read(Right::Execute, address, 4)
+    }
+
+    #[inline]
+    fn read(&self, right: Right, address: u32, size: u32) -> Result<u32, MemFault>
+        requires { (size ≡ 1) ⊎ (size ≡ 2) ⊎ (size ≡ 4) }
+        ensures value { result_ok result ≡ option_map little_endian (bytes_at self.now right address size) }
+        ensures refused { result_err result ≡ refusal self.now right address size }
+    {
+        let offset = (address % 4096) as usize;
+        if offset + size as usize > PAGE_SIZE {
+            return self.read_across(right, address, size);
+        }
+        let frame = self.frame(right, address / 4096)?;
+        Ok(number_at(frame, offset, size))
+    }
+
+    #[inline]
+    fn page(&self, page: u32) -> Option<&Frame>
+        ensures { option_copied result ≡ map.get self.now page }
+    {
+        self.frames.get(page)
+    }
+
+    /// The frame of a page, where it has the right.
+    #[inline]
+    fn frame(&self, right: Right, page: u32) -> Result<&Frame, MemFault>
+        ensures { result_map_both (λ frame. frame.now) (λ fault. fault) result ≡ granted right (map.get self.now page) }
+    {
+        match self.page(page) {
+            None => Err(MemFault::Unmapped),
+            Some(frame) if allows(right, frame.rights) => Ok(frame),
+            Some(_) => Err(MemFault::Rights),
+        }
+    }
+
+    /// An access that meets two pages, a byte at a time.
+    #[cold]
+    fn read_across(&self, right: Right, address: u32, size: u32) -> Result<u32, MemFault>
+        requires { (size ≡ 2) ⊎ (size ≡ 4) }
+        ensures value { result_ok result ≡ option_map little_endian (bytes_at self.now right address size) }
+        ensures refused { result_err result ≡ refusal self.now right address size }
+    {
+        self.check(right, address, size as usize)?;
+        Ok(match size {
+            2 => u16::from_le_bytes([
+                self.byte(right, address),
+                self.byte(right, address + 1),
+            ]) as u32,
+            _ => u32::from_le_bytes([
+                self.byte(right, address),
+                self.byte(right, address + 1),
+                self.byte(right, address + 2),
+                self.byte(right, address + 3),
+            ]),
+        })
+    }
+
+    fn byte(&self, right: Right, address: u32) -> u8
+        requires { IsSome (byte_at self.now right address) }
+        ensures { byte_at self.now right address ≡ Some result }
+    {
+        match self.frame(right, address / 4096) {
+            Ok(frame) => frame.page.byte((address % 4096) as usize),
+            Err(_) => unreachable!(),
+        }
+    }
+
+    /// Whether the `count` bytes from an address on may be had.
+    fn check(&self, right: Right, address: u32, count: usize) -> Result<(), MemFault>
+        ensures refused { result_err result ≡ refusal self.now right address count }
+        ensures bounded { OnOk result (address + count ≤ 2 ^ 32) }
+    {
+        let _ = &self.frames;
+        if count > (1 << 32) - address as usize {
+            return Err(MemFault::Unmapped);
+        }
+        let mut has_right = true;
+        let mut done = 0;
+        while done < count {
+            let at = (address as usize + done) as u32;
+            let Some(frame) = self.page(at / 4096) else {
+                return Err(MemFault::Unmapped);
+            };
+            has_right &= allows(right, frame.rights);
+            done += room_in_page(at, count - done);
+        }
+        if has_right {
+            Ok(())
+        } else {
+            Err(MemFault::Rights)
+        }
+    }
+
+    /// Puts the first `size` bytes of a number at an address, the least significant first. It needs the right to write.
+    /// A refused store writes no byte.
+    #[inline]
+    pub fn store(&mut self, address: u32, size: u32, value: u32) -> Result<(), MemFault>
+        requires { (size ≡ 1) ⊎ (size ≡ 2) ⊎ (size ≡ 4) }
+        ensures told { memory_after self.old address size value ≡ stored result self.new }
+        ensures err { OnErr result (self.new ≡ self.old) }
+        ensures refused { result_err result ≡ refusal self.old right.Write address size }
+    {
+        let offset = (address % 4096) as usize;
+        if offset + size as usize > PAGE_SIZE {
+            return self.copy_in(address, &value.to_le_bytes()[0..size as usize]);
+        }
+        self.frame(Right::Write, address / 4096)?;
+        self.put(address, size, value);
+        Ok(())
+    }
+
+    #[inline]
+    fn put(&mut self, address: u32, size: u32, value: u32)
+        requires size { (size ≡ 1) ⊎ (size ≡ 2) ⊎ (size ≡ 4) }
+        requires inside { address % 4096 + size ≤ 4096 }
+        ensures { self.new ≡ with_bytes self.old address (low_bytes size value) }
+    {
+        let Some(frame) = self.frames.get_mut(address / 4096) else {
+            return;
+        };
+        put_number(frame, (address % 4096) as usize, size, value);
+    }
+
+    /// Puts the piece at an address. It needs the right to write. All or nothing.
+    pub fn copy_in(&mut self, address: u32, piece: &[u8]) -> Result<(), MemFault>
+        ensures ok { OnOk result (self.new ≡ with_bytes self.old address piece.now) }
+        ensures err { OnErr result (self.new ≡ self.old) }
+        ensures refused { result_err result ≡ refusal self.old right.Write address (length piece.now) }
+    {
+        self.check(Right::Write, address, piece.len())?;
+        let mut done = 0;
+        while done < piece.len() {
+            let at = (address as usize + done) as u32;
+            let end = done + room_in_page(at, piece.len() - done);
+            self.write(at, &piece[done..end]);
+            done = end;
+        }
+        Ok(())
+    }
+
+    fn write(&mut self, address: u32, piece: &[u8])
+        requires { address % 4096 + length piece.now ≤ 4096 }
+        ensures { self.new ≡ with_bytes self.old address piece.now }
+    {
+        let Some(frame) = self.frames.get_mut(address / 4096) else {
+            return;
+        };
+        write_piece(frame, (address % 4096) as usize, piece);
+    }
+
+    /// Makes the pages of a range this space's own, so that writes to them take no memory. It needs the right to write.
+    pub fn own_pages(&mut self, address: u32, n: u32) -> Result<(), MemFault>
+        ensures contents { self.new ≡ self.old }
+        ensures refused { result_err result ≡ refusal self.old right.Write address n }
+    {
+        self.check(Right::Write, address, n as usize)
+    }
+
+    /// Appends the `n` bytes from an address on to the transfer. It needs the right to read. All or nothing.
+    pub fn copy_out(&self, address: u32, transfer: &mut Transfer, n: u32) -> Result<(), MemFault>
+        requires { length transfer.old + n ≤ TRANSFER_LIMIT }
+        ensures ok { OnOk result (option_map (λ bytes. transfer.old ++ bytes)
+            (bytes_at self.now right.Read address n) ≡ Some transfer.new) }
+        ensures err { OnErr result (transfer.new ≡ transfer.old) }
+        ensures refused { result_err result ≡ refusal self.now right.Read address n }
+    {
+        let count = n as usize;
+        self.check(Right::Read, address, count)?;
+        let mut done = 0;
+        while done < count {
+            let at = (address as usize + done) as u32;
+            let size = room_in_page(at, count - done);
+            transfer.put(self.piece(at, size));
+            done += size;
+        }
+        Ok(())
+    }
+
+    fn piece(&self, address: u32, size: usize) -> &[u8]
+        requires inside { address % 4096 + size ≤ 4096 }
+        requires some { 0 < size }
+        requires readable { IsSome (bytes_at self.now right.Read address size) }
+        ensures { bytes_at self.now right.Read address size ≡ Some result.now }
+    {
+        let offset = (address % 4096) as usize;
+        match self.frame(Right::Read, address / 4096) {
+            Ok(frame) => &frame.page.as_slice()[offset..offset + size],
+            Err(_) => unreachable!(),
+        }
+    }
+
+    /// Whether the `n` bytes from an address on can be written.
+    pub fn is_writable(&self, address: u32, n: u32) -> bool
+        ensures { result ≡ is_some (bytes_at self.now right.Write address n) }
+    {
+        self.check(Right::Write, address, n as usize).is_ok()
+    }
+
+    /// Whether the `n` bytes from an address on can be read.
+    pub fn is_readable(&self, address: u32, n: u32) -> bool
+        ensures { result ≡ is_some (bytes_at self.now right.Read address n) }
+    {
+        self.check(Right::Read, address, n as usize).is_ok()
+    }
+
+    /// The byte at an address, where its page is there and has the right.
+    pub fn byte_with(&self, right: Right, address: u32) -> Option<u8>
+        ensures { result ≡ byte_at self.now right address }
+    {
+        match self.frame(right, address / 4096) {
+            Ok(frame) => Some(frame.page.byte((address % 4096) as usize)),
+            Err(_) => None,
+        }
+    }
+
+    /// Puts a page at a number, in the place of the one that stands there. After a refusal all is as before.
+    pub fn insert_page(&mut self, page: u32, frame: Frame) -> Result<(), MemFault>
+        requires { page < 2 ^ 20 }
+        ensures ok { OnOk result (self.new ≡ map.insert self.old page frame) }
+        ensures err { OnErr result (self.new ≡ self.old) }
+        ensures full { (result ≡ Err MemFault.Full)
+            ↔ ((map.get self.old page ≡ None) × (PAGE_LIMIT ≤ map.len self.old)) }
+        ensures kinds { IfErr result IsRoomFault }
+    {
+        if !self.frames.contains_key(page) && self.frames.len() >= PAGE_LIMIT {
+            return Err(MemFault::Full);
+        }
+        self.frames.insert(page, frame)?;
+        Ok(())
+    }
+}
