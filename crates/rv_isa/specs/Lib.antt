@@ -1,0 +1,4 @@
+pub mod Accesses
+pub mod Fields
+pub mod Outcomes
+pub mod Validity
