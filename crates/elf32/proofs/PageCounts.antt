@@ -31,7 +31,7 @@ count_by-range p a n =
     ∙ sum_by-append (λ x. cond (p x) 1 0) (range_with_len a n) ((a + n) ∷ [])
     ∙ ap (λ (k : ℕ). count_by p (range_with_len a n) + k) (zero-add _)
 
-pages_below-suc : (n : ℕ) (segments : List Segment) → pages_below (suc n) segments ≡ pages_below n segments + cond (is_touched segments n) 1 0
+pub pages_below-suc : (n : ℕ) (segments : List Segment) → pages_below (suc n) segments ≡ pages_below n segments + cond (is_touched segments n) 1 0
 unfolding pages_below
 pages_below-suc n segments =
     subst (λ k. count_by (is_touched segments) (range_with_len 0 (suc n)) ≡ count_by (is_touched segments) (range_with_len 0 n) + cond (is_touched segments k) 1 0)

@@ -8,11 +8,29 @@ use crate::fault::{ElfFault, ElfReason, check};
 use crate::fields::{half_at, word_at};
 use crate::program_header::ProgramHeader;
 
-/// The first four bytes of an ELF file.
+// Where the fields stand in the header.
+const E_TYPE: usize = 16;
+
+const E_MACHINE: usize = 18;
+
+pub const E_ENTRY: usize = 24;
+
+const E_PHOFF: usize = 28;
+
+const E_FLAGS: usize = 36;
+
+const E_PHENTSIZE: usize = 42;
+
+const E_PHNUM: usize = 44;
+
+/// `ELFMAG`, the first four bytes of an ELF file.
 const MAGIC: [u8; 4] = [0x7F, b'E', b'L', b'F'];
 
+/// Where the class stands, and after it the data encoding and the version: `EI_CLASS`.
+const EI_CLASS: usize = 4;
+
 /// `ELFCLASS32`, `ELFDATA2LSB` and `EV_CURRENT`.
-const IDENTIFICATION: [u8; 3] = [1, 1, 1];
+const CLASS: [u8; 3] = [1, 1, 1];
 
 /// `EM_RISCV`.
 const RISC_V: u16 = 243;
@@ -48,21 +66,26 @@ impl FileHeader {
     {
         check(file.len() >= Self::SIZE, ElfReason::Short, file.len())?;
         check_bytes(file, 0, &MAGIC, ElfReason::Magic)?;
-        check_bytes(file, 4, &IDENTIFICATION, ElfReason::Class)?;
-        check(half_at(file, 18) == RISC_V, ElfReason::Machine, 18)?;
-        check(half_at(file, 16) == EXECUTABLE, ElfReason::FileType, 16)?;
+        check_bytes(file, EI_CLASS, &CLASS, ElfReason::Class)?;
+        let machine = half_at(file, E_MACHINE);
+        check(machine == RISC_V, ElfReason::Machine, E_MACHINE)?;
+        let file_type = half_at(file, E_TYPE);
+        check(file_type == EXECUTABLE, ElfReason::FileType, E_TYPE)?;
+        let flags = word_at(file, E_FLAGS);
+        check(flags & UNSUPPORTED_FLAGS == 0, ElfReason::Flags, E_FLAGS)?;
+        let entry_size = half_at(file, E_PHENTSIZE) as usize;
         check(
-            word_at(file, 36) & UNSUPPORTED_FLAGS == 0,
-            ElfReason::Flags,
-            36,
+            entry_size == ProgramHeader::SIZE,
+            ElfReason::Segment,
+            E_PHENTSIZE,
         )?;
-        check(half_at(file, 42) == 32, ElfReason::Segment, 42)?;
         let header = FileHeader {
-            entry: word_at(file, 24),
-            phoff: word_at(file, 28),
-            phnum: half_at(file, 44),
+            entry: word_at(file, E_ENTRY),
+            phoff: word_at(file, E_PHOFF),
+            phnum: half_at(file, E_PHNUM),
         };
-        check((1..=64).contains(&header.phnum), ElfReason::Segment, 44)?;
+        let some = 1..=Self::MAX_PROGRAM_HEADERS;
+        check(some.contains(&header.phnum), ElfReason::Segment, E_PHNUM)?;
         let table_end = header.phoff as usize + ProgramHeader::SIZE * header.phnum as usize;
         check(table_end <= file.len(), ElfReason::Short, file.len())?;
         Ok(header)

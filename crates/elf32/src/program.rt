@@ -20,13 +20,22 @@ pub struct Segment {
     pub vaddr: u32,
     /// How many bytes of memory it takes.
     pub memsz: u32,
-    /// What its pages may be used for: 4 to be read, 2 to be written, 1 to be executed, summed.
+    /// What its pages may be used for: the sum of the rights that they have.
     pub rights: u8,
     /// Its first bytes, from the file. Its other bytes are zero.
     pub bytes: ListOf<u8>,
 }
 
 impl Segment {
+    /// The right to be read, `PF_R` of a program header.
+    pub const READ: u8 = 4;
+
+    /// The right to be written, `PF_W`.
+    pub const WRITE: u8 = 2;
+
+    /// The right to be executed, `PF_X`.
+    pub const EXECUTE: u8 = 1;
+
     /// The addresses of the segment.
     pub(crate) fn memory(&self) -> AddressRange
         ensures { result ≡ range_of self.now }

@@ -62,6 +62,9 @@ impl ProgramHeader {
     /// How many bytes a program header has.
     pub const SIZE: usize = 32;
 
+    /// The bits `PF_R`, `PF_W` and `PF_X` of the flags.
+    const RIGHTS: u32 = 0x7;
+
     /// The header that begins at this byte of the file.
     #[tactic(auto, unfolding(crate::specs::ProgramHeaders::header_at))]
     pub fn at(file: &[u8], place: usize) -> Self
@@ -119,7 +122,7 @@ impl ProgramHeader {
         Ok(Segment {
             vaddr: self.vaddr,
             memsz: self.memsz,
-            rights: (self.flags & 7) as u8,
+            rights: (self.flags & Self::RIGHTS) as u8,
             bytes: ListOf::from_vec(bytes),
         })
     }

@@ -7,7 +7,7 @@ ghost use Rattle.elf32.specs.Programs.{program_of, IsWellPlaced, IsApart};
 ghost use Rattle.elf32.specs.Rules.{first_fault, program_header_rules, rules_at, is_entry};
 
 use crate::fault::{ElfFault, ElfReason, check};
-use crate::file_header::FileHeader;
+use crate::file_header::{E_ENTRY, FileHeader};
 use crate::layout::Layout;
 use crate::page::{PAGE_SIZE, page_rights};
 use crate::program::{Program, Segment};
@@ -34,7 +34,7 @@ pub fn read_elf(alloc: Global, bytes: &[u8]) -> Result<Program, ElfFault>
     let header = FileHeader::read(bytes)?;
     let segments = read_segments(alloc, bytes, header)?;
     let starts = is_entry(header.entry, segments.as_slice());
-    check(starts, ElfReason::Segment, 24)?;
+    check(starts, ElfReason::Segment, E_ENTRY)?;
     Ok(Program {
         entry: header.entry,
         segments,
@@ -64,7 +64,8 @@ fn read_segments(
 fn is_entry(address: u32, segments: &[Segment]) -> bool
     ensures { result ≡ is_entry address segments.now }
 {
-    address % 4 == 0 && page_rights(segments, u64::from(address) / PAGE_SIZE) & 1 == 1
+    let rights = page_rights(segments, u64::from(address) / PAGE_SIZE);
+    address % 4 == 0 && rights & Segment::EXECUTE == Segment::EXECUTE
 }
 
 #[cfg(test)]
