@@ -21,7 +21,7 @@ pub mod fault;
 mod fields;
 mod file_header;
 mod layout;
-mod page;
+pub mod page;
 pub mod program;
 mod program_header;
 mod range;

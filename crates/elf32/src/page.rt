@@ -8,7 +8,7 @@ use crate::range::AddressRange;
 pub const PAGE_SIZE: u64 = 4096;
 
 /// The addresses in the page of this number.
-pub fn page_range(page: u64) -> AddressRange
+pub(crate) fn page_range(page: u64) -> AddressRange
     requires { page < 2 ^ 20 }
     ensures { result ≡ page_range page }
 {
