@@ -1,3 +1,4 @@
+use Rattle.plain_machine.proofs.UserBounds.{Follows}
 use Rattle.plain_machine.proofs.RunLaws.{run_of_one_more, console_of_one_more}
 use Rattle.plain_machine.proofs.Locality.{record_is_local}
 use Rattle.plain_machine.proofs.laws.run_laws.Goals as goal
