@@ -28,10 +28,12 @@ pub record Keeps (done : Effect) : Type 0 where
   pub each : (regs : Regs) (memory : Memory) → done ≡ Next regs memory → IsAfter regs memory
 
 goes_on : (regs : Regs) (memory : Memory) → IsRegs regs → IsMemory memory → Keeps (Next regs memory)
-goes_on regs memory first second = record { each = λ other after is.
-    let same_regs : regs ≡ other = cc in
-    let same_memory : memory ≡ after = cc in
-    record { regs = subst IsRegs same_regs first; memory = subst IsMemory same_memory second } }
+goes_on regs memory first second = record {
+  each = λ other after is.
+      let same_regs : regs ≡ other = cc in
+      let same_memory : memory ≡ after = cc in
+      record { regs = subst IsRegs same_regs first; memory = subst IsMemory same_memory second };
+}
 
 traps : (s : ℕ) → Keeps (Traps s)
 traps s = record { each = λ regs memory is. cc }

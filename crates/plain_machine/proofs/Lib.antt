@@ -3,5 +3,8 @@ pub mod WordBounds
 pub mod MemoryBounds
 pub mod EffectBounds
 pub mod UserBounds
+pub mod KernelBounds
+pub mod CallBounds
+pub mod StepBounds
 pub mod Giving
 pub mod Locality

@@ -63,8 +63,10 @@ little_endian_below (byte ∷ rest) are =
     rw pow-suc (omega arith)
 
 pub word_read : (memory : Memory) (address n : ℕ) → Each memory IsFrame → Giving (load memory address n) (λ value. value < 256 ^ n)
-word_read memory address n are = mapped little_endian (record { each = λ bytes is.
-    let read = (bytes_read memory Read address n are).each bytes is in subst (λ k. little_endian bytes < 256 ^ k) read.count (little_endian_below bytes read.bytes) })
+word_read memory address n are = mapped little_endian (record {
+  each = λ bytes is.
+      let read = (bytes_read memory Read address n are).each bytes is in subst (λ k. little_endian bytes < 256 ^ k) read.count (little_endian_below bytes read.bytes);
+})
 
 -- writes
 pub low_bytes_are : (n value : ℕ) → All IsByte (low_bytes n value)
@@ -85,8 +87,8 @@ with_frame memory page old new is fits before = record {
   pages = let same = map.len-insert nat_cmp_total memory page new ∙ ap (λ found. cond (is_some found) (map.len memory) (map.len memory + 1)) is in subst (λ n. n ≤ 2048) (sym same) before.pages;
   frames = λ place frame found. ⊎_elim
       (λ here. let there : map.get (map.insert memory page new) page ≡ Some frame = subst (λ q. map.get (map.insert memory page new) q ≡ Some frame) here found in
-        let same : new ≡ frame = let put = get_insert_same nat_cmp_total map.nat_cmp-IsAntisymmetric memory page new in cc in
-        subst (λ q. IsFrame q frame) (sym here) (subst (IsFrame page) same fits))
+      let same : new ≡ frame = let put = get_insert_same nat_cmp_total map.nat_cmp-IsAntisymmetric memory page new in cc in
+      subst (λ q. IsFrame q frame) (sym here) (subst (IsFrame page) same fits))
       (λ other. before.frames place frame (sym (get_insert_other nat_cmp_total map.nat_cmp-IsAntisymmetric memory page new place other) ∙ found))
       (same_or_other nat_cmp_total map.nat_cmp-IsAntisymmetric place page);
 }

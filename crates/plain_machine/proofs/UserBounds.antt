@@ -39,16 +39,16 @@ thread_with thread regs is are = record { regs = are; mask = is.mask; clear_tid 
 same_threads : (threads : map.FinMap nat_cmp ThreadPart) (t : ℕ) (old new : ThreadPart) → map.get threads t ≡ Some old → (q : ℕ) → is_some (map.get (map.insert threads t new) q) ≡ is_some (map.get threads q)
 same_threads threads t old new there q = ⊎_elim
     (λ here. subst (λ k. is_some (map.get (map.insert threads t new) k) ≡ is_some (map.get threads k)) (sym here)
-      (ap is_some (get_insert_same nat_cmp_total map.nat_cmp-IsAntisymmetric threads t new) ∙ sym (ap is_some there)))
+    (ap is_some (get_insert_same nat_cmp_total map.nat_cmp-IsAntisymmetric threads t new) ∙ sym (ap is_some there)))
     (λ other. ap is_some (get_insert_other nat_cmp_total map.nat_cmp-IsAntisymmetric threads t new q other))
     (same_or_other nat_cmp_total map.nat_cmp-IsAntisymmetric q t)
 
 each_thread : (threads : map.FinMap nat_cmp ThreadPart) (t : ℕ) (new : ThreadPart) → Each threads (λ q thread. IsThread thread) → IsThread new → Each (map.insert threads t new) (λ q thread. IsThread thread)
 each_thread threads t new are is q thread found = ⊎_elim
     (λ here.
-      let there : map.get (map.insert threads t new) t ≡ Some thread = subst (λ k. map.get (map.insert threads t new) k ≡ Some thread) here found in
-      let same : new ≡ thread = let put = get_insert_same nat_cmp_total map.nat_cmp-IsAntisymmetric threads t new in cc in
-      subst IsThread same is)
+    let there : map.get (map.insert threads t new) t ≡ Some thread = subst (λ k. map.get (map.insert threads t new) k ≡ Some thread) here found in
+    let same : new ≡ thread = let put = get_insert_same nat_cmp_total map.nat_cmp-IsAntisymmetric threads t new in cc in
+    subst IsThread same is)
     (λ other. are q thread (sym (get_insert_other nat_cmp_total map.nat_cmp-IsAntisymmetric threads t new q other) ∙ found))
     (same_or_other nat_cmp_total map.nat_cmp-IsAntisymmetric q t)
 
@@ -92,8 +92,10 @@ unfolding user_steps
 keeps_steps zero user t is = gives user (record { user = is; threads = λ q. refl })
 keeps_steps (suc n) user t is = then_ (user_steps n user t) {f = λ before. stepped (user_step before t)} (λ before reached.
     let first = (keeps_steps n user t is).each before reached in
-    record { each = λ after goes.
-      let second = (keeps_step before t first.user).each after goes in record { user = second.user; threads = λ q. second.threads q ∙ first.threads q } })
+    record {
+      each = λ after goes.
+          let second = (keeps_step before t first.user).each after goes in record { user = second.user; threads = λ q. second.threads q ∙ first.threads q };
+    })
 
 -- answers
 spans_keep : (memory : Memory) (spans : List Span) (bytes : List ℕ) → All IsByte bytes → IsMemory memory → IsMemory (with_spans memory spans bytes)

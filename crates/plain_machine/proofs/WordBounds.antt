@@ -29,9 +29,9 @@ negative_below n (suc a) some = tt
 
 signed_size : (a : ℕ) → IsWord a → size (signed a) ≤ 2 ^ 31
 signed_size a is = elim (nat_lt a (2 ^ 31)) as (λ b. nat_lt a (2 ^ 31) ≡ b → size (cond b (pos a) (negsuc (2 ^ 32 - suc a))) ≤ 2 ^ 31) [
-    | true ↦ λ e. grind (arith, nat_tests, e)
-    | false ↦ λ e. let high : 2 ^ 31 ≤ a = grind (arith, nat_tests, e) in omega arith
-  ] refl
+  | true ↦ λ e. grind (arith, nat_tests, e)
+  | false ↦ λ e. let high : 2 ^ 31 ≤ a = grind (arith, nat_tests, e) in omega arith
+] refl
 
 -- shifts and quotients go no further from 0
 euclid_below : (z : ℤ) (m n : ℕ) → size z < n → IsBelow n (int_div_euclid z (pos m))
