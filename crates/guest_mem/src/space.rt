@@ -282,7 +282,8 @@ impl Space {
 
     /// Whether the `n` bytes from an address on can be read.
     pub fn is_readable(&self, address: u32, n: u32) -> bool
-        ensures { result ≡ is_some (bytes_at self.now right.Read address n) }
+        ensures readable { result ≡ is_some (bytes_at self.now right.Read address n) }
+        ensures bounded { IsTrue result → address + n ≤ 2 ^ 32 }
     {
         self.check(Right::Read, address, n as usize).is_ok()
     }
