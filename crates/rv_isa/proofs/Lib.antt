@@ -1,4 +1,7 @@
-pub mod Rows
+pub mod Exclusive
 pub mod Fields
-pub mod Shifts
+pub mod InsnEquality
 pub mod Products
+pub mod Rows
+pub mod Shifts
+pub mod WordLaws

@@ -2,3 +2,4 @@ pub mod Accesses
 pub mod Fields
 pub mod Outcomes
 pub mod Validity
+pub mod Words

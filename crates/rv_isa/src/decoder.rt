@@ -1,6 +1,7 @@
 ghost use Rattle.std.specs.Prelude.{◌≡◌, ◌==◌, ◌%◌, ℕ, ◌<◌, ◌^◌, Some, IfSome, IsTrue, if◌then◌else◌};
 ghost use Rattle.plain_machine.specs.Instructions.{decoded, encoding, has_match, row_of, Format, R, I, S, B, Shift, Whole};
 ghost use Rattle.rv_isa.specs.Fields.{row_at, with_operands};
+ghost use Rattle.rv_isa.specs.Validity.{IsValid};
 ghost use Rattle.std.specs.Option.{option_map};
 
 use crate::operands::{
@@ -11,7 +12,12 @@ use plain_machine::{Insn, Op};
 /// The instruction of a word, or none where the table has no row for it.
 #[inline]
 pub fn decode(word: u32) -> Option<Insn>
-    ensures { result ≡ decoded word }
+    ensures instruction { result ≡ decoded word }
+
+    ensures valid { IfSome result IsValid }
+
+    // No other row of the table matches the word.
+    ensures only_row { (op : Op) → IsTrue (has_match word op) → row_of word ≡ Some op }
 {
     instruction_at(word % 128, (word >> 12) % 8, word >> 25, word)
 }

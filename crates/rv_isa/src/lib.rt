@@ -1,11 +1,13 @@
 //! The processor of a guest: RV32I with M, one instruction at a time.
 //!
-//! [`decode`] answers the instruction of a word, and [`exec`] does one instruction on registers and
-//! on any memory that keeps the contract of [`GuestMemory`].
+//! [`decode`] answers the instruction of a word, [`encode`] the word of an instruction, [`is_valid`]
+//! whether an instruction has a word, and [`exec`] does one instruction on registers and on any
+//! memory that keeps the contract of [`GuestMemory`].
 //!
 //! Proved: `decode` and `exec` are the instruction table and the effects that `plain_machine`
-//! defines; a call, a trap and want of memory leave registers and memory as they were. Not proved:
-//! how fast it is, nor that any hardware behaves so.
+//! defines; at most one row of the table matches a word; `encode` and `decode` undo each other; a
+//! call, a trap and want of memory leave registers and memory as they were. Not proved: how fast it
+//! is, nor that any hardware behaves so.
 //!
 //! Source: RISC-V unprivileged manual, chapters 2 (RV32I) and 13 (M).
 #![tactic(auto)]
@@ -14,6 +16,7 @@ mod accesses;
 mod alu;
 mod branches;
 mod decoder;
+mod encoder;
 mod executor;
 pub mod guest_memory;
 mod immediates;
@@ -22,6 +25,7 @@ pub mod outcome;
 mod registers;
 
 pub use decoder::decode;
+pub use encoder::{encode, is_valid};
 pub use executor::exec;
 pub use guest_memory::{AccessFault, GuestMemory};
 pub use outcome::Outcome;
