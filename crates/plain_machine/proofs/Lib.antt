@@ -6,5 +6,8 @@ pub mod UserBounds
 pub mod KernelBounds
 pub mod CallBounds
 pub mod StepBounds
+pub mod StartPages
+pub mod StartUsers
+pub mod StartKernels
 pub mod Giving
 pub mod Locality

@@ -10,6 +10,7 @@ use Rattle.plain_machine.specs.Records.{Outcome, outcome, step}
 use Rattle.plain_machine.specs.Runs.{run, console}
 use Rattle.plain_machine.specs.Start.{Launched, NamedFile, start}
 use Rattle.plain_machine.specs.Valid.{IsValid}
+use Rattle.plain_machine.specs.Launches.{IsLaunched}
 
 -- the process that a record is of
 abbrev pub subject : Record → Option VPid
@@ -22,6 +23,10 @@ subject _ = None
 abbrev pub RecordIsLocal : Type 0
 RecordIsLocal =
     (g next : Plain) (r : Record) (q : VPid) → step g r ≡ Some next → subject r ≢ Some q → q ≢ pid g.kernel.next_id → is_live next.kernel q ≡ true → map.get next.users q ≡ map.get g.users q
+
+-- a start is valid, whatever the named files
+abbrev pub StartIsValid : Type 0
+StartIsValid = (jobs : List Launched) (files : List NamedFile) → All IsLaunched jobs → IsValid (start jobs files)
 
 -- each step from a valid state leads to a valid one
 abbrev pub StepKeepsValid : Type 0

@@ -13,5 +13,6 @@ pub mod Runs
 pub mod Start
 pub mod Tests
 pub mod Valid
+pub mod Launches
 pub mod Laws
 pub mod Answers

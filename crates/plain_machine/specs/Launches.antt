@@ -1,0 +1,11 @@
+-- What is true of each program that a job starts, as the readers of programs and of the command line give it.
+use Rattle.std.specs.Prelude.{ℕ, ◌<◌, ◌^◌, All}
+use Rattle.elf32.specs.declared.program.Segment.{Segment}
+use Rattle.plain_machine.specs.Start.{Launched, IsLoadable}
+use Rattle.plain_machine.specs.Valid.{IsWord, IsByte}
+
+pub record IsLaunched (launched : Launched) : Type 0 where
+  pub loadable : IsLoadable launched.program
+  pub entry : IsWord launched.program.entry
+  pub bytes : All (λ (segment : Segment). All IsByte segment.bytes) launched.program.segments
+  pub arguments : All IsByte launched.arguments
