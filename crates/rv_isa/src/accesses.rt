@@ -46,6 +46,7 @@ pub fn load<M: GuestMemory>(regs: &mut Regs, memory: &M, rd: u8, address: u32, s
     ensures outcome { IsOutcome result (loads regs.old (M.memory memory.now) rd same (load (M.memory memory.now) address size))
         regs.new (M.memory memory.now) }
     ensures stays { KeepsUnlessNext result regs.old regs.new }
+    ensures want { result ≡ Outcome.Memory → M.may_want memory.now }
 {
     match memory.load(address, size) {
         Ok(value) => set(regs, rd, value),
@@ -65,6 +66,7 @@ pub fn load_signed_byte<M: GuestMemory>(
     ensures outcome { IsOutcome result (loads regs.old (M.memory memory.now) rd (sign_extended 8) (load (M.memory memory.now) address 1))
         regs.new (M.memory memory.now) }
     ensures stays { KeepsUnlessNext result regs.old regs.new }
+    ensures want { result ≡ Outcome.Memory → M.may_want memory.now }
 {
     match memory.load(address, 1) {
         Ok(value) => set(regs, rd, sign_extended_byte(value)),
@@ -84,6 +86,7 @@ pub fn load_signed_half<M: GuestMemory>(
     ensures outcome { IsOutcome result (loads regs.old (M.memory memory.now) rd (sign_extended 16) (load (M.memory memory.now) address 2))
         regs.new (M.memory memory.now) }
     ensures stays { KeepsUnlessNext result regs.old regs.new }
+    ensures want { result ≡ Outcome.Memory → M.may_want memory.now }
 {
     match memory.load(address, 2) {
         Ok(value) => set(regs, rd, sign_extended_half(value)),
@@ -105,6 +108,7 @@ pub fn store<M: GuestMemory>(
     ensures outcome { IsOutcome result (stores regs.old (store (M.memory memory.old) address size value)) regs.new (M.memory memory.new) }
     ensures stays { KeepsUnlessNext result regs.old regs.new }
     ensures memory_stays { KeepsUnlessNext result (M.memory memory.old) (M.memory memory.new) }
+    ensures want { result ≡ Outcome.Memory → M.may_want memory.old }
 {
     match memory.store(address, size, value) {
         Ok(()) => pass(regs),

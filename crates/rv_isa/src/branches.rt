@@ -1,4 +1,4 @@
-ghost use Rattle.std.specs.Prelude.{◌≡◌, ℕ, ◌<◌};
+ghost use Rattle.std.specs.Prelude.{◌≡◌, ◌≢◌, ℕ, ◌<◌};
 ghost use Rattle.plain_machine.specs.Instructions.{jumps, branches};
 ghost use Rattle.plain_machine.specs.Memory.{Memory};
 ghost use Rattle.rv_isa.specs.Outcomes.{IsOutcome, KeepsUnlessNext};
@@ -16,6 +16,7 @@ pub const MISALIGNED: Signal = Signal(7);
 pub fn jump(regs: &mut Regs, rd: u8, target: u32) -> Outcome
     ensures outcome { (memory : Memory) → IsOutcome result (jumps regs.old memory rd target) regs.new memory }
     ensures stays { KeepsUnlessNext result regs.old regs.new }
+    ensures no_want { result ≢ Outcome.Memory }
 {
     if target % 4 != 0 {
         return Outcome::Trap(MISALIGNED);
@@ -31,6 +32,7 @@ pub fn jump(regs: &mut Regs, rd: u8, target: u32) -> Outcome
 pub fn branch(regs: &mut Regs, is_taken: bool, target: u32) -> Outcome
     ensures outcome { (memory : Memory) → IsOutcome result (branches regs.old memory is_taken target) regs.new memory }
     ensures stays { KeepsUnlessNext result regs.old regs.new }
+    ensures no_want { result ≢ Outcome.Memory }
 {
     if !is_taken {
         return pass(regs);

@@ -24,6 +24,7 @@ pub fn exec<M: GuestMemory>(insn: Insn, regs: &mut Regs, memory: &mut M) -> Outc
     ensures outcome { IsOutcome result (effect insn regs.old (M.memory memory.old)) regs.new (M.memory memory.new) }
     ensures stays { KeepsUnlessNext result regs.old regs.new }
     ensures memory_stays { KeepsUnlessNext result (M.memory memory.old) (M.memory memory.new) }
+    ensures want { result ≡ Outcome.Memory → M.may_want memory.old }
 {
     let rd = insn.rd;
     let a = read(regs, insn.rs1);

@@ -1,4 +1,4 @@
-ghost use Rattle.std.specs.Prelude.{◌≡◌, ℕ, ◌<◌, ◌*◌, ◌^◌, OnErr, IfOk};
+ghost use Rattle.std.specs.Prelude.{◌≡◌, ℕ, ◌<◌, ◌*◌, ◌^◌, Err, OnErr, IfOk};
 ghost use Rattle.plain_machine.specs.Memory.{Memory, load, store};
 ghost use Rattle.rv_isa.specs.Accesses.{IsAccessSize, IsLoaded, IsStored};
 
@@ -15,6 +15,9 @@ pub enum AccessFault {
 pub trait GuestMemory {
     ghost memory: { Self → Memory };
 
+    // Want of memory comes only where this holds.
+    ghost may_want: { Self → Type 0 };
+
     /// The number that the 1, 2 or 4 bytes from `address` on spell.
     ///
     /// # Errors
@@ -23,7 +26,8 @@ pub trait GuestMemory {
     fn load(&self, address: u32, size: u32) -> Result<u32, AccessFault>
         requires { IsAccessSize size }
         ensures answer { IsLoaded result (load (memory self.now) address size) }
-        ensures fits { IfOk result (λ value. value < 256 ^ size) };
+        ensures fits { IfOk result (λ value. value < 256 ^ size) }
+        ensures want { result ≡ Err AccessFault.Memory → may_want self.now };
 
     /// Writes the lowest 1, 2 or 4 bytes of `value` from `address` on.
     ///
@@ -33,5 +37,6 @@ pub trait GuestMemory {
     fn store(&mut self, address: u32, size: u32, value: u32) -> Result<(), AccessFault>
         requires { IsAccessSize size }
         ensures answer { IsStored result (store (memory self.old) address size value) (memory self.new) }
-        ensures err { OnErr result (memory self.new ≡ memory self.old) };
+        ensures err { OnErr result (memory self.new ≡ memory self.old) }
+        ensures want { result ≡ Err AccessFault.Memory → may_want self.old };
 }
