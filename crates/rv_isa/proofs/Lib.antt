@@ -1,6 +1,7 @@
 pub mod Exclusive
 pub mod Fields
 pub mod InsnEquality
+pub mod OneByteMemory
 pub mod Products
 pub mod Rows
 pub mod Shifts
