@@ -7,7 +7,7 @@ use Rattle.std.specs.Prelude.{Option, Some, None, unwrap_or, OnSome, Result, Ok,
 use Rattle.std.specs.Option.{option_map_or}
 use Rattle.std.specs.FinMap as map
 use Rattle.views.proofs.MapLaws.{get_insert_same, get_insert_other, insert_same}
-use Rattle.set_disk.specs.Files.{Files, name_cmp, contents, overwritten, with_write, with_cut}
+use Rattle.set_disk.specs.Files.{Files, contents, overwritten, with_write, with_cut}
 use Rattle.set_disk.specs.declared.file_name.FileName.{FileName}
 use Rattle.set_disk.proofs.NameOrder.{name_total, name_exact}
 

@@ -1,17 +1,16 @@
 -- A folder in memory keeps the promises of a `Folder`.
-use Rattle.std.proofs.Common.{◌≡◌, ℕ, ◌+◌, ◌<◌, ◌≤◌, Bool, true, false, List, [], ◌∷◌, ◌++◌, length, take, inl, inr, refl, sym, ap, subst, ◌∙◌, arith, length-append}
-use Rattle.std.specs.Prelude.{◌⊎◌, Option, Some, None, Result, Ok, Err, OnOk}
+use Rattle.std.proofs.Common.{◌≡◌, ℕ, ◌+◌, ◌<◌, ◌≤◌, Bool, true, false, [], ◌∷◌, ◌++◌, length, take, inl, inr, refl, sym, ap, subst, ◌∙◌, arith, length-append}
+use Rattle.std.specs.Prelude.{◌⊎◌, Some, Result, Ok, Err, OnOk}
 use Rattle.std.proofs.lemmas.List.{take-append-le, take_all}
 use Rattle.std.proofs.lemmas.Bool.{cases_lt}
-use Rattle.set_disk.specs.Files.{with_write, with_cut}
 use Rattle.set_disk.specs.Files.{Files}
 use Rattle.set_disk.specs.Crash.{AfterStep, Same, IsSettled}
 use Rattle.set_disk.specs.Moments.{Passes}
-use Rattle.set_disk.specs.History.{History, image_after, MayLeave, durable, pending, reads_after, settles, torn_by, with_call}
-use Rattle.set_disk.specs.InMemory.{reads_of, MayLeaveNow, moment_of, LeftSince, faults_of, Answers}
+use Rattle.set_disk.specs.History.{History, image_after, MayLeave, durable, pending, torn_by, with_call}
+use Rattle.set_disk.specs.InMemory.{reads_of, MayLeaveNow, moment_of, LeftSince, Answers}
 use Rattle.set_disk.specs.declared.call.Call.{Call}
 use Rattle.set_disk.specs.declared.request.Request.{Request}
-use Rattle.set_disk.specs.declared.request.Request.TheVariants.{Look, Write, Cut, Sync}
+use Rattle.set_disk.specs.declared.request.Request.TheVariants.{Sync}
 use Rattle.set_disk.specs.declared.disk_fault.DiskFault.{DiskFault}
 use Rattle.set_disk.specs.declared.disk_fault.DiskFault.TheVariants.{Failed, Memory}
 use Rattle.set_disk.proofs.Histories.{pending_leave, none_torn, MayLeave-next, MayLeave-settled, reads-push}

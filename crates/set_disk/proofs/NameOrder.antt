@@ -1,5 +1,5 @@
 -- The order of file names is total, and only equal names tie in it.
-use Rattle.std.proofs.Common.{◌≡◌, ℕ, refl, ap}
+use Rattle.std.proofs.Common.{ℕ, ap}
 use Rattle.std.specs.Ordering.{nat_cmp}
 use Rattle.std.specs.Cmp.{IsTotalOrder, on_total, then_total, nat_cmp_total}
 use Rattle.std.specs.FinMap.{IsAntisymmetric, nat_cmp-IsAntisymmetric}

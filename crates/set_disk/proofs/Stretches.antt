@@ -4,11 +4,11 @@
 --     goes_on                 one more call, whose step leads from Q to R
 --     settles                 after a sync that answered Ok
 --     joins, weakens          two stretches, and a weaker P
-use Rattle.std.proofs.Common.{◌≡◌, ◌⊎◌, ℕ, ◌≤◌, inl, inr, refl, sym, subst, ap, ◌∙◌, arith}
+use Rattle.std.proofs.Common.{◌≡◌, ◌⊎◌, ℕ, inl, inr, refl, sym, subst, ◌∙◌, arith}
 use Rattle.std.specs.Prelude.{Option, Some, None, option_map, IfSome, Result, Ok, Err, OnOk}
 use Rattle.std.proofs.lemmas.Option.{same_Some, none-some}
 use Rattle.set_disk.specs.Files.{Files}
-use Rattle.set_disk.specs.Crash.{AfterStep, Only, IsSettled}
+use Rattle.set_disk.specs.Crash.{AfterStep, IsSettled}
 use Rattle.set_disk.specs.Moments.{Passes, LeavesOnly}
 
 either : {A B C : Type 0} → A ⊎ B → (A → C) → (B → C) → C

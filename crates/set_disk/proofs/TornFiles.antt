@@ -1,15 +1,14 @@
 -- What stays in a torn write, and which files are among its outcomes.
 --     front_stays, rest_stays        the bytes in front of the range and behind it
 --     same_torn, write_torn, cut_torn      nothing was done, and all of it
-use Rattle.std.proofs.Common.{◌≡◌, ◌≢◌, ◌⊎◌, ℕ, ◌+◌, ◌-◌, ◌≤◌, ◌<◌, min, max, List, [], ◌++◌, length, take, drop, inl, inr, refl, sym, ap, subst, ◌∙◌, arith, length-append, length-drop}
+use Rattle.std.proofs.Common.{◌≡◌, ◌⊎◌, ℕ, ◌+◌, ◌-◌, ◌≤◌, ◌<◌, min, List, ◌++◌, length, take, drop, inl, inr, refl, sym, ap, subst, ◌∙◌, arith, length-append, length-drop}
 use Rattle.std.specs.Prelude.{IsSome}
 use Rattle.std.proofs.lemmas.List.{take-take, take-append-le, length-take, take_min}
 use Rattle.std.proofs.lemmas.Bool.{cases_lt}
 use Rattle.std.proofs.Math.Seq.{drop-append_seam, take-length}
 use Rattle.std.proofs.Math.ListN.{drop_of_length-le}
-use Rattle.std.specs.FinMap as map
-use Rattle.set_disk.specs.Files.{Files, contents, overwritten, with_write, with_cut}
-use Rattle.set_disk.specs.Crash.{Torn, TornBytes, CutOrNot}
+use Rattle.set_disk.specs.Files.{Files, contents, overwritten, with_write}
+use Rattle.set_disk.specs.Crash.{Torn, TornBytes}
 use Rattle.set_disk.specs.declared.file_name.FileName.{FileName}
 use Rattle.set_disk.proofs.FilesAfter.{contents-write, get-write_other, get-write_same}
 

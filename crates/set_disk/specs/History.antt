@@ -5,11 +5,10 @@
 --     durable, pending             the files that this sync made sure, and the calls since
 --     MayLeave start calls image   a crash after these calls may leave this image
 --     image_after pattern start calls      one such image: without the pending writes and cuts (0), with them (1), and with each written range filled (2)
-use Rattle.std.specs.Prelude.{◌≡◌, ◌⊎◌, ℕ, zero, suc, ◌+◌, ◌-◌, ◌^◌, ◌≤◌, min, Bool, true, false, not, nat_eq, ◌&&◌, if◌then◌else◌, List, [], ◌∷◌, ◌++◌, length, take, drop, replicate, fold, count_by, ◌==◌, Option, Some}
+use Rattle.std.specs.Prelude.{◌≡◌, ◌⊎◌, ℕ, zero, suc, ◌+◌, Bool, true, false, ◌&&◌, if◌then◌else◌, List, [], ◌∷◌, ◌++◌, length, take, drop, replicate, fold, ◌==◌}
 use Rattle.std.specs.List.{list_any}
 use Rattle.set_disk.specs.Files.{Files, with_write, with_cut}
 use Rattle.set_disk.specs.Crash.{Torn, CutOrNot, Same}
-use Rattle.set_disk.specs.declared.file_name.FileName.{FileName}
 use Rattle.set_disk.specs.declared.request.Request.{Request}
 use Rattle.set_disk.specs.declared.request.Request.TheVariants.{Look, Write, Cut, Sync}
 use Rattle.set_disk.specs.declared.call.Call.{Call}

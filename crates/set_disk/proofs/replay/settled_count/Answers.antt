@@ -1,4 +1,4 @@
-use Rattle.std.proofs.Common.{◌≡◌, suc, take, ap, sym, ◌∙◌, add-one, arith}
+use Rattle.std.proofs.Common.{suc, take, ap, sym, ◌∙◌, add-one, arith}
 use Rattle.std.specs.Prelude.{if◌then◌else◌}
 use Rattle.set_disk.specs.History.{settled_count}
 use Rattle.set_disk.proofs.Histories.{next_settled}

@@ -1,5 +1,5 @@
 use Rattle.std.proofs.Common.{sym, ap, ◌∙◌}
-use Rattle.set_disk.proofs.NameOrder.{name_total, name_exact}
+use Rattle.set_disk.proofs.NameOrder.{name_total}
 use Rattle.std.specs.FinMap as map
 use Rattle.views.proofs.TreeMaps.{get-view}
 use Rattle.set_disk.proofs.files.Files.get.Goals as goal

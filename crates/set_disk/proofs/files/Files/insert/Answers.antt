@@ -1,7 +1,7 @@
-use Rattle.std.proofs.Common.{sym, ap, ◌∙◌}
+use Rattle.std.proofs.Common.{ap, ◌∙◌}
 use Rattle.set_disk.proofs.NameOrder.{name_total, name_exact}
 use Rattle.std.specs.FinMap as map
-use Rattle.views.proofs.TreeMaps.{get-view, view-insert}
+use Rattle.views.proofs.TreeMaps.{view-insert}
 use Rattle.set_disk.proofs.files.Files.insert.Goals as goal
 
 pub returns-clause-ok : goal.returns-clause-ok
