@@ -3,3 +3,5 @@ pub mod Ranges
 pub mod Writes
 pub mod Checks
 pub mod Copies
+pub mod FrameTables
+pub mod PageRuns

@@ -10,6 +10,8 @@
 #![tactic(auto)]
 
 mod access;
+mod frame_block;
+mod frame_table;
 pub mod mem_fault;
 pub mod space;
 

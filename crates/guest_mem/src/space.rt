@@ -1,21 +1,22 @@
-ghost use Rattle.std.specs.Prelude.{◌≡◌, ◌+◌, ◌≤◌, ◌<◌, ◌*◌, ◌/◌, ◌%◌, ◌^◌, ◌⊎◌, ◌↔◌, ◌++◌, Some, None, length, is_some, IsSome, IsTrue, Err, IfErr, IfOk, OnOk, OnErr, option_map};
+ghost use Rattle.std.specs.Prelude.{◌≡◌, ◌+◌, ◌≤◌, ◌<◌, ◌*◌, ◌/◌, ◌%◌, ◌^◌, ◌⊎◌, ◌↔◌, ◌++◌, Some, None, length, is_some, IsSome, IsTrue, Err, IfErr, [], replicate, IfOk, OnOk, OnErr, option_map};
 ghost use Rattle.std.specs.Option.{option_copied};
 ghost use Rattle.std.specs.Result.{result_ok, result_err, result_map_both};
 ghost use Rattle.std.specs.FinMap as map;
 ghost use Rattle.plain_machine.specs.Memory.{bytes_at, byte_at, with_bytes, little_endian, low_bytes, load as load_of, fetch as fetch_of, store as memory_after};
 ghost use Rattle.plain_machine.specs.declared.memory.Right.TheVariants as right;
+ghost use Rattle.plain_machine.specs.Start.{with_pages};
 ghost use Rattle.sys_abi.specs.declared.transfer.TheConstants.{TRANSFER_LIMIT};
 ghost use Rattle.guest_mem.specs.Refusals.{granted, refusal, stored, IsRoomFault};
 ghost use Rattle.guest_mem.specs.Pages.{IsFree, without_pages};
 
-use crate::access::{allows, number_at, put_number, room_in_page, write_piece};
+use crate::access::{allows, number_at, room_in_page};
+use crate::frame_table::FrameTable;
 use crate::mem_fault::MemFault;
 use plain_machine::{Frame, Right};
 use std::alloc::{AllocError, Global};
 use std::marker::Model;
-use sys_abi::Transfer;
 use sys_abi::page::PAGE_SIZE;
-use views::number_map::NumberMap;
+use sys_abi::{Page, Transfer};
 
 /// How many pages a space has at most: 8 MiB.
 pub const PAGE_LIMIT: usize = 2048;
@@ -23,7 +24,7 @@ pub const PAGE_LIMIT: usize = 2048;
 /// The memory of a process: a finite map from page numbers to frames.
 #[derive(Drop)]
 pub struct Space {
-    frames: NumberMap<Frame>,
+    frames: FrameTable,
 }
 
 impl Model for Space {
@@ -48,7 +49,7 @@ impl Space {
         ensures { result ≡ map.empty }
     {
         Space {
-            frames: NumberMap::new(alloc),
+            frames: FrameTable::new(alloc),
         }
     }
 
@@ -62,7 +63,7 @@ impl Space {
     pub fn contains_page(&self, page: u32) -> bool
         ensures { result ≡ is_some (map.get self.now page) }
     {
-        self.frames.contains_key(page)
+        self.frames.contains(page)
     }
 
     /// The number that the `size` bytes at an address spell, the least significant first. It needs the right to read.
@@ -199,10 +200,8 @@ impl Space {
         requires inside { address % 4096 + size ≤ 4096 }
         ensures { self.new ≡ with_bytes self.old address (low_bytes size value) }
     {
-        let Some(frame) = self.frames.get_mut(address / 4096) else {
-            return;
-        };
-        put_number(frame, (address % 4096) as usize, size, value);
+        self.frames
+            .put_number(address / 4096, (address % 4096) as usize, size, value);
     }
 
     /// Puts the piece at an address. It needs the right to write. All or nothing.
@@ -226,10 +225,8 @@ impl Space {
         requires { address % 4096 + length piece.now ≤ 4096 }
         ensures { self.new ≡ with_bytes self.old address piece.now }
     {
-        let Some(frame) = self.frames.get_mut(address / 4096) else {
-            return;
-        };
-        write_piece(frame, (address % 4096) as usize, piece);
+        self.frames
+            .write(address / 4096, (address % 4096) as usize, piece);
     }
 
     /// Makes the pages of a range this space's own, so that writes to them take no memory. It needs the right to write.
@@ -307,10 +304,77 @@ impl Space {
             ↔ ((map.get self.old page ≡ None) × (PAGE_LIMIT ≤ map.len self.old)) }
         ensures kinds { IfErr result IsRoomFault }
     {
-        if !self.frames.contains_key(page) && self.frames.len() >= PAGE_LIMIT {
+        if !self.frames.contains(page) && self.frames.len() >= PAGE_LIMIT {
             return Err(MemFault::Full);
         }
         self.frames.insert(page, frame)?;
         Ok(())
+    }
+
+    /// Takes a page away, where it is there.
+    pub fn remove_page(&mut self, page: u32)
+        ensures { self.new ≡ map.remove self.old page }
+    {
+        self.frames.remove(page);
+    }
+
+    /// Puts zeroed pages at so many numbers from one on (`man 2 mmap`, anonymous). After a refusal all is as before.
+    pub fn map(&mut self, page: u32, count: u32, rights: u8) -> Result<(), MemFault>
+        requires numbers { page + count ≤ 2 ^ 20 }
+        requires rights { rights < 8 }
+        requires free { IsFree self.old page count }
+        ensures ok { OnOk result (self.new ≡ with_pages self.old page count rights []) }
+        ensures err { OnErr result (self.new ≡ self.old) }
+        ensures full { (result ≡ Err MemFault.Full) ↔ (PAGE_LIMIT < map.len self.old + count) }
+        ensures kinds { IfErr result IsRoomFault }
+    {
+        let _ = &self.frames;
+        if count as usize > PAGE_LIMIT - self.len() {
+            return Err(MemFault::Full);
+        }
+        for number in 0..count {
+            let Ok(()) = self.insert_zeroed(page + number, rights) else {
+                self.unmap(page, number);
+                return Err(MemFault::Memory);
+            };
+        }
+        Ok(())
+    }
+
+    fn insert_zeroed(&mut self, page: u32, rights: u8) -> Result<(), AllocError>
+        requires number { page < 2 ^ 20 }
+        requires room { map.len self.old < PAGE_LIMIT }
+        ensures ok { OnOk result (self.new
+            ≡ map.insert self.old page (record { rights = rights; page = replicate 4096 0 })) }
+        ensures err { OnErr result (self.new ≡ self.old) }
+    {
+        let zeroed = Page::zeroed(self.frames.allocator())?;
+        self.frames.insert(
+            page,
+            Frame {
+                rights,
+                page: zeroed,
+            },
+        )?;
+        Ok(())
+    }
+
+    /// Takes the pages of so many numbers from one on away (`man 2 munmap`); those that are missing are passed over.
+    pub fn unmap(&mut self, page: u32, count: u32)
+        requires { page + count ≤ 2 ^ 20 }
+        ensures { self.new ≡ without_pages self.old page count }
+    {
+        for number in 0..count {
+            self.remove_page(page + number);
+        }
+    }
+
+    /// A space with the same contents, in memory of its own.
+    pub fn try_clone(&self, alloc: Global) -> Result<Space, AllocError>
+        ensures { IfOk result (λ copy. copy ≡ self.now) }
+    {
+        Ok(Space {
+            frames: self.frames.try_clone(alloc)?,
+        })
     }
 }

@@ -1,15 +1,16 @@
-use Rattle.std.proofs.Common.{◌/◌}
-use Rattle.guest_mem.proofs.Writes.{after_write, after_none, IsSpace-lent}
+use Rattle.std.proofs.Common.{◌%◌, ◌/◌, sym, ap, subst, ◌∙◌}
+use Rattle.plain_machine.specs.declared.memory.Frame.{Frame}
+use Rattle.plain_machine.specs.Memory.{Memory, with_bytes}
+use Rattle.guest_mem.specs.Bytes.{with_piece}
+use Rattle.guest_mem.specs.Pages.{IsSpace}
+use Rattle.guest_mem.proofs.Writes.{with_bytes-changed, IsSpace-changed}
 use Rattle.guest_mem.proofs.space.Space.write.Goals as goal
 
 pub returns : goal.returns
 returns c =
-    after_write c.get_mut.result c.in-Some.frame c.self.inside.frames c.args.self.now _ c.args.address c.write_piece.new.frame c.args.piece.now
-    c.in-Some.is (c.get_mut.follows.holds c.write_piece.new.frame) c.get_mut.ensures.value c.write_piece.ensures.put c.requires c.write_piece.ensures.length c.self.view_is
+    c.write.ensures.put ∙ with_bytes-changed c.self.inside.frames c.args.address c.args.piece.now c.requires c.write.ensures.length
+    ∙ ap (λ (m : Memory). with_bytes m c.args.address c.args.piece.now) c.self.view_is
 
-pub returns-in_default : goal.returns-in_default
-returns-in_default c = after_none c.get_mut.result c.self.inside.frames c.args.self.now _ c.args.address c.args.piece.now c.in_default.is c.get_mut.follows.holds-at-none c.get_mut.ensures.value c.requires c.self.view_is
-
-pub invariant_of-self-2 : goal.invariant_of-self-2
-invariant_of-self-2 c =
-    IsSpace-lent c.get_mut.result c.in-Some.frame c.self.inside.frames _ (c.args.address / 4096) c.write_piece.new.frame c.in-Some.is (c.get_mut.follows.holds c.write_piece.new.frame) c.get_mut.ensures.value c.self.invariant
+pub invariant_of-self : goal.invariant_of-self
+invariant_of-self c =
+    subst IsSpace (sym c.write.ensures.put) (IsSpace-changed c.self.inside.frames (c.args.address / 4096) (λ (frame : Frame). with_piece frame (c.args.address % 4096) c.args.piece.now) c.self.invariant)

@@ -1,0 +1,32 @@
+-- The frames of a table of rows, each of 1,024 places: page number q stands in row q / 1024 at place q % 1024.
+--     cell_at rows number               what stands there
+--     with_cell memory number cell      the memory with this frame at the number, or with none there
+--     frames_of rows                    the memory that the rows are
+--     changed_at memory number f        the memory with f of the frame at the number, where there is one
+use Rattle.std.specs.Prelude.{◌≡◌, ℕ, zero, suc, ◌*◌, ◌/◌, ◌%◌, List, [], length, Option, Some, None, option_map, slice_index_or}
+use Rattle.std.specs.FinMap as map
+use Rattle.plain_machine.specs.declared.memory.Frame.{Frame}
+use Rattle.plain_machine.specs.Memory.{Memory}
+
+abbrev pub Rows : Type 0
+Rows = List (List (Option Frame))
+
+abbrev pub cell_at : Rows → ℕ → Option Frame
+cell_at rows number = slice_index_or (slice_index_or rows (number / 1024) []) (number % 1024) None
+
+abbrev pub with_cell : Memory → ℕ → Option Frame → Memory
+with_cell memory number None = map.remove memory number
+with_cell memory number (Some frame) = map.insert memory number frame
+
+unfoldable pub frames_below : Rows → ℕ → Memory
+frames_below rows zero = map.empty
+frames_below rows (suc n) = with_cell (frames_below rows n) n (cell_at rows n)
+
+unfoldable pub frames_of : Rows → Memory
+frames_of rows = frames_below rows (1024 * length rows)
+
+abbrev pub changed_at : Memory → ℕ → (Frame → Frame) → Memory
+changed_at memory number f = with_cell memory number (option_map f (map.get memory number))
+
+pub record IsSameRows (old new : Rows) : Type 0 where
+  pub same : (number : ℕ) → cell_at new number ≡ cell_at old number
