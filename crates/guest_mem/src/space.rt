@@ -71,6 +71,7 @@ impl Space {
     pub fn load(&self, address: u32, size: u32) -> Result<u32, MemFault>
         requires { (size ≡ 1) ⊎ (size ≡ 2) ⊎ (size ≡ 4) }
         ensures value { result_ok result ≡ load_of self.now address size }
+        ensures fits { IfOk result (λ number. number < 256 ^ size) }
         ensures refused { result_err result ≡ refusal self.now right.Read address size }
     {
         self.read(Right::Read, address, size)
@@ -89,6 +90,7 @@ impl Space {
     fn read(&self, right: Right, address: u32, size: u32) -> Result<u32, MemFault>
         requires { (size ≡ 1) ⊎ (size ≡ 2) ⊎ (size ≡ 4) }
         ensures value { result_ok result ≡ option_map little_endian (bytes_at self.now right address size) }
+        ensures fits { IfOk result (λ number. number < 256 ^ size) }
         ensures refused { result_err result ≡ refusal self.now right address size }
     {
         let offset = (address % 4096) as usize;
@@ -123,6 +125,7 @@ impl Space {
     fn read_across(&self, right: Right, address: u32, size: u32) -> Result<u32, MemFault>
         requires { (size ≡ 2) ⊎ (size ≡ 4) }
         ensures value { result_ok result ≡ option_map little_endian (bytes_at self.now right address size) }
+        ensures fits { IfOk result (λ number. number < 256 ^ size) }
         ensures refused { result_err result ≡ refusal self.now right address size }
     {
         self.check(right, address, size as usize)?;
