@@ -1,4 +1,4 @@
-ghost use Rattle.std.specs.Prelude.{[], ◌∷◌};
+ghost use Rattle.std.specs.Prelude.{[], ◌∷◌, ⊤};
 ghost use Rattle.std.specs.FinMap as map;
 
 use crate::{AccessFault, GuestMemory, Insn, Op, Outcome, Regs, decode, encode, exec, is_valid};
@@ -12,6 +12,8 @@ struct OneByte {
 
 impl GuestMemory for OneByte {
     ghost memory = { λ s. map.insert map.empty 0 (record { rights = 6; page = s.byte ∷ [] }) };
+
+    ghost may_want = { λ s. ⊤ };
 
     fn load(&self, address: u32, size: u32) -> Result<u32, AccessFault> {
         if address != 0 || size != 1 {
