@@ -6,7 +6,8 @@
 //! "Program Header") and of the RISC-V ELF psABI (`e_flags`), narrowed to what is loaded here:
 //! little endian, `ET_EXEC`, no compressed code, no floating point, no dynamic linker, at most 64
 //! program headers and 1,536 pages, all segments between 0x1000 and 0x4000_0000.
-//! `specs/Rules.antt` lists them in order, as tests of the fields by their places in the file.
+//! `specs/Rules.antt` lists them in order, as tests of the fields by their places in the file. For a
+//! loader, `page` says which pages the segments touch, and with which rights.
 //!
 //! Proved, for every list of bytes: a program comes exactly where every rule holds, and it is the
 //! one that the headers describe; otherwise the answer is the first broken rule with its byte.
