@@ -2,7 +2,7 @@
 -- Source: `man 2` of each call; a length is cut to 65,536, and a path ends with its first zero byte, within 256 bytes.
 --     reads_of q      what the call reads      writes_of q size      what its answer may write, where size is the length of the address that it writes
 --     lent memory q   the bytes that it reads, none where some buffer isn't readable or writable as needed (EFAULT)
-use Rattle.std.specs.Prelude.{◌==◌, ◌||◌, ℕ, zero, suc, ◌+◌, ◌/◌, ◌%◌, min, Bool, true, false, List, [], ◌∷◌, ◌++◌, Option, Some, None, is_some, unwrap_or, option_and_then, if◌then◌else◌}
+use Rattle.std.specs.Prelude.{◌==◌, ◌||◌, ℕ, zero, suc, ◌+◌, ◌/◌, ◌%◌, ◌≤◌, min, Bool, true, false, List, [], ◌∷◌, ◌++◌, Option, Some, None, is_some, unwrap_or, option_and_then, if◌then◌else◌}
 use Rattle.std.specs.Option.{option_map}
 use Rattle.std.specs.List.{list_all}
 use Rattle.sys_abi.specs.declared.request.Request.{Request}
@@ -18,6 +18,12 @@ use Rattle.plain_machine.specs.Memory.{Memory, byte_at, bytes_at, load}
 
 abbrev pub span : ℕ → ℕ → Span
 span address length = record { address = address; length = min length TRANSFER_LIMIT }
+
+-- no more bytes than a call moves
+abbrev pub IsShort : Source → Type 0
+IsShort Nothing = Unit {0}
+IsShort (Bytes at) = at.length ≤ TRANSFER_LIMIT
+IsShort (Text address) = Unit {0}
 
 abbrev pub unless_zero : ℕ → Source → Source
 unless_zero address source = if address == 0 then Nothing else source

@@ -38,7 +38,9 @@ fn span_at(address: u32, length: u32) -> Span
 }
 
 fn unless_zero(address: u32, source: Source) -> Source
-    ensures { result ≡ buffers.unless_zero address source }
+    requires { buffers.IsShort source }
+    ensures source { result ≡ buffers.unless_zero address source }
+    ensures short { buffers.IsShort result }
 {
     if address == 0 {
         Source::Nothing
@@ -50,7 +52,8 @@ fn unless_zero(address: u32, source: Source) -> Source
 /// What the call reads.
 #[tactic(auto, unfolding(crate::specs::Buffers::reads_of))]
 pub fn reads_of(request: &Request) -> Source
-    ensures { result ≡ buffers.reads_of request.now }
+    ensures source { result ≡ buffers.reads_of request.now }
+    ensures short { buffers.IsShort result }
 {
     match *request {
         Request::Futex {
