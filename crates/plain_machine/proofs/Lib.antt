@@ -11,3 +11,4 @@ pub mod StartUsers
 pub mod StartKernels
 pub mod Giving
 pub mod Locality
+pub mod Examples

@@ -16,3 +16,4 @@ pub mod Valid
 pub mod Launches
 pub mod Laws
 pub mod Answers
+pub mod Examples

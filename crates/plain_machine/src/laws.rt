@@ -1,4 +1,5 @@
 ghost use Rattle.plain_machine.specs.Laws.{RecordIsLocal, StartIsValid, StepKeepsValid, RunOfOneMore, ConsoleOfOneMore};
+ghost use Rattle.plain_machine.specs.Examples.{AreDecoded, AreQuotients, AreProducts, IsStarted, AreAnswers};
 
 /// The laws of runs, for proofs about traces. It does nothing.
 pub fn run_laws()
@@ -7,4 +8,13 @@ pub fn run_laws()
     ensures valid { StepKeepsValid }
     ensures run { RunOfOneMore }
     ensures console { ConsoleOfOneMore }
+{}
+
+/// Worked examples of the definitions, so that a change of one shows. It does nothing.
+pub fn worked_examples()
+    ensures decoded { AreDecoded }
+    ensures quotients { AreQuotients }
+    ensures products { AreProducts }
+    ensures start { IsStarted }
+    ensures answers { AreAnswers }
 {}

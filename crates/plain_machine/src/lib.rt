@@ -32,7 +32,7 @@ pub use channel::{Channel, ChannelEnd, ChannelKind, Direction, Listening};
 pub use description::{Description, Descriptor, Object};
 pub use instruction::{Insn, Op};
 pub use kernel::PlainKernel;
-pub use laws::run_laws;
+pub use laws::{run_laws, worked_examples};
 pub use memory::{Frame, Right};
 pub use plain::Plain;
 pub use process::{Life, Maker, Process};
@@ -41,3 +41,6 @@ pub use serve::Answer;
 pub use served::{Served, serve_slowly};
 pub use start::{FIRST_PID, NOBODY};
 pub use user_part::{Context, SignalAction, ThreadPart, UserPart, Waiter};
+
+#[cfg(test)]
+mod tests;

@@ -10,6 +10,7 @@ use std::alloc::{AllocError, Global};
 use sys_abi::flags::O_RDWR;
 use sys_abi::{ByAddress, ByConn, ByDesc, ByDir, ByName, ByPid, BySlot, DescId, Slot, VPid};
 use views::duplicate::Duplicate;
+use views::list_of::ListOf;
 use views::number_map::NumberMap;
 
 /// The number of the first process.
@@ -64,6 +65,27 @@ impl PlainKernel {
         self.makers = makers;
         self.descriptors = descriptors;
         self.next_id = p + 1;
+        Ok(())
+    }
+
+    /// Adds a file under a name. Without memory the kernel part is as before.
+    #[tactic(auto, unfolding(crate::specs::Start::with_file))]
+    pub fn add_file(
+        &mut self,
+        alloc: Global,
+        name: ListOf<u8>,
+        bytes: ListOf<u8>,
+    ) -> Result<(), AllocError>
+        requires { self.old.next_file + 1 < 2 ^ 32 }
+        ensures ok { OnOk result (self.new ≡ words.with_file self.old (record { name = name; bytes = bytes })) }
+        ensures err { OnErr result (self.new ≡ self.old) }
+    {
+        let number = self.next_file;
+        let mut names = self.names.duplicate(alloc)?;
+        names.insert(name, number)?;
+        self.files.insert(number, bytes)?;
+        self.names = names;
+        self.next_file = number + 1;
         Ok(())
     }
 }
