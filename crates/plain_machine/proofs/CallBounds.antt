@@ -18,7 +18,7 @@ use Rattle.plain_machine.specs.declared.description.Object.TheVariants.{Console}
 use Rattle.plain_machine.specs.declared.buffers.Span.{Span}
 use Rattle.plain_machine.specs.declared.buffers.Source.{Source}
 use Rattle.plain_machine.specs.declared.buffers.Source.TheVariants.{Nothing, Bytes, Text}
-use Rattle.plain_machine.specs.Attempts.{Try, Fails, NotReady, Gives, Served, and_then, need, found, refused, settled}
+use Rattle.plain_machine.specs.Attempts.{Try, Fails, NotReady, Gives, Served, need, found, refused, settled}
 use Rattle.plain_machine.specs.Kernel.{after_end, description_at, may_write}
 use Rattle.plain_machine.specs.Memory.{Memory, byte_at, bytes_at}
 use Rattle.plain_machine.specs.declared.memory.Right.TheVariants.{Read as ToRead}
@@ -29,6 +29,7 @@ use Rattle.plain_machine.specs.Rows.End.{exit_group_row}
 use Rattle.plain_machine.specs.Serve.{row, serve}
 use Rattle.plain_machine.specs.Valid.{IsWord, IsByte, IsKernel, IsFrame, Each}
 use Rattle.plain_machine.proofs.Giving.{Giving, gives, nothing, where_, either, then_, mapped}
+use Rattle.plain_machine.proofs.Trying.{Trying, succeeds, fails, after}
 use Rattle.plain_machine.proofs.MemoryBounds.{AreBytes, bytes_read}
 use Rattle.plain_machine.proofs.KernelBounds.{IsNextKernel, same_kernel, end_keeps}
 
@@ -37,22 +38,6 @@ pub record Fits (k : PlainKernel) (served : Served) : Type 0 where
   pub kernel : IsNextKernel k served.kernel
   pub reply : IsWord (word_of served.reply)
   pub bytes : All IsByte served.bytes
-
--- what is true of what an attempt gives
-pub record Trying {A : Type 0} (attempt : Try A) (P : A → Type 0) : Type 0 where
-  pub each : (a : A) → attempt ≡ Gives a → P a
-
-succeeds : {A : Type 0} {P : A → Type 0} (a : A) → P a → Trying (Gives a) P
-succeeds {P = P} a holds = record { each = λ b is. let same : a ≡ b = cc in subst P same holds }
-
-fails : {A : Type 0} {P : A → Type 0} (e : ℕ) → Trying (Fails e) P
-fails e = record { each = λ a is. cc }
-
-after : {A B : Type 0} {P : B → Type 0} (attempt : Try A) {f : A → Try B} → ((a : A) → attempt ≡ Gives a → Trying (f a) P) → Trying (and_then attempt f) P
-unfolding and_then
-after (Fails e) holds = fails e
-after NotReady holds = record { each = λ a is. cc }
-after (Gives a) holds = holds a refl
 
 keeps_settled : (k : PlainKernel) (attempt : Try Served) → IsKernel k → Trying attempt (Fits k) → Giving (settled k attempt) (Fits k)
 keeps_settled k (Fails e) is holds = gives (refused k e) (record { kernel = same_kernel k is; reply = omega arith; bytes = All-nil IsByte })

@@ -4,6 +4,7 @@ pub mod MemoryBounds
 pub mod EffectBounds
 pub mod UserBounds
 pub mod KernelBounds
+pub mod Trying
 pub mod CallBounds
 pub mod StepBounds
 pub mod StartPages

@@ -6,8 +6,11 @@
 //! file a notion, each with the place of the public standard that it restates: the RISC-V unprivileged manual for
 //! instructions and memory, the ELF ABI for the start, Linux's manual pages for the calls.
 //!
-//! Proved: `serve_slowly` and its twin in place are the rows of the calls; `start` is valid and `step` keeps valid; a
-//! record of one process leaves every other process's part. Not claimed: that any hardware or kernel behaves so.
+//! Proved: `serve_slowly` and its twin in place, `PlainKernel::serve`, are the rows of the calls; `run_laws` has the laws:
+//! a start is valid, each step keeps valid, a record of one process leaves every other process's part, and a run and its
+//! console take one more record at a trace's end. `worked_examples` pins the definitions at values worked out by hand.
+//! The rows of write and exit_group are built, and each other call answers ENOSYS. Not claimed: that any hardware or
+//! kernel behaves so.
 #![tactic(auto)]
 
 pub mod buffers;

@@ -1,7 +1,7 @@
 use crate::{FIRST_PID, PlainKernel, Served, serve_slowly};
 use std::alloc::{AllocError, Global};
 use std::test::Fail;
-use sys_abi::errors::{EBADF, ENOSYS};
+use sys_abi::errors::EBADF;
 use sys_abi::{Errno, Reply, Request, Tid, VPid};
 use views::list_of::ListOf;
 
@@ -88,17 +88,6 @@ fn end_of_a_process(rt: HostRuntime) -> Result<(), Fail> {
     kernel.end_process(VPid(FIRST_PID + 1));
     assert_eq!(rt; kernel.has_life(), false);
     assert_eq!(rt; counts(&kernel), [0, 0, 0, 0]);
-    Ok(())
-}
-
-#[test]
-fn call_without_a_row(rt: HostRuntime) -> Result<(), Fail> {
-    let alloc = rt.alloc();
-    let mut kernel = kernel(alloc)?;
-    let answer = kernel
-        .serve(alloc, FIRST, THREAD, &Request::Getpid, b"")?
-        .ok_or("waits")?;
-    assert_eq!(rt; answer.reply, Reply::Error(Errno(ENOSYS)));
     Ok(())
 }
 
