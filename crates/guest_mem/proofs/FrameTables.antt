@@ -5,7 +5,7 @@
 --     SetsCell-set                   a write to one place of a row
 --     get-in_row, get-past, set-in_row, changed-in_row, removed-in_row     the same, as a row that was read or lent tells them
 --     len-changed, len-with_new      how many frames there are then
-use Rattle.std.proofs.Common.{◌≡◌, ◌≢◌, ℕ, zero, suc, ◌+◌, ◌-◌, ◌*◌, ◌/◌, ◌%◌, ◌≤◌, ◌<◌, Bool, true, false, cond, List, [], length, refl, sym, ap, subst, ◌∙◌, arith, ⊎_elim, length-set, add-zero}
+use Rattle.std.proofs.Common.{◌≡◌, ◌≢◌, ℕ, zero, suc, ◌+◌, ◌-◌, ◌*◌, ◌/◌, ◌%◌, ◌^◌, ◌≤◌, ◌<◌, Bool, true, false, cond, List, [], length, refl, sym, ap, subst, ◌∙◌, arith, ⊎_elim, length-set, add-zero}
 use mir.Val.{bool_byte}
 use Rattle.std.specs.Prelude.{Result, Ok, Err, OnErr, Option, Some, None, is_some, not, option_map, slice_index_or, slice_set}
 use Rattle.std.specs.Ordering.{nat_cmp}
@@ -17,8 +17,8 @@ use Rattle.std.proofs.lemmas.Bool.{cases_eq, cases_lt}
 use Rattle.views.proofs.MapLaws.{get_insert_same, get_insert_other, get_remove_same, get_remove_other, remove_absent}
 use Rattle.plain_machine.specs.declared.memory.Frame.{Frame}
 use Rattle.plain_machine.specs.Memory.{Memory}
-use Rattle.guest_mem.specs.Cells.{IsSameCells, SetsCell}
-use Rattle.guest_mem.specs.FrameTable.{Rows, cell_at, with_cell, frames_below, frames_of, IsSameRows}
+use Rattle.guest_mem.specs.Cells.{IsSameCells, SetsCell, IsFirstPlace, IsNextPlace}
+use Rattle.guest_mem.specs.FrameTable.{Rows, cell_at, with_cell, frames_below, frames_of, IsSameRows, IsFirstPage, IsNextPage}
 use Rattle.guest_mem.proofs.Ranges.{false_true}
 
 pub get-with_cell_same : (m : Memory) (k : ℕ) (cell : Option Frame) → map.get (with_cell m k cell) k ≡ cell
@@ -196,3 +196,44 @@ same-in_row rows i row next within read cells = frames-same rows (slice_set rows
 pub holds_on_err : {T E : Type 0} (P : Type 0) (r : Result T E) → P → OnErr r P
 holds_on_err P (Ok value) holds = tt
 holds_on_err P (Err error) holds = holds
+
+pub short-set : (rows : Rows) (i : ℕ) (row : List (Option Frame)) → length rows ≤ 2 ^ 22 → length (slice_set rows i row) ≤ 2 ^ 22
+short-set rows i row short = subst (λ n. n ≤ 2 ^ 22) (sym (length-set rows i row)) short
+
+-- what a row's next place says of the table, from a number in that row on
+pub row_first : (rows : Rows) (m : Memory) (start number place : ℕ) (row : List (Option Frame)) → frames_of rows ≡ m → number / 1024 < length rows
+    → row ≡ slice_index_or rows (number / 1024) row → start ≤ number → ((q : ℕ) → start ≤ q → q < number → cell_at rows q ≡ None)
+    → IsFirstPlace row (number % 1024) place → IsFirstPage m start (number - number % 1024 + place)
+row_first rows m start number place row seen within read from none next = record {
+  from = omega (arith, next.from);
+  held =
+      ap is_some (ap (λ (n : Memory). map.get n page) (sym seen) ∙ get-frames_of rows page ∙ in_row place next.below
+      ∙ ap (λ (r : List (Option Frame)). slice_index_or r place None) (sym (row_read rows (number / 1024) row within read)))
+      ∙ next.held;
+  first = λ q at before. ap (λ (n : Memory). map.get n q) (sym seen) ∙ get-frames_of rows q ∙ before_it q at before;
+}
+  where
+    page : ℕ
+    page = number - number % 1024 + place
+
+    in_row : (k : ℕ) → k < 1024 → cell_at rows (number - number % 1024 + k) ≡ slice_index_or (slice_index_or rows (number / 1024) []) k None
+    in_row k below =
+        let row_is : (number - number % 1024 + k) / 1024 ≡ number / 1024 = omega arith in
+        let place_is : (number - number % 1024 + k) % 1024 ≡ k = omega arith in
+        λ i. slice_index_or (slice_index_or rows (row_is i) []) (place_is i) None
+
+    before_it : (q : ℕ) → start ≤ q → q < page → cell_at rows q ≡ None
+    before_it q at before =
+        ⊎_elim (λ (under : q < number). none q at under)
+        (λ (past : number ≤ q).
+        let row_is : q / 1024 ≡ number / 1024 = omega (arith, next.below) in
+        ap (λ (i : ℕ). slice_index_or (slice_index_or rows i []) (q % 1024) None) row_is
+        ∙ ap (λ (r : List (Option Frame)). slice_index_or r (q % 1024) None) (sym (row_read rows (number / 1024) row within read))
+        ∙ next.first (q % 1024) (omega arith) (omega arith))
+        (cases_lt q number)
+
+pub no_frame : (rows : Rows) (m : Memory) (start number q : ℕ) → frames_of rows ≡ m → length rows ≤ number / 1024
+    → ((k : ℕ) → start ≤ k → k < number → cell_at rows k ≡ None) → start ≤ q → map.get m q ≡ None
+no_frame rows m start number q seen past none from =
+    ap (λ (n : Memory). map.get n q) (sym seen) ∙ get-frames_of rows q
+    ∙ ⊎_elim (λ (under : q < number). none q from under) (λ (over : number ≤ q). cell_at-past rows q (omega arith)) (cases_lt q number)

@@ -5,3 +5,4 @@ pub mod Checks
 pub mod Copies
 pub mod FrameTables
 pub mod PageRuns
+pub mod NextPages

@@ -2,8 +2,11 @@
 --     cell_at rows number               what stands there
 --     with_cell memory number cell      the memory with this frame at the number, or with none there
 --     frames_of rows                    the memory that the rows are
+--     IsTable rows count                what a table of so many frames keeps
 --     changed_at memory number f        the memory with f of the frame at the number, where there is one
-use Rattle.std.specs.Prelude.{◌≡◌, ℕ, zero, suc, ◌*◌, ◌/◌, ◌%◌, List, [], length, Option, Some, None, option_map, slice_index_or}
+--     start_of above                    the first number above one, or of all where none is given
+--     IsNextPage memory start number    the first number from a start on at which a frame stands, if there is one
+use Rattle.std.specs.Prelude.{◌≡◌, ℕ, ◌+◌, ◌≤◌, ◌<◌, ◌^◌, true, is_some, zero, suc, ◌*◌, ◌/◌, ◌%◌, List, [], length, Option, Some, None, option_map, slice_index_or}
 use Rattle.std.specs.FinMap as map
 use Rattle.plain_machine.specs.declared.memory.Frame.{Frame}
 use Rattle.plain_machine.specs.Memory.{Memory}
@@ -25,8 +28,27 @@ frames_below rows (suc n) = with_cell (frames_below rows n) n (cell_at rows n)
 unfoldable pub frames_of : Rows → Memory
 frames_of rows = frames_below rows (1024 * length rows)
 
+-- what a table keeps: its count is that of the frames, and it has no row past the numbers of 32 bits
+pub record IsTable (rows : Rows) (count : ℕ) : Type 0 where
+  pub counted : count ≡ map.len (frames_of rows)
+  pub short : length rows ≤ 2 ^ 22
+
 abbrev pub changed_at : Memory → ℕ → (Frame → Frame) → Memory
 changed_at memory number f = with_cell memory number (option_map f (map.get memory number))
 
 pub record IsSameRows (old new : Rows) : Type 0 where
   pub same : (number : ℕ) → cell_at new number ≡ cell_at old number
+
+pub record IsFirstPage (memory : Memory) (start number : ℕ) : Type 0 where
+  pub from : start ≤ number
+  pub held : is_some (map.get memory number) ≡ true
+  pub first : (q : ℕ) → start ≤ q → q < number → map.get memory q ≡ None
+
+abbrev pub IsNextPage : Memory → ℕ → Option ℕ → Type 0
+IsNextPage memory start None = (q : ℕ) → start ≤ q → map.get memory q ≡ None
+IsNextPage memory start (Some number) = IsFirstPage memory start number
+
+-- the numbers above one start there
+abbrev pub start_of : Option ℕ → ℕ
+start_of None = 0
+start_of (Some number) = number + 1

@@ -22,7 +22,7 @@ pub fn allows(right: Right, rights: u8) -> bool
 pub fn number_at(frame: &Frame, offset: usize, size: u32) -> u32
     requires size { (size ≡ 1) ⊎ (size ≡ 2) ⊎ (size ≡ 4) }
     requires inside { offset + size ≤ 4096 }
-    ensures number { result ≡ little_endian (bytes_from frame.now.page offset size) }
+    ensures value { result ≡ little_endian (bytes_from frame.now.page offset size) }
     ensures fits { result < 256 ^ size }
 {
     match size {

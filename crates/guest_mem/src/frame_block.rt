@@ -2,7 +2,7 @@ ghost use Rattle.std.specs.Prelude.{◌≡◌, ◌≢◌, ◌+◌, ◌<◌, ◌�
 ghost use Rattle.std.specs.Option.{option_copied};
 ghost use Rattle.plain_machine.specs.Memory.{low_bytes};
 ghost use Rattle.guest_mem.specs.Bytes.{with_piece};
-ghost use Rattle.guest_mem.specs.Cells.{IsSameCells, SetsCell};
+ghost use Rattle.guest_mem.specs.Cells.{IsSameCells, SetsCell, IsNextPlace};
 
 use crate::access;
 use plain_machine::Frame;
@@ -96,6 +96,18 @@ impl FrameBlock {
             return;
         };
         access::write_piece(frame, offset, piece);
+    }
+
+    /// The first place from one on, below 1,024, that holds a frame.
+    pub fn next_from(&self, start: usize) -> Option<usize>
+        ensures { IsNextPlace self.now start result }
+    {
+        for at in start..self.cells.len().min(1024) {
+            if self.cells[at].is_some() {
+                return Some(at);
+            }
+        }
+        None
     }
 
     /// A block with the same frames, in memory of its own.

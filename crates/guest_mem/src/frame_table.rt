@@ -1,9 +1,9 @@
-ghost use Rattle.std.specs.Prelude.{◌≡◌, ◌+◌, ◌*◌, ◌/◌, ◌%◌, ◌<◌, ◌≤◌, ◌^◌, ◌⊎◌, Some, None, length, is_some, option_map, IfSome, IfOk, OnOk, OnErr};
+ghost use Rattle.std.specs.Prelude.{◌≡◌, ◌+◌, ◌*◌, ◌/◌, ◌%◌, ◌<◌, ◌≤◌, ◌^◌, ◌⊎◌, Some, None, length, is_some, option_map, max, IfSome, IfOk, OnOk, OnErr};
 ghost use Rattle.std.specs.Option.{option_copied};
 ghost use Rattle.std.specs.FinMap as map;
 ghost use Rattle.plain_machine.specs.Memory.{low_bytes};
 ghost use Rattle.guest_mem.specs.Bytes.{with_piece};
-ghost use Rattle.guest_mem.specs.FrameTable.{IsSameRows, changed_at};
+ghost use Rattle.guest_mem.specs.FrameTable.{IsSameRows, IsNextPage, changed_at};
 
 use crate::frame_block::FrameBlock;
 use plain_machine::Frame;
@@ -21,12 +21,11 @@ pub struct FrameTable {
 }
 
 impl Model for FrameTable {
-    ghost use Rattle.std.specs.Prelude.{◌≡◌};
     ghost use Rattle.std.specs.Coded.{coded_ℕ};
     ghost use Rattle.std.specs.FinMap as map;
     ghost use Rattle.plain_machine.specs.contracts.memory.Frame as frame;
     ghost use Rattle.plain_machine.specs.Memory.{Memory};
-    ghost use Rattle.guest_mem.specs.FrameTable.{frames_of};
+    ghost use Rattle.guest_mem.specs.FrameTable.{frames_of, IsTable};
 
     ghost Value = { Memory };
 
@@ -34,7 +33,7 @@ impl Model for FrameTable {
 
     ghost view = { λ t. frames_of t.blocks.items };
 
-    ghost invariant = { λ t. t.count ≡ map.len (frames_of t.blocks.items) };
+    ghost invariant = { λ t. IsTable t.blocks.items t.count };
 }
 
 impl FrameTable {
@@ -128,6 +127,22 @@ impl FrameTable {
         }
     }
 
+    /// The first number from one on at which a frame stands.
+    pub fn next_from(&self, start: usize) -> Option<usize>
+        ensures { IsNextPage self.now start result }
+    {
+        let blocks = self.blocks.as_slice();
+        let mut number = start;
+        while number / 1024 < blocks.len() {
+            let first = number - number % 1024;
+            if let Some(place) = blocks[number / 1024].next_from(number % 1024) {
+                return Some(first + place);
+            }
+            number = first + 1024;
+        }
+        None
+    }
+
     /// A table with the same frames, in memory of its own.
     pub fn try_clone(&self, alloc: Global) -> Result<FrameTable, AllocError>
         ensures { IfOk result (λ copy. copy ≡ self.now) }
@@ -152,6 +167,7 @@ fn copied(blocks: &[FrameBlock], alloc: Global) -> Result<Vec<FrameBlock>, Alloc
 /// Puts empty blocks at the end until there are so many.
 fn grow(blocks: &mut Vec<FrameBlock>, len: usize) -> Result<(), AllocError>
     ensures same { IsSameRows blocks.old.items blocks.new.items }
+    ensures short { length blocks.new.items ≤ max (length blocks.old.items) len }
     ensures ok { OnOk result (len ≤ length blocks.new.items) }
 {
     let alloc = *blocks.allocator();

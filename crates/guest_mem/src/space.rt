@@ -1,4 +1,4 @@
-ghost use Rattle.std.specs.Prelude.{◌≡◌, ◌+◌, ◌≤◌, ◌<◌, ◌*◌, ◌/◌, ◌%◌, ◌^◌, ◌⊎◌, ◌↔◌, ◌++◌, Some, None, length, is_some, IsSome, IsTrue, Err, IfErr, [], replicate, IfOk, OnOk, OnErr, option_map};
+ghost use Rattle.std.specs.Prelude.{◌≡◌, ◌+◌, ◌≤◌, ◌<◌, ◌*◌, ◌/◌, ◌%◌, ◌^◌, ◌⊎◌, ◌↔◌, ◌++◌, Some, None, length, is_some, find, IsSome, IsTrue, Err, IfErr, [], replicate, IfOk, OnOk, OnErr, option_map};
 ghost use Rattle.std.specs.Option.{option_copied};
 ghost use Rattle.std.specs.Result.{result_ok, result_err, result_map_both};
 ghost use Rattle.std.specs.FinMap as map;
@@ -6,7 +6,9 @@ ghost use Rattle.plain_machine.specs.Memory.{bytes_at, byte_at, with_bytes, litt
 ghost use Rattle.plain_machine.specs.declared.memory.Right.TheVariants as right;
 ghost use Rattle.plain_machine.specs.Start.{with_pages};
 ghost use Rattle.sys_abi.specs.declared.transfer.TheConstants.{TRANSFER_LIMIT};
+ghost use Rattle.views.specs.NumberMap.{is_above};
 ghost use Rattle.guest_mem.specs.Refusals.{granted, refusal, stored, IsRoomFault};
+ghost use Rattle.guest_mem.specs.FrameTable.{start_of};
 ghost use Rattle.guest_mem.specs.Pages.{IsFree, without_pages};
 
 use crate::access::{allows, number_at, room_in_page};
@@ -60,10 +62,26 @@ impl Space {
         self.frames.len()
     }
 
+    pub fn is_empty(&self) -> bool
+        ensures { IsTrue result ↔ (self.now ≡ map.empty) }
+    {
+        self.len() == 0
+    }
+
     pub fn contains_page(&self, page: u32) -> bool
         ensures { result ≡ is_some (map.get self.now page) }
     {
         self.frames.contains(page)
+    }
+
+    /// The least page number above this one, or the least of all where none is given.
+    pub fn next_page(&self, above: Option<u32>) -> Option<u32>
+        ensures { result ≡ find (is_above above) (map.keys self.now) }
+    {
+        match self.frames.next_from(start_above(above)) {
+            None => None,
+            Some(page) => Some(page as u32),
+        }
     }
 
     /// The number that the `size` bytes at an address spell, the least significant first. It needs the right to read.
@@ -71,7 +89,7 @@ impl Space {
     pub fn load(&self, address: u32, size: u32) -> Result<u32, MemFault>
         requires { (size ≡ 1) ⊎ (size ≡ 2) ⊎ (size ≡ 4) }
         ensures value { result_ok result ≡ load_of self.now address size }
-        ensures fits { IfOk result (λ number. number < 256 ^ size) }
+        ensures fits { IfOk result (λ value. value < 256 ^ size) }
         ensures refused { result_err result ≡ refusal self.now right.Read address size }
     {
         self.read(Right::Read, address, size)
@@ -90,7 +108,7 @@ impl Space {
     fn read(&self, right: Right, address: u32, size: u32) -> Result<u32, MemFault>
         requires { (size ≡ 1) ⊎ (size ≡ 2) ⊎ (size ≡ 4) }
         ensures value { result_ok result ≡ option_map little_endian (bytes_at self.now right address size) }
-        ensures fits { IfOk result (λ number. number < 256 ^ size) }
+        ensures fits { IfOk result (λ value. value < 256 ^ size) }
         ensures refused { result_err result ≡ refusal self.now right address size }
     {
         let offset = (address % 4096) as usize;
@@ -102,7 +120,7 @@ impl Space {
     }
 
     #[inline]
-    fn page(&self, page: u32) -> Option<&Frame>
+    pub fn page(&self, page: u32) -> Option<&Frame>
         ensures { option_copied result ≡ map.get self.now page }
     {
         self.frames.get(page)
@@ -125,7 +143,7 @@ impl Space {
     fn read_across(&self, right: Right, address: u32, size: u32) -> Result<u32, MemFault>
         requires { (size ≡ 2) ⊎ (size ≡ 4) }
         ensures value { result_ok result ≡ option_map little_endian (bytes_at self.now right address size) }
-        ensures fits { IfOk result (λ number. number < 256 ^ size) }
+        ensures fits { IfOk result (λ value. value < 256 ^ size) }
         ensures refused { result_err result ≡ refusal self.now right address size }
     {
         self.check(right, address, size as usize)?;
@@ -379,5 +397,14 @@ impl Space {
         Ok(Space {
             frames: self.frames.try_clone(alloc)?,
         })
+    }
+}
+
+fn start_above(page: Option<u32>) -> usize
+    ensures { result ≡ start_of page }
+{
+    match page {
+        None => 0,
+        Some(page) => page as usize + 1,
     }
 }

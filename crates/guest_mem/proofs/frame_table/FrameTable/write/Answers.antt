@@ -4,16 +4,17 @@ use Rattle.std.specs.FinMap as map
 use Rattle.plain_machine.specs.declared.memory.Frame.{Frame}
 use Rattle.plain_machine.specs.Memory.{Memory}
 use Rattle.guest_mem.specs.Bytes.{with_piece}
-use Rattle.guest_mem.proofs.FrameTables.{changed-in_row, changed-missing, get-in_row, get-past, len-changed}
+use Rattle.guest_mem.proofs.FrameTables.{short-set, changed-in_row, changed-missing, get-in_row, get-past, len-changed}
 use Rattle.guest_mem.proofs.frame_table.FrameTable.write.Goals as goal
 
 pub invariant_of-self : goal.invariant_of-self
 invariant_of-self c =
     let within : c.args.page / 1024 < length c.self.inside.blocks.items = let ok = c.self.inside.blocks.ok in omega (arith, c.len.ensures) in
     let f : Frame → Frame = (λ (frame : Frame). with_piece frame c.args.offset c.args.piece.now) in
-    c.self.invariant ∙ ap (λ (m : Memory). map.len m) c.self.view_is
-    ∙ sym (ap (λ (m : Memory). map.len m) (changed-in_row c.self.inside.blocks.items c.args.self.now c.args.page c.index_mut.result.now c.write.new.self f c.self.view_is within c.index_mut.ensures.value c.write.ensures.put)
-    ∙ len-changed c.args.self.now c.args.page f)
+    record {
+      counted = c.self.invariant.counted ∙ ap (λ (m : Memory). map.len m) c.self.view_is ∙ sym (ap (λ (m : Memory). map.len m) (changed-in_row c.self.inside.blocks.items c.args.self.now c.args.page c.index_mut.result.now c.write.new.self f c.self.view_is within c.index_mut.ensures.value c.write.ensures.put) ∙ len-changed c.args.self.now c.args.page f);
+      short = short-set c.self.inside.blocks.items (c.args.page / 1024) c.write.new.self c.self.invariant.short;
+    }
 
 pub returns-then-number-len-clause-put : goal.returns-then-number-len-clause-put
 returns-then-number-len-clause-put c =

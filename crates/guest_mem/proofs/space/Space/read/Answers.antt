@@ -27,7 +27,7 @@ returns-clause-value c =
     let inside : c.args.address % 4096 + c.args.size ≤ 4096 = omega arith in
     sym (ap (option_map little_endian) (bytes_at-in_page c.args.self.now c.args.right c.args.address c.args.size some inside
     ∙ ap (bytes_of (c.args.address % 4096) c.args.size) (sym c.in_ok-frame.ensures))
-    ∙ ap (λ value. Some value) (sym c.number_at.ensures.number))
+    ∙ ap (λ value. Some value) (sym c.number_at.ensures.value))
 
 pub returns-clause-refused : goal.returns-clause-refused
 returns-clause-refused c =

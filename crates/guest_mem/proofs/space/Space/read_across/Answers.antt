@@ -1,4 +1,4 @@
-use Rattle.std.proofs.Common.{◌≡◌, sym, ap, subst, arith, add-zero}
+use Rattle.std.proofs.Common.{◌^◌, ◌≡◌, ◌<◌, sym, ap, subst, arith, add-zero}
 use Rattle.std.specs.Prelude.{IsSome, option_map}
 use Rattle.std.proofs.lemmas.Result.{err_from_is_err_and}
 use Rattle.plain_machine.specs.Memory.{byte_at, little_endian}
@@ -38,3 +38,11 @@ returns-in_default-clause-value c =
     let four : c.args.size ≡ 4 = omega arith in
     spelt-4 c.args.self.now c.args.right c.args.address c.args.size c.byte-in_default.result c.byte-in_default-2.result c.byte-in_default-3.result c.byte-in_default-4.result c.from_le_bytes-in_default.result
     c.byte-in_default.ensures c.byte-in_default-2.ensures c.byte-in_default-3.ensures c.byte-in_default-4.ensures c.from_le_bytes-in_default.ensures four
+
+pub returns-in-2-clause-fits : goal.returns-in-2-clause-fits
+returns-in-2-clause-fits c = subst (λ size. c.from_le_bytes.result < 256 ^ size) (sym c.in-2.is) c.from_le_bytes.type_inv
+
+pub returns-in_default-clause-fits : goal.returns-in_default-clause-fits
+returns-in_default-clause-fits c =
+    let four : c.args.size ≡ 4 = omega arith in
+    subst (λ size. c.from_le_bytes-in_default.result < 256 ^ size) (sym four) c.from_le_bytes-in_default.type_inv

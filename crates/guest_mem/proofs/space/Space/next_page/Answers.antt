@@ -1,0 +1,16 @@
+use Rattle.std.proofs.Common.{ap, sym, ◌∙◌}
+use Rattle.std.specs.Prelude.{None, Some, find}
+use Rattle.std.specs.FinMap as map
+use Rattle.views.specs.NumberMap.{is_above}
+use Rattle.plain_machine.specs.Memory.{Memory}
+use Rattle.guest_mem.proofs.NextPages.{find-next}
+use Rattle.guest_mem.proofs.space.Space.next_page.Goals as goal
+
+pub returns-in-None : goal.returns-in-None
+returns-in-None c =
+    find-next c.self.inside.frames c.args.above c.start_above.result None c.start_above.ensures c.in-None.ensures ∙ ap (λ (m : Memory). find (is_above c.args.above) (map.keys m)) c.self.view_is
+
+pub returns-in-Some : goal.returns-in-Some
+returns-in-Some c =
+    find-next c.self.inside.frames c.args.above c.start_above.result (Some c.in-Some.page) c.start_above.ensures c.in-Some.ensures
+    ∙ ap (λ (m : Memory). find (is_above c.args.above) (map.keys m)) c.self.view_is
