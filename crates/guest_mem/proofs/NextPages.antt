@@ -1,8 +1,8 @@
 -- The next page: the first place of its row at which there is a frame, in the first row with such a place, is the least key from there on.
 --     find-next                   the first number at which a frame stands is the first such key
-use Rattle.std.proofs.Common.{Less, Equal, Greater, ◌≡◌, ◌≢◌, ℕ, ◌+◌, ◌-◌, ◌*◌, ◌/◌, ◌%◌, ◌≤◌, ◌<◌, Bool, true, false, cond, ◌&&◌, List, [], ◌∷◌, length, refl, sym, ap, subst, ◌∙◌, arith, ⊎_elim, inl, inr, T}
-use Rattle.std.specs.Prelude.{Option, Some, None, ◌⊎◌, is_some, find, slice_index_or, nat_lt, ◌==◌, map as mapped}
-use Rattle.std.specs.Ordering.{nat_cmp, is_lt, eq_by_cmp}
+use Rattle.std.proofs.Common.{Less, Equal, Greater, ◌≡◌, ℕ, ◌≤◌, ◌<◌, Bool, true, false, cond, ◌&&◌, List, [], ◌∷◌, refl, sym, ap, ◌∙◌, arith, ⊎_elim, T}
+use Rattle.std.specs.Prelude.{Option, Some, None, ◌⊎◌, is_some, find, nat_lt, ◌==◌, map as mapped}
+use Rattle.std.specs.Ordering.{nat_cmp, is_lt}
 use Rattle.std.specs.Cmp.{nat_cmp_total}
 use Rattle.std.specs.FinMap as map
 use Rattle.std.specs.FinMap.Entries.{is_sorted, below_all}
@@ -12,7 +12,7 @@ use Rattle.views.specs.NumberMap.{is_above}
 use Rattle.views.proofs.MapLaws.{key_tied, other_key}
 use Rattle.plain_machine.specs.declared.memory.Frame.{Frame}
 use Rattle.plain_machine.specs.Memory.{Memory}
-use Rattle.guest_mem.specs.FrameTable.{IsFirstPage, IsNextPage, start_of}
+use Rattle.guest_mem.specs.FrameTable.{IsNextPage, start_of}
 use Rattle.guest_mem.proofs.Ranges.{false_true}
 
 first : (a b : Bool) → T (a && b) → T a

@@ -17,3 +17,6 @@ pub mod space;
 
 pub use mem_fault::MemFault;
 pub use space::Space;
+
+#[cfg(test)]
+mod tests;

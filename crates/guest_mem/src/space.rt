@@ -84,6 +84,17 @@ impl Space {
         }
     }
 
+    /// Whether none of so many pages from one on is there.
+    pub fn is_free(&self, page: u32, count: u32) -> bool
+        requires { page + count ≤ 2 ^ 20 }
+        ensures { IsTrue result ↔ IsFree self.now page count }
+    {
+        match self.frames.next_from(page as usize) {
+            None => true,
+            Some(next) => next >= (page + count) as usize,
+        }
+    }
+
     /// The number that the `size` bytes at an address spell, the least significant first. It needs the right to read.
     #[inline]
     pub fn load(&self, address: u32, size: u32) -> Result<u32, MemFault>

@@ -1,4 +1,74 @@
+// What no clause can say: that calls succeed with memory to spare. The expected values are worked by hand from the
+// little-endian order of the RISC-V unprivileged manual, section 2.6.
 use crate::{MemFault, Space};
 use plain_machine::{Frame, Right};
-use std::alloc::Global;
+use std::test::Fail;
 use sys_abi::{Page, Transfer};
+
+#[test]
+fn a_store_past_the_last_page_writes_nothing(rt: HostRuntime) -> Result<(), Fail> {
+    let mut space = Space::new(rt.alloc());
+    let page = Page::zeroed(rt.alloc())?;
+    space.insert_page(0x10, Frame { rights: 6, page })?;
+    space.store(0x10FFC, 4, 0x0403_0201)?;
+    assert_eq!(rt;
+        space.store(0x10FFE, 4, 0x0807_0605),
+        Err(MemFault::Unmapped)
+    );
+    assert_eq!(rt; space.load(0x10FFC, 4), Ok(0x0403_0201));
+    assert_eq!(rt; space.load(0xFFFF_FFFE, 4), Err(MemFault::Unmapped));
+    assert_eq!(rt; space.fetch(0x10FFC), Err(MemFault::Rights));
+
+    let page = Page::zeroed(rt.alloc())?;
+    space.insert_page(0x11, Frame { rights: 7, page })?;
+    space.store(0x10FFE, 4, 0x0807_0605)?;
+    assert_eq!(rt; space.load(0x10FFE, 4), Ok(0x0807_0605));
+    assert_eq!(rt; space.load(0x10FFF, 2), Ok(0x0706));
+    assert_eq!(rt; space.load(0x11001, 1), Ok(0x08));
+    assert_eq!(rt; space.fetch(0x11000), Ok(0x0807));
+    assert_eq!(rt; space.byte_with(Right::Execute, 0x10FFF), None);
+    Ok(())
+}
+
+#[test]
+fn a_space_has_room_for_2048_pages(rt: HostRuntime) -> Result<(), Fail> {
+    let mut space = Space::new(rt.alloc());
+    assert!(rt; space.is_empty());
+    assert!(rt; space.is_free(0, 2049));
+    assert_eq!(rt; space.map(0, 2049, 6), Err(MemFault::Full));
+    assert!(rt; space.is_free(0xFF800, 2048));
+    space.map(0xFF800, 2048, 6)?;
+    let page = Page::zeroed(rt.alloc())?;
+    let refused = space.insert_page(7, Frame { rights: 4, page });
+    assert_eq!(rt; refused, Err(MemFault::Full));
+    space.unmap(0xFF000, 0x801);
+    assert_eq!(rt; space.len(), 2047);
+    assert_eq!(rt; space.next_page(None), Some(0xFF801));
+    let page = Page::zeroed(rt.alloc())?;
+    space.insert_page(7, Frame { rights: 4, page })?;
+    assert_eq!(rt; space.next_page(Some(7)), Some(0xFF801));
+    space.remove_page(7);
+    assert!(rt; !space.contains_page(7));
+    assert_eq!(rt; space.load(0xFFFF_FFFC, 4), Ok(0));
+    Ok(())
+}
+
+#[test]
+fn copies_meet_many_pages(rt: HostRuntime) -> Result<(), Fail> {
+    let mut space = Space::new(rt.alloc());
+    assert!(rt; space.is_free(0x20, 3));
+    space.map(0x20, 3, 6)?;
+    let piece = [0x5A; 5000];
+    space.copy_in(0x20FFF, &piece)?;
+    let clone = space.try_clone(rt.alloc())?;
+    space.store(0x20FFF, 1, 0)?;
+    assert_eq!(rt; space.copy_in(0x22FFF, b"no"), Err(MemFault::Unmapped));
+    assert_eq!(rt; space.own_pages(0x20000, 0x3000), Ok(()));
+    assert!(rt; space.is_writable(0x20000, 0x3000) && !space.is_readable(0x1FFFF, 2));
+    let mut transfer = Transfer::new(rt.alloc())?;
+    clone.copy_out(0x20FFF, &mut transfer, 5000)?;
+    assert!(rt; transfer.as_slice() == piece.as_slice());
+    assert_eq!(rt; clone.load(0x22386, 2), Ok(0x5A));
+    assert!(rt; clone.page(0x23).is_none());
+    Ok(())
+}

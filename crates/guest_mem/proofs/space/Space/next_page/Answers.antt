@@ -1,4 +1,4 @@
-use Rattle.std.proofs.Common.{ap, sym, ◌∙◌}
+use Rattle.std.proofs.Common.{ap, ◌∙◌}
 use Rattle.std.specs.Prelude.{None, Some, find}
 use Rattle.std.specs.FinMap as map
 use Rattle.views.specs.NumberMap.{is_above}
