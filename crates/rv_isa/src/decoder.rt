@@ -45,7 +45,7 @@ fn instruction_at(opcode: u32, funct3: u32, funct7: u32, word: u32) -> Option<In
         }
         0x33 => Some(of_registers(register_row(funct3, funct7)?, word)),
         0x0F => Some(of_immediate(fence_row(funct3)?, word)),
-        0x73 => Some(without_operands(system_row(word)?, word)),
+        0x73 => Some(without_operands(system_row(word)?)),
         _ => None,
     }
 }

@@ -135,10 +135,9 @@ pub fn of_shift(op: Op, word: u32) -> Insn
 /// A whole word: no operands.
 #[inline]
 #[tactic(auto, unfolding(plain_machine::specs::Instructions::insn_of, plain_machine::specs::Instructions::immediate))]
-pub fn without_operands(op: Op, word: u32) -> Insn
-    ensures { result ≡ insn_of op Whole word }
+pub fn without_operands(op: Op) -> Insn
+    ensures { (word : ℕ) → result ≡ insn_of op Whole word }
 {
-    let _ = word;
     Insn {
         op,
         rd: 0,
