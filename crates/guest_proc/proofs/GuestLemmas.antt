@@ -1,0 +1,124 @@
+-- A guest's calls, over plain variables.
+use Rattle.std.proofs.Common.{◌≡◌, List, ℕ, refl, sym, ap, subst, ◌∙◌, true, false, if◌then◌else◌}
+use Rattle.std.specs.Prelude.{Option, Some, None, option_map, is_some}
+use Rattle.std.specs.Ordering.{nat_cmp}
+use Rattle.std.specs.FinMap as map
+use Rattle.sys_abi.specs.declared.request.Request.{Request}
+use Rattle.sys_abi.specs.declared.reply.Reply.{Reply}
+use Rattle.plain_machine.specs.declared.regs.Regs.{Regs}
+use Rattle.plain_machine.specs.declared.user_part.UserPart.{UserPart}
+use Rattle.plain_machine.specs.declared.user_part.ThreadPart.{ThreadPart}
+use Rattle.plain_machine.specs.Memory.{Memory}
+use Rattle.plain_machine.specs.Registers.{with_reg, at_pc, next_pc}
+use Rattle.plain_machine.specs.Instructions.{Effect}
+use Rattle.plain_machine.specs.Steps.{Running, effect_at, Waits, waits, with_regs, step_by, step_of, user_step, user_steps}
+use Rattle.plain_machine.specs.Buffers.{written_spans}
+use Rattle.plain_machine.specs.Put.{put, put_by, with_spans, word_of}
+use Rattle.guest_proc.specs.declared.run.Stop.{Stop}
+use Rattle.guest_proc.specs.declared.run.Stop.TheVariants.{Quantum, Call, Trap}
+use Rattle.guest_proc.specs.declared.ran.Ran.{Ran}
+use Rattle.guest_proc.specs.Guests.{Tells, with_parts, Puts}
+use Rattle.guest_proc.specs.Running.{running, HasRun, IsStop, ran_told}
+use Rattle.guest_proc.specs.Threads.{threads_with_regs}
+use Rattle.guest_proc.proofs.Lift.{lift, run_to, step_at}
+
+-- the part of a process after a run of one of its threads
+found_thread : (user : UserPart) (t n : ℕ) (regs regs' : Regs) (memory' : Memory) (found : Option ThreadPart) → map.get user.threads t ≡ found
+    → option_map (λ thread. thread.regs) found ≡ Some regs → waits user t ≡ false → HasRun n regs user.memory regs' memory'
+    → user_steps n user t ≡ Some (with_parts user memory' (threads_with_regs user.threads t regs' found))
+found_thread user t n regs regs' memory' None there has idle run = cc
+found_thread user t n regs regs' memory' (Some thread) there has idle run =
+    let same : thread.regs ≡ regs = cc in
+    lift n user t thread (running regs' memory') there idle (subst (λ r. HasRun n r user.memory regs' memory') (sym same) run)
+
+pub steps : (user : UserPart) (t n : ℕ) (regs regs' : Regs) (memory' : Memory) (threads' : map.FinMap nat_cmp ThreadPart)
+    → option_map (λ thread. thread.regs) (map.get user.threads t) ≡ Some regs → waits user t ≡ false → HasRun n regs user.memory regs' memory'
+    → threads' ≡ threads_with_regs user.threads t regs' (map.get user.threads t) → user_steps n user t ≡ Some (with_parts user memory' threads')
+steps user t n regs regs' memory' threads' has idle run is =
+    found_thread user t n regs regs' memory' (map.get user.threads t) refl has idle run ∙ ap (λ threads. Some (with_parts user memory' threads)) (sym is)
+
+-- where the thread stands then
+tells_effect : (user : UserPart) (t : ℕ) (thread : ThreadPart) (stop : Stop) (regs : Regs) (effect : Effect) → IsStop stop effect
+    → Tells (ran_told stop regs) (step_by user t (with_regs thread regs) effect)
+tells_effect user t thread Quantum regs effect is = tt
+tells_effect user t thread Call regs effect is = ap (step_by user t (with_regs thread regs)) is
+tells_effect user t thread (Trap signal) regs effect is = ap (step_by user t (with_regs thread regs)) is
+
+tells_found : (user : UserPart) (t : ℕ) (stop : Stop) (regs regs' : Regs) (memory' : Memory) (found : Option ThreadPart)
+    → option_map (λ thread. thread.regs) found ≡ Some regs → waits user t ≡ false → IsStop stop (effect_at regs' memory')
+    → Tells (ran_told stop regs') (user_step (with_parts user memory' (threads_with_regs user.threads t regs' found)) t)
+tells_found user t stop regs regs' memory' None has idle is = absurd (no_regs has)
+  where
+    no_regs : option_map {T = ThreadPart} {U = Regs} (λ thread. thread.regs) None ≡ Some regs → ⊥
+    no_regs e = cc
+tells_found user t stop regs regs' memory' (Some thread) has idle is =
+    let at : Running = running regs' memory' in
+    subst (λ place. Tells (ran_told stop regs') place) (sym (step_at user t thread at (effect_at regs' memory') idle refl))
+    (tells_effect (run_to user t thread at) t thread stop regs' (effect_at regs' memory') is)
+
+pub tells : (user : UserPart) (t : ℕ) (stop : Stop) (ran : Ran) (regs regs' : Regs) (memory' : Memory) (threads' : map.FinMap nat_cmp ThreadPart)
+    → option_map (λ thread. thread.regs) (map.get user.threads t) ≡ Some regs → waits user t ≡ false → IsStop stop (effect_at regs' memory')
+    → ran ≡ ran_told stop regs' → threads' ≡ threads_with_regs user.threads t regs' (map.get user.threads t)
+    → Tells ran (user_step (with_parts user memory' threads') t)
+tells user t stop ran regs regs' memory' threads' has idle is told threads =
+    subst (λ r. Tells r (user_step (with_parts user memory' threads') t)) (sym told)
+    (subst (λ ths. Tells (ran_told stop regs') (user_step (with_parts user memory' ths) t)) (sym threads)
+    (tells_found user t stop regs regs' memory' (map.get user.threads t) has idle is))
+
+-- a thread that waits
+waits_found : (user : UserPart) (t : ℕ) (found : Option ThreadPart) → is_some found ≡ true → waits user t ≡ true → step_of user t found ≡ Waits
+waits_found user t None there waiting = cc
+waits_found user t (Some thread) there waiting = ap (λ b. if b then Waits else step_by user t thread (effect_at thread.regs user.memory)) waiting
+
+pub waits_on : (user : UserPart) (t : ℕ) → is_some (map.get user.threads t) ≡ true → waits user t ≡ true → user_step user t ≡ Waits
+unfolding user_step
+waits_on user t there waiting = waits_found user t (map.get user.threads t) there waiting
+
+pub no_steps : (user : UserPart) (t : ℕ) → user_steps 0 user t ≡ Some user
+unfolding user_steps
+no_steps user t = refl
+
+-- an answer
+abbrev put_found : UserPart → ℕ → Request → Reply → List ℕ → Option ThreadPart → UserPart
+put_found user t q reply bytes found = put_by user t (word_of reply) (with_spans user.memory (written_spans user.memory q) bytes) found
+
+put_is : (user : UserPart) (t : ℕ) (q : Request) (reply : Reply) (bytes : List ℕ) → put user t q reply bytes ≡ put_found user t q reply bytes (map.get user.threads t)
+unfolding put
+put_is user t q reply bytes = refl
+
+none_of : {A : Type 0} (o : Option A) → is_some o ≡ false → o ≡ None
+none_of None is = refl
+none_of (Some a) is = cc
+
+pub put_none : (memory : Memory) (threads : map.FinMap nat_cmp ThreadPart) (t : ℕ) (q : Request) (reply : Reply) (bytes : List ℕ)
+    → is_some (map.get threads t) ≡ false → Puts memory threads t q reply bytes memory threads
+put_none memory threads t q reply bytes none user m ths =
+    let missing = none_of (map.get user.threads t) (ap (λ x. is_some (map.get x t)) ths ∙ none) in
+    put_is user t q reply bytes ∙ ap (put_found user t q reply bytes) missing
+    ∙ ap (λ x. with_parts user x user.threads) m ∙ ap (with_parts user memory) ths
+
+put_some : (user : UserPart) (t : ℕ) (q : Request) (reply : Reply) (bytes : List ℕ) (regs : Regs) (found : Option ThreadPart)
+    → option_map (λ thread. thread.regs) found ≡ Some regs
+    → put_found user t q reply bytes found
+    ≡ with_parts user (with_spans user.memory (written_spans user.memory q) bytes)
+    (threads_with_regs user.threads t (at_pc (with_reg regs 10 (word_of reply)) (next_pc regs)) found)
+put_some user t q reply bytes regs None has = cc
+put_some user t q reply bytes regs (Some thread) has =
+    let same : thread.regs ≡ regs = cc in
+    ap (λ r. with_parts user (with_spans user.memory (written_spans user.memory q) bytes) (map.insert user.threads t (with_regs thread (at_pc (with_reg r 10 (word_of reply)) (next_pc r))))) same
+
+pub put_whole : (memory : Memory) (threads : map.FinMap nat_cmp ThreadPart) (t : ℕ) (q : Request) (reply : Reply) (bytes : List ℕ) (regs regs' : Regs)
+    (memory' : Memory) (threads' : map.FinMap nat_cmp ThreadPart)
+    → option_map (λ thread. thread.regs) (map.get threads t) ≡ Some regs → regs' ≡ at_pc (with_reg regs 10 (word_of reply)) (next_pc regs)
+    → memory' ≡ with_spans memory (written_spans memory q) bytes → threads' ≡ threads_with_regs threads t regs' (map.get threads t)
+    → Puts memory threads t q reply bytes memory' threads'
+put_whole memory threads t q reply bytes regs regs' memory' threads' has after m' ths' user m ths =
+    put_is user t q reply bytes
+    ∙ put_some user t q reply bytes regs (map.get user.threads t) (ap (λ x. option_map (λ thread. thread.regs) (map.get x t)) ths ∙ has)
+    ∙ ap (λ x. with_parts user (with_spans x (written_spans x q) bytes)
+    (threads_with_regs user.threads t (at_pc (with_reg regs 10 (word_of reply)) (next_pc regs)) (map.get user.threads t))) m
+    ∙ ap (λ x. with_parts user (with_spans memory (written_spans memory q) bytes)
+    (threads_with_regs x t (at_pc (with_reg regs 10 (word_of reply)) (next_pc regs)) (map.get x t))) ths
+    ∙ ap (λ r. with_parts user (with_spans memory (written_spans memory q) bytes) (threads_with_regs threads t r (map.get threads t))) (sym after)
+    ∙ ap (λ x. with_parts user (with_spans memory (written_spans memory q) bytes) x) (sym ths')
+    ∙ ap (λ x. with_parts user x threads') (sym m')

@@ -1,0 +1,10 @@
+pub mod Texts
+pub mod Runs
+pub mod Lift
+pub mod ThreadLemmas
+pub mod LendLemmas
+pub mod GuestLemmas
+pub mod Loading
+pub mod Breaks
+pub mod StackLemmas
+pub mod Taking

@@ -1,0 +1,4 @@
+pub mod Guests
+pub mod Running
+pub mod Lending
+pub mod Threads

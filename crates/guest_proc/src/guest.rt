@@ -1,0 +1,182 @@
+ghost use Rattle.std.specs.Prelude.{◌≡◌, ◌≢◌, ◌↔◌, ◌≤◌, length, All, Some, None, Err, IfOk, OnErr, OnOk, false};
+ghost use Rattle.elf32.specs.Pages.{page_count};
+ghost use Rattle.elf32.specs.Programs.{IsWellPlaced};
+ghost use Rattle.plain_machine.specs.Start.{start_user};
+ghost use Rattle.plain_machine.specs.Steps.{user_step, user_steps, waits};
+ghost use Rattle.plain_machine.specs.Buffers.{lent, written_spans};
+ghost use Rattle.plain_machine.specs.Put.{put, local_row};
+ghost use Rattle.guest_proc.specs.Guests.{HasThread, Tells};
+ghost use Rattle.guest_proc.specs.Lending.{CanTake};
+
+use crate::answer::answer_in;
+use crate::buffers::{LendFault, lend_from};
+use crate::ram::Ram;
+use crate::ran::{Ran, ran_of};
+use crate::run::run_instructions;
+use crate::start::{break_of, start_actions, start_space, start_threads};
+use crate::threads::{regs_of, set_regs};
+use elf32::Program;
+use plain_machine::{SignalAction, ThreadPart, Waiter};
+use std::alloc::{AllocError, Global};
+use std::marker::Model;
+use sys_abi::errors::ENOSYS;
+use sys_abi::{Errno, Reply, Request, Tid, Transfer, VPid};
+use views::list_of::ListOf;
+use views::number_map::NumberMap;
+
+/// A process's own part, ready to run.
+#[derive(Drop)]
+pub struct Guest {
+    pub(crate) pid: VPid,
+    pub(crate) ram: Ram,
+    pub(crate) break_start: u32,
+    pub(crate) break_end: u32,
+    pub(crate) threads: NumberMap<ThreadPart>,
+    pub(crate) actions: ListOf<SignalAction>,
+    pub(crate) waiters: ListOf<Waiter>,
+}
+
+impl Model for Guest {
+    ghost use Rattle.guest_proc.specs.Guests.{GuestPart, guest_code};
+
+    ghost Value = { GuestPart };
+
+    ghost coded = { guest_code };
+
+    ghost view = { λ g. record {
+      pid = g.pid;
+      user = record {
+        memory = g.ram;
+        break_start = g.break_start;
+        break_end = g.break_end;
+        threads = g.threads;
+        actions = g.actions;
+        waiters = g.waiters;
+      };
+    } };
+}
+
+impl Guest {
+    /// The start of a program with these argument strings, each with its zero byte, the name first: its one thread has the
+    /// process's own number.
+    #[tactic(auto, unfolding(plain_machine::specs::Start::start_user))]
+    pub fn load(
+        alloc: Global,
+        pid: VPid,
+        program: &Program,
+        arguments: &[u8],
+    ) -> Result<Guest, AllocError>
+        requires placed { All IsWellPlaced program.now.segments }
+        requires pages { page_count program.now.segments ≤ 1536 }
+        requires some { 1 ≤ length arguments.now }
+        requires few { length arguments.now ≤ 4096 }
+        ensures { IfOk result (λ guest. guest ≡ record { pid = pid; user = start_user program.now arguments.now pid.0 }) }
+    {
+        let space = start_space(alloc, program, arguments)?;
+        let break_start = break_of(program.segments.as_slice());
+        Ok(Guest {
+            pid,
+            ram: Ram { space },
+            break_start,
+            break_end: break_start,
+            threads: start_threads(alloc, pid.0, program, arguments)?,
+            actions: start_actions(alloc)?,
+            waiters: ListOf::new(alloc),
+        })
+    }
+
+    /// The process's virtual number.
+    pub fn pid(&self) -> VPid
+        ensures { result ≡ self.now.pid }
+    {
+        self.pid
+    }
+
+    /// Whether the thread waits on a word.
+    fn waits(&self, t: Tid) -> bool
+        ensures { result ≡ waits self.now.user t.0 }
+    {
+        self.waiters.iter().any(|waiter| waiter.tid == t.0)
+    }
+
+    /// Runs instructions of a thread, at most `quantum` of them, until one asks for a call or traps. Tells how many it ran
+    /// and where the thread stands then: `Whole` exactly where it ran all of them.
+    pub fn run(&mut self, t: Tid, quantum: u32) -> (u32, Ran)
+        requires thread { HasThread self.old.user t.0 }
+        requires some { 1 ≤ quantum }
+        ensures steps { user_steps result.0 self.old.user t.0 ≡ Some self.new.user }
+        ensures pid { self.new.pid ≡ self.old.pid }
+        ensures place { Tells result.1 (user_step self.new.user t.0) }
+        ensures whole { (result.1 ≡ Ran.Whole) ↔ (result.0 ≡ quantum) }
+        ensures count { result.0 ≤ quantum }
+    {
+        if self.waits(t) {
+            return (0, Ran::Waits);
+        }
+        self.run_thread(t, quantum)
+    }
+
+    fn run_thread(&mut self, t: Tid, quantum: u32) -> (u32, Ran)
+        requires thread { HasThread self.old.user t.0 }
+        requires idle { waits self.old.user t.0 ≡ false }
+        ensures steps { user_steps result.0 self.old.user t.0 ≡ Some self.new.user }
+        ensures pid { self.new.pid ≡ self.old.pid }
+        ensures place { Tells result.1 (user_step self.new.user t.0) }
+        ensures whole { (result.1 ≡ Ran.Whole) ↔ (result.0 ≡ quantum) }
+        ensures count { result.0 ≤ quantum }
+        ensures running { result.1 ≢ Ran.Waits }
+    {
+        let mut regs = regs_of(&self.threads, t.0);
+        let (count, stop) = run_instructions(&mut regs, &mut self.ram, quantum);
+        set_regs(&mut self.threads, t.0, regs);
+        (count, ran_of(stop, &regs))
+    }
+
+    /// Copies what the call reads from the process's memory into the transfer.
+    ///
+    /// # Errors
+    ///
+    /// `Fault` exactly where some buffer of the call is not readable or writable as it needs; the transfer is as before.
+    #[tactic(auto, unfolding(plain_machine::specs::Buffers::lent, plain_machine::specs::Buffers::given_of))]
+    pub fn lend(
+        &mut self,
+        t: Tid,
+        request: &Request,
+        transfer: &mut Transfer,
+    ) -> Result<(), LendFault>
+        ensures ok { OnOk result (lent self.old.user.memory request.now ≡ Some transfer.new) }
+        ensures fault { (result ≡ Err LendFault.Fault) ↔ (lent self.old.user.memory request.now ≡ None) }
+        ensures memory { result ≢ Err LendFault.Memory }
+        ensures err { OnErr result (transfer.new ≡ transfer.old) }
+        ensures same { self.new ≡ self.old }
+    {
+        lend_from(&self.ram.space, request, transfer)
+    }
+
+    /// Answers a call that the process answers alone.
+    #[tactic(auto, unfolding(plain_machine::specs::Put::local_row))]
+    pub fn local(&mut self, alloc: Global, t: Tid, request: &Request) -> Result<(), AllocError>
+        ensures ok { OnOk result (self.new ≡ record { pid = self.old.pid; user = local_row self.old.user t.0 request.now }) }
+        ensures err { OnErr result (self.new ≡ self.old) }
+    {
+        let _ = alloc;
+        let refusal = Reply::Error(Errno(ENOSYS));
+        answer_in(&mut self.ram, &mut self.threads, t.0, request, refusal, &[]);
+        Ok(())
+    }
+
+    /// The part after a call's answer. Takes no memory.
+    pub fn answer(&mut self, t: Tid, request: &Request, reply: Reply, transfer: &Transfer)
+        requires { CanTake self.old.user.memory (written_spans self.old.user.memory request.now) transfer.now }
+        ensures { self.new ≡ record { pid = self.old.pid; user = put self.old.user t.0 request.now reply transfer.now } }
+    {
+        answer_in(
+            &mut self.ram,
+            &mut self.threads,
+            t.0,
+            request,
+            reply,
+            transfer.as_slice(),
+        );
+    }
+}
