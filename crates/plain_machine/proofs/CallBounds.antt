@@ -1,7 +1,7 @@
 -- A call that is served leaves a valid kernel part, and answers a word and bytes; what a call reads is at most 65,536 bytes.
 --     keeps_serve      each row      lent_length      what is lent to a row
-use Rattle.std.proofs.Common.{◌≡◌, ℕ, zero, suc, ◌+◌, ◌-◌, ◌%◌, ◌^◌, ◌<◌, ◌≤◌, Bool, true, false, cond, List, [], ◌∷◌, length, refl, sym, ap, subst, ◌∙◌, arith}
-use Rattle.std.specs.Prelude.{◌==◌, Option, Some, None, All, min}
+use Rattle.std.proofs.Common.{◌≡◌, ℕ, zero, suc, ◌+◌, ◌≤◌, Bool, true, false, cond, List, [], ◌∷◌, length, refl, sym, subst, arith}
+use Rattle.std.specs.Prelude.{◌==◌, Option, Some, None, All}
 use Rattle.std.specs.Option.{option_map}
 use Rattle.std.specs.List.{list_all}
 use Rattle.std.proofs.lemmas.List.Elements.{All-nil}
@@ -12,17 +12,16 @@ use Rattle.sys_abi.specs.declared.request.Request.TheVariants.{Unlinkat, Openat,
 use Rattle.sys_abi.specs.declared.transfer.TheConstants.{TRANSFER_LIMIT}
 use Rattle.sys_abi.specs.declared.errors.TheConstants.{EBADF, ENOSYS}
 use Rattle.plain_machine.specs.declared.kernel.PlainKernel.{PlainKernel}
-use Rattle.plain_machine.specs.declared.description.Description.{Description}
 use Rattle.plain_machine.specs.declared.description.Object.{Object}
 use Rattle.plain_machine.specs.declared.description.Object.TheVariants.{Console}
 use Rattle.plain_machine.specs.declared.buffers.Span.{Span}
 use Rattle.plain_machine.specs.declared.buffers.Source.{Source}
 use Rattle.plain_machine.specs.declared.buffers.Source.TheVariants.{Nothing, Bytes, Text}
 use Rattle.plain_machine.specs.Attempts.{Try, Fails, NotReady, Gives, Served, need, found, refused, settled}
-use Rattle.plain_machine.specs.Kernel.{after_end, description_at, may_write}
-use Rattle.plain_machine.specs.Memory.{Memory, byte_at, bytes_at}
+use Rattle.plain_machine.specs.Kernel.{description_at, may_write}
+use Rattle.plain_machine.specs.Memory.{Memory, byte_at}
 use Rattle.plain_machine.specs.declared.memory.Right.TheVariants.{Read as ToRead}
-use Rattle.plain_machine.specs.Buffers.{reads_of, bytes_of, given_of, text_from, text_at, PATH_LIMIT, if_writable, can_write, written_spans, lent, span, is_wait, unless_zero}
+use Rattle.plain_machine.specs.Buffers.{reads_of, bytes_of, given_of, text_from, text_at, PATH_LIMIT, if_writable, can_write, written_spans, lent, span, is_wait}
 use Rattle.plain_machine.specs.Put.{word_of}
 use Rattle.plain_machine.specs.Rows.Write.{write_object, write_row}
 use Rattle.plain_machine.specs.Rows.End.{exit_group_row}
@@ -30,7 +29,7 @@ use Rattle.plain_machine.specs.Serve.{row, serve}
 use Rattle.plain_machine.specs.Valid.{IsWord, IsByte, IsKernel, IsFrame, Each}
 use Rattle.plain_machine.proofs.Giving.{Giving, gives, nothing, where_, either, then_, mapped}
 use Rattle.plain_machine.proofs.Trying.{Trying, succeeds, fails, after}
-use Rattle.plain_machine.proofs.MemoryBounds.{AreBytes, bytes_read}
+use Rattle.plain_machine.proofs.MemoryBounds.{bytes_read}
 use Rattle.plain_machine.proofs.KernelBounds.{IsNextKernel, same_kernel, end_keeps}
 
 -- what a served call leaves and answers

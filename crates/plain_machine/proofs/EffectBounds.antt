@@ -1,7 +1,6 @@
 -- Every row of the instruction table keeps registers words and memory valid.
-use Rattle.std.proofs.Common.{◌≡◌, ℕ, zero, suc, ◌+◌, ◌-◌, ◌*◌, ◌/◌, ◌%◌, ◌^◌, ◌<◌, ◌≤◌, Bool, true, false, cond, List, [], ◌∷◌, length, refl, sym, ap, subst, ◌∙◌, arith}
-use Rattle.std.specs.Prelude.{◌==◌, nat_lt, not, Option, Some, None, slice_index, slice_set, All, bit_and, bit_or, bit_xor, int_lt, int_div, int_rem, pos, ◌*ℤ◌}
-use Rattle.std.specs.FinMap as map
+use Rattle.std.proofs.Common.{◌≡◌, ℕ, zero, suc, ◌+◌, ◌-◌, ◌*◌, ◌/◌, ◌%◌, ◌^◌, ◌<◌, ◌≤◌, Bool, true, false, cond, List, [], ◌∷◌, refl, subst, ◌∙◌, arith}
+use Rattle.std.specs.Prelude.{◌==◌, nat_lt, not, Option, Some, None, slice_index, slice_set, All, bit_and, int_lt, pos}
 use Rattle.std.proofs.lemmas.List.Elements.{All-set}
 use Rattle.std.proofs.lemmas.List.{length-set}
 use Rattle.std.proofs.lemmas.Nat.{or_lt, xor_lt, and_le_l}
@@ -10,9 +9,9 @@ use Rattle.plain_machine.specs.declared.instruction.Insn.{Insn}
 use Rattle.plain_machine.specs.declared.instruction.Op.{Op}
 use Rattle.plain_machine.specs.declared.instruction.Op.TheVariants.{Lui, Auipc, Jal, Jalr, Beq, Bne, Blt, Bge, Bltu, Bgeu, Lb, Lh, Lw, Lbu, Lhu, Sb, Sh, Sw, Addi, Slti, Sltiu, Xori, Ori, Andi, Slli, Srli, Srai, Add, Sub, Sll, Slt, Sltu, Xor, Srl, Sra, Or, And, Mul, Mulh, Mulhsu, Mulhu, Div, Divu, Rem, Remu, Fence, Ecall, Ebreak}
 use Rattle.plain_machine.specs.declared.regs.Regs.{Regs}
-use Rattle.plain_machine.specs.Memory.{Memory, load, store, fetch}
+use Rattle.plain_machine.specs.Memory.{Memory, load, fetch}
 use Rattle.plain_machine.specs.Registers.{reg, with_reg, at_pc, next_pc}
-use Rattle.plain_machine.specs.Instructions.{Effect, Next, Calls, Traps, writes, jumps, branches, goes_to, loads, stores, signed, word, one_if, same, sign_extended, effect_by, effect, bits, immediate, insn_of, encoding, decoded, Format, R, I, S, B, U, J, Shift, Whole}
+use Rattle.plain_machine.specs.Instructions.{Effect, Next, Calls, Traps, writes, jumps, branches, loads, stores, signed, word, same, sign_extended, effect_by, effect, bits, immediate, insn_of, encoding, decoded, Format, R, I, S, B, U, J, Shift, Whole}
 use Rattle.plain_machine.specs.Steps.{effect_at, effect_of_word, effect_of_insn}
 use Rattle.plain_machine.specs.Valid.{IsWord, IsRegs}
 use Rattle.plain_machine.proofs.Giving.{Giving, mapped}

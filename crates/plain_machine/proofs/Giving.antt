@@ -1,6 +1,6 @@
 -- What is true of the value of an option, where it has one: through tests and look-ups, one after the other.
 --     gives, nothing       of a value, of none      where_, either      through a test, with and without another way      then_      through a look-up
-use Rattle.std.proofs.Common.{◌≡◌, Bool, true, false, cond, refl, sym, ap, subst}
+use Rattle.std.proofs.Common.{◌≡◌, Bool, true, false, cond, refl, subst}
 use Rattle.std.specs.Prelude.{Option, Some, None, option_and_then}
 use Rattle.std.specs.Option.{option_map}
 

@@ -1,25 +1,23 @@
 -- The kernel part stays valid over the end of a process and over each call, and every process that is there after it was there before.
-use Rattle.std.proofs.Common.{◌≡◌, ◌≢◌, ℕ, zero, suc, ◌+◌, ◌-◌, ◌%◌, ◌^◌, ◌<◌, ◌≤◌, Bool, true, false, cond, List, [], ◌∷◌, length, refl, sym, ap, subst, ◌∙◌, arith, ⊎_elim}
-use Rattle.std.specs.Prelude.{◌==◌, not, Option, Some, None, is_some, All}
+use Rattle.std.proofs.Common.{◌≡◌, ◌≢◌, Bool, true, false, cond, refl, sym, ap, subst, ◌∙◌, arith}
+use Rattle.std.specs.Prelude.{not, Option, Some, None, is_some}
 use Rattle.std.specs.Ordering.{eq_by_cmp}
 use Rattle.std.specs.declared.cmp.Ordering.{Ordering}
 use Rattle.std.specs.Cmp.{IsTotalOrder}
 use Rattle.std.specs.FinMap as map
-use Rattle.std.proofs.lemmas.List.Elements.{All-nil}
 use Rattle.std.proofs.lemmas.Bool.Decides.{nat_tests}
-use Rattle.views.proofs.MapLaws.{get_remove_same, get_remove_other, get-retain, same_or_other, key_tied}
+use Rattle.views.proofs.MapLaws.{get_remove_same, get_remove_other, get-retain, key_tied}
 use Rattle.views.proofs.MapValues.{some_among-values}
 use Rattle.sys_abi.specs.declared.identity.VPid.{VPid}
 use Rattle.sys_abi.specs.declared.identity.Slot.{Slot}
 use Rattle.sys_abi.specs.declared.identity.DescId.{DescId}
-use Rattle.sys_abi.specs.Orders.{vpid_cmp, slot_cmp, desc_cmp}
+use Rattle.sys_abi.specs.Orders.{slot_cmp}
 use Rattle.sys_abi.proofs.OrderLaws.{vpid_total, vpid_exact, slot_total, slot_exact, desc_total, desc_exact}
 use Rattle.plain_machine.specs.declared.kernel.PlainKernel.{PlainKernel}
 use Rattle.plain_machine.specs.declared.process.Process.{Process}
 use Rattle.plain_machine.specs.declared.description.Descriptor.{Descriptor}
-use Rattle.plain_machine.specs.declared.description.Description.{Description}
 use Rattle.plain_machine.specs.Kernel.{is_live, is_live_process, is_held, refers_to, is_slot_of, after_end}
-use Rattle.plain_machine.specs.Valid.{IsKernel, IsProcess, IsDescriptor, Each}
+use Rattle.plain_machine.specs.Valid.{IsKernel, IsProcess}
 
 pub record IsNextKernel (before after : PlainKernel) : Type 0 where
   pub kernel : IsKernel after

@@ -1,6 +1,6 @@
 -- A record of one process leaves the user part of every other process that lives after it, but for one that it made.
 -- No row of a call is opened: `living` keeps the parts of those that live, and nothing else touches them.
-use Rattle.std.proofs.Common.{◌≡◌, ◌≢◌, ℕ, Bool, true, false, cond, List, [], refl, sym, ap, ◌∙◌}
+use Rattle.std.proofs.Common.{◌≡◌, ◌≢◌, ℕ, true, cond, List, [], refl, sym, ap, ◌∙◌}
 use Rattle.std.specs.Prelude.{◌==◌, ◌&&◌, nat_le, Option, Some, None}
 use Rattle.std.specs.FinMap as map
 use Rattle.sys_abi.specs.declared.identity.VPid.{VPid}
@@ -17,13 +17,13 @@ use Rattle.plain_machine.specs.declared.channel.Direction.{Direction}
 use Rattle.plain_machine.specs.declared.kernel.PlainKernel.{PlainKernel}
 use Rattle.plain_machine.specs.declared.user_part.UserPart.{UserPart}
 use Rattle.plain_machine.specs.Attempts.{Served}
-use Rattle.plain_machine.specs.Kernel.{is_live, pid, after_end}
+use Rattle.plain_machine.specs.Kernel.{is_live, after_end}
 use Rattle.plain_machine.specs.Put.{put}
 use Rattle.plain_machine.proofs.Giving.{Giving, gives, nothing, where_, either, then_, mapped}
 use Rattle.plain_machine.specs.Steps.{UserStep, Stepped, Asks, Trapped, Waits, NoThread, user_step, user_steps}
 use Rattle.plain_machine.specs.Buffers.{lent}
 use Rattle.plain_machine.specs.Serve.{serve}
-use Rattle.plain_machine.specs.Records.{Outcome, outcome, step, QUANTUM, living, with_user, quiet, user_ends, if_ends, outcome_of_user, outcome_of_call, outcome_of_ask, outcome_of_lent, outcome_of_serve, outcome_of_signal, outcome_of_trap, outcome_of_arrival}
+use Rattle.plain_machine.specs.Records.{Outcome, outcome, QUANTUM, living, with_user, quiet, user_ends, if_ends, outcome_of_user, outcome_of_call, outcome_of_ask, outcome_of_lent, outcome_of_serve, outcome_of_signal, outcome_of_trap, outcome_of_arrival}
 use Rattle.plain_machine.specs.Laws.{subject, RecordIsLocal}
 
 -- the part of q is as these users have it, if q lives

@@ -1,10 +1,8 @@
 -- What is read from valid memory are bytes, and what writes bytes leaves it valid: as many pages, in the same places, with the same rights.
 --     IsMemory memory      the facts of a user part's memory
 --     bytes_read           what stands at addresses      word_read      the number that is loaded      kept_by_bytes, kept_by_store      writes
-use Rattle.std.proofs.Common.{◌≡◌, ℕ, zero, suc, ◌+◌, ◌-◌, ◌*◌, ◌/◌, ◌%◌, ◌^◌, ◌<◌, ◌≤◌, Bool, true, false, cond, List, [], ◌∷◌, ◌++◌, length, get_or, refl, sym, ap, subst, ◌∙◌, arith, length-append, ⊎_elim, inl, inr}
-use Rattle.std.specs.Prelude.{Option, Some, None, is_some, slice_index, slice_set, All, ◌⊎◌, ◌≢◌}
-use Rattle.std.specs.Option.{option_map}
-use Rattle.std.specs.Ordering.{nat_cmp}
+use Rattle.std.proofs.Common.{◌≡◌, ℕ, zero, suc, ◌+◌, ◌/◌, ◌%◌, ◌^◌, ◌<◌, ◌≤◌, cond, List, [], ◌∷◌, ◌++◌, length, refl, sym, ap, subst, ◌∙◌, arith, length-append, ⊎_elim}
+use Rattle.std.specs.Prelude.{Option, Some, None, is_some, slice_index, slice_set, All}
 use Rattle.std.specs.Cmp.{nat_cmp_total}
 use Rattle.std.specs.FinMap as map
 use Rattle.std.proofs.lemmas.List.Elements.{All-set, All-append, All-cons, All-nil}
@@ -13,10 +11,10 @@ use Rattle.std.proofs.lemmas.Bool.{cases_lt}
 use Rattle.std.proofs.Math.Nat.{pow-suc}
 use Rattle.views.proofs.MapLaws.{get_insert_same, get_insert_other, same_or_other}
 use Rattle.plain_machine.specs.declared.memory.Right.{Right}
-use Rattle.plain_machine.specs.declared.memory.Right.TheVariants.{Read, Write, Execute}
+use Rattle.plain_machine.specs.declared.memory.Right.TheVariants.{Read, Write}
 use Rattle.plain_machine.specs.declared.memory.Frame.{Frame}
-use Rattle.plain_machine.specs.Memory.{Memory, allows, byte_in, byte_at, followed_by, bytes_at, with_byte_in, with_byte, with_bytes, little_endian, low_bytes, load, store, store_bytes}
-use Rattle.plain_machine.specs.Valid.{IsWord, IsByte, IsFrame, Each}
+use Rattle.plain_machine.specs.Memory.{Memory, allows, byte_in, byte_at, followed_by, bytes_at, with_byte_in, with_byte, with_bytes, little_endian, low_bytes, load, store}
+use Rattle.plain_machine.specs.Valid.{IsByte, IsFrame, Each}
 use Rattle.plain_machine.proofs.Giving.{Giving, gives, nothing, where_, mapped}
 
 pub record IsMemory (memory : Memory) : Type 0 where

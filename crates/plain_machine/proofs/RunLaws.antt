@@ -1,10 +1,8 @@
 -- One more record at a trace's end: the run goes one step further, and the console shows that record's bytes after the others.
-use Rattle.std.proofs.Common.{◌≡◌, ℕ, List, [], ◌∷◌, ◌++◌, append_assoc, refl, sym, ap, ◌∙◌}
+use Rattle.std.proofs.Common.{◌≡◌, List, [], ◌∷◌, ◌++◌, append_assoc, refl, sym, ap, ◌∙◌}
 use Rattle.std.specs.Prelude.{Option, Some, None, option_and_then}
 use Rattle.std.specs.Option.{option_map}
-use Rattle.sys_abi.specs.declared.record.Record.{Record}
-use Rattle.plain_machine.specs.declared.plain.Plain.{Plain}
-use Rattle.plain_machine.specs.Records.{Outcome, outcome, step}
+use Rattle.plain_machine.specs.Records.{outcome, step}
 use Rattle.plain_machine.specs.Runs.{run, console, console_from}
 use Rattle.plain_machine.specs.Laws.{RunOfOneMore, ConsoleOfOneMore}
 

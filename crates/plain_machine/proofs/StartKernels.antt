@@ -1,5 +1,5 @@
 -- One more process at a start, with its user part, leaves the state valid.
-use Rattle.std.proofs.Common.{◌≡◌, ◌≢◌, ℕ, zero, suc, ◌+◌, ◌^◌, ◌<◌, ◌≤◌, Bool, true, false, cond, List, [], ◌∷◌, length, refl, sym, ap, subst, ◌∙◌, arith, ⊎_elim}
+use Rattle.std.proofs.Common.{◌≡◌, ◌≢◌, ℕ, ◌+◌, ◌<◌, ◌≤◌, Bool, true, false, cond, List, [], ◌∷◌, refl, sym, ap, subst, ◌∙◌, arith, ⊎_elim}
 use Rattle.std.specs.Prelude.{Option, Some, None, is_some, All}
 use Rattle.std.specs.List.{list_any}
 use Rattle.std.specs.declared.cmp.Ordering.{Ordering}
@@ -11,21 +11,19 @@ use Rattle.views.proofs.MapValues.{some_among-values, none_among-values}
 use Rattle.sys_abi.specs.declared.identity.VPid.{VPid}
 use Rattle.sys_abi.specs.declared.identity.Slot.{Slot}
 use Rattle.sys_abi.specs.declared.identity.DescId.{DescId}
-use Rattle.sys_abi.specs.Orders.{vpid_cmp, slot_cmp, desc_cmp, dir_cmp}
+use Rattle.sys_abi.specs.Orders.{vpid_cmp, slot_cmp}
 use Rattle.sys_abi.proofs.OrderLaws.{vpid_total, vpid_exact, slot_total, slot_exact, desc_total, desc_exact, dir_total, dir_exact}
 use Rattle.plain_machine.specs.declared.kernel.PlainKernel.{PlainKernel}
-use Rattle.plain_machine.specs.declared.plain.Plain.{Plain}
 use Rattle.plain_machine.specs.declared.process.Process.{Process}
 use Rattle.plain_machine.specs.declared.user_part.UserPart.{UserPart}
 use Rattle.plain_machine.specs.declared.description.Descriptor.{Descriptor}
-use Rattle.plain_machine.specs.declared.description.Description.{Description}
 use Rattle.plain_machine.specs.Kernel.{pid, slot, is_live, is_live_process, is_held, refers_to}
-use Rattle.plain_machine.specs.Start.{Launched, NamedFile, FIRST_PID, console_of, console_description, console_descriptor, start_process, start_user, start_thread, start_regs, with_process, with_processes, with_file, with_files, with_users, empty_kernel, start_kernel, start}
+use Rattle.plain_machine.specs.Start.{Launched, NamedFile, FIRST_PID, console_of, console_description, console_descriptor, start_process, start_user, with_process, with_processes, with_file, with_files, with_users, empty_kernel, start_kernel, start}
 use Rattle.plain_machine.specs.Valid.{IsKernel, IsProcess, IsDescriptor, IsGivenOut, IsSignalSet, IsUser, IsValid, SameThreads, Each}
 use Rattle.plain_machine.specs.Launches.{IsLaunched}
 use Rattle.plain_machine.specs.Laws.{StartIsValid}
 use Rattle.plain_machine.proofs.StartPages.{all_tail}
-use Rattle.plain_machine.proofs.StartUsers.{only_entry, start_user_is}
+use Rattle.plain_machine.proofs.StartUsers.{start_user_is}
 
 -- an entry of a map with one more is the new one, or was there
 module _ {K X : Type 0} {R : K → K → Ordering} (o : IsTotalOrder R) (exact : map.IsAntisymmetric R) where

@@ -1,8 +1,8 @@
 -- The memory of a program at its start is valid: at most 1,536 pages of the program, 64 of the stack and one to return from handlers, each of 4,096 bytes.
 --     segment_pages_are      the program's pages      with_pages_are      pages filled with a content      start_memory_is      all
-use Rattle.std.proofs.Common.{◌≡◌, ◌≢◌, ℕ, zero, suc, ◌+◌, ◌-◌, ◌*◌, ◌/◌, ◌%◌, ◌^◌, ◌<◌, ◌≤◌, Bool, true, false, cond, List, [], ◌∷◌, ◌++◌, length, take, drop, replicate, refl, sym, ap, subst, ◌∙◌, arith, ⊎_elim, length-append, add-one}
-use Rattle.std.specs.Prelude.{Option, Some, None, is_some, All, find, bit_or, slice_index}
-use Rattle.std.specs.List.{fold, list_any, count_by, range_with_len, flat_map}
+use Rattle.std.proofs.Common.{◌≡◌, ℕ, zero, suc, ◌+◌, ◌-◌, ◌*◌, ◌^◌, ◌<◌, ◌≤◌, Bool, true, false, cond, List, [], ◌∷◌, ◌++◌, length, take, drop, replicate, refl, sym, ap, subst, ◌∙◌, arith, ⊎_elim, length-append, add-one}
+use Rattle.std.specs.Prelude.{Option, Some, None, is_some, All, find, bit_or}
+use Rattle.std.specs.List.{fold, count_by, range_with_len}
 use Rattle.std.specs.Ordering.{nat_cmp}
 use Rattle.std.specs.Cmp.{nat_cmp_total}
 use Rattle.std.specs.FinMap as map
@@ -13,13 +13,12 @@ use Rattle.std.proofs.Math.Nat.{le_trans}
 use Rattle.views.proofs.MapLaws.{get_insert_same, get_insert_other, same_or_other}
 use Rattle.elf32.specs.declared.program.Program.{Program}
 use Rattle.elf32.specs.declared.program.Segment.{Segment}
-use Rattle.elf32.specs.Pages.{is_touched, touches, rights_at, page_rights, pages_below, page_count}
+use Rattle.elf32.specs.Pages.{is_touched, touches, rights_at, pages_below}
 use Rattle.elf32.specs.Programs.{IsWellPlaced}
 use Rattle.plain_machine.specs.declared.memory.Frame.{Frame}
 use Rattle.plain_machine.specs.Memory.{Memory, low_bytes}
 use Rattle.plain_machine.specs.Start.{page_of, with_pages, is_in, byte_of_segment, segment_byte, segment_bytes, segment_page, segment_pages, PROGRAM_PAGES, STACK_PAGE, STACK_PAGES, RETURN_PAGE, return_code, argument_places, start_words, words_bytes, strings_start, start_sp, start_stack, start_memory, STACK_START, IsLoadable}
 use Rattle.plain_machine.specs.Valid.{IsByte, IsFrame, Each}
-use Rattle.plain_machine.specs.Launches.{IsLaunched}
 use Rattle.plain_machine.proofs.Giving.{Giving, gives, nothing, either}
 use Rattle.plain_machine.proofs.MemoryBounds.{IsMemory, byte_of, low_bytes_are}
 

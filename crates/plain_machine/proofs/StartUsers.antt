@@ -1,6 +1,6 @@
 -- A process's part at its start is valid, and has the one thread of its number.
-use Rattle.std.proofs.Common.{◌≡◌, ◌≢◌, ℕ, zero, suc, ◌+◌, ◌-◌, ◌*◌, ◌/◌, ◌%◌, ◌^◌, ◌<◌, ◌≤◌, Bool, true, false, cond, List, [], ◌∷◌, length, replicate, refl, sym, ap, subst, ◌∙◌, arith}
-use Rattle.std.specs.Prelude.{Option, Some, None, is_some, All, max, slice_set}
+use Rattle.std.proofs.Common.{◌≡◌, ℕ, ◌+◌, ◌*◌, ◌/◌, ◌%◌, ◌≤◌, Bool, true, false, cond, List, [], ◌∷◌, replicate, sym, ap, subst, ◌∙◌, arith}
+use Rattle.std.specs.Prelude.{Some, None, All, max}
 use Rattle.std.specs.List.{fold}
 use Rattle.std.specs.Ordering.{nat_cmp, eq_by_cmp}
 use Rattle.std.specs.Cmp.{nat_cmp_total}
@@ -10,10 +10,8 @@ use Rattle.std.proofs.lemmas.List.Elements.{All-set, All-nil, All-replicate}
 use Rattle.elf32.specs.declared.program.Program.{Program}
 use Rattle.elf32.specs.declared.program.Segment.{Segment}
 use Rattle.elf32.specs.Programs.{IsWellPlaced}
-use Rattle.plain_machine.specs.declared.regs.Regs.{Regs}
-use Rattle.plain_machine.specs.declared.user_part.ThreadPart.{ThreadPart}
 use Rattle.plain_machine.specs.declared.user_part.SignalAction.{SignalAction}
-use Rattle.plain_machine.specs.Start.{Launched, highest_end, break_of, start_sp, strings_start, argument_places, start_regs, start_thread, start_user, default_action, IsLoadable}
+use Rattle.plain_machine.specs.Start.{Launched, break_of, start_sp, start_regs, start_thread, start_user, default_action}
 use Rattle.plain_machine.specs.Valid.{IsWord, IsRegs, IsThread, IsUser}
 use Rattle.plain_machine.specs.Launches.{IsLaunched}
 use Rattle.plain_machine.proofs.StartPages.{all_tail, start_memory_is}

@@ -1,7 +1,7 @@
 -- A process's part stays valid, with the same threads, over its own steps and over the answers to its calls.
 --     Follows before after      the part after is valid, and has the threads of the one before
 --     keeps_steps               steps of a thread      keeps_put      a call's answer
-use Rattle.std.proofs.Common.{◌≡◌, ℕ, zero, suc, ◌+◌, ◌-◌, ◌%◌, ◌^◌, ◌<◌, ◌≤◌, Bool, true, false, cond, List, [], ◌∷◌, length, refl, sym, ap, subst, ◌∙◌, arith, ⊎_elim}
+use Rattle.std.proofs.Common.{◌≡◌, ℕ, zero, suc, ◌-◌, Bool, true, false, cond, List, [], ◌∷◌, length, refl, sym, ap, subst, ◌∙◌, ⊎_elim}
 use Rattle.std.specs.Prelude.{Option, Some, None, is_some, All, take, drop}
 use Rattle.std.specs.Ordering.{nat_cmp}
 use Rattle.std.specs.Cmp.{nat_cmp_total}
@@ -10,14 +10,12 @@ use Rattle.std.proofs.lemmas.List.Elements.{All-take, All-drop}
 use Rattle.views.proofs.MapLaws.{get_insert_same, get_insert_other, same_or_other}
 use Rattle.sys_abi.specs.declared.request.Request.{Request}
 use Rattle.sys_abi.specs.declared.reply.Reply.{Reply}
-use Rattle.sys_abi.specs.declared.reply.Reply.TheVariants.{Value, Error}
 use Rattle.plain_machine.specs.declared.regs.Regs.{Regs}
 use Rattle.plain_machine.specs.declared.user_part.UserPart.{UserPart}
 use Rattle.plain_machine.specs.declared.user_part.ThreadPart.{ThreadPart}
-use Rattle.plain_machine.specs.Memory.{Memory, with_bytes}
-use Rattle.plain_machine.specs.Registers.{with_reg, at_pc, next_pc}
+use Rattle.plain_machine.specs.Memory.{Memory}
 use Rattle.plain_machine.specs.Instructions.{Effect, Next, Calls, Traps}
-use Rattle.plain_machine.specs.Steps.{effect_at, UserStep, Stepped, Waits, waits, with_regs, with_thread, step_by, step_of, user_step, stepped, user_steps}
+use Rattle.plain_machine.specs.Steps.{effect_at, UserStep, Waits, waits, with_regs, with_thread, step_by, step_of, user_step, stepped, user_steps}
 use Rattle.plain_machine.specs.declared.buffers.Span.{Span}
 use Rattle.plain_machine.specs.Buffers.{written_spans}
 use Rattle.plain_machine.specs.Put.{A0, word_of, after_call, with_spans, put_by, put}

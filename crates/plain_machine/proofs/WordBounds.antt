@@ -1,12 +1,12 @@
 -- What an instruction makes of words is a word: each result of the table is below 2^32.
 --     word_of_below      an integer whose number is below 2^32 is one      shifted_word, product_high, quotient_word, remainder_word
-use Rattle.std.proofs.Common.{◌≡◌, ℕ, zero, suc, ◌+◌, ◌-◌, ◌*◌, ◌/◌, ◌%◌, ◌^◌, ◌<◌, ◌≤◌, Bool, true, false, cond, List, refl, arith, subst, sym}
-use Rattle.std.specs.Prelude.{◌==◌, nat_lt, ℤ, pos, negsuc, neg_ℤ, ◌*ℤ◌, int_div, int_rem, nat_abs, slice_index, length, All, if◌then◌else◌}
-use Rattle.std.specs.Int.{w32, cast_signed, cast_unsigned, int_div_euclid}
+use Rattle.std.proofs.Common.{◌≡◌, ℕ, zero, suc, ◌-◌, ◌*◌, ◌/◌, ◌%◌, ◌^◌, ◌<◌, ◌≤◌, Bool, true, false, cond, refl, arith}
+use Rattle.std.specs.Prelude.{nat_lt, ℤ, pos, negsuc, neg_ℤ, ◌*ℤ◌, int_div, int_rem, nat_abs}
+use Rattle.std.specs.Int.{int_div_euclid}
 use Rattle.std.proofs.Math.Nat.{div-le_self, mod-le}
-use Rattle.std.proofs.lemmas.Nat.{mul-lt, shr_below, mod_below}
+use Rattle.std.proofs.lemmas.Nat.{mul-lt, shr_below}
 use Rattle.std.proofs.lemmas.Bool.Decides.{nat_tests}
-use Rattle.plain_machine.specs.Valid.{IsWord, IsByte}
+use Rattle.plain_machine.specs.Valid.{IsWord}
 use Rattle.plain_machine.specs.Instructions.{signed, word, shifted_down, one_if, sign_extended}
 
 -- an integer is below n, as every negative one is

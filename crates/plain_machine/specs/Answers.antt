@@ -3,7 +3,7 @@
 --     answer_of result              the answer of a row that settled
 --     answer_told k given answer    the same of an answer, settled; none where the call waits
 --     served_told served            the same, where the kernel part stands in it
-use Rattle.std.specs.Prelude.{ℕ, Bool, false, List, [], Option, Some, None, Result, Ok, Err, if◌then◌else◌}
+use Rattle.std.specs.Prelude.{ℕ, false, List, [], Option, Some, None, Result, Ok, Err, if◌then◌else◌}
 use Rattle.sys_abi.specs.declared.reply.Errno.{Errno}
 use Rattle.sys_abi.specs.declared.reply.Reply.TheVariants.{Error}
 use Rattle.plain_machine.specs.declared.kernel.PlainKernel.{PlainKernel}

@@ -1,12 +1,12 @@
 -- Worked examples of the definitions, each value worked out by hand from the manual that its definition restates.
-use Rattle.std.specs.Prelude.{◌≡◌, ℕ, ◌-◌, ◌^◌, List, [], ◌∷◌, codes, ◌++◌, Option, Some, None, pos, negsuc}
-use Rattle.sys_abi.specs.declared.reply.Reply.TheVariants.{Value, Error}
+use Rattle.std.specs.Prelude.{◌≡◌, ℕ, ◌-◌, ◌^◌, [], ◌∷◌, codes, ◌++◌, Some, None, pos, negsuc}
+use Rattle.sys_abi.specs.declared.reply.Reply.TheVariants.{Value}
 use Rattle.plain_machine.specs.declared.instruction.Insn.{Insn}
 use Rattle.plain_machine.specs.declared.instruction.Op.{Op}
 use Rattle.plain_machine.specs.declared.instruction.Op.TheVariants.{Addi, Auipc, Ecall, Jal, Lw, Sw, Beq, Mul, Mulh, Mulhsu, Mulhu, Div, Rem, Sra, Slt}
 use Rattle.plain_machine.specs.declared.regs.Regs.{Regs}
 use Rattle.plain_machine.specs.Memory.{Memory}
-use Rattle.plain_machine.specs.Instructions.{decoded, effect_by, writes, Effect}
+use Rattle.plain_machine.specs.Instructions.{decoded, effect_by, writes}
 use Rattle.plain_machine.specs.Put.{word_of, error}
 use Rattle.plain_machine.specs.Start.{start_sp, argument_places}
 

@@ -1,7 +1,6 @@
 -- Words on a kernel part: look-ups, and changes, each of which a call's row names.
 -- Source: `man 2 open` (descriptors and open descriptions), `man 2 credentials` (processes).
 use Rattle.std.specs.Prelude.{◌==◌, ℕ, Bool, true, false, not, ◌||◌, ◌%◌, Option, Some, None, option_and_then}
-use Rattle.std.specs.Option.{option_map}
 use Rattle.std.specs.List.{list_any}
 use Rattle.std.specs.Ordering.{eq_by_cmp}
 use Rattle.std.specs.FinMap as map

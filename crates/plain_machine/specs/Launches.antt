@@ -1,5 +1,5 @@
 -- What is true of each program that a job starts, as the readers of programs and of the command line give it.
-use Rattle.std.specs.Prelude.{ℕ, ◌<◌, ◌^◌, All}
+use Rattle.std.specs.Prelude.{All}
 use Rattle.elf32.specs.declared.program.Segment.{Segment}
 use Rattle.plain_machine.specs.Start.{Launched, IsLoadable}
 use Rattle.plain_machine.specs.Valid.{IsWord, IsByte}

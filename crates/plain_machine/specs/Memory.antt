@@ -3,7 +3,7 @@
 --     byte_at memory right a, bytes_at memory right a n      what stands there, where each byte's page is there and has the right
 --     with_bytes memory a bytes      the bytes stand from a on; pages that aren't there stay away
 --     load, fetch, store      accesses of a word's bytes, none where one of them isn't allowed
-use Rattle.std.specs.Prelude.{◌==◌, ℕ, zero, suc, ◌+◌, ◌*◌, ◌/◌, ◌%◌, ◌^◌, Bool, List, [], ◌∷◌, ◌++◌, length, slice_index, slice_set, Option, Some, None, is_some, if◌then◌else◌}
+use Rattle.std.specs.Prelude.{◌==◌, ℕ, zero, suc, ◌+◌, ◌*◌, ◌/◌, ◌%◌, Bool, List, [], ◌∷◌, ◌++◌, length, slice_index, slice_set, Option, Some, None, is_some, if◌then◌else◌}
 use Rattle.std.specs.Option.{option_map}
 use Rattle.std.specs.Ordering.{nat_cmp}
 use Rattle.std.specs.FinMap as map

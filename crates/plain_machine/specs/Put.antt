@@ -1,7 +1,7 @@
 -- The part of a process after a call's answer: a0 holds the answer, the thread goes on after the call, and the bytes stand where the call asked for them.
 -- Source: the system call convention of RISC-V Linux (`man 2 syscall`): an error is the negative of its number in a0.
 --     put user t q reply bytes      after the answer of a call      local_row user t q      after a call that the process answers alone
-use Rattle.std.specs.Prelude.{ℕ, ◌+◌, ◌-◌, ◌%◌, ◌^◌, List, [], ◌∷◌, length, take, drop, Option, Some, None}
+use Rattle.std.specs.Prelude.{ℕ, ◌-◌, ◌%◌, ◌^◌, List, [], ◌∷◌, length, take, drop, Option, Some, None}
 use Rattle.std.specs.FinMap as map
 use Rattle.sys_abi.specs.declared.request.Request.{Request}
 use Rattle.sys_abi.specs.declared.reply.Reply.{Reply}

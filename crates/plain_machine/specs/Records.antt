@@ -10,12 +10,11 @@ use Rattle.sys_abi.specs.declared.record.Record.TheVariants.{User, Call, Deliver
 use Rattle.sys_abi.specs.declared.request.Request.{Request}
 use Rattle.sys_abi.specs.Requests.{is_local}
 use Rattle.plain_machine.specs.declared.plain.Plain.{Plain}
-use Rattle.plain_machine.specs.declared.kernel.PlainKernel.{PlainKernel}
 use Rattle.plain_machine.specs.declared.channel.Direction.{Direction}
 use Rattle.plain_machine.specs.declared.user_part.UserPart.{UserPart}
 use Rattle.plain_machine.specs.Attempts.{Served}
 use Rattle.plain_machine.specs.Kernel.{is_live, after_end}
-use Rattle.plain_machine.specs.Steps.{UserStep, Stepped, Asks, Trapped, Waits, NoThread, user_step, user_steps}
+use Rattle.plain_machine.specs.Steps.{UserStep, Asks, Trapped, user_step, user_steps}
 use Rattle.plain_machine.specs.Buffers.{lent}
 use Rattle.plain_machine.specs.Put.{put, put_fault, local_row}
 use Rattle.plain_machine.specs.Serve.{serve}

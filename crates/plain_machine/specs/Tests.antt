@@ -1,10 +1,9 @@
 -- Tests on a plain state: has it ended, what is it once all bytes have arrived, can nothing go on, and what would no image hold.
-use Rattle.std.specs.Prelude.{◌≡◌, ◌||◌, ◌&&◌, ℕ, Bool, true, false, List, [], ◌∷◌, not, find, length, Option, Some, None, IsTrue}
+use Rattle.std.specs.Prelude.{◌≡◌, Bool, true, false, List, [], ◌∷◌, not, length, Option, Some, None}
 use Rattle.std.specs.Option.{option_map}
 use Rattle.std.specs.List.{list_any, filter_map}
 use Rattle.std.specs.FinMap as map
 use Rattle.views.specs.Maps.{map_values}
-use Rattle.sys_abi.specs.declared.identity.VPid.{VPid}
 use Rattle.sys_abi.specs.declared.identity.Slot.{Slot}
 use Rattle.sys_abi.specs.declared.record.Record.{Record}
 use Rattle.sys_abi.specs.declared.record.Record.TheVariants.{User, Call, Deliver}
@@ -12,13 +11,12 @@ use Rattle.sys_abi.specs.declared.record.Kind.{Kind}
 use Rattle.sys_abi.specs.declared.record.Kind.TheVariants.{Datagram as DatagramKind, Counter as CounterKind}
 use Rattle.plain_machine.specs.declared.plain.Plain.{Plain}
 use Rattle.plain_machine.specs.declared.kernel.PlainKernel.{PlainKernel}
-use Rattle.plain_machine.specs.declared.process.Process.{Process}
 use Rattle.plain_machine.specs.declared.channel.Direction.{Direction}
 use Rattle.plain_machine.specs.declared.description.Description.{Description}
 use Rattle.plain_machine.specs.declared.description.Descriptor.{Descriptor}
 use Rattle.plain_machine.specs.declared.description.Object.{Object}
 use Rattle.plain_machine.specs.declared.description.Object.TheVariants.{Datagram, Counter}
-use Rattle.plain_machine.specs.Kernel.{lives, is_live}
+use Rattle.plain_machine.specs.Kernel.{lives}
 use Rattle.plain_machine.specs.Records.{step}
 
 -- some process lives

@@ -1,29 +1,23 @@
 -- What holds of every plain state that a run reaches: a fact a topic, each over the maps that it speaks of.
 -- Source: the limits of docs/MACHINE.md.
 --     IsKernel k      of the kernel part      IsUser user      of one process's part      IsValid g      of both, and of how they fit together
-use Rattle.std.specs.Prelude.{◌≡◌, ℕ, ◌*◌, ◌%◌, ◌^◌, ◌<◌, ◌≤◌, true, List, length, Option, Some, None, is_some, All}
+use Rattle.std.specs.Prelude.{◌≡◌, ℕ, ◌%◌, ◌^◌, ◌<◌, ◌≤◌, true, length, Some, is_some, All}
 use Rattle.std.specs.Ordering.{nat_cmp}
 use Rattle.std.specs.declared.cmp.Ordering.{Ordering}
 use Rattle.std.specs.FinMap as map
 use Rattle.sys_abi.specs.declared.identity.VPid.{VPid}
 use Rattle.sys_abi.specs.declared.identity.Slot.{Slot}
-use Rattle.sys_abi.specs.declared.identity.DescId.{DescId}
-use Rattle.sys_abi.specs.declared.identity.Dir.{Dir}
-use Rattle.sys_abi.specs.Orders.{vpid_cmp, slot_cmp, desc_cmp, dir_cmp}
 use Rattle.plain_machine.specs.declared.memory.Frame.{Frame}
 use Rattle.plain_machine.specs.declared.regs.Regs.{Regs}
 use Rattle.plain_machine.specs.declared.user_part.UserPart.{UserPart}
 use Rattle.plain_machine.specs.declared.user_part.ThreadPart.{ThreadPart}
-use Rattle.plain_machine.specs.declared.user_part.Context.{Context}
 use Rattle.plain_machine.specs.declared.process.Process.{Process}
 use Rattle.plain_machine.specs.declared.process.Life.{Life}
 use Rattle.plain_machine.specs.declared.process.Life.TheVariants.{Live, Zombie}
-use Rattle.plain_machine.specs.declared.description.Description.{Description}
 use Rattle.plain_machine.specs.declared.description.Descriptor.{Descriptor}
 use Rattle.plain_machine.specs.declared.channel.Direction.{Direction}
 use Rattle.plain_machine.specs.declared.kernel.PlainKernel.{PlainKernel}
 use Rattle.plain_machine.specs.declared.plain.Plain.{Plain}
-use Rattle.plain_machine.specs.Memory.{Memory}
 use Rattle.plain_machine.specs.Kernel.{is_live, is_held}
 use Rattle.plain_machine.specs.Start.{FIRST_PID}
 

@@ -1,5 +1,4 @@
 -- exit_group(code) (`man 2 exit_group`): the process ends. No call makes a process yet, so nobody waits for its status.
-use Rattle.std.specs.Prelude.{ℕ}
 use Rattle.sys_abi.specs.declared.identity.VPid.{VPid}
 use Rattle.plain_machine.specs.declared.kernel.PlainKernel.{PlainKernel}
 use Rattle.plain_machine.specs.Attempts.{Try, Served, replied}
