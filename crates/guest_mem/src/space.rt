@@ -304,7 +304,8 @@ impl Space {
 
     /// Whether the `n` bytes from an address on can be written.
     pub fn is_writable(&self, address: u32, n: u32) -> bool
-        ensures { result ≡ is_some (bytes_at self.now right.Write address n) }
+        ensures writable { result ≡ is_some (bytes_at self.now right.Write address n) }
+        ensures bounded { IsTrue result → address + n ≤ 2 ^ 32 }
     {
         self.check(Right::Write, address, n as usize).is_ok()
     }
