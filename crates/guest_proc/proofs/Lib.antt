@@ -8,3 +8,4 @@ pub mod Loading
 pub mod Breaks
 pub mod StackLemmas
 pub mod Taking
+pub mod LookLemmas

@@ -2,3 +2,5 @@ pub mod Guests
 pub mod Running
 pub mod Lending
 pub mod Threads
+pub mod Peeking
+pub mod Looking

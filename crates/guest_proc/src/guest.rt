@@ -5,11 +5,12 @@ ghost use Rattle.plain_machine.specs.Start.{start_user};
 ghost use Rattle.plain_machine.specs.Steps.{user_step, user_steps, waits};
 ghost use Rattle.plain_machine.specs.Buffers.{lent, written_spans};
 ghost use Rattle.plain_machine.specs.Put.{put, local_row};
-ghost use Rattle.guest_proc.specs.Guests.{HasThread, Tells};
+ghost use Rattle.guest_proc.specs.Guests.{HasThread, Tells, ran_at};
 ghost use Rattle.guest_proc.specs.Lending.{CanTake};
 
 use crate::answer::answer_in;
 use crate::buffers::{LendFault, lend_from};
+use crate::look::look_at;
 use crate::ram::Ram;
 use crate::ran::{Ran, ran_of};
 use crate::run::run_instructions;
@@ -130,6 +131,18 @@ impl Guest {
         let (count, stop) = run_instructions(&mut regs, &mut self.ram, quantum);
         set_regs(&mut self.threads, t.0, regs);
         (count, ran_of(stop, &regs))
+    }
+
+    /// Where a thread stands: `Whole` exactly where its next instruction goes on. Changes nothing and takes no memory.
+    pub fn look(&self, t: Tid) -> Ran
+        requires { HasThread self.now.user t.0 }
+        ensures { result ≡ ran_at (user_step self.now.user t.0) }
+    {
+        if self.waits(t) {
+            return Ran::Waits;
+        }
+        let regs = regs_of(&self.threads, t.0);
+        look_at(&regs, &self.ram)
     }
 
     /// Copies what the call reads from the process's memory into the transfer.

@@ -13,6 +13,8 @@ mod answer;
 pub mod buffers;
 pub mod guest;
 mod load;
+mod look;
+mod peek;
 mod ram;
 pub mod ran;
 mod run;

@@ -1,0 +1,26 @@
+use Rattle.std.proofs.Common.{◌≡◌, ◌∙◌, ap, sym}
+use Rattle.plain_machine.specs.declared.user_part.UserPart.{UserPart}
+use Rattle.plain_machine.specs.Steps.{user_step, waits}
+use Rattle.guest_proc.specs.Guests.{GuestPart, ran_at}
+use Rattle.guest_proc.proofs.GuestLemmas.{waits_on}
+use Rattle.guest_proc.proofs.LookLemmas.{looks}
+use Rattle.guest_proc.proofs.guest.Guest.look.Goals as goal
+
+pub returns-then-waits : goal.returns-then-waits
+returns-then-waits c = sym (ap ran_at (waits_on c.args.self.now.user c.args.t.0 c.requires (sym c.if-waits.ensures)))
+
+abbrev part : (c : goal.After-look_at) → UserPart
+part c = record {
+  memory = c.self.inside.ram;
+  break_start = c.self.inside.break_start;
+  break_end = c.self.inside.break_end;
+  threads = c.self.inside.threads;
+  actions = c.self.inside.actions;
+  waiters = c.self.inside.waiters;
+}
+
+pub returns : goal.returns
+returns c =
+    looks (part c) c.args.t.0 c.regs_of-regs.result c.look_at.result c.regs_of-regs.ensures
+    (ap (λ (v : GuestPart). waits v.user c.args.t.0) c.self.view_is ∙ sym c.if-waits.ensures) c.look_at.ensures
+    ∙ ap (λ (v : GuestPart). ran_at (user_step v.user c.args.t.0)) c.self.view_is
