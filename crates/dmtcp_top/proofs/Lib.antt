@@ -1,2 +1,6 @@
 pub mod Decimals
 pub mod Items
+pub mod LentBytes
+pub mod ServedCalls
+pub mod Traps
+pub mod OneProcess

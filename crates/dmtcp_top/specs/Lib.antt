@@ -5,3 +5,4 @@ pub mod Log
 pub mod Sessions
 pub mod Launches
 pub mod Ends
+pub mod Machines

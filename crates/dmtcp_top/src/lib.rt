@@ -2,6 +2,7 @@
 #![tactic(auto)]
 
 pub mod job;
+pub mod machine;
 pub mod status;
 
 pub use job::Job;
