@@ -4,3 +4,5 @@ pub mod LentBytes
 pub mod ServedCalls
 pub mod Traps
 pub mod OneProcess
+pub mod OneThreadKept
+pub mod Turns

@@ -33,11 +33,15 @@ plain_of m = single m.kernel m.guest.pid m.guest.user
 abbrev pub lives : Machine → Bool
 lives m = is_live m.kernel m.guest.pid
 
+-- the part has this one thread, and nobody waits
+pub record OneThread (user : UserPart) (t : ℕ) : Type 0 where
+  pub thread : ThreadPart
+  pub threads : user.threads ≡ map.insert map.empty t thread
+  pub waiters : user.waiters ≡ []
+
 pub record IsSingle (m : Machine) : Type 0 where
   pub alone : (q : VPid) → q ≢ m.guest.pid → is_live m.kernel q ≡ false
-  pub thread : ThreadPart
-  pub threads : m.guest.user.threads ≡ map.insert map.empty m.guest.pid.0 thread
-  pub waiters : m.guest.user.waiters ≡ []
+  pub one : OneThread m.guest.user m.guest.pid.0
 
 -- the record is of the machine's process and thread, and instructions are run where the thread stands at no call or trap
 abbrev pub IsOf : Machine → VPid → Tid → Type 0

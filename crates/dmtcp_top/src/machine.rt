@@ -1,4 +1,4 @@
-ghost use Rattle.std.specs.Prelude.{◌≡◌, ◌≢◌, ℕ, ◌+◌, ◌<◌, ◌≤◌, [], ◌∷◌, true, false, None, Some, All, length, Err, IsErrOf, IfOk, OnOk, OnErr};
+ghost use Rattle.std.specs.Prelude.{◌≡◌, ◌≢◌, ℕ, ◌+◌, ◌<◌, ◌≤◌, [], ◌∷◌, true, false, if◌then◌else◌, None, Some, All, length, Err, IsErrOf, IfOk, OnOk, OnErr};
 ghost use Rattle.views.specs.Faults.{Rose, IsFaultOf};
 ghost use Rattle.elf32.specs.Programs.{IsWellPlaced};
 ghost use Rattle.elf32.specs.Pages.{page_count};
@@ -227,9 +227,7 @@ impl Machine {
             unreachable!();
         };
         trace.append(Record::Call { p, t });
-        if answer.is_shown {
-            show(out, self.transfer.as_slice())?;
-        }
+        show(out, answer.is_shown, self.transfer.as_slice())?;
         self.transfer.clear();
         self.transfer.put(answer.bytes.as_slice());
         self.guest.answer(t, request, answer.reply, &self.transfer);
@@ -237,14 +235,19 @@ impl Machine {
     }
 }
 
-/// Writes on the console, in one piece where there is something to write.
-fn show<O: Sink>(out: &mut O, bytes: &[u8]) -> Result<(), Stop>
-    ensures ok { OnOk result (Took (sunk (O.taken out.old) (O.taken out.new)) bytes.now) }
-    ensures err { OnErr result (TookFront (sunk (O.taken out.old) (O.taken out.new)) bytes.now) }
+/// Writes what a call shows on the console, in one piece where there is something to write.
+fn show<O: Sink>(out: &mut O, is_shown: bool, bytes: &[u8]) -> Result<(), Stop>
+    ensures ok { OnOk result
+        (Took (sunk (O.taken out.old) (O.taken out.new)) (if is_shown then bytes.now else [])) }
+    ensures err { OnErr result
+        (TookFront (sunk (O.taken out.old) (O.taken out.new)) (if is_shown then bytes.now else [])) }
     ensures kind { result ≢ Err Stop.Memory }
     ensures cause { IsFaultOf result Stop.Sink (O.faults out.old) (O.faults out.new) }
     ensures later { O.faults out.old ≤ O.faults out.new }
 {
+    if !is_shown {
+        return Ok(());
+    }
     if bytes.is_empty() {
         return Ok(());
     }
