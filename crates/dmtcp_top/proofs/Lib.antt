@@ -6,3 +6,7 @@ pub mod Traps
 pub mod OneProcess
 pub mod OneThreadKept
 pub mod Turns
+pub mod Walks
+pub mod Starts
+pub mod Endings
+pub mod Running

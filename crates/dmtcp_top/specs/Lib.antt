@@ -6,3 +6,4 @@ pub mod Sessions
 pub mod Launches
 pub mod Ends
 pub mod Machines
+pub mod RunEnds

@@ -3,6 +3,8 @@
 
 pub mod job;
 pub mod machine;
+pub mod rounds;
+pub mod run_end;
 pub mod status;
 
 pub use job::Job;
