@@ -1,5 +1,6 @@
 pub mod Decimals
 pub mod Items
+pub mod Sinks
 pub mod LentBytes
 pub mod ServedCalls
 pub mod Traps

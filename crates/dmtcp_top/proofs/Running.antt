@@ -19,7 +19,7 @@ use Rattle.dmtcp_top.specs.Sessions.{Sunk, sunk, Took, TookFront}
 use Rattle.dmtcp_top.specs.Machines.{plain_of, lives, IsSingle, IsOwn, with_record, Notes, Spoils}
 use Rattle.dmtcp_top.specs.Rounds.{new_round, in_rounds, GoesInRounds, is_due}
 use Rattle.dmtcp_top.specs.RunEnds.{is_mark, IsRun, Shown, CutShort}
-use Rattle.dmtcp_top.proofs.Turns.{took_nothing}
+use Rattle.dmtcp_top.proofs.Sinks.{took_nothing, took_both, took_more, took_front}
 use Rattle.dmtcp_top.proofs.Walks.{walk, Pushed, pushed, IsPlaced, own_is_due, own_moves, placed_at_start}
 
 pub record IsRunning (g : Plain) (m : Machine) (records : List Record) (sink : Sunk) : Type 0 where
@@ -28,21 +28,6 @@ pub record IsRunning (g : Plain) (m : Machine) (records : List Record) (sink : S
   pub order : GoesInRounds g records
   pub placed : IsPlaced m (walk g (new_round g) records)
   pub marks : All (λ r. is_mark r ≡ false) records
-
--- a sink that took two pieces took both together
-appended_twice : (taken : Option (List ℕ)) (xs ys : List ℕ) → appended (appended taken xs) ys ≡ appended taken (xs ++ ys)
-appended_twice None xs ys = refl
-appended_twice (Some front) xs ys = ap (λ bytes. Some bytes) (append_assoc front xs ys)
-
-took_both : (had mid has : Option (List ℕ)) (xs ys : List ℕ) → Took (sunk had mid) xs → Took (sunk mid has) ys → Took (sunk had has) (xs ++ ys)
-took_both had mid has xs ys first second = second ∙ ap (λ taken. appended taken ys) first ∙ appended_twice had xs ys
-
-took_more : (had mid has : Option (List ℕ)) (xs ys : List ℕ) → Took (sunk had mid) xs → TookFront (sunk mid has) ys → TookFront (sunk had has) (xs ++ ys)
-took_more had mid has xs ys first second =
-    (length xs + second.0, took_both had mid has xs (take second.0 ys) first second.1 ∙ ap (appended had) (sym (take-append-add xs ys second.0)))
-
-pub took_front : (sink : Sunk) (bytes : List ℕ) → Took sink bytes → TookFront sink bytes
-took_front sink bytes took = (length bytes, took ∙ ap (appended sink.before) (sym (take-length bytes)))
 
 own_no_mark : (m : Machine) (r : Record) → IsOwn m r → is_mark r ≡ false
 own_no_mark m (User p t n) own = refl

@@ -30,20 +30,10 @@ use Rattle.plain_machine.specs.Records.{outcome, quiet, stands}
 use Rattle.dmtcp_top.specs.declared.machine.Machine.{Machine}
 use Rattle.dmtcp_top.specs.Sessions.{Sunk, sunk, Took, TookFront}
 use Rattle.dmtcp_top.specs.Machines.{single, plain_of, lives, OneThread, IsSingle, IsOwn, IsOf, with_record, Notes, Spoils}
+use Rattle.dmtcp_top.proofs.Sinks.{took_nothing}
 use Rattle.dmtcp_top.proofs.ServedCalls.{RevivesNobody, IsTame, served_tame, end_revives_nobody}
 use Rattle.dmtcp_top.proofs.OneProcess.{user_goes, fault_goes, local_goes, serve_goes, trap_goes}
 use Rattle.dmtcp_top.proofs.OneThreadKept.{put_one, local_one, steps_one, ran_stood_not, never_waits, no_steps}
-
-append_nothing : {A : Type 0} (xs : List A) → xs ++ [] ≡ xs
-append_nothing [] = refl
-append_nothing (x ∷ xs) = ap (λ rest. x ∷ rest) (append_nothing xs)
-
-pub took_nothing : (taken : Option (List ℕ)) → Took (sunk taken taken) []
-took_nothing None = refl
-took_nothing (Some bytes) = ap (λ xs. Some xs) (sym (append_nothing bytes))
-
-tid : VPid → Tid
-tid p = record { 0 = p.0 }
 
 same_state : (k k' : PlainKernel) (g h : GuestPart) → k ≡ k' → g ≡ h → single k g.pid g.user ≡ single k' h.pid h.user
 same_state k k' g h kernels guests = ap (λ (x : PlainKernel). single x g.pid g.user) kernels ∙ ap (λ (x : GuestPart). single k' x.pid x.user) guests

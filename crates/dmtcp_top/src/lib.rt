@@ -1,7 +1,9 @@
 //! The top call of the checkpointer.
 #![tactic(auto)]
 
+pub mod ending;
 pub mod job;
+pub mod launch;
 pub mod machine;
 pub mod rounds;
 pub mod run_end;
