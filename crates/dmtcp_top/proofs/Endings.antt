@@ -1,5 +1,5 @@
 -- Somebody lives in a machine's plain state exactly while its process does.
-use Rattle.std.proofs.Common.{◌≡◌, ◌≢◌, ℕ, Bool, true, false, not, List, Option, Some, None, inl, inr, refl, sym, ap, subst, ◌∙◌}
+use Rattle.std.proofs.Common.{◌≡◌, ◌≢◌, true, false, not, Some, None, inl, inr, refl, sym, ap, ◌∙◌}
 use Rattle.std.specs.Prelude.{◌⊎◌}
 use Rattle.std.specs.FinMap as map
 use Rattle.sys_abi.specs.declared.identity.VPid.{VPid}
@@ -7,7 +7,6 @@ use Rattle.sys_abi.proofs.OrderLaws.{vpid_total, vpid_exact}
 use Rattle.views.proofs.MapLaws.{same_or_other, true_false}
 use Rattle.views.proofs.MapValues.{none_among-values, some_among-values}
 use Rattle.plain_machine.specs.declared.kernel.PlainKernel.{PlainKernel}
-use Rattle.plain_machine.specs.declared.process.Process.{Process}
 use Rattle.plain_machine.specs.Kernel.{is_live, is_live_process, lives as is_life}
 use Rattle.plain_machine.specs.Tests.{has_life, ended}
 use Rattle.dmtcp_top.specs.declared.machine.Machine.{Machine}

@@ -11,3 +11,6 @@ pub mod Walks
 pub mod Starts
 pub mod Endings
 pub mod Running
+pub mod Arrivals
+pub mod Decisions
+pub mod Conclusions

@@ -1,30 +1,26 @@
 -- The plain state of one process with one thread: what its map of user parts holds, and which record leads where.
-use Rattle.std.proofs.Common.{◌≡◌, ◌≢◌, ℕ, zero, suc, ◌+◌, ◌<◌, ◌≤◌, Bool, true, false, cond, List, [], ◌∷◌, Option, Some, None, inl, inr, refl, sym, ap, subst, ◌∙◌, arith, tests}
-use Rattle.std.specs.Prelude.{◌==◌, ◌||◌, ◌&&◌, ◌⊎◌, nat_le, option_and_then, unwrap_or}
+use Rattle.std.proofs.Common.{◌≡◌, ℕ, ◌≤◌, Bool, true, false, cond, List, Some, None, inl, inr, sym, ap, ◌∙◌, arith, tests}
+use Rattle.std.specs.Prelude.{◌==◌, ◌||◌, ◌&&◌, ◌⊎◌, nat_le, option_and_then}
 use Rattle.std.specs.FinMap as map
-use Rattle.std.specs.Cmp.{nat_cmp_total}
-use Rattle.std.specs.FinMap.{nat_cmp-IsAntisymmetric}
 use Rattle.sys_abi.specs.declared.identity.VPid.{VPid}
 use Rattle.sys_abi.specs.declared.identity.Tid.{Tid}
 use Rattle.sys_abi.specs.declared.identity.Signal.{Signal}
 use Rattle.sys_abi.specs.declared.record.Record.TheVariants.{User, Call, Deliver}
 use Rattle.sys_abi.specs.declared.request.Request.{Request}
-use Rattle.sys_abi.specs.declared.reply.Reply.{Reply}
 use Rattle.sys_abi.specs.Requests.{is_local}
 use Rattle.sys_abi.specs.Orders.{vpid_cmp}
 use Rattle.sys_abi.proofs.OrderLaws.{vpid_total, vpid_exact}
-use Rattle.views.proofs.MapLaws.{get_insert_same, insert_insert, retain_keys-insert, retain_keys-insert_other, retain_all, keys-single, keys-empty}
+use Rattle.views.proofs.MapLaws.{get_insert_same, insert_insert, retain_keys-insert, retain_keys-insert_other, retain_all}
 use Rattle.plain_machine.specs.declared.kernel.PlainKernel.{PlainKernel}
 use Rattle.plain_machine.specs.declared.plain.Plain.{Plain}
 use Rattle.plain_machine.specs.declared.user_part.UserPart.{UserPart}
-use Rattle.plain_machine.specs.declared.user_part.ThreadPart.{ThreadPart}
 use Rattle.plain_machine.specs.Attempts.{Served}
 use Rattle.plain_machine.specs.Kernel.{is_live, after_end}
-use Rattle.plain_machine.specs.Steps.{UserStep, Stepped, Asks, Trapped, Waits, NoThread, user_step, user_steps, stepped}
+use Rattle.plain_machine.specs.Steps.{Asks, Trapped, user_step, user_steps}
 use Rattle.plain_machine.specs.Buffers.{lent}
 use Rattle.plain_machine.specs.Put.{put, put_fault, local_row}
 use Rattle.plain_machine.specs.Serve.{serve}
-use Rattle.plain_machine.specs.Records.{Outcome, outcome, quiet, living, stands, QUANTUM, with_user, if_ends, outcome_of_user, outcome_of_call, outcome_of_ask, outcome_of_lent, outcome_of_serve, outcome_of_signal, outcome_of_trap, user_ends}
+use Rattle.plain_machine.specs.Records.{Outcome, outcome, quiet, living, stands, with_user, if_ends, outcome_of_user, outcome_of_call, outcome_of_ask, outcome_of_lent, outcome_of_serve, outcome_of_signal, outcome_of_trap}
 use Rattle.dmtcp_top.specs.Machines.{only, single}
 
 retain_nothing : (keep : VPid → Bool) → map.retain_keys (map.empty {X = UserPart} {R = vpid_cmp}) keep ≡ map.empty

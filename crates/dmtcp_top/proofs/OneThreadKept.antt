@@ -1,6 +1,6 @@
 -- Steps and answers keep a process's one thread, and where it waits for nobody it never waits.
-use Rattle.std.proofs.Common.{◌≡◌, ◌≢◌, ℕ, zero, suc, ◌+◌, ◌<◌, ◌≤◌, Bool, true, false, cond, List, [], ◌∷◌, Option, Some, None, inl, inr, refl, sym, ap, subst, ◌∙◌, arith, tests}
-use Rattle.std.specs.Prelude.{◌==◌, option_and_then, unwrap_or, is_some}
+use Rattle.std.proofs.Common.{◌≡◌, ℕ, zero, suc, ◌≤◌, true, false, cond, List, [], Option, Some, None, refl, sym, ap, subst, ◌∙◌, arith}
+use Rattle.std.specs.Prelude.{◌==◌, option_and_then, is_some}
 use Rattle.std.specs.FinMap as map
 use Rattle.std.specs.Cmp.{nat_cmp_total}
 use Rattle.std.specs.FinMap.{nat_cmp-IsAntisymmetric}
@@ -15,7 +15,7 @@ use Rattle.plain_machine.specs.Memory.{Memory}
 use Rattle.plain_machine.specs.Instructions.{Effect, Next, Calls, Traps}
 use Rattle.plain_machine.specs.Steps.{UserStep, Stepped, Asks, Trapped, Waits, NoThread, user_step, user_steps, stepped, step_of, step_by, waits, with_thread, with_regs, effect_at}
 use Rattle.plain_machine.specs.Put.{put, put_by, word_of, after_call, with_spans, local_row, error}
-use Rattle.plain_machine.specs.Buffers.{given_of, written_spans}
+use Rattle.plain_machine.specs.Buffers.{written_spans}
 use Rattle.plain_machine.specs.Records.{stands}
 use Rattle.dmtcp_top.specs.Machines.{OneThread}
 
@@ -60,7 +60,7 @@ unfolding user_step
 step_keeps user t one =
     let nobody : waits user t ≡ false = ap (λ (ws : List Waiter). list_any (λ waiter. waiter.tid == t) ws) one.waiters in
     let stands_there : step_of user t (map.get user.threads t) ≡ step_by user t one.thread (effect_at one.thread.regs user.memory) =
-        ap (step_of user t) (there user t one) ∙ ap (λ b. cond b Waits (step_by user t one.thread (effect_at one.thread.regs user.memory))) nobody in
+    ap (step_of user t) (there user t one) ∙ ap (λ b. cond b Waits (step_by user t one.thread (effect_at one.thread.regs user.memory))) nobody in
     subst (Keeps t) (sym stands_there) (by_keeps user t one.thread (effect_at one.thread.regs user.memory) one)
 
 pub never_waits : (user : UserPart) (t : ℕ) → OneThread user t → user_step user t ≡ Waits → ⊥

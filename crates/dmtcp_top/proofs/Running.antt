@@ -1,8 +1,6 @@
 -- A run on its way: the trace leads to the machine's state, the console took what it writes, and the machine stands at its place in the rounds.
-use Rattle.std.proofs.Common.{◌≡◌, ◌≢◌, ℕ, zero, suc, ◌+◌, ◌-◌, ◌<◌, ◌≤◌, Bool, true, false, List, [], ◌∷◌, ◌++◌, length, take, All, append_assoc, Option, Some, None, inl, inr, refl, sym, ap, subst, ◌∙◌, arith}
-use Rattle.std.specs.Prelude.{option_and_then}
+use Rattle.std.proofs.Common.{◌≡◌, ℕ, zero, suc, ◌+◌, ◌-◌, ◌<◌, ◌≤◌, true, false, List, [], ◌∷◌, ◌++◌, length, All, Option, Some, refl, sym, ap, subst, ◌∙◌, arith}
 use Rattle.std.specs.Option.{option_map}
-use Rattle.std.proofs.Math.Seq.{take-append-add, take-length}
 use Rattle.std.proofs.lemmas.List.{length-append}
 use Rattle.std.proofs.lemmas.List.Elements.{All-append}
 use Rattle.sys_abi.specs.declared.record.Record.{Record}
@@ -10,14 +8,14 @@ use Rattle.sys_abi.specs.declared.record.Record.TheVariants.{User, Call, Deliver
 use Rattle.edge_io.specs.Sink.{appended}
 use Rattle.trace_log.specs.Trace.{TraceState}
 use Rattle.plain_machine.specs.declared.plain.Plain.{Plain}
-use Rattle.plain_machine.specs.Records.{Outcome, outcome, step}
+use Rattle.plain_machine.specs.Records.{Outcome, outcome}
 use Rattle.plain_machine.specs.Runs.{run, console}
 use Rattle.plain_machine.specs.Tests.{ended}
 use Rattle.plain_machine.proofs.RunLaws.{run_of_one_more, console_of_one_more}
 use Rattle.dmtcp_top.specs.declared.machine.Machine.{Machine}
 use Rattle.dmtcp_top.specs.Sessions.{Sunk, sunk, Took, TookFront}
-use Rattle.dmtcp_top.specs.Machines.{plain_of, lives, IsSingle, IsOwn, with_record, Notes, Spoils}
-use Rattle.dmtcp_top.specs.Rounds.{new_round, in_rounds, GoesInRounds, is_due}
+use Rattle.dmtcp_top.specs.Machines.{plain_of, lives, IsSingle, IsOwn, Notes, Spoils}
+use Rattle.dmtcp_top.specs.Rounds.{new_round, in_rounds, GoesInRounds}
 use Rattle.dmtcp_top.specs.RunEnds.{is_mark, IsRun, Shown, CutShort}
 use Rattle.dmtcp_top.proofs.Sinks.{took_nothing, took_both, took_more, took_front}
 use Rattle.dmtcp_top.proofs.Walks.{walk, Pushed, pushed, IsPlaced, own_is_due, own_moves, placed_at_start}
@@ -56,7 +54,7 @@ one_more_mark m records r marks own = All-append (λ x. is_mark x ≡ false) rec
 one_more : (g : Plain) (m : Machine) (records : List Record) (sink : Sunk) (r : Record) (o : Outcome) → IsRunning g m records sink → IsSingle m → lives m ≡ true → outcome (plain_of m) r ≡ Some o → IsOwn m r → Pushed g o.state (new_round g) (walk g (new_round g) records) records r
 one_more g m records sink r o running alone alive goes own =
     pushed g (plain_of m) o.state (new_round g) (walk g (new_round g) records) records r running.steps refl running.order
-      (own_is_due m (walk g (new_round g) records) r alone alive running.placed own) (ap (option_map (λ x. x.state)) goes)
+    (own_is_due m (walk g (new_round g) records) r alone alive running.placed own) (ap (option_map (λ x. x.state)) goes)
 
 pub running_notes : (g : Plain) (m n : Machine) (from to : TraceState) (had mid has : Option (List ℕ)) → IsRunning g m from.records (sunk had mid) → IsSingle m → lives m ≡ true → Notes m n from to (sunk mid has) → n.guest.pid ≡ m.guest.pid → IsRunning g n to.records (sunk had has)
 running_notes g m n from to had mid has running alone alive notes same =
@@ -65,7 +63,7 @@ running_notes g m n from to had mid has running alone alive notes same =
     let moved_on = own_moves m n (walk g (new_round g) from.records) notes.noted alone alive running.placed notes.own same in
     let runs : run g (from.records ++ notes.noted ∷ []) ≡ Some (plain_of n) = run_of_one_more g (plain_of m) from.records notes.noted running.steps ∙ ap (option_map (λ x. x.state)) notes.outcome in
     let shows : Took (sunk had has) (console g (from.records ++ notes.noted ∷ [])) =
-        took_both had mid has (console g from.records) notes.bytes running.shown notes.shown ∙ ap (appended had) (sym (console_of_one_more g (plain_of m) from.records notes.noted o running.steps notes.outcome)) in
+    took_both had mid has (console g from.records) notes.bytes running.shown notes.shown ∙ ap (appended had) (sym (console_of_one_more g (plain_of m) from.records notes.noted o running.steps notes.outcome)) in
     let whole : IsRunning g n (from.records ++ notes.noted ∷ []) (sunk had has) = record {
       steps = runs;
       shown = shows;
@@ -81,7 +79,7 @@ running_spoils g m from to room had mid has running alone alive spoils fits =
     let pushed_one = one_more g m from.records (sunk had mid) spoils.noted o running alone alive spoils.outcome spoils.own in
     let runs : run g (from.records ++ spoils.noted ∷ []) ≡ Some spoils.state = run_of_one_more g (plain_of m) from.records spoils.noted running.steps ∙ ap (option_map (λ x. x.state)) spoils.outcome in
     let shows : TookFront (sunk had has) (console g (from.records ++ spoils.noted ∷ [])) =
-        subst (TookFront (sunk had has)) (sym (console_of_one_more g (plain_of m) from.records spoils.noted o running.steps spoils.outcome)) (took_more had mid has (console g from.records) spoils.bytes running.shown spoils.shown) in
+    subst (TookFront (sunk had has)) (sym (console_of_one_more g (plain_of m) from.records spoils.noted o running.steps spoils.outcome)) (took_more had mid has (console g from.records) spoils.bytes running.shown spoils.shown) in
     let enough : length (from.records ++ spoils.noted ∷ []) ≤ room = omega (arith, length-append from.records (spoils.noted ∷ [])) in
     let whole : CutShort g room (from.records ++ spoils.noted ∷ []) (sunk had has) = record {
       state = spoils.state;

@@ -1,6 +1,5 @@
 -- What each served call keeps: it has an answer, gives its process no bytes, and nobody else lives after it who didn't before.
-use Rattle.std.proofs.Common.{◌≡◌, ◌≢◌, ℕ, Bool, true, false, List, [], ◌∷◌, Option, Some, None, refl, sym, ap, subst, ◌∙◌}
-use Rattle.std.specs.FinMap as map
+use Rattle.std.proofs.Common.{◌≡◌, ◌≢◌, ℕ, Bool, true, false, List, [], Option, Some, None, refl, ap, subst, ◌∙◌}
 use Rattle.sys_abi.specs.declared.identity.VPid.{VPid}
 use Rattle.sys_abi.specs.declared.errors.TheConstants.{EBADF}
 use Rattle.sys_abi.specs.declared.request.Request.{Request}
@@ -11,7 +10,7 @@ use Rattle.plain_machine.specs.declared.kernel.PlainKernel.{PlainKernel}
 use Rattle.plain_machine.specs.declared.description.Description.{Description}
 use Rattle.plain_machine.specs.declared.description.Object.{Object}
 use Rattle.plain_machine.specs.declared.description.Object.TheVariants.{Console, File, Stream, Socket, Listener, Datagram, Counter}
-use Rattle.plain_machine.specs.Attempts.{Try, Fails, NotReady, Gives, Served, and_then, found, need, settled, refused}
+use Rattle.plain_machine.specs.Attempts.{Try, Fails, NotReady, Gives, Served, and_then, found, need, settled}
 use Rattle.plain_machine.specs.Kernel.{is_live, is_live_process, description_at, may_write, after_end}
 use Rattle.plain_machine.specs.Rows.Write.{write_row, write_object}
 use Rattle.plain_machine.specs.Rows.End.{exit_group_row}

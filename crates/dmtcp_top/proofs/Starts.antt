@@ -1,5 +1,5 @@
 -- The start of one program is the plain state of a machine with one process, which lives with one thread.
-use Rattle.std.proofs.Common.{◌≡◌, ◌≢◌, ℕ, Bool, true, false, List, [], ◌∷◌, Option, Some, None, refl, sym, ap, subst, ◌∙◌}
+use Rattle.std.proofs.Common.{◌≡◌, ◌≢◌, ℕ, true, false, List, [], ◌∷◌, refl, sym, ap, ◌∙◌}
 use Rattle.std.specs.FinMap as map
 use Rattle.sys_abi.specs.declared.identity.VPid.{VPid}
 use Rattle.sys_abi.specs.Orders.{vpid_cmp}
@@ -9,7 +9,6 @@ use Rattle.elf32.specs.declared.program.Program.{Program}
 use Rattle.plain_machine.specs.declared.kernel.PlainKernel.{PlainKernel}
 use Rattle.plain_machine.specs.declared.plain.Plain.{Plain}
 use Rattle.plain_machine.specs.declared.process.Process.{Process}
-use Rattle.plain_machine.specs.declared.user_part.UserPart.{UserPart}
 use Rattle.plain_machine.specs.Kernel.{pid, is_live, is_live_process}
 use Rattle.plain_machine.specs.Start.{start, start_kernel, with_processes, with_process, with_files, with_users, empty_kernel, start_user, start_thread, start_regs, start_process}
 use Rattle.dmtcp_top.specs.Machines.{only, single, OneThread}

@@ -1,6 +1,6 @@
 -- The signal of a trap is one of 1 to 31.
-use Rattle.std.proofs.Common.{◌≡◌, ℕ, ◌+◌, ◌*◌, ◌/◌, ◌%◌, ◌^◌, ◌≤◌, Bool, true, false, not, cond, List, Option, Some, None, refl, sym, ap, subst, ◌∙◌, arith, tests}
-use Rattle.std.specs.Prelude.{◌==◌, nat_lt, int_lt, IsTrue, ◌&&◌, nat_le}
+use Rattle.std.proofs.Common.{◌≡◌, ℕ, ◌+◌, ◌*◌, ◌/◌, ◌%◌, ◌^◌, ◌≤◌, Bool, true, false, not, cond, Option, Some, None, subst, arith}
+use Rattle.std.specs.Prelude.{◌==◌, nat_lt, int_lt}
 use Rattle.std.specs.FinMap as map
 use Rattle.plain_machine.specs.declared.instruction.Insn.{Insn}
 use Rattle.plain_machine.specs.declared.instruction.Op.{Op}
@@ -11,7 +11,7 @@ use Rattle.plain_machine.specs.declared.user_part.ThreadPart.{ThreadPart}
 use Rattle.plain_machine.specs.Memory.{Memory, load, store, fetch}
 use Rattle.plain_machine.specs.Instructions.{Effect, Next, Calls, Traps, goes_to, jumps, branches, loads, stores, effect_by, effect, decoded, signed, sign_extended, same, word}
 use Rattle.plain_machine.specs.Registers.{reg, with_reg, at_pc, next_pc}
-use Rattle.plain_machine.specs.Steps.{UserStep, Stepped, Asks, Trapped, Waits, NoThread, effect_of_insn, effect_of_word, effect_at, step_by, step_of, user_step, waits}
+use Rattle.plain_machine.specs.Steps.{UserStep, Trapped, Waits, effect_of_insn, effect_of_word, effect_at, step_by, step_of, user_step, waits}
 
 abbrev IsSignal : ℕ → Type 0
 IsSignal s = (1 ≤ s) × (s ≤ 31)

@@ -1,16 +1,13 @@
 -- One record of the machine: what each kind of turn notes, and that the process stays alone with its one thread.
-use Rattle.std.proofs.Common.{◌≡◌, ◌≢◌, ℕ, ◌+◌, ◌-◌, ◌<◌, ◌≤◌, Bool, true, false, cond, if◌then◌else◌, List, [], ◌∷◌, ◌++◌, length, take, Option, Some, None, Result, Ok, Err, OnOk, inl, inr, refl, sym, ap, subst, ◌∙◌, arith}
+use Rattle.std.proofs.Common.{◌≡◌, ◌≢◌, ℕ, ◌<◌, ◌≤◌, true, false, if◌then◌else◌, List, [], Option, Some, None, Result, Ok, Err, OnOk, inl, inr, refl, sym, ap, subst, ◌∙◌, arith}
 use Rattle.std.specs.Prelude.{◌⊎◌}
-use Rattle.std.specs.FinMap as map
 use Rattle.sys_abi.specs.declared.identity.VPid.{VPid}
-use Rattle.sys_abi.specs.declared.identity.Tid.{Tid}
 use Rattle.sys_abi.specs.declared.identity.Signal.{Signal}
 use Rattle.sys_abi.specs.declared.record.Record.{Record}
 use Rattle.sys_abi.specs.declared.record.Record.TheVariants.{User, Call, Deliver}
 use Rattle.sys_abi.specs.declared.request.Request.{Request}
 use Rattle.sys_abi.specs.declared.reply.Reply.{Reply}
 use Rattle.sys_abi.specs.Requests.{is_local}
-use Rattle.edge_io.specs.Sink.{appended}
 use Rattle.trace_log.specs.Trace.{TraceState}
 use Rattle.guest_proc.specs.Guests.{GuestPart, Tells}
 use Rattle.guest_proc.specs.declared.ran.Ran.{Ran}
@@ -20,8 +17,7 @@ use Rattle.plain_machine.specs.declared.plain.Plain.{Plain}
 use Rattle.plain_machine.specs.declared.kernel.PlainKernel.{PlainKernel}
 use Rattle.plain_machine.specs.declared.serve.Answer.{Answer}
 use Rattle.plain_machine.specs.Answers.{answer_told, served_by}
-use Rattle.plain_machine.specs.Attempts.{Served}
-use Rattle.plain_machine.specs.Kernel.{is_live, after_end}
+use Rattle.plain_machine.specs.Kernel.{after_end}
 use Rattle.plain_machine.specs.Steps.{Asks, Trapped, user_step, user_steps}
 use Rattle.plain_machine.specs.Buffers.{lent}
 use Rattle.plain_machine.specs.Put.{put, put_fault, local_row}
@@ -29,11 +25,11 @@ use Rattle.plain_machine.specs.Serve.{serve}
 use Rattle.plain_machine.specs.Records.{outcome, quiet, stands}
 use Rattle.dmtcp_top.specs.declared.machine.Machine.{Machine}
 use Rattle.dmtcp_top.specs.Sessions.{Sunk, sunk, Took, TookFront}
-use Rattle.dmtcp_top.specs.Machines.{single, plain_of, lives, OneThread, IsSingle, IsOwn, IsOf, with_record, Notes, Spoils}
+use Rattle.dmtcp_top.specs.Machines.{single, plain_of, lives, OneThread, IsSingle, IsOwn, with_record, Notes, Spoils}
 use Rattle.dmtcp_top.proofs.Sinks.{took_nothing}
-use Rattle.dmtcp_top.proofs.ServedCalls.{RevivesNobody, IsTame, served_tame, end_revives_nobody}
+use Rattle.dmtcp_top.proofs.ServedCalls.{RevivesNobody, served_tame, end_revives_nobody}
 use Rattle.dmtcp_top.proofs.OneProcess.{user_goes, fault_goes, local_goes, serve_goes, trap_goes}
-use Rattle.dmtcp_top.proofs.OneThreadKept.{put_one, local_one, steps_one, ran_stood_not, never_waits, no_steps}
+use Rattle.dmtcp_top.proofs.OneThreadKept.{put_one, local_one, ran_stood_not, never_waits, no_steps}
 
 same_state : (k k' : PlainKernel) (g h : GuestPart) → k ≡ k' → g ≡ h → single k g.pid g.user ≡ single k' h.pid h.user
 same_state k k' g h kernels guests = ap (λ (x : PlainKernel). single x g.pid g.user) kernels ∙ ap (λ (x : GuestPart). single k' x.pid x.user) guests
@@ -61,19 +57,19 @@ user_notes m n from to taken p count is alive some most kernel pid steps ending 
     let ends : (count ≡ 4096) ⊎ (stands (user_step n.guest.user m.guest.pid.0) ≡ true) = subst (λ (q : VPid). (count ≡ 4096) ⊎ (stands (user_step n.guest.user q.0) ≡ true)) is ending in
     let goes = user_goes m.kernel m.guest.pid (record { 0 = m.guest.pid.0 }) count m.guest.user n.guest.user alive some most at_pid ends in
     let goes_p : outcome (plain_of m) (User p (record { 0 = p.0 }) count) ≡ Some (quiet (single m.kernel m.guest.pid n.guest.user)) =
-        subst (λ (q : VPid). outcome (plain_of m) (User q (record { 0 = q.0 }) count) ≡ Some (quiet (single m.kernel m.guest.pid n.guest.user))) (sym is) goes in
+    subst (λ (q : VPid). outcome (plain_of m) (User q (record { 0 = q.0 }) count) ≡ Some (quiet (single m.kernel m.guest.pid n.guest.user))) (sym is) goes in
     quiet_notes m n from to taken (User p (record { 0 = p.0 }) count) (single m.kernel m.guest.pid n.guest.user) goes_p
-      (ap (λ (k : PlainKernel). single k n.guest.pid n.guest.user) kernel ∙ ap (λ (q : VPid). single m.kernel q n.guest.user) pid) noted
-      ((is, ap (λ (q : VPid). q.0) is), ran_stood_not count m.guest.user n.guest.user m.guest.pid.0 some at_pid)
+    (ap (λ (k : PlainKernel). single k n.guest.pid n.guest.user) kernel ∙ ap (λ (q : VPid). single m.kernel q n.guest.user) pid) noted
+    ((is, ap (λ (q : VPid). q.0) is), ran_stood_not count m.guest.user n.guest.user m.guest.pid.0 some at_pid)
 
 -- the trap at which the thread stands
 pub deliver_notes : (m n : Machine) (from to : TraceState) (taken : Option (List ℕ)) (p : VPid) (s : Signal) → p ≡ m.guest.pid → lives m ≡ true → user_step m.guest.user m.guest.pid.0 ≡ Trapped s.0 → n.kernel ≡ after_end m.kernel p → n.guest ≡ m.guest → to ≡ with_record from (Deliver p (record { 0 = p.0 }) s) → Notes m n from to (sunk taken taken)
 deliver_notes m n from to taken p s is alive traps kernel guest noted =
     let goes = trap_goes m.kernel m.guest.pid (record { 0 = m.guest.pid.0 }) m.guest.user s alive traps in
     let goes_p : outcome (plain_of m) (Deliver p (record { 0 = p.0 }) s) ≡ Some (quiet (single (after_end m.kernel p) m.guest.pid m.guest.user)) =
-        subst (λ (q : VPid). outcome (plain_of m) (Deliver q (record { 0 = q.0 }) s) ≡ Some (quiet (single (after_end m.kernel q) m.guest.pid m.guest.user))) (sym is) goes in
+    subst (λ (q : VPid). outcome (plain_of m) (Deliver q (record { 0 = q.0 }) s) ≡ Some (quiet (single (after_end m.kernel q) m.guest.pid m.guest.user))) (sym is) goes in
     quiet_notes m n from to taken (Deliver p (record { 0 = p.0 }) s) (single (after_end m.kernel p) m.guest.pid m.guest.user) goes_p
-      (same_state n.kernel (after_end m.kernel p) n.guest m.guest kernel guest) noted (is, ap (λ (q : VPid). q.0) is)
+    (same_state n.kernel (after_end m.kernel p) n.guest m.guest kernel guest) noted (is, ap (λ (q : VPid). q.0) is)
 
 pub deliver_single : (m n : Machine) (p : VPid) → p ≡ m.guest.pid → IsSingle m → n.kernel ≡ after_end m.kernel p → n.guest ≡ m.guest → IsSingle n
 deliver_single m n p is alone kernel guest =
@@ -85,17 +81,17 @@ pub fault_notes : (m n : Machine) (from to : TraceState) (taken : Option (List �
 fault_notes m n from to taken p q is alive asks faults kernel guest noted =
     let goes = fault_goes m.kernel m.guest.pid (record { 0 = m.guest.pid.0 }) m.guest.user q alive asks faults in
     let goes_p : outcome (plain_of m) (Call p (record { 0 = p.0 })) ≡ Some (quiet (single m.kernel m.guest.pid (put_fault m.guest.user p.0 q))) =
-        subst (λ (r : VPid). outcome (plain_of m) (Call r (record { 0 = r.0 })) ≡ Some (quiet (single m.kernel m.guest.pid (put_fault m.guest.user r.0 q)))) (sym is) goes in
+    subst (λ (r : VPid). outcome (plain_of m) (Call r (record { 0 = r.0 })) ≡ Some (quiet (single m.kernel m.guest.pid (put_fault m.guest.user r.0 q)))) (sym is) goes in
     quiet_notes m n from to taken (Call p (record { 0 = p.0 })) (single m.kernel m.guest.pid (put_fault m.guest.user p.0 q)) goes_p
-      (same_state n.kernel m.kernel n.guest (record { pid = m.guest.pid; user = put_fault m.guest.user p.0 q }) kernel guest) noted (is, ap (λ (r : VPid). r.0) is)
+    (same_state n.kernel m.kernel n.guest (record { pid = m.guest.pid; user = put_fault m.guest.user p.0 q }) kernel guest) noted (is, ap (λ (r : VPid). r.0) is)
 
 pub local_notes : (m n : Machine) (from to : TraceState) (taken : Option (List ℕ)) (p : VPid) (q : Request) (given : List ℕ) → p ≡ m.guest.pid → lives m ≡ true → user_step m.guest.user m.guest.pid.0 ≡ Asks q → lent m.guest.user.memory q ≡ Some given → is_local q ≡ true → n.kernel ≡ m.kernel → n.guest ≡ record { pid = m.guest.pid; user = local_row m.guest.user p.0 q } → to ≡ with_record from (Call p (record { 0 = p.0 })) → Notes m n from to (sunk taken taken)
 local_notes m n from to taken p q given is alive asks reads local kernel guest noted =
     let goes = local_goes m.kernel m.guest.pid (record { 0 = m.guest.pid.0 }) m.guest.user q given alive asks reads local in
     let goes_p : outcome (plain_of m) (Call p (record { 0 = p.0 })) ≡ Some (quiet (single m.kernel m.guest.pid (local_row m.guest.user p.0 q))) =
-        subst (λ (r : VPid). outcome (plain_of m) (Call r (record { 0 = r.0 })) ≡ Some (quiet (single m.kernel m.guest.pid (local_row m.guest.user r.0 q)))) (sym is) goes in
+    subst (λ (r : VPid). outcome (plain_of m) (Call r (record { 0 = r.0 })) ≡ Some (quiet (single m.kernel m.guest.pid (local_row m.guest.user r.0 q)))) (sym is) goes in
     quiet_notes m n from to taken (Call p (record { 0 = p.0 })) (single m.kernel m.guest.pid (local_row m.guest.user p.0 q)) goes_p
-      (same_state n.kernel m.kernel n.guest (record { pid = m.guest.pid; user = local_row m.guest.user p.0 q }) kernel guest) noted (is, ap (λ (r : VPid). r.0) is)
+    (same_state n.kernel m.kernel n.guest (record { pid = m.guest.pid; user = local_row m.guest.user p.0 q }) kernel guest) noted (is, ap (λ (r : VPid). r.0) is)
 
 -- the part after an answer keeps its thread
 pub answered_single : (m n : Machine) (p : VPid) (q : Request) (reply : Reply) (bytes : List ℕ) → p ≡ m.guest.pid → IsSingle m → RevivesNobody m.kernel n.kernel m.guest.pid → n.guest ≡ record { pid = m.guest.pid; user = put m.guest.user p.0 q reply bytes } → IsSingle n

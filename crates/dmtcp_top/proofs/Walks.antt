@@ -1,7 +1,6 @@
 -- The place in the rounds after a trace, and one more record that is due there.
-use Rattle.std.proofs.Common.{◌≡◌, ◌≢◌, ℕ, Bool, true, false, cond, not, List, [], ◌∷◌, ◌++◌, Option, Some, None, inl, inr, refl, sym, ap, subst, ◌∙◌, arith, tests}
-use Rattle.std.specs.Prelude.{◌&&◌, ◌==◌, is_some, option_and_then}
-use Rattle.std.specs.Option.{option_map}
+use Rattle.std.proofs.Common.{◌≡◌, ℕ, Bool, true, false, cond, List, [], ◌∷◌, ◌++◌, Option, Some, None, refl, sym, ap, subst, ◌∙◌, arith, tests}
+use Rattle.std.specs.Prelude.{◌&&◌, ◌==◌, option_and_then}
 use Rattle.std.specs.FinMap as map
 use Rattle.std.specs.Cmp.{nat_cmp_total}
 use Rattle.std.specs.FinMap.{nat_cmp-IsAntisymmetric}
@@ -14,13 +13,11 @@ use Rattle.sys_abi.proofs.OrderLaws.{vpid_total, vpid_exact}
 use Rattle.views.proofs.MapLaws.{get_insert_same, keys-single, true_false}
 use Rattle.plain_machine.specs.declared.plain.Plain.{Plain}
 use Rattle.plain_machine.specs.declared.user_part.UserPart.{UserPart}
-use Rattle.plain_machine.specs.declared.user_part.ThreadPart.{ThreadPart}
-use Rattle.plain_machine.specs.Kernel.{is_live}
 use Rattle.plain_machine.specs.Steps.{user_step}
-use Rattle.plain_machine.specs.Records.{outcome, step, stands}
+use Rattle.plain_machine.specs.Records.{step, stands}
 use Rattle.plain_machine.specs.Runs.{run}
 use Rattle.dmtcp_top.specs.declared.machine.Machine.{Machine}
-use Rattle.dmtcp_top.specs.Machines.{only, single, plain_of, lives, OneThread, IsSingle, IsOwn}
+use Rattle.dmtcp_top.specs.Machines.{plain_of, lives, IsSingle, IsOwn}
 use Rattle.dmtcp_top.specs.Rounds.{Place, or_else, has_thread, threads_in, first_thread, first_turn, new_round, next_turn, is_due_in, is_due, stands_in, place_after, moved, then_so, in_rounds}
 use Rattle.dmtcp_top.proofs.OneProcess.{users_while_live, users_once_ended}
 use Rattle.dmtcp_top.proofs.OneThreadKept.{has_thread as thread_is_there}
@@ -61,8 +58,8 @@ pushed g h next place here (x ∷ rest) r runs walks order due goes = let both =
     → ((is_due place x && then_so o (λ k. in_rounds k (moved k place x) (rest ++ r ∷ []))) ≡ true) × (option_and_then (λ k. walk k (moved k place x) (rest ++ r ∷ [])) o ≡ moved next here r)) [
       | None ↦ λ e f d. absurd (cc)
       | Some k ↦ λ e f d.
-        let later = pushed k h next (moved k place x) here rest r e f (right_true (is_due place x) _ d) due goes in
-        (both_true (is_due place x) _ (left_true (is_due place x) _ d) later.order, later.ends)
+          let later = pushed k h next (moved k place x) here rest r e f (right_true (is_due place x) _ d) due goes in
+          (both_true (is_due place x) _ (left_true (is_due place x) _ d) later.order, later.ends)
     ] runs walks order in
     record { order = both.0; ends = both.1 }
 
@@ -96,7 +93,7 @@ new_round_of m alone alive =
     let processes : map.keys (plain_of m).users ≡ m.guest.pid ∷ [] = ap map.keys users ∙ keys-single vpid_total vpid_exact m.guest.pid m.guest.user in
     let part = part_while_live m alive in
     let threads : threads_in (map.get (plain_of m).users m.guest.pid) ≡ m.guest.pid.0 ∷ [] =
-        ap threads_in part ∙ ap map.keys alone.one.threads ∙ keys-single nat_cmp_total nat_cmp-IsAntisymmetric m.guest.pid.0 alone.one.thread in
+    ap threads_in part ∙ ap map.keys alone.one.threads ∙ keys-single nat_cmp_total nat_cmp-IsAntisymmetric m.guest.pid.0 alone.one.thread in
     let there : has_thread (map.get (plain_of m).users m.guest.pid) m.guest.pid.0 ≡ true = ap (λ o. has_thread o m.guest.pid.0) part ∙ thread_is_there m.guest.user m.guest.pid.0 alone.one in
     ap (first_turn (plain_of m)) processes
     ∙ ap (λ ts. or_else (first_thread (plain_of m) m.guest.pid [] ts) None) threads
@@ -155,9 +152,9 @@ after_turn m n has_run = refl
 placed_after : (m n : Machine) (has_run : Bool) (r : Record) → IsOwn m r → n.guest.pid ≡ m.guest.pid → IsPlaced n (place_after (plain_of n) (turn m has_run) r)
 placed_after m n has_run (User p t k) own same =
     let seen : stands_in (map.get (plain_of n).users m.guest.pid) m.guest.pid.0 ≡ true → stands (user_step n.guest.user n.guest.pid.0) ≡ true =
-        λ e. stands_seen n (lives n) refl (ap (λ (q : VPid). stands_in (map.get (plain_of n).users q) q.0) same ∙ e) in
+    λ e. stands_seen n (lives n) refl (ap (λ (q : VPid). stands_in (map.get (plain_of n).users q) q.0) same ∙ e) in
     subst (λ o. IsPlaced n (cond (stands_in (map.get (plain_of n).users m.guest.pid) m.guest.pid.0) (Some (turn m true)) o)) (sym (after_turn m n has_run))
-      (user_place m n (stands_in (map.get (plain_of n).users m.guest.pid) m.guest.pid.0) same seen)
+    (user_place m n (stands_in (map.get (plain_of n).users m.guest.pid) m.guest.pid.0) same seen)
 placed_after m n has_run (Call p t) own same = subst (IsPlaced n) (sym (after_turn m n has_run)) (next_round n)
 placed_after m n has_run (Deliver p t s) own same = subst (IsPlaced n) (sym (after_turn m n has_run)) (next_round n)
 placed_after m n has_run (Arrive dir k) own same = absurd own

@@ -2,7 +2,7 @@
 --     Reaches status session last     the call came to this status, with which this last line belongs on the log
 --     Ends status session log         the same with what the log took
 --     IsDecided status session        which status comes where nothing outside failed
-use Rattle.std.specs.Prelude.{◌≡◌, ◌≢◌, ℕ, ◌⊎◌, ◌↔◌, true, false, List, [], length, Option, Some, None}
+use Rattle.std.specs.Prelude.{◌≡◌, ◌≢◌, ℕ, ◌⊎◌, ◌↔◌, true, false, List, [], length, Some, None}
 use Rattle.std.specs.FinMap as map
 use Rattle.elf32.specs.declared.fault.ElfFault.{ElfFault}
 use Rattle.elf32.specs.Rules.{first_fault}

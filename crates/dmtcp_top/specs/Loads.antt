@@ -1,9 +1,9 @@
 -- What loading a program gives: a machine at its start, or how the call ends without one.
-use Rattle.std.specs.Prelude.{◌≡◌, ℕ, ◌⊎◌, List, Option, Some, None, Result, Ok, Err}
+use Rattle.std.specs.Prelude.{◌≡◌, ℕ, List, Option, Some, None, Result, Ok, Err}
 use Rattle.elf32.specs.Rules.{first_fault}
 use Rattle.edge_io.specs.Inputs.{Files}
 use Rattle.dmtcp_top.specs.declared.ending.Ending.{Ending}
-use Rattle.dmtcp_top.specs.declared.ending.Ending.TheVariants.{Done, Usage, InputFault, Missing, BadElf, SinkFault, Budget, Memory}
+use Rattle.dmtcp_top.specs.declared.ending.Ending.TheVariants.{InputFault, Missing, BadElf, Memory}
 use Rattle.dmtcp_top.specs.declared.machine.Machine.{Machine}
 use Rattle.dmtcp_top.specs.Sessions.{IsInput}
 use Rattle.dmtcp_top.specs.Launches.{start_of}

@@ -2,7 +2,7 @@
 --     plain_of m        the plain state for which the machine stands
 --     IsSingle m        nobody else lives, and the process has one thread, which doesn't wait
 --     Notes, Spoils     one more record on the trace, with its bytes on the console, or a first part of them
-use Rattle.std.specs.Prelude.{◌≡◌, ◌≢◌, ℕ, ◌-◌, ◌+◌, Bool, true, false, List, [], ◌∷◌, ◌++◌, Option, Some}
+use Rattle.std.specs.Prelude.{◌≡◌, ◌≢◌, ℕ, ◌-◌, Bool, false, List, [], ◌∷◌, ◌++◌, Some}
 use Rattle.std.specs.FinMap as map
 use Rattle.sys_abi.specs.declared.identity.VPid.{VPid}
 use Rattle.sys_abi.specs.declared.identity.Tid.{Tid}

@@ -85,7 +85,12 @@ fn put_fault<L: Sink>(log: &mut L, name: &str, fault: ElfFault) -> Result<(), Si
 {
     put_three(log, "bad program: ", name, ": ")?;
     let mut number = Buffer::new();
-    put_three(log, fault.reason.word(), " at ", number.format(fault.offset))?;
+    put_three(
+        log,
+        fault.reason.word(),
+        " at ",
+        number.format(fault.offset),
+    )?;
     put(log, "\n")
 }
 

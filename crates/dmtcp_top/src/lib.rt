@@ -8,6 +8,8 @@ pub mod machine;
 pub mod rounds;
 pub mod run_end;
 pub mod status;
+pub mod top_call;
 
 pub use job::Job;
 pub use status::Status;
+pub use top_call::dmtcp;

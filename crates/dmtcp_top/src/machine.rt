@@ -73,7 +73,12 @@ impl Machine {
     }
 
     /// One record of the thread: a quantum of instructions, or the call or the trap at which it stands.
-    pub fn take_turn<O: Sink>(&mut self, alloc: Global, out: &mut O, trace: &mut Trace) -> Result<(), Stop>
+    pub fn take_turn<O: Sink>(
+        &mut self,
+        alloc: Global,
+        out: &mut O,
+        trace: &mut Trace,
+    ) -> Result<(), Stop>
         requires single { IsSingle self.old }
         requires alive { lives self.old ≡ true }
         requires room { 0 < trace.old.room }
@@ -130,7 +135,13 @@ impl Machine {
     }
 
     /// Serves the call at which the thread stands.
-    fn call<O: Sink>(&mut self, alloc: Global, request: &Request, out: &mut O, trace: &mut Trace) -> Result<(), Stop>
+    fn call<O: Sink>(
+        &mut self,
+        alloc: Global,
+        request: &Request,
+        out: &mut O,
+        trace: &mut Trace,
+    ) -> Result<(), Stop>
         requires single { IsSingle self.old }
         requires alive { lives self.old ≡ true }
         requires asks { user_step self.old.guest.user self.old.guest.pid.0 ≡ Asks request.now }
@@ -177,12 +188,18 @@ impl Machine {
         let p = self.guest.pid();
         let t = Tid(p.0);
         self.transfer.clear();
-        self.guest.answer(t, request, Reply::Error(Errno(EFAULT)), &self.transfer);
+        self.guest
+            .answer(t, request, Reply::Error(Errno(EFAULT)), &self.transfer);
         trace.append(Record::Call { p, t });
     }
 
     /// Serves a call that the process answers alone.
-    fn local_call(&mut self, alloc: Global, request: &Request, trace: &mut Trace) -> Result<(), Stop>
+    fn local_call(
+        &mut self,
+        alloc: Global,
+        request: &Request,
+        trace: &mut Trace,
+    ) -> Result<(), Stop>
         requires single { IsSingle self.old }
         requires alive { lives self.old ≡ true }
         requires asks { user_step self.old.guest.user self.old.guest.pid.0 ≡ Asks request.now }
@@ -203,7 +220,13 @@ impl Machine {
     }
 
     /// Serves a call of the kernel, and shows what it writes on the console right after its record.
-    fn kernel_call<O: Sink>(&mut self, alloc: Global, request: &Request, out: &mut O, trace: &mut Trace) -> Result<(), Stop>
+    fn kernel_call<O: Sink>(
+        &mut self,
+        alloc: Global,
+        request: &Request,
+        out: &mut O,
+        trace: &mut Trace,
+    ) -> Result<(), Stop>
         requires single { IsSingle self.old }
         requires alive { lives self.old ≡ true }
         requires asks { user_step self.old.guest.user self.old.guest.pid.0 ≡ Asks request.now }
@@ -223,7 +246,10 @@ impl Machine {
     {
         let p = self.guest.pid();
         let t = Tid(p.0);
-        let Some(answer) = self.kernel.serve(alloc, p, t, request, self.transfer.as_slice())? else {
+        let Some(answer) = self
+            .kernel
+            .serve(alloc, p, t, request, self.transfer.as_slice())?
+        else {
             unreachable!();
         };
         trace.append(Record::Call { p, t });

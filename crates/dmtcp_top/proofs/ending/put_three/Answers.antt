@@ -1,5 +1,5 @@
-use Rattle.std.proofs.Common.{ℕ, List, ◌++◌}
-use Rattle.dmtcp_top.specs.Sessions.{sunk, Took, TookFront}
+use Rattle.std.proofs.Common.{◌++◌}
+use Rattle.dmtcp_top.specs.Sessions.{sunk, TookFront}
 use Rattle.dmtcp_top.proofs.Sinks.{took_both, took_more, front_grows, OnErr-of_any, OnErr-map}
 use Rattle.dmtcp_top.proofs.ending.put_three.Goals as goal
 
@@ -18,7 +18,7 @@ returns-in_err-put-2-clause-err g c =
     let third = c.args.third.now in
     let sink = sunk (g.L.Sink.taken c.args.log.now) (g.L.Sink.taken c.put-2.new.log) in
     OnErr-of_any (TookFront sink (first ++ second ++ third)) _
-      (front_grows sink (first ++ second) third (took_more (g.L.Sink.taken c.args.log.now) (g.L.Sink.taken c.put.new.log) (g.L.Sink.taken c.put-2.new.log) first second c.in_ok-put.ensures.ok c.in_err-put-2.ensures.err))
+    (front_grows sink (first ++ second) third (took_more (g.L.Sink.taken c.args.log.now) (g.L.Sink.taken c.put.new.log) (g.L.Sink.taken c.put-2.new.log) first second c.in_ok-put.ensures.ok c.in_err-put-2.ensures.err))
 
 pub returns-clause-err : goal.returns-clause-err
 returns-clause-err g c =

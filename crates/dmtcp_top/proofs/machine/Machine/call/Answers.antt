@@ -1,4 +1,4 @@
-use Rattle.std.proofs.Common.{◌≡◌, refl}
+use Rattle.std.proofs.Common.{refl}
 use Rattle.dmtcp_top.proofs.Turns.{notes_from, spoils_from, OnOk-map}
 use Rattle.dmtcp_top.proofs.machine.Machine.call.Goals as goal
 

@@ -1,4 +1,4 @@
-use Rattle.std.proofs.Common.{◌≡◌, ℕ, ◌≤◌, refl, arith, tests}
+use Rattle.std.proofs.Common.{refl, arith, tests}
 use Rattle.dmtcp_top.proofs.Traps.{trap_is_signal}
 use Rattle.dmtcp_top.proofs.Turns.{deliver_notes, deliver_single}
 use Rattle.dmtcp_top.proofs.machine.Machine.deliver.Goals as goal

@@ -1,6 +1,5 @@
-use Rattle.std.proofs.Common.{◌≡◌, ℕ, ◌+◌, ◌≤◌, List, [], ◌++◌, length, Option, Some, None, if◌then◌else◌, refl, sym, ap, subst, ◌∙◌, arith}
+use Rattle.std.proofs.Common.{◌≡◌, ℕ, ◌≤◌, List, [], ◌++◌, length, Some, None, if◌then◌else◌, refl, sym, ap, subst, ◌∙◌, arith}
 use Rattle.guest_proc.specs.Guests.{GuestPart}
-use Rattle.plain_machine.specs.declared.serve.Answer.{Answer}
 use Rattle.plain_machine.specs.Answers.{answer_told}
 use Rattle.plain_machine.specs.Put.{put}
 use Rattle.plain_machine.specs.Serve.{serve}
@@ -17,7 +16,7 @@ pub unreachable-requires : goal.unreachable-requires
 unreachable-requires g c =
     let m = c.args.self.now in
     let told : serve m.kernel c.pid-p.result c.pid-p.result.0 c.args.request.now c.as_slice.result.now ≡ answer_told c.serve.new.self c.as_slice.result.now None =
-        subst (λ a. serve m.kernel c.pid-p.result c.pid-p.result.0 c.args.request.now c.as_slice.result.now ≡ answer_told c.serve.new.self c.as_slice.result.now a) c.in_default.is c.in_ok-answer.ensures.ok in
+    subst (λ a. serve m.kernel c.pid-p.result c.pid-p.result.0 c.args.request.now c.as_slice.result.now ≡ answer_told c.serve.new.self c.as_slice.result.now a) c.in_default.is c.in_ok-answer.ensures.ok in
     serve_answers m.kernel c.pid-p.result c.pid-p.result.0 c.args.request.now c.as_slice.result.now told
 
 pub returns-in_err-show-clause-failed : goal.returns-in_err-show-clause-failed
@@ -26,7 +25,7 @@ returns-in_err-show-clause-failed g c = λ _.
     let answer = c.in-Some.answer in
     let given : c.as_slice.result.now ≡ m.transfer = c.as_slice.ensures in
     let told : serve m.kernel c.pid-p.result c.pid-p.result.0 c.args.request.now c.as_slice.result.now ≡ answer_told c.serve.new.self c.as_slice.result.now (Some answer) =
-        subst (λ a. serve m.kernel c.pid-p.result c.pid-p.result.0 c.args.request.now c.as_slice.result.now ≡ answer_told c.serve.new.self c.as_slice.result.now a) c.in-Some.is c.in_ok-answer.ensures.ok in
+    subst (λ a. serve m.kernel c.pid-p.result c.pid-p.result.0 c.args.request.now c.as_slice.result.now ≡ answer_told c.serve.new.self c.as_slice.result.now a) c.in-Some.is c.in_ok-answer.ensures.ok in
     let serves = subst (λ bytes. serve m.kernel c.pid-p.result c.pid-p.result.0 c.args.request.now bytes ≡ answer_told c.serve.new.self bytes (Some answer)) given told in
     let goes = kernel_outcome m c.serve.new.self c.pid-p.result c.args.request.now m.transfer answer c.pid-p.ensures c.requires.alive c.requires.asks c.requires.given c.requires.kernels serves in
     let shown = subst (λ bytes. TookFront (sunk (g.O.Sink.taken c.args.out.now) (g.O.Sink.taken c.show.new.out)) (if answer.is_shown then bytes else [])) c.as_slice-2.ensures c.in_err-show.ensures.err in
@@ -37,7 +36,7 @@ put-requires g c =
     let m = c.args.self.now in
     let answer = c.in-Some.answer in
     let told : serve m.kernel c.pid-p.result c.pid-p.result.0 c.args.request.now c.as_slice.result.now ≡ answer_told c.serve.new.self c.as_slice.result.now (Some answer) =
-        subst (λ a. serve m.kernel c.pid-p.result c.pid-p.result.0 c.args.request.now c.as_slice.result.now ≡ answer_told c.serve.new.self c.as_slice.result.now a) c.in-Some.is c.in_ok-answer.ensures.ok in
+    subst (λ a. serve m.kernel c.pid-p.result c.pid-p.result.0 c.args.request.now c.as_slice.result.now ≡ answer_told c.serve.new.self c.as_slice.result.now a) c.in-Some.is c.in_ok-answer.ensures.ok in
     let none : answer.bytes ≡ [] = kernel_bytes m c.serve.new.self c.pid-p.result c.args.request.now c.as_slice.result.now answer told in
     let empty : length c.as_slice-3.result.now ≡ 0 = ap length (c.as_slice-3.ensures ∙ none) in
     let cleared : length c.clear.new.self ≡ 0 = ap length c.clear.ensures in
@@ -48,7 +47,7 @@ returns-clause-ok g c =
     let m = c.args.self.now in
     let answer = c.in-Some.answer in
     let told : serve m.kernel c.pid-p.result c.pid-p.result.0 c.args.request.now c.as_slice.result.now ≡ answer_told c.serve.new.self c.as_slice.result.now (Some answer) =
-        subst (λ a. serve m.kernel c.pid-p.result c.pid-p.result.0 c.args.request.now c.as_slice.result.now ≡ answer_told c.serve.new.self c.as_slice.result.now a) c.in-Some.is c.in_ok-answer.ensures.ok in
+    subst (λ a. serve m.kernel c.pid-p.result c.pid-p.result.0 c.args.request.now c.as_slice.result.now ≡ answer_told c.serve.new.self c.as_slice.result.now a) c.in-Some.is c.in_ok-answer.ensures.ok in
     let serves = subst (λ bytes. serve m.kernel c.pid-p.result c.pid-p.result.0 c.args.request.now bytes ≡ answer_told c.serve.new.self bytes (Some answer)) c.as_slice.ensures told in
     let goes = kernel_outcome m c.serve.new.self c.pid-p.result c.args.request.now m.transfer answer c.pid-p.ensures c.requires.alive c.requires.asks c.requires.given c.requires.kernels serves in
     let shown = subst (λ bytes. Took (sunk (g.O.Sink.taken c.args.out.now) (g.O.Sink.taken c.show.new.out)) (if answer.is_shown then bytes else [])) c.as_slice-2.ensures c.in_ok-show.ensures.ok in
@@ -61,6 +60,6 @@ returns-clause-single g c =
     let m = c.args.self.now in
     let answer = c.in-Some.answer in
     let told : serve m.kernel c.pid-p.result c.pid-p.result.0 c.args.request.now c.as_slice.result.now ≡ answer_told c.serve.new.self c.as_slice.result.now (Some answer) =
-        subst (λ a. serve m.kernel c.pid-p.result c.pid-p.result.0 c.args.request.now c.as_slice.result.now ≡ answer_told c.serve.new.self c.as_slice.result.now a) c.in-Some.is c.in_ok-answer.ensures.ok in
+    subst (λ a. serve m.kernel c.pid-p.result c.pid-p.result.0 c.args.request.now c.as_slice.result.now ≡ answer_told c.serve.new.self c.as_slice.result.now a) c.in-Some.is c.in_ok-answer.ensures.ok in
     let others = kernel_others m c.serve.new.self c.pid-p.result c.args.request.now c.as_slice.result.now answer c.pid-p.ensures told in
     answered_single m _ c.pid-p.result c.args.request.now answer.reply c.put.new.self c.pid-p.ensures c.requires.single others c.answer.ensures

@@ -1,4 +1,4 @@
-use Rattle.std.proofs.Common.{◌≡◌, refl}
+use Rattle.std.proofs.Common.{refl}
 use Rattle.dmtcp_top.proofs.Turns.{local_notes, local_single}
 use Rattle.dmtcp_top.proofs.machine.Machine.local_call.Goals as goal
 

@@ -1,4 +1,4 @@
-use Rattle.std.proofs.Common.{◌≡◌, ℕ, List, refl, sym, ap, subst, ◌∙◌}
+use Rattle.std.proofs.Common.{ℕ, List, refl, ap, ◌∙◌}
 use Rattle.guest_proc.specs.Guests.{GuestPart}
 use Rattle.plain_machine.specs.Put.{put, error}
 use Rattle.dmtcp_top.proofs.Turns.{fault_notes, answered_single}

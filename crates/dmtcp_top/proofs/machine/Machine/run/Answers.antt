@@ -1,10 +1,10 @@
-use Rattle.std.proofs.Common.{◌≡◌, ℕ, ◌+◌, ◌<◌, ◌≤◌, List, [], length, Option, true, false, refl, sym, ap, subst, ◌∙◌, arith}
+use Rattle.std.proofs.Common.{◌≡◌, ℕ, ◌+◌, ◌<◌, ◌≤◌, List, length, Option, true, false, sym, ap, subst, ◌∙◌, arith}
 use Rattle.trace_log.specs.Trace.{TraceState}
 use Rattle.sys_abi.specs.declared.record.Record.{Record}
 use Rattle.plain_machine.specs.Kernel.{is_live}
 use Rattle.dmtcp_top.specs.Sessions.{sunk}
 use Rattle.dmtcp_top.specs.Machines.{plain_of, lives}
-use Rattle.dmtcp_top.specs.RunEnds.{CutShort, Shown}
+use Rattle.dmtcp_top.specs.RunEnds.{CutShort}
 use Rattle.dmtcp_top.proofs.Endings.{ended_if_dead, goes_on_while_live}
 use Rattle.dmtcp_top.proofs.Running.{IsRunning, running_start, running_notes, running_spoils, running_done, running_full, running_cut, notes_size, notes_room}
 use Rattle.dmtcp_top.proofs.machine.Machine.run.Goals as goal
@@ -58,7 +58,7 @@ returns-in-Err-Memory-clause-ends g c =
     let fits : length c.loop-turn.trace.records ≤ c.args.trace.now.room = let room = c.room-room.ensures in omega arith in
     let cut = running_cut (plain_of c.args.self.now) m _ _ c.args.trace.now.room invariant.running fits in
     let traced : CutShort (plain_of c.args.self.now) c.args.trace.now.room c.take_turn.new.trace.records (sunk (g.O.Sink.taken c.args.out.now) (g.O.Sink.taken c.loop-turn.out)) =
-        subst (λ (t : TraceState). CutShort (plain_of c.args.self.now) c.args.trace.now.room t.records (sunk (g.O.Sink.taken c.args.out.now) (g.O.Sink.taken c.loop-turn.out))) (sym before.0) cut in
+    subst (λ (t : TraceState). CutShort (plain_of c.args.self.now) c.args.trace.now.room t.records (sunk (g.O.Sink.taken c.args.out.now) (g.O.Sink.taken c.loop-turn.out))) (sym before.0) cut in
     subst (λ (taken : Option (List ℕ)). CutShort (plain_of c.args.self.now) c.args.trace.now.room c.take_turn.new.trace.records (sunk (g.O.Sink.taken c.args.out.now) taken)) (sym before.1) traced
 
 pub returns-then-is_live-clause-ends : goal.returns-then-is_live-clause-ends

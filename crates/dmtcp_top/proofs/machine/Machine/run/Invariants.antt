@@ -10,5 +10,5 @@ invariant-loop-turn g l = record {
   single : IsSingle l.self;
   size : length l.trace.records + l.trace.room ≡ l.room;
   left : l.trace.room + l._turn ≡ l.room;
-  later : g.O.Sink.faults l.initial.out ≤ g.O.Sink.faults l.out
+  later : g.O.Sink.faults l.initial.out ≤ g.O.Sink.faults l.out;
 }

@@ -1,4 +1,4 @@
-use Rattle.std.proofs.Common.{◌≡◌, ℕ, true, refl, sym, ap, subst, ◌∙◌, arith}
+use Rattle.std.proofs.Common.{◌≡◌, true, refl, sym, ap, subst, ◌∙◌}
 use Rattle.std.specs.Prelude.{is_some}
 use Rattle.std.specs.FinMap as map
 use Rattle.sys_abi.specs.declared.identity.VPid.{VPid}
@@ -6,7 +6,6 @@ use Rattle.guest_proc.specs.Guests.{GuestPart, Tells}
 use Rattle.guest_proc.specs.declared.ran.Ran.{Ran}
 use Rattle.plain_machine.specs.Kernel.{is_live}
 use Rattle.plain_machine.specs.Steps.{user_step, Asks, Trapped}
-use Rattle.dmtcp_top.specs.declared.machine.Machine.{Machine}
 use Rattle.dmtcp_top.specs.Machines.{OneThread, IsSingle}
 use Rattle.dmtcp_top.proofs.OneThreadKept.{has_thread, steps_one, never_waits}
 use Rattle.dmtcp_top.proofs.Turns.{user_notes, single_after, place_ends, still, notes_from, spoils_from, OnOk-map}
