@@ -3,7 +3,7 @@ ghost use Rattle.views.specs.Faults.{Rose};
 ghost use Rattle.dmtcp_top.specs.Sessions.{session, sunk};
 ghost use Rattle.dmtcp_top.specs.Ends.{Ends, IsDecided};
 
-use crate::launch::carry_out;
+use crate::loading::carry_out;
 use crate::status::Status;
 use edge_io::{Inputs, Sink};
 use std::alloc::Global;

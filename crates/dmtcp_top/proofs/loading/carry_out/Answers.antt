@@ -7,7 +7,7 @@ use Rattle.dmtcp_top.specs.Machines.{plain_of}
 use Rattle.dmtcp_top.specs.RunEnds.{EndsRun}
 use Rattle.dmtcp_top.proofs.Sinks.{took_nothing}
 use Rattle.dmtcp_top.proofs.Arrivals.{from_ok, refused_arrives, run_arrives}
-use Rattle.dmtcp_top.proofs.launch.carry_out.Goals as goal
+use Rattle.dmtcp_top.proofs.loading.carry_out.Goals as goal
 
 pub returns-in-Err-clause-arrives : goal.returns-in-Err-clause-arrives
 returns-in-Err-clause-arrives g c =
