@@ -1,6 +1,9 @@
 use Rattle.std.proofs.Common.{◌≡◌, ℕ, ◌≤◌, List, [], ◌++◌, length, Some, None, if◌then◌else◌, refl, sym, ap, subst, ◌∙◌, arith}
 use Rattle.guest_proc.specs.Guests.{GuestPart}
 use Rattle.plain_machine.specs.Answers.{answer_told}
+use Rattle.guest_proc.specs.Lending.{CanTake}
+use Rattle.guest_proc.proofs.Taking.{takes_nothing}
+use Rattle.plain_machine.specs.Buffers.{written_spans}
 use Rattle.plain_machine.specs.Put.{put}
 use Rattle.plain_machine.specs.Serve.{serve}
 use Rattle.dmtcp_top.specs.Sessions.{sunk, Took, TookFront}
@@ -41,6 +44,16 @@ put-requires g c =
     let empty : length c.as_slice-3.result.now ≡ 0 = ap length (c.as_slice-3.ensures ∙ none) in
     let cleared : length c.clear.new.self ≡ 0 = ap length c.clear.ensures in
     omega arith
+
+pub answer-requires : goal.answer-requires
+answer-requires g c =
+    let m = c.args.self.now in
+    let memory = m.guest.user.memory in
+    let answer = c.in-Some.answer in
+    let told : serve m.kernel c.pid-p.result c.pid-p.result.0 c.args.request.now c.as_slice.result.now ≡ answer_told c.serve.new.self c.as_slice.result.now (Some answer) =
+        subst (λ a. serve m.kernel c.pid-p.result c.pid-p.result.0 c.args.request.now c.as_slice.result.now ≡ answer_told c.serve.new.self c.as_slice.result.now a) c.in-Some.is c.in_ok-answer.ensures.ok in
+    let none : c.put.new.self ≡ [] = c.put.ensures ∙ ap (λ front. front ++ c.as_slice-3.result.now) c.clear.ensures ∙ c.as_slice-3.ensures ∙ kernel_bytes m c.serve.new.self c.pid-p.result c.args.request.now c.as_slice.result.now answer told in
+    subst (CanTake memory (written_spans memory c.args.request.now)) (sym none) (takes_nothing memory (written_spans memory c.args.request.now))
 
 pub returns-clause-ok : goal.returns-clause-ok
 returns-clause-ok g c =

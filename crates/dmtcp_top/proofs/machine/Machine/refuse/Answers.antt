@@ -1,8 +1,16 @@
-use Rattle.std.proofs.Common.{ℕ, List, refl, ap, ◌∙◌}
+use Rattle.std.proofs.Common.{ℕ, List, refl, sym, ap, subst, ◌∙◌}
 use Rattle.guest_proc.specs.Guests.{GuestPart}
+use Rattle.guest_proc.specs.Lending.{CanTake}
+use Rattle.guest_proc.proofs.Taking.{takes_nothing}
+use Rattle.plain_machine.specs.Buffers.{written_spans}
 use Rattle.plain_machine.specs.Put.{put, error}
 use Rattle.dmtcp_top.proofs.Turns.{fault_notes, answered_single}
 use Rattle.dmtcp_top.proofs.machine.Machine.refuse.Goals as goal
+
+pub answer-requires : goal.answer-requires
+answer-requires c =
+    let memory = c.args.self.now.guest.user.memory in
+    subst (CanTake memory (written_spans memory c.args.request.now)) (sym c.clear.ensures) (takes_nothing memory (written_spans memory c.args.request.now))
 
 pub returns-clause-noted : goal.returns-clause-noted
 returns-clause-noted c taken =
