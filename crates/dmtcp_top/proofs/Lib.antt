@@ -1,2 +1,16 @@
 pub mod Decimals
 pub mod Items
+pub mod Sinks
+pub mod LentBytes
+pub mod ServedCalls
+pub mod Traps
+pub mod OneProcess
+pub mod OneThreadKept
+pub mod Turns
+pub mod Walks
+pub mod Starts
+pub mod Endings
+pub mod Running
+pub mod Arrivals
+pub mod Decisions
+pub mod Conclusions

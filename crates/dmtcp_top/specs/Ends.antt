@@ -1,6 +1,7 @@
 -- How a call ends: for each status what holds of the trace, the console and the log, in one line.
 --     Reaches status session last     the call came to this status, with which this last line belongs on the log
---     Ends status session             the same with the log that it left
+--     Ends status session log         the same with what the log took
+--     IsDecided status session        which status comes where nothing outside failed
 use Rattle.std.specs.Prelude.{◌≡◌, ◌≢◌, ℕ, ◌⊎◌, ◌↔◌, true, false, List, [], length, Some, None}
 use Rattle.std.specs.FinMap as map
 use Rattle.elf32.specs.declared.fault.ElfFault.{ElfFault}
@@ -11,38 +12,41 @@ use Rattle.dmtcp_top.specs.declared.status.Status.{Status}
 use Rattle.dmtcp_top.specs.declared.status.Status.TheVariants.{Done, Usage, InputFault, Missing, BadElf, SinkFault, Budget, Memory}
 use Rattle.dmtcp_top.specs.Words.{NoLaunch}
 use Rattle.dmtcp_top.specs.Log.{done_line, usage_line, input_fault_line, missing_line, bad_program_line, budget_line, memory_line}
-use Rattle.dmtcp_top.specs.Sessions.{Session, Took, TookFront, IsInput}
-use Rattle.dmtcp_top.specs.Launches.{Asked, Launch, console_of}
+use Rattle.dmtcp_top.specs.Sessions.{Sunk, Session, Took, TookFront, IsInput}
+use Rattle.dmtcp_top.specs.Launches.{Asked, Launched, origin}
+use Rattle.dmtcp_top.specs.RunEnds.{Shown, CutShort}
+
+-- nobody lives at the end of the run that the trace is, and the console took what the run writes
+pub record Finished (session : Session) : Type 0 where
+  pub launched : Launched session
+  pub shown : Shown (origin session launched) launched.asked.records session.trace session.console
+  pub nobody : ended shown.state ≡ true
+
+-- the trace is full, somebody lives, and the console took what the run writes
+pub record Spent (session : Session) (last : List ℕ) : Type 0 where
+  pub launched : Launched session
+  pub shown : Shown (origin session launched) launched.asked.records session.trace session.console
+  pub somebody : ended shown.state ≡ false
+  pub full : length session.trace ≡ launched.asked.records
+  pub line : last ≡ budget_line launched.asked.records
+
+-- the run was cut off, and the console took a first part of what it writes
+pub record CutOff (session : Session) : Type 0 where
+  pub launched : Launched session
+  pub cut : CutShort (origin session launched) launched.asked.records session.trace session.console
 
 -- no run was begun: the trace is empty, and the console took nothing
 pub record NotBegun (session : Session) : Type 0 where
   pub trace : session.trace ≡ []
   pub console : Took session.console []
 
--- nobody lives at the end of the run, and the console took what the run writes
-pub record Finished (session : Session) : Type 0 where
-  pub launch : Launch session
-  pub console : Took session.console (console_of session launch)
-  pub nobody : ended launch.state ≡ true
-
--- the trace is full, somebody lives, and the console took what the run writes
-pub record Spent (session : Session) (last : List ℕ) : Type 0 where
-  pub launch : Launch session
-  pub console : Took session.console (console_of session launch)
-  pub full : length session.trace ≡ launch.asked.records
-  pub somebody : ended launch.state ≡ false
-  pub line : last ≡ budget_line launch.asked.records
-
--- the run was cut off, and the console took a first part of what it writes
-pub record CutOff (session : Session) : Type 0 where
-  pub launch : Launch session
-  pub console : TookFront session.console (console_of session launch)
-
+-- the file that the words name could not be read
 pub record Unread (session : Session) (last : List ℕ) : Type 0 where
   pub nothing : NotBegun session
   pub asked : Asked session
   pub line : last ≡ input_fault_line asked.name
 
+-- there is no file of the name
 pub record Absent (session : Session) (last : List ℕ) : Type 0 where
   pub nothing : NotBegun session
   pub asked : Asked session
@@ -70,26 +74,26 @@ Reaches Budget session last = Spent session last
 Reaches Memory session last = ((NotBegun session × Asked session) ⊎ CutOff session) × (last ≡ memory_line)
 
 -- the log took the last line
-pub record Logged (status : Status) (session : Session) : Type 0 where
+pub record Logged (status : Status) (session : Session) (log : Sunk) : Type 0 where
   pub last : List ℕ
   pub reached : Reaches status session last
-  pub log : Took session.log last
+  pub took : Took log last
 
 -- the log failed at the last line, whatever the status was to be
-pub record LogFailed (session : Session) : Type 0 where
+pub record LogFailed (session : Session) (log : Sunk) : Type 0 where
   pub status : Status
   pub last : List ℕ
   pub reached : Reaches status session last
-  pub log : TookFront session.log last
+  pub took : TookFront log last
 
--- the console failed in the run, and nothing more was written
-pub record ConsoleFailed (session : Session) : Type 0 where
+-- the console failed in the run, and the log took nothing
+pub record ConsoleFailed (session : Session) (log : Sunk) : Type 0 where
   pub run : CutOff session
-  pub log : Took session.log []
+  pub took : Took log []
 
-abbrev pub Ends : Status → Session → Type 0
-Ends SinkFault session = ConsoleFailed session ⊎ LogFailed session
-Ends status session = Logged status session
+abbrev pub Ends : Status → Session → Sunk → Type 0
+Ends SinkFault session log = ConsoleFailed session log ⊎ LogFailed session log
+Ends status session log = Logged status session log
 
 -- where no input and no sink failed, the words and the files that the inputs hold decide which status comes, but for want of memory
 pub record IsDecided (status : Status) (session : Session) : Type 0 where

@@ -5,3 +5,7 @@ pub mod Log
 pub mod Sessions
 pub mod Launches
 pub mod Ends
+pub mod Endings
+pub mod Loads
+pub mod Machines
+pub mod RunEnds

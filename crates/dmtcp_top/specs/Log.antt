@@ -19,12 +19,15 @@ input_fault_line name = line (codes "input fault: " ++ name)
 abbrev pub missing_line : List ℕ → List ℕ
 missing_line name = line (codes "missing: " ++ name)
 
--- as `bad program: NAME: short at 51`
+-- as `short at 51`
+abbrev pub fault_text : ElfFault → List ℕ
+fault_text fault = word_of fault.reason ++ codes " at " ++ decimal fault.offset
+
 abbrev pub bad_program_line : List ℕ → ElfFault → List ℕ
-bad_program_line name fault = line (codes "bad program: " ++ name ++ codes ": " ++ word_of fault.reason ++ codes " at " ++ decimal fault.offset)
+bad_program_line name fault = line (codes "bad program: " ++ name ++ codes ": " ++ fault_text fault)
 
 abbrev pub budget_line : ℕ → List ℕ
-budget_line records = line (codes "budget spent: " ++ decimal records ++ codes " records")
+budget_line records = codes "budget spent: " ++ decimal records ++ codes " records\n"
 
 abbrev pub memory_line : List ℕ
 memory_line = line (codes "memory")

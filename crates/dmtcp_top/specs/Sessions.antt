@@ -1,4 +1,4 @@
--- A call of `dmtcp`, as far as its promise speaks of it.
+-- A call of the program, as far as its promise speaks of it.
 use Rattle.std.specs.Prelude.{◌≡◌, ℕ, List, take, Option, Some}
 use Rattle.std.specs.FinMap as map
 use Rattle.sys_abi.specs.declared.record.Record.{Record}
@@ -10,19 +10,8 @@ pub record Sunk : Type 0 where
   pub before : Option (List ℕ)
   pub after : Option (List ℕ)
 
--- the words of the command line, the files that the inputs hold, where they tell them, the trace that is left, the console and the log
-pub record Session : Type 0 where
-  pub words : List (List ℕ)
-  pub files : Option Files
-  pub trace : List Record
-  pub console : Sunk
-  pub log : Sunk
-
 abbrev pub sunk : Option (List ℕ) → Option (List ℕ) → Sunk
 sunk before after = record { before = before; after = after }
-
-abbrev pub session : List (List ℕ) → Option Files → List Record → Sunk → Sunk → Session
-session words files trace console log = record { words = words; files = files; trace = trace; console = console; log = log }
 
 -- in the call the sink took these bytes
 abbrev pub Took : Sunk → List ℕ → Type 0
@@ -31,6 +20,16 @@ Took sink bytes = sink.after ≡ appended sink.before bytes
 -- in the call the sink took some first part of these bytes
 abbrev pub TookFront : Sunk → List ℕ → Type 0
 TookFront sink bytes = (n : ℕ) × Took sink (take n bytes)
+
+-- the words of the command line, the files that the inputs hold, where they tell them, the trace that is left, and the console
+pub record Session : Type 0 where
+  pub words : List (List ℕ)
+  pub files : Option Files
+  pub trace : List Record
+  pub console : Sunk
+
+abbrev pub session : List (List ℕ) → Option Files → List Record → Sunk → Session
+session words files trace console = record { words = words; files = files; trace = trace; console = console }
 
 -- the inputs hold this under the name, or they don't tell
 abbrev pub IsInput : Option Files → List ℕ → Option (List ℕ) → Type 0

@@ -1,0 +1,40 @@
+-- The start of one program is the plain state of a machine with one process, which lives with one thread.
+use Rattle.std.proofs.Common.{◌≡◌, ◌≢◌, ℕ, true, false, List, [], ◌∷◌, refl, sym, ap, ◌∙◌}
+use Rattle.std.specs.FinMap as map
+use Rattle.sys_abi.specs.declared.identity.VPid.{VPid}
+use Rattle.sys_abi.specs.Orders.{vpid_cmp}
+use Rattle.sys_abi.proofs.OrderLaws.{vpid_total, vpid_exact}
+use Rattle.views.proofs.MapLaws.{get_insert_same, get_insert_other}
+use Rattle.elf32.specs.declared.program.Program.{Program}
+use Rattle.plain_machine.specs.declared.kernel.PlainKernel.{PlainKernel}
+use Rattle.plain_machine.specs.declared.plain.Plain.{Plain}
+use Rattle.plain_machine.specs.declared.process.Process.{Process}
+use Rattle.plain_machine.specs.Kernel.{pid, is_live, is_live_process}
+use Rattle.plain_machine.specs.Start.{start, start_kernel, with_processes, with_process, with_files, with_users, empty_kernel, start_user, start_thread, start_regs, start_process}
+use Rattle.dmtcp_top.specs.Machines.{only, single, OneThread}
+use Rattle.dmtcp_top.proofs.OneProcess.{users_while_live}
+
+first_kernel : PlainKernel
+first_kernel = with_process empty_kernel 40000 0
+
+pub first_lives : is_live (with_process empty_kernel 40000 0) (pid 40000) ≡ true
+unfolding is_live with_process
+first_lives = ap is_live_process (get_insert_same vpid_total vpid_exact empty_kernel.processes (pid 40000) (start_process 40000))
+
+pub first_is_alone : (q : VPid) → q ≢ pid 40000 → is_live (with_process empty_kernel 40000 0) q ≡ false
+unfolding is_live with_process empty_kernel
+first_is_alone q differ =
+    ap is_live_process (get_insert_other vpid_total vpid_exact map.empty (pid 40000) (start_process 40000) q differ ∙ map.get-empty {X = Process} vpid_cmp q)
+
+pub one_thread_at_start : (program : Program) (arguments : List ℕ) (t : ℕ) → OneThread (start_user program arguments t) t
+unfolding start_user
+one_thread_at_start program arguments t = record { thread = start_thread (start_regs program arguments); threads = refl; waiters = refl }
+
+started : (program : Program) (arguments : List ℕ) → start (record { host = 0; program = program; arguments = arguments } ∷ []) [] ≡ record { kernel = with_process empty_kernel 40000 0; users = only (pid 40000) (start_user program arguments 40000) }
+unfolding start start_kernel with_processes with_files with_users
+started program arguments = refl
+
+pub start_is_single : (program : Program) (arguments : List ℕ) → single (with_process empty_kernel 40000 0) (pid 40000) (start_user program arguments 40000) ≡ start (record { host = 0; program = program; arguments = arguments } ∷ []) []
+start_is_single program arguments =
+    ap (λ users. let g : Plain = record { kernel = with_process empty_kernel 40000 0; users = users } in g) (users_while_live (with_process empty_kernel 40000 0) (pid 40000) (start_user program arguments 40000) first_lives)
+    ∙ sym (started program arguments)

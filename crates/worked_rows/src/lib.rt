@@ -1,0 +1,14 @@
+//! Worked runs: what the top call does with small programs, over inputs and sinks in memory.
+//!
+//! Each test is named by what it shows. Its program is a list of instruction words behind the headers of the stored
+//! `hello.elf`. Nothing is proved here but that the tests are safe and end.
+#![tactic(auto)]
+
+#[cfg(test)]
+mod launches;
+#[cfg(test)]
+mod programs;
+#[cfg(test)]
+mod refusals;
+#[cfg(test)]
+mod session;

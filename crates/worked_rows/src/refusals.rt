@@ -1,0 +1,107 @@
+use crate::programs::hello;
+use crate::session::{Failing, NONE_FAIL, run, run_hello};
+use dmtcp_top::Status;
+use std::alloc::AllocError;
+use std::process::Abort;
+use std::test::Fail;
+
+#[test]
+fn a_missing_program_is_named(rt: HostRuntime) -> Result<(), Fail> {
+    let left = run_hello(&rt, rt.alloc(), &["launch", "0:none.elf"], NONE_FAIL)?;
+    assert_eq!(rt; left.status, Status::Missing);
+    assert_eq!(rt; left.log.bytes(), b"missing: none.elf\n".as_slice());
+    assert_eq!(rt; left.records().len(), 0);
+    Ok(())
+}
+
+#[test]
+fn an_input_fault_is_named(rt: HostRuntime) -> Result<(), Fail> {
+    let failing = Failing {
+        inputs: &[1],
+        ..NONE_FAIL
+    };
+    let left = run_hello(&rt, rt.alloc(), &["launch", "0:none.elf"], failing)?;
+    assert_eq!(rt; left.status, Status::InputFault);
+    assert_eq!(rt; left.log.bytes(), b"input fault: none.elf\n".as_slice());
+    Ok(())
+}
+
+#[test]
+fn a_program_cut_short_is_refused(rt: HostRuntime) -> Result<(), Fail> {
+    let file = hello(rt.alloc())?;
+    assert!(rt; 51 <= file.len());
+    let left = run(
+        &rt,
+        rt.alloc(),
+        &["launch", "0:a.elf"],
+        ("a.elf", &file.as_slice()[0..51]),
+        NONE_FAIL,
+    )?;
+    assert_eq!(rt; left.status, Status::BadElf);
+    assert_eq!(rt;
+        left.log.bytes(),
+        b"bad program: a.elf: short at 51\n".as_slice()
+    );
+    assert_eq!(rt; left.out.bytes(), b"".as_slice());
+    Ok(())
+}
+
+#[test]
+fn a_program_with_compressed_code_is_refused(rt: HostRuntime) -> Result<(), Fail> {
+    let mut file = hello(rt.alloc())?;
+    assert!(rt; 36 < file.len());
+    file[36] = 1;
+    let left = run(
+        &rt,
+        rt.alloc(),
+        &["launch", "0:a.elf"],
+        ("a.elf", file.as_slice()),
+        NONE_FAIL,
+    )?;
+    assert_eq!(rt; left.status, Status::BadElf);
+    assert_eq!(rt;
+        left.log.bytes(),
+        b"bad program: a.elf: flags at 36\n".as_slice()
+    );
+    Ok(())
+}
+
+#[test]
+fn other_words_are_usage(rt: HostRuntime) -> Result<(), Fail> {
+    let cases: [&[&str]; 14] = [
+        &[],
+        &["launch"],
+        &["restart"],
+        &["launch", "0:hello.elf", "extra"],
+        &["launch", "1:hello.elf"],
+        &["launch", "0:"],
+        &["launch", "0:a,b"],
+        &["launch", "0:a\0b"],
+        &["launch", "--records", "0", "0:hello.elf"],
+        &["launch", "--records", "4000001", "0:hello.elf"],
+        &["launch", "--records", "01", "0:hello.elf"],
+        &["launch", "--records", "+1", "0:hello.elf"],
+        &["launch", "--records", "1", "--records", "1", "0:hello.elf"],
+        &["launch", "0:hello.elf", "--records", "1"],
+    ];
+    for words in cases {
+        let left = run_hello(&rt, rt.alloc(), words, NONE_FAIL)?;
+        assert_eq!(rt; left.status, Status::Usage);
+        assert_eq!(rt; left.log.bytes(), b"usage\n".as_slice());
+    }
+    Ok(())
+}
+
+#[test]
+fn a_name_has_at_most_255_bytes(rt: HostRuntime) -> Result<(), Fail> {
+    let mut word = String::from_str(rt.alloc(), "0:")?;
+    for _ in 0..255 {
+        word.push('n')?;
+    }
+    let left = run_hello(&rt, rt.alloc(), &["launch", word.as_str()], NONE_FAIL)?;
+    assert_eq!(rt; left.status, Status::Missing);
+    word.push('n')?;
+    let left = run_hello(&rt, rt.alloc(), &["launch", word.as_str()], NONE_FAIL)?;
+    assert_eq!(rt; left.status, Status::Usage);
+    Ok(())
+}

@@ -1,0 +1,82 @@
+use crate::programs::hello;
+use dmtcp_top::{Status, dmtcp};
+use edge_io::{MemInputs, MemSink};
+use std::alloc::{AllocError, Global};
+use std::sync::Wait;
+use std::thread::Threads;
+use sys_abi::Record;
+use trace_log::Trace;
+
+/// What a call left: its status, the records, the console and the log.
+#[derive(Drop)]
+pub struct Left {
+    pub status: Status,
+    pub trace: Trace,
+    pub out: MemSink,
+    pub log: MemSink,
+}
+
+impl Left {
+    pub fn records(&self) -> &[Record] {
+        self.trace.as_slice()
+    }
+}
+
+/// Which calls of the inputs, the console and the log are to fail.
+#[derive(Clone, Copy)]
+pub struct Failing<'a> {
+    pub inputs: &'a [u64],
+    pub out: &'a [u64],
+    pub log: &'a [u64],
+}
+
+pub const NONE_FAIL: Failing<'static> = Failing {
+    inputs: &[],
+    out: &[],
+    log: &[],
+};
+
+/// Runs the top call with one file among the inputs.
+pub fn run<R: Wait + Threads + Sync>(
+    rt: &R,
+    alloc: Global,
+    words: &[&str],
+    file: (&str, &[u8]),
+    failing: Failing,
+) -> Result<Left, AllocError> {
+    let mut inputs = MemInputs::new(alloc, failing.inputs)?;
+    inputs.add(file.0, file.1)?;
+    let mut out = MemSink::new(alloc, failing.out)?;
+    let mut log = MemSink::new(alloc, failing.log)?;
+    let mut trace = Trace::new(alloc);
+    let mut owned = Vec::new(alloc);
+    for word in words {
+        owned.push(String::from_str(alloc, word)?)?;
+    }
+    let status = dmtcp(
+        rt,
+        alloc,
+        owned.as_slice(),
+        &mut inputs,
+        &mut out,
+        &mut log,
+        &mut trace,
+    );
+    Ok(Left {
+        status,
+        trace,
+        out,
+        log,
+    })
+}
+
+/// The same with `hello.elf` under that name.
+pub fn run_hello<R: Wait + Threads + Sync>(
+    rt: &R,
+    alloc: Global,
+    words: &[&str],
+    failing: Failing,
+) -> Result<Left, AllocError> {
+    let file = hello(alloc)?;
+    run(rt, alloc, words, ("hello.elf", file.as_slice()), failing)
+}
