@@ -11,12 +11,10 @@
 use dmtcp_top::{Status, dmtcp};
 use edge_io::{HostInputs, HostSink, Sink};
 use std::alloc::Global;
-use std::env;
 use std::env::Env;
-use std::fs;
-use std::io;
 use std::process::ExitCode;
 use std::rt::Files;
+use std::{env, fs, io};
 use trace_log::Trace;
 
 /// Where the trace is written.

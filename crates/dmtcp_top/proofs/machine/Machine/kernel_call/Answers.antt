@@ -51,7 +51,7 @@ answer-requires g c =
     let memory = m.guest.user.memory in
     let answer = c.in-Some.answer in
     let told : serve m.kernel c.pid-p.result c.pid-p.result.0 c.args.request.now c.as_slice.result.now ≡ answer_told c.serve.new.self c.as_slice.result.now (Some answer) =
-        subst (λ a. serve m.kernel c.pid-p.result c.pid-p.result.0 c.args.request.now c.as_slice.result.now ≡ answer_told c.serve.new.self c.as_slice.result.now a) c.in-Some.is c.in_ok-answer.ensures.ok in
+    subst (λ a. serve m.kernel c.pid-p.result c.pid-p.result.0 c.args.request.now c.as_slice.result.now ≡ answer_told c.serve.new.self c.as_slice.result.now a) c.in-Some.is c.in_ok-answer.ensures.ok in
     let none : c.put.new.self ≡ [] = c.put.ensures ∙ ap (λ front. front ++ c.as_slice-3.result.now) c.clear.ensures ∙ c.as_slice-3.ensures ∙ kernel_bytes m c.serve.new.self c.pid-p.result c.args.request.now c.as_slice.result.now answer told in
     subst (CanTake memory (written_spans memory c.args.request.now)) (sym none) (takes_nothing memory (written_spans memory c.args.request.now))
 
