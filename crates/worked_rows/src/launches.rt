@@ -1,4 +1,4 @@
-use crate::programs::{hello, program, three_lines};
+use crate::programs::{hello, program};
 use crate::session::{Failing, NONE_FAIL, run, run_hello};
 use dmtcp_top::Status;
 use std::test::Fail;
@@ -101,27 +101,6 @@ fn a_console_that_fails_ends_the_run(rt: HostRuntime) -> Result<(), Fail> {
     assert_eq!(rt; left.status, Status::SinkFault);
     assert_eq!(rt; left.out.bytes(), b"".as_slice());
     assert_eq!(rt; left.log.bytes(), b"".as_slice());
-    Ok(())
-}
-
-#[test]
-fn a_console_that_fails_at_its_last_piece_keeps_those_before(rt: HostRuntime) -> Result<(), Fail> {
-    let file = three_lines(rt.alloc())?;
-    let lines = ("lines.elf", file.as_slice());
-    let words = ["launch", "0:lines.elf"];
-    let whole = run(&rt, rt.alloc(), &words, lines, NONE_FAIL)?;
-    assert_eq!(rt; whole.status, Status::Done);
-    assert_eq!(rt; whole.out.bytes(), b"a\nb\nc\n".as_slice());
-    assert_eq!(rt; whole.records().len(), 8);
-    let failing = Failing {
-        out: &[3],
-        ..NONE_FAIL
-    };
-    let left = run(&rt, rt.alloc(), &words, lines, failing)?;
-    assert_eq!(rt; left.status, Status::SinkFault);
-    assert_eq!(rt; left.out.bytes(), b"a\nb\n".as_slice());
-    assert_eq!(rt; left.log.bytes(), b"".as_slice());
-    assert_eq!(rt; left.records(), &whole.records()[..6]);
     Ok(())
 }
 

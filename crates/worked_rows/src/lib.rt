@@ -7,6 +7,8 @@
 #[cfg(test)]
 mod launches;
 #[cfg(test)]
+mod pieces;
+#[cfg(test)]
 mod programs;
 #[cfg(test)]
 mod refusals;

@@ -42,26 +42,3 @@ pub const HELLO: [u32; 9] = [
 pub fn hello(alloc: Global) -> Result<Vec<u8>, AllocError> {
     program(alloc, &HELLO, b"hello\n")
 }
-
-/// Writes three lines of one letter, each by a call of its own, and exits with 0.
-pub const THREE_LINES: [u32; 15] = [
-    0x0000_0597,
-    0x03C5_8593,
-    0x0020_0613,
-    0x0400_0893,
-    0x0010_0513,
-    0x0000_0073,
-    0x0025_8593,
-    0x0010_0513,
-    0x0000_0073,
-    0x0025_8593,
-    0x0010_0513,
-    0x0000_0073,
-    0x0000_0513,
-    0x05E0_0893,
-    0x0000_0073,
-];
-
-pub fn three_lines(alloc: Global) -> Result<Vec<u8>, AllocError> {
-    program(alloc, &THREE_LINES, b"a\nb\nc\n")
-}
