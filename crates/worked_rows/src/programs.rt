@@ -10,7 +10,11 @@ const HEADERS: [u8; 84] = [
 /// The file of these instructions, with a text behind them.
 pub fn program(alloc: Global, words: &[u32], text: &[u8]) -> Result<Vec<u8>, AllocError> {
     let mut file = Vec::new(alloc);
-    let size = (84 + 4 * words.len() as u64 + text.len() as u64).min(4096) as u32;
+    let code = (words.len() as u64).saturating_mul(4);
+    let size = code
+        .saturating_add(text.len() as u64)
+        .saturating_add(84)
+        .min(4096) as u32;
     let bytes = size.to_le_bytes();
     for (place, byte) in HEADERS.iter().enumerate() {
         match place {
