@@ -1,0 +1,18 @@
+//! The files of a checkpoint set: what bytes spell a manifest, the image that processes share and the image of one
+//! process, and where other bytes are damaged.
+#![tactic(auto)]
+
+pub mod damage;
+pub mod manifest;
+pub mod process_image;
+pub mod set_bytes;
+pub mod shared;
+
+pub use damage::{Damage, ReadFault};
+pub use manifest::Manifest;
+pub use process_image::{PageImage, ProcImage, ThreadImage};
+pub use set_bytes::SetBytes;
+pub use shared::{
+    ChannelImage, DescriptionImage, DescriptorEntry, FileImage, ObjectImage, ProcessEntry, Shared,
+    SideImage, ThreadEntry,
+};

@@ -1,0 +1,31 @@
+use plain_machine::{Frame, SignalAction, ThreadPart, Waiter};
+use sys_abi::VPid;
+use views::list_of::ListOf;
+
+/// A page of a process, by its number.
+#[derive(Debug, Drop)]
+pub struct PageImage {
+    pub number: u32,
+    pub frame: Frame,
+}
+
+/// A thread of a process, by its number.
+#[derive(Debug, Drop)]
+pub struct ThreadImage {
+    pub tid: u32,
+    pub part: ThreadPart,
+}
+
+/// The image of one process: its own part, as lists in rising order of their numbers.
+#[derive(Drop)]
+pub struct ProcImage {
+    pub pid: VPid,
+    pub break_start: u32,
+    pub break_end: u32,
+    pub pages: ListOf<PageImage>,
+    /// What the process does on the signals 1 to 31.
+    pub actions: ListOf<SignalAction>,
+    /// Who waits on its words, in waking order.
+    pub waiters: ListOf<Waiter>,
+    pub threads: ListOf<ThreadImage>,
+}
