@@ -1,1 +1,6 @@
+pub mod Fields
+pub mod Files
+pub mod Format
+pub mod Reading
+pub mod Texts
 pub mod UserParts

@@ -1,0 +1,6 @@
+pub mod DamageLaws
+pub mod Laws
+pub mod Loop
+pub mod Numerals
+pub mod Texts
+pub mod WholeFiles
