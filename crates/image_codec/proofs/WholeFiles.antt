@@ -32,7 +32,14 @@ module _ {A : Type 0} (f : Format A) (end : A → Bool) where
   unfolding SpellsFile
   only_value text a b rest e s = (same_value text a b rest e s.0).0
 
+  pub rest-le : (text : List ℕ) (a : A) (rest : List ℕ) → AllBytes text → read f text ≡ Ok (a, rest) → length rest ≤ length text
+  rest-le text a rest bytes e =
+      let front = spelled_read f text a rest bytes e in
+      omega (arith, ap length front.whole ∙ length-append front.first rest)
+
   -- a file of which no value is read
+  pub left-le : (text : List ℕ) (left : ℕ) → AllBytes text → read f text ≡ Err left → left ≤ length text
+  left-le text left bytes e = let front = broken_read f text left bytes e in omega (arith, front.whole)
   pub damaged_left : (text : List ℕ) (left : ℕ) → AllBytes text → read f text ≡ Err left → Damaged f end text (length text - left)
   unfolding Damaged
   damaged_left text left bytes e =
