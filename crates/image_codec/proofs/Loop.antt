@@ -1,9 +1,7 @@
 -- The items of a list, read one after the other: one more, one that breaks, and none left
-use Rattle.std.proofs.Common.{◌≡◌, ℕ, suc, ◌+◌, ◌-◌, ◌<◌, ◌≤◌, nat_le, Bool, true, false, List, [], ◌∷◌, ◌++◌, length, take, drop, Result, Ok, Err, refl, sym, ap, ◌∙◌, arith}
+use Rattle.std.proofs.Common.{◌≡◌, ℕ, suc, ◌+◌, ◌-◌, ◌<◌, ◌≤◌, Bool, true, false, List, [], ◌∷◌, ◌++◌, length, take, Ok, Err, refl, sym, ap, ◌∙◌, arith}
 use Rattle.image_codec.specs.Format.{Format, Size, unsigned, n32, any, each, counted, size_of, number_in}
-use Rattle.image_codec.specs.declared.fields.Fault.{Fault}
-use Rattle.image_codec.specs.declared.fields.Fault.TheVariants.{Left, Memory}
-use Rattle.image_codec.specs.Reading.{Gives, read, read_if, read_next}
+use Rattle.image_codec.specs.Reading.{read, read_next}
 use Rattle.image_codec.proofs.Laws.{read_if-ok, read_if-gives, read_if-refuses}
 
 one_less : (n i : ℕ) → i < n → n - i ≡ suc (n - (i + 1))

@@ -1,5 +1,5 @@
 -- The texts of a list's items, put one after the other
-use Rattle.std.proofs.Common.{◌≡◌, ℕ, ◌+◌, ◌<◌, ◌≤◌, ◌^◌, List, [], ◌∷◌, ◌++◌, length, take, get_or, refl, sym, ap, ◌∙◌, append-nil}
+use Rattle.std.proofs.Common.{Fits, w64, arith, ◌≡◌, ℕ, ◌+◌, ◌<◌, ◌≤◌, ◌^◌, List, ◌++◌, length, take, get_or, sym, ap, ◌∙◌, append-nil}
 use Rattle.std.specs.List.{flat_map}
 use Rattle.std.specs.Prelude.{All}
 use Rattle.std.proofs.lemmas.List.{flat_map_more, take_more, take_all, get_or_default}
@@ -15,5 +15,5 @@ pub puts_all : {X : Type 0} (f : X → List ℕ) (start bytes : List ℕ) (xs : 
 puts_all f start bytes xs i h e = e ∙ ap (λ (items : List _). start ++ flat_map f items) (take_all i xs h)
 
 -- the numbers of a slice fit their type
-pub all_fit : (limit : ℕ) (xs : List ℕ) → ((k : ℕ) → get_or xs k 0 < limit) → All (λ x. x < limit) xs
-all_fit limit xs h k d inside = rw (get_or_default xs k d 0 inside) (h k)
+pub all_fit_64 : (xs : List ℕ) → ((k : ℕ) → Fits w64 (get_or xs k 0)) → All (λ x. x < 2 ^ 64) xs
+all_fit_64 xs h k d inside = rw (get_or_default xs k d 0 inside) (omega (arith, h k))

@@ -3,7 +3,7 @@
 --     SpellsManifest text m      the bytes are the file of this manifest
 --     DamagedManifest text n      the bytes are the file of no manifest, and n is the place where they break the format
 -- Source: docs/FORMATS.md, "Manifest".
-use Rattle.std.specs.Prelude.{◌≡◌, ℕ, ◌==◌, ◌^◌, ◌<◌, Bool, true, IsTrue, List, ◌∷◌, ◌++◌, length, codes, All}
+use Rattle.std.specs.Prelude.{◌≡◌, ℕ, ◌==◌, ◌^◌, ◌<◌, Bool, IsTrue, List, ◌++◌, length, codes, All}
 use Rattle.std.specs.List.{flat_map}
 use Rattle.image_codec.specs.declared.manifest.Manifest.{Manifest}
 use Rattle.image_codec.specs.Fields.{is_bytes, is_within}

@@ -64,7 +64,13 @@ fn manifest_at(alloc: Global, text: &[u8]) -> Result<(Manifest, &[u8]), Fault>
     let rest = after_magic(rest, b"DMTSET1")?;
     let (generation, rest) = u64_at(rest)?;
     let (lengths, rest) = lengths_at(alloc, rest)?;
-    Ok((Manifest { generation, lengths }, rest))
+    Ok((
+        Manifest {
+            generation,
+            lengths,
+        },
+        rest,
+    ))
 }
 
 #[tactic(auto, using(crate::proofs::Writing::puts_none, crate::proofs::Writing::puts_more, crate::proofs::Writing::puts_all))]
