@@ -1,8 +1,10 @@
 pub mod DamageLaws
+pub mod HeapWalk
 pub mod Laws
 pub mod Loop
 pub mod ManifestLaws
 pub mod Numerals
+pub mod ReturnContent
 pub mod Texts
 pub mod WholeFiles
 pub mod Writing

@@ -14,7 +14,7 @@ use Rattle.plain_machine.specs.declared.process.Life.TheVariants.{Live, Zombie}
 use Rattle.plain_machine.specs.declared.user_part.Context.{Context}
 use Rattle.plain_machine.specs.declared.user_part.SignalAction.{SignalAction}
 use Rattle.plain_machine.specs.declared.user_part.Waiter.{Waiter}
-use Rattle.image_codec.specs.declared.process_image.PageImage.{PageImage}
+use Rattle.image_codec.specs.declared.page_image.PageImage.{PageImage}
 use Rattle.image_codec.specs.declared.process_image.ThreadImage.{ThreadImage}
 use Rattle.image_codec.specs.declared.process_image.ProcImage.{ProcImage}
 use Rattle.image_codec.specs.declared.shared.ThreadEntry.{ThreadEntry}

@@ -5,13 +5,15 @@
 pub mod damage;
 mod fields;
 pub mod manifest;
+pub mod page_image;
 pub mod process_image;
 pub mod set_bytes;
 pub mod shared;
 
 pub use damage::{Damage, ReadFault};
 pub use manifest::Manifest;
-pub use process_image::{PageImage, ProcImage, ThreadImage};
+pub use page_image::PageImage;
+pub use process_image::{ProcImage, ThreadImage};
 pub use set_bytes::SetBytes;
 pub use shared::{
     ChannelImage, DescriptionImage, DescriptorEntry, FileImage, ObjectImage, ProcessEntry, Shared,

@@ -1,13 +1,7 @@
-use plain_machine::{Frame, SignalAction, ThreadPart, Waiter};
+use crate::page_image::PageImage;
+use plain_machine::{SignalAction, ThreadPart, Waiter};
 use sys_abi::VPid;
 use views::list_of::ListOf;
-
-/// A page of a process, by its number.
-#[derive(Debug, Drop)]
-pub struct PageImage {
-    pub number: u32,
-    pub frame: Frame,
-}
 
 /// A thread of a process, by its number.
 #[derive(Debug, Drop)]
