@@ -4,6 +4,7 @@ pub mod Laws
 pub mod Loop
 pub mod ManifestLaws
 pub mod Numerals
+pub mod ProcessLaws
 pub mod ReturnContent
 pub mod Texts
 pub mod WholeFiles

@@ -15,7 +15,7 @@ use Rattle.plain_machine.specs.declared.user_part.Context.{Context}
 use Rattle.plain_machine.specs.declared.user_part.SignalAction.{SignalAction}
 use Rattle.plain_machine.specs.declared.user_part.Waiter.{Waiter}
 use Rattle.image_codec.specs.declared.page_image.PageImage.{PageImage}
-use Rattle.image_codec.specs.declared.process_image.ThreadImage.{ThreadImage}
+use Rattle.image_codec.specs.declared.thread_image.ThreadImage.{ThreadImage}
 use Rattle.image_codec.specs.declared.process_image.ProcImage.{ProcImage}
 use Rattle.image_codec.specs.declared.shared.ThreadEntry.{ThreadEntry}
 use Rattle.image_codec.specs.declared.shared.ProcessEntry.{ProcessEntry}
@@ -132,7 +132,7 @@ pub record IsThreadImage (tids : List ℕ) (front : List ThreadImage) (t : Threa
   pub context_count : IsTrue (is_context_count (length t.part.contexts))
   pub contexts : All (λ c. IsRegisters c.regs.x) t.part.contexts
 
-pub record IsImage (pid : Option ℕ) (tids : List ℕ) (p : ProcImage) : Type 0 where
+pub record ImageFields (pid : Option ℕ) (tids : List ℕ) (p : ProcImage) : Type 0 where
   pub number : IsTrue (is_number pid p.pid.0)
   pub break_start : IsTrue (is_break_start p.break_start)
   pub break_end : IsTrue (is_break_end p.break_start p.break_end)
@@ -143,6 +143,9 @@ pub record IsImage (pid : Option ℕ) (tids : List ℕ) (p : ProcImage) : Type 0
   pub waiters : EachFrom (IsWaiter tids) [] p.waiters
   pub thread_count : IsTrue (is_thread_count tids (length p.threads))
   pub threads : EachFrom (IsThreadImage tids) [] p.threads
+
+pub record IsImage (pid : Option ℕ) (tids : List ℕ) (p : ProcImage) : Type 0 where
+  pub fields : ImageFields pid tids p
   pub whole : IsTrue (is_whole p)
 
 -- its own number and threads

@@ -2,6 +2,7 @@
 //! process, and where other bytes are damaged.
 #![tactic(auto)]
 
+mod actions;
 pub mod damage;
 mod fields;
 pub mod manifest;
@@ -9,13 +10,16 @@ pub mod page_image;
 pub mod process_image;
 pub mod set_bytes;
 pub mod shared;
+pub mod thread_image;
+mod waiters;
 
 pub use damage::{Damage, ReadFault};
 pub use manifest::Manifest;
 pub use page_image::PageImage;
-pub use process_image::{ProcImage, ThreadImage};
+pub use process_image::ProcImage;
 pub use set_bytes::SetBytes;
 pub use shared::{
     ChannelImage, DescriptionImage, DescriptorEntry, FileImage, ObjectImage, ProcessEntry, Shared,
     SideImage, ThreadEntry,
 };
+pub use thread_image::ThreadImage;
