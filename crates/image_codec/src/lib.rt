@@ -25,3 +25,6 @@ pub use shared::{
     SideImage, ThreadEntry,
 };
 pub use thread_image::ThreadImage;
+
+#[cfg(test)]
+mod tests;
