@@ -154,7 +154,10 @@ fn start_of_a_program_both_ways(rt: HostRuntime) -> Result<(), Fail> {
     assert_eq!(rt; p.break_start, 0x11000);
     assert_eq!(rt; p.pages.len(), 66);
     assert_eq!(rt; p.actions.len(), 31);
-    assert_eq!(rt; p.threads.as_slice().first().map(|t| t.part.regs.pc), Some(0x10078));
+    assert_eq!(rt;
+        p.threads.as_slice().first().map(|t| t.part.regs.pc),
+        Some(0x10078)
+    );
     let last = p.pages.as_slice().last().map(|page| page.number);
     assert_eq!(rt; last, Some(0x80000));
     let written = write_process(alloc, &p)?;

@@ -73,6 +73,6 @@ returns-else-is_whole-clause-exact c =
 pub returns-then-is_whole-clause-again : goal.returns-then-is_whole-clause-again
 returns-then-is_whole-clause-again c =
     let spelled =
-        law.found c.args.pid (tids_of c.args.threads.now) c.args.bytes.now c.in-Ok.p c.in-Ok.rest.now c.in-Ok.ensures (fit_bytes _ c.type_inv.bytes)
-        (whole.nothing c.in-Ok.rest.now (sym c.is_empty.ensures ∙ c.if-not-is_empty.false)) (sym c.is_whole.ensures ∙ c.if-is_whole.true) in
+    law.found c.args.pid (tids_of c.args.threads.now) c.args.bytes.now c.in-Ok.p c.in-Ok.rest.now c.in-Ok.ensures (fit_bytes _ c.type_inv.bytes)
+    (whole.nothing c.in-Ok.rest.now (sym c.is_empty.ensures ∙ c.if-not-is_empty.false)) (sym c.is_whole.ensures ∙ c.if-is_whole.true) in
     owns c.args.pid (tids_of c.args.threads.now) c.in-Ok.p spelled.keeps
