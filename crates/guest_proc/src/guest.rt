@@ -12,7 +12,7 @@ ghost use Rattle.guest_proc.specs.Lending.{CanTake};
 
 use crate::answer::answer_in;
 use crate::buffers::{LendFault, lend_from};
-use crate::image::{page_images, space_of, thread_images, threads_of};
+use crate::image::{space_of, thread_images, threads_of};
 use crate::look::look_at;
 use crate::ram::Ram;
 use crate::ran::{Ran, ran_of};
@@ -98,12 +98,16 @@ impl Guest {
         ensures user { IfOk result (λ image. user_of image ≡ self.now.user) }
         ensures pages { IfOk result (λ image. each page_entry image.pages ≡ map.entries self.now.user.memory) }
         ensures threads { IfOk result (λ image. each thread_entry image.threads ≡ map.entries self.now.user.threads) }
+
+        // So the image can be made a guest again.
+        ensures numbers { IfOk result (λ image. All (λ page. page.number < 2 ^ 20) image.pages) }
+        ensures few { IfOk result (λ image. length image.pages ≤ 2048) }
     {
         Ok(ProcImage {
             pid: self.pid,
             break_start: self.break_start,
             break_end: self.break_end,
-            pages: page_images(alloc, &self.ram.space)?,
+            pages: self.ram.images(alloc)?,
             actions: self.actions.duplicate(alloc)?,
             waiters: self.waiters.duplicate(alloc)?,
             threads: thread_images(alloc, &self.threads)?,

@@ -13,7 +13,9 @@ use views::number_map::NumberMap;
 
 /// Copies of the pages of a space, in rising order of their numbers.
 pub fn page_images(alloc: Global, space: &Space) -> Result<ListOf<PageImage>, AllocError>
-    ensures { IfOk result (λ pages. each page_entry pages ≡ map.entries space.now) }
+    ensures entries { IfOk result (λ pages. each page_entry pages ≡ map.entries space.now) }
+    ensures numbers { IfOk result (All (λ page. page.number < 2 ^ 20)) }
+    ensures few { IfOk result (λ pages. length pages ≤ 2048) }
 {
     let mut pages = Vec::with_capacity(alloc, space.len())?;
     let mut last = None;

@@ -28,3 +28,6 @@ mod threads;
 pub use buffers::LendFault;
 pub use guest::Guest;
 pub use ran::Ran;
+
+#[cfg(test)]
+mod tests;

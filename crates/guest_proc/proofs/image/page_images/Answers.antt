@@ -18,5 +18,5 @@ loop-number-preserved c =
     pages_more c.args.space.now c.loop-number.pages.items c.push.new.self.items c.in_ok-page_image.field-0 c.loop-number.last c.in-Some.number c.loop-number.invariant (sym c.in-Some.ensures)
     c.in_ok-page_image.ensures.number c.in_ok-page_image.ensures.frame c.in_ok-push.ensures.items
 
-pub returns : goal.returns
-returns c = ap (each page_entry) c.from_vec.ensures ∙ all_entries c.args.space.now (each page_entry c.loop-number.pages.items) c.loop-number.last c.loop-number.invariant (sym c.next_page.ensures ∙ c.in_default.is)
+pub returns-clause-entries : goal.returns-clause-entries
+returns-clause-entries c = ap (each page_entry) c.from_vec.ensures ∙ all_entries c.args.space.now (each page_entry c.loop-number.pages.items) c.loop-number.last c.loop-number.invariant (sym c.next_page.ensures ∙ c.in_default.is)
