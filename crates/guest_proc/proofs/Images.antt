@@ -2,16 +2,15 @@
 --     above last es            the entries whose keys come after one
 --     next_entry, no_more      one entry after the other, by the least key above the last one
 --     with_entries es m        a map with the entries of a list put in from the back
-use Rattle.std.proofs.Common.{◌≡◌, Less, Equal, Greater, ℕ, ◌+◌, ◌^◌, ◌<◌, ◌≤◌, Bool, true, false, cond, ◌&&◌, List, [], ◌∷◌, ◌++◌, length, map as each, refl, sym, ap, subst, ◌∙◌, arith, append_assoc, append-nil, length-append, length-map, suc, ⊎_elim, T}
+use Rattle.std.proofs.Common.{◌≡◌, Less, Equal, Greater, ℕ, ◌+◌, ◌^◌, ◌<◌, ◌≤◌, Bool, true, false, cond, ◌&&◌, List, [], ◌∷◌, ◌++◌, length, map as each, refl, sym, ap, subst, ◌∙◌, arith, append_assoc, append-nil, length-append, T}
 use Rattle.std.specs.Prelude.{Option, Some, None, is_some, find, filter, nat_lt, ◌==◌, All}
 use Rattle.std.specs.Ordering.{nat_cmp, eq_by_cmp, is_lt}
 use Rattle.std.specs.Cmp.{nat_cmp_total}
 use Rattle.std.specs.FinMap as map
 use Rattle.std.specs.FinMap.Entries.{is_sorted, below_all}
-use Rattle.std.proofs.lemmas.Bool.{cases_lt}
 use Rattle.std.proofs.lemmas.Bool.Decides.{nat_tests}
-use Rattle.std.proofs.lemmas.List.{map-append}
-use Rattle.std.proofs.lemmas.List.Elements.{All-pop, All-nil, All-cons}
+use Rattle.std.proofs.lemmas.List.{map-append, length-map}
+use Rattle.std.proofs.lemmas.List.Elements.{All-pop, All-nil, All-cons, All-append}
 use Rattle.views.specs.NumberMap.{is_above}
 use Rattle.plain_machine.specs.declared.memory.Frame.{Frame}
 use Rattle.plain_machine.specs.Memory.{Memory}
@@ -225,11 +224,18 @@ pub taken_end : {X : Type 0} {A : Type 0} (f : A → ℕ × X) (items left : Lis
 taken_end f items [] m so_far none = sym (none_put m) ∙ so_far
 taken_end f items (a ∷ left) m so_far none = absurd (omega arith)
 
--- the lists so far against the map, with the page that was read
-pub pages_none : (m : Memory) (pages : List PageImage) → pages ≡ [] → each page_entry pages ++ above None (map.entries m) ≡ map.entries m
-pages_none m pages none = ap (λ xs. each page_entry xs ++ above None (map.entries m)) none ∙ each_above (map.entries m)
+-- the pages so far
+pub record CopiesPages (m : Memory) (pages : List PageImage) (last : Option ℕ) : Type 0 where
+  pub entries : each page_entry pages ++ above last (map.entries m) ≡ map.entries m
+  pub numbers : All (λ page. page.number < 2 ^ 20) pages
 
-pub pages_more : (m : Memory) (pages after : List PageImage) (page : PageImage) (last : Option ℕ) (n : ℕ) → each page_entry pages ++ above last (map.entries m) ≡ map.entries m → find (is_above last) (map.keys m) ≡ Some n
+pub copies_none : (m : Memory) (pages : List PageImage) → pages ≡ [] → CopiesPages m pages None
+copies_none m pages none = record {
+  entries = ap (λ xs. each page_entry xs ++ above None (map.entries m)) none ∙ each_above (map.entries m);
+  numbers = subst (λ xs. All (λ page. page.number < 2 ^ 20) xs) (sym none) (All-nil _);
+}
+
+pages_more : (m : Memory) (pages after : List PageImage) (page : PageImage) (last : Option ℕ) (n : ℕ) → each page_entry pages ++ above last (map.entries m) ≡ map.entries m → find (is_above last) (map.keys m) ≡ Some n
     → page.number ≡ n → map.get m n ≡ Some page.frame → after ≡ pages ++ page ∷ [] → each page_entry after ++ above (Some n) (map.entries m) ≡ map.entries m
 pages_more m pages after page last n so_far is number frame pushed =
     let entry : page_entry page ≡ (n, page.frame) = ap (λ k. (k, page.frame)) number in
@@ -237,6 +243,14 @@ pages_more m pages after page last n so_far is number frame pushed =
     ∙ ap (λ es. es ++ above (Some n) (map.entries m)) (map-append page_entry pages (page ∷ []))
     ∙ ap (λ e. (each page_entry pages ++ e ∷ []) ++ above (Some n) (map.entries m)) entry
     ∙ one_more_entry m (each page_entry pages) last n page.frame so_far is frame
+
+pub copies_more : (m : Memory) (pages after : List PageImage) (page : PageImage) (last : Option ℕ) (n : ℕ) → CopiesPages m pages last → find (is_above last) (map.keys m) ≡ Some n → n < 2 ^ 20
+    → page.number ≡ n → map.get m n ≡ Some page.frame → after ≡ pages ++ page ∷ [] → CopiesPages m after (Some n)
+copies_more m pages after page last n copies is low number frame pushed = record {
+  entries = pages_more m pages after page last n copies.entries is number frame pushed;
+  numbers = subst (λ xs. All (λ page. page.number < 2 ^ 20) xs) (sym pushed)
+      (All-append (λ page. page.number < 2 ^ 20) pages (page ∷ []) copies.numbers (All-cons (λ page. page.number < 2 ^ 20) page [] (omega arith) (All-nil _)));
+}
 
 -- the part of an image, by its parts
 pub part_of : (image : ProcImage) (user : UserPart) → each page_entry image.pages ≡ map.entries user.memory → each thread_entry image.threads ≡ map.entries user.threads → image.break_start ≡ user.break_start → image.break_end ≡ user.break_end
@@ -247,30 +261,5 @@ part_of image user pages threads start end actions waiters =
     let threads_are = ap (λ es. map.from_entries {R = nat_cmp} es) threads ∙ from_own_entries user.threads in
     λ i. record { memory = memory_is i; break_start = start i; break_end = end i; threads = threads_are i; actions = actions i; waiters = waiters i }
 
--- the pages of an image of a space
-keys_low : (limit : ℕ) (es : List (ℕ × Frame)) → ((q : ℕ) → is_some (map.find nat_cmp q es) ≡ true → q < limit) → All (λ e. e.0 < limit) es
-keys_low limit [] low = All-nil _
-keys_low limit (e ∷ es) low =
-    All-cons (λ e. e.0 < limit) e es
-    (low e.0 (ap (λ b. is_some (cond b (Some e.1) (map.find nat_cmp e.0 es))) (key_tied nat_cmp_total map.nat_cmp-IsAntisymmetric e.0)))
-    (keys_low limit es (λ q there. low q (still_there (eq_by_cmp nat_cmp q e.0) q there)))
-  where
-    still_there : (b : Bool) (q : ℕ) → is_some (map.find nat_cmp q es) ≡ true → is_some (cond b (Some e.1) (map.find nat_cmp q es)) ≡ true
-    still_there true q there = refl
-    still_there false q there = there
-
-numbers_low : (limit : ℕ) (pages : List PageImage) → All (λ e. e.0 < limit) (each page_entry pages) → All (λ page. page.number < limit) pages
-numbers_low limit [] low = All-nil _
-numbers_low limit (page ∷ pages) low =
-    All-cons (λ page. page.number < limit) page pages (low 0 (page_entry page) (omega arith)) (numbers_low limit pages (λ k d inside. low (suc k) d (omega arith)))
-
-low_where : (limit : ℕ) (m : Memory) → ((q : ℕ) → limit ≤ q → map.get m q ≡ None) → (q : ℕ) → is_some (map.find nat_cmp q (map.entries m)) ≡ true → q < limit
-low_where limit m bounded q there = ⊎_elim (λ (low : q < limit). low)
-    (λ (high : limit ≤ q). true_false (sym there ∙ ap is_some (sym (map.get-entries m q) ∙ bounded q high)))
-    (cases_lt q limit)
-
-pub pages_low : (limit : ℕ) (m : Memory) (pages : List PageImage) → ((q : ℕ) → limit ≤ q → map.get m q ≡ None) → each page_entry pages ≡ map.entries m → All (λ page. page.number < limit) pages
-pages_low limit m pages bounded is = numbers_low limit pages (subst (λ es. All (λ e. e.0 < limit) es) (sym is) (keys_low limit (map.entries m) (low_where limit m bounded)))
-
-pub pages_few : (m : Memory) (pages : List PageImage) → map.len m ≤ 2048 → each page_entry pages ≡ map.entries m → length pages ≤ 2048
-pages_few m pages few is = let size = map.len-entries m in let same = ap length is in let mapped = length-map page_entry pages in omega arith
+pub pages_few : (m : Memory) (pages : List PageImage) (count : ℕ) → count ≡ map.len m → count ≤ 2048 → each page_entry pages ≡ map.entries m → length pages ≤ 2048
+pages_few m pages count counted few is = let size = map.len-entries m in let same = ap length is in let mapped = length-map pages page_entry in omega arith

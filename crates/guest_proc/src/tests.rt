@@ -1,7 +1,11 @@
-// What no clause can say: that calls succeed with memory to spare. And that the guest of an image goes on as the one
-// that the image was taken of, up to the call of a program that was put together by hand.
+// What no clause can say: that calls succeed with memory to spare. The program was put together by hand: five instructions
+// and a call, on one page.
+ghost use Rattle.std.specs.Prelude.{◌≡◌, IfOk};
+ghost use Rattle.guest_proc.specs.Guests.{HasThread};
+
 use crate::{Guest, Ran};
 use elf32::read_elf;
+use std::alloc::{AllocError, Global};
 use std::test::Fail;
 use sys_abi::{Tid, VPid};
 
@@ -21,23 +25,38 @@ const PID: VPid = VPid(40_000);
 
 const THREAD: Tid = Tid(40_000);
 
+/// The start of the program of a file.
+#[tactic(auto, using(crate::proofs::GuestLemmas::start_has_thread))]
+fn started(alloc: Global, file: &[u8]) -> Result<Guest, Fail>
+    ensures { IfOk result (λ guest. HasThread guest.user 40000) }
+{
+    let program = read_elf(alloc, file)?;
+    Ok(Guest::load(alloc, PID, &program, b"hello\0")?)
+}
+
+fn copy_of(alloc: Global, guest: &Guest) -> Result<Guest, AllocError>
+    ensures { IfOk result (λ copy. copy ≡ guest.now) }
+{
+    let image = guest.image(alloc)?;
+    Guest::of_image(alloc, image)
+}
+
+/// How far a guest runs, and whether it stands at a call then.
+fn run(guest: &mut Guest) -> (u32, bool)
+    requires { HasThread guest.old.user 40000 }
+{
+    let (count, ran) = guest.run(THREAD, 100);
+    (count, matches!(ran, Ran::Asks(_)))
+}
+
 #[test]
 fn the_guest_of_an_image_runs_on_the_same(rt: HostRuntime) -> Result<(), Fail> {
     let alloc = rt.alloc();
-    let program = read_elf(alloc, &HELLO)?;
-    let mut guest = Guest::load(alloc, PID, &program, b"hello\0")?;
-    let first = guest.image(alloc)?;
-    assert_eq!(rt; first.pages.len(), 66);
-    let mut copy = Guest::of_image(alloc, first)?;
-    let (count, ran) = guest.run(THREAD, 3);
-    assert_eq!(rt; (count, ran), (3, Ran::Whole));
-    assert_eq!(rt; copy.run(THREAD, 3), (3, Ran::Whole));
-    let second = guest.image(alloc)?;
-    let mut later = Guest::of_image(alloc, second)?;
-    assert_eq!(rt; later.pid(), PID);
-    let (left, place) = later.run(THREAD, 100);
-    assert_eq!(rt; left, 2);
-    assert!(rt; matches!(place, Ran::Asks(_)));
-    assert_eq!(rt; copy.run(THREAD, 100), (left, place));
+    let mut guest = started(alloc, &HELLO)?;
+    let mut copy = copy_of(alloc, &guest)?;
+    assert_eq!(rt; copy.pid(), PID);
+    assert_eq!(rt; copy.image(alloc)?.pages.len(), 66);
+    assert_eq!(rt; run(&mut guest), (5, true));
+    assert_eq!(rt; run(&mut copy), (5, true));
     Ok(())
 }
