@@ -18,7 +18,7 @@ use Rattle.plain_machine.specs.declared.user_part.UserPart.{UserPart}
 use Rattle.image_codec.specs.declared.process_image.PageImage.{PageImage}
 use Rattle.image_codec.specs.declared.process_image.ProcImage.{ProcImage}
 use Rattle.image_codec.specs.UserParts.{page_entry, thread_entry, user_of}
-use Rattle.views.proofs.MapLaws.{key_tied, other_key, true_false}
+use Rattle.views.proofs.MapLaws.{key_tied, other_key}
 
 -- the map of a map's entries is that map
 pub from_own_entries : {X : Type 0} (m : map.FinMap nat_cmp X) → map.from_entries {R = nat_cmp} (map.entries m) ≡ m
@@ -117,7 +117,7 @@ module _ {X : Type 0} where
       let value : e.1 ≡ v = at_front e es v (ap (λ k. map.find nat_cmp k (e ∷ es)) same ∙ found) in
       let left : above last es ≡ es = all_above last e.0 es passes below in
       let right : above (Some n) (e ∷ es) ≡ es =
-          ap (λ k. above (Some k) (e ∷ es)) (sym same) ∙ ap (λ b. cond b (e ∷ above (Some e.0) es) (above (Some e.0) es)) (lt_false e.0 e.0 (omega arith)) ∙ all_after e.0 es below in
+      ap (λ k. above (Some k) (e ∷ es)) (sym same) ∙ ap (λ b. cond b (e ∷ above (Some e.0) es) (above (Some e.0) es)) (lt_false e.0 e.0 (omega arith)) ∙ all_after e.0 es below in
       let first : e ≡ (n, v) = ap (λ k. (k, e.1)) same ∙ ap (λ (x : X). (n, x)) value in
       ap (λ rest. e ∷ rest) (left ∙ sym right) ∙ ap (λ x. x ∷ above (Some n) (e ∷ es)) first
 

@@ -23,8 +23,8 @@ loop-number-preserved c =
 pub returns : goal.returns
 returns c =
     let done : each page_entry c.from_vec.result ≡ map.entries c.args.space.now =
-        ap (each page_entry) c.from_vec.ensures
-        ∙ all_entries c.args.space.now (each page_entry c.loop-number.pages.items) c.loop-number.last c.loop-number.invariant.entries (sym c.next_page.ensures.next ∙ c.in_default.is) in
+    ap (each page_entry) c.from_vec.ensures
+    ∙ all_entries c.args.space.now (each page_entry c.loop-number.pages.items) c.loop-number.last c.loop-number.invariant.entries (sym c.next_page.ensures.next ∙ c.in_default.is) in
     record {
       entries = done;
       numbers = subst (λ pages. All (λ page. page.number < 2 ^ 20) pages) (sym c.from_vec.ensures) c.loop-number.invariant.numbers;
