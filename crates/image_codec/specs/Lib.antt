@@ -1,1 +1,9 @@
+pub mod Fields
+pub mod Files
+pub mod Format
+pub mod Manifests
+pub mod ProcessImages
+pub mod ProcessTests
+pub mod Reading
+pub mod Texts
 pub mod UserParts

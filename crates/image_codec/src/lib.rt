@@ -2,17 +2,26 @@
 //! process, and where other bytes are damaged.
 #![tactic(auto)]
 
+mod actions;
 pub mod damage;
+mod fields;
+pub mod file_laws;
 pub mod manifest;
+pub mod page_image;
 pub mod process_image;
 pub mod set_bytes;
 pub mod shared;
+pub mod thread_image;
+mod waiters;
 
 pub use damage::{Damage, ReadFault};
-pub use manifest::Manifest;
-pub use process_image::{PageImage, ProcImage, ThreadImage};
+pub use file_laws::image_laws;
+pub use manifest::{Manifest, read_manifest, write_manifest};
+pub use page_image::PageImage;
+pub use process_image::{ProcImage, read_process, write_process};
 pub use set_bytes::SetBytes;
 pub use shared::{
     ChannelImage, DescriptionImage, DescriptorEntry, FileImage, ObjectImage, ProcessEntry, Shared,
     SideImage, ThreadEntry,
 };
+pub use thread_image::ThreadImage;

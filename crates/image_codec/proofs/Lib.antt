@@ -1,0 +1,14 @@
+pub mod DamageLaws
+pub mod HeapWalk
+pub mod Laws
+pub mod LiveProcesses
+pub mod Loop
+pub mod ManifestLaws
+pub mod Numerals
+pub mod ProcessFiles
+pub mod ProcessLaws
+pub mod ReturnContent
+pub mod Texts
+pub mod Waiting
+pub mod WholeFiles
+pub mod Writing
