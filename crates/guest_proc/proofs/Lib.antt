@@ -6,6 +6,7 @@ pub mod LendLemmas
 pub mod GuestLemmas
 pub mod Loading
 pub mod Images
+pub mod FittingImages
 pub mod Breaks
 pub mod StackLemmas
 pub mod Taking

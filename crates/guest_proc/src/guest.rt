@@ -6,8 +6,10 @@ ghost use Rattle.plain_machine.specs.Start.{start_user};
 ghost use Rattle.plain_machine.specs.Steps.{user_step, user_steps, waits};
 ghost use Rattle.plain_machine.specs.Buffers.{lent, written_spans};
 ghost use Rattle.plain_machine.specs.Put.{put, local_row};
+ghost use Rattle.plain_machine.specs.Valid.{IsUser};
+ghost use Rattle.image_codec.specs.ProcessImages.{HasImage};
 ghost use Rattle.image_codec.specs.UserParts.{user_of, page_entry, thread_entry};
-ghost use Rattle.guest_proc.specs.Guests.{HasThread, Tells, ran_at};
+ghost use Rattle.guest_proc.specs.Guests.{HasThread, IsAlone, Tells, ran_at};
 ghost use Rattle.guest_proc.specs.Lending.{CanTake};
 
 use crate::answer::answer_in;
@@ -102,6 +104,9 @@ impl Guest {
         // So the image can be made a guest again.
         ensures numbers { IfOk result (λ image. All (λ page. page.number < 2 ^ 20) image.pages) }
         ensures few { IfOk result (λ image. length image.pages ≤ 2048) }
+
+        // And so it has a spelling, where the part is one that a run reaches.
+        ensures fits { IfOk result (λ image. IsUser self.now.user → IsAlone self.now.user → HasImage image) }
     {
         Ok(ProcImage {
             pid: self.pid,
