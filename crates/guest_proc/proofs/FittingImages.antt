@@ -2,9 +2,8 @@
 --     each_entry       a fact of each value of a map is one of each of its entries
 --     image_fits       the whole image      image_numbers, image_few      of the pages of an image that has a spelling
 use Rattle.std.proofs.Common.{◌≡◌, ◌≢◌, ℕ, zero, suc, ◌+◌, ◌-◌, ◌*◌, ◌/◌, ◌%◌, ◌^◌, ◌<◌, ◌≤◌, Bool, true, false, cond, ◌&&◌, ◌||◌, not, List, [], ◌∷◌, ◌++◌, length, map as each, refl, sym, ap, subst, ◌∙◌, arith, ⊎_elim, length-append, T}
-use Rattle.std.specs.Prelude.{Option, Some, None, is_some, nat_lt, nat_le, ◌==◌, All, IsTrue, slice_get}
+use Rattle.std.specs.Prelude.{Option, Some, is_some, nat_lt, nat_le, ◌==◌, All, slice_get}
 use Rattle.std.specs.Str.{bytes_eq}
-use Rattle.std.specs.List.{list_any}
 use Rattle.std.specs.Ordering.{nat_cmp, eq_by_cmp, is_lt}
 use Rattle.std.specs.Cmp.{nat_cmp_total}
 use Rattle.std.specs.FinMap as map
@@ -12,21 +11,20 @@ use Rattle.std.specs.FinMap.Entries.{is_sorted, below_all}
 use Rattle.std.proofs.lemmas.Bool.Decides.{nat_tests}
 use Rattle.std.proofs.lemmas.List.{length-map}
 use Rattle.std.proofs.lemmas.List.Elements.{All-nil, All-cons}
-use Rattle.views.proofs.MapLaws.{key_tied, other_key, same_or_other, true_false}
+use Rattle.views.proofs.MapLaws.{key_tied, other_key, same_or_other}
 use Rattle.plain_machine.specs.declared.memory.Frame.{Frame}
 use Rattle.plain_machine.specs.declared.user_part.UserPart.{UserPart}
 use Rattle.plain_machine.specs.declared.user_part.ThreadPart.{ThreadPart}
 use Rattle.plain_machine.specs.declared.user_part.Context.{Context}
 use Rattle.plain_machine.specs.declared.user_part.Waiter.{Waiter}
-use Rattle.plain_machine.specs.Memory.{Memory}
 use Rattle.plain_machine.specs.Start.{RETURN_PAGE, return_bytes, return_frame}
-use Rattle.plain_machine.specs.Valid.{Each, IsFrame, IsHeap, IsThread, IsUser}
+use Rattle.plain_machine.specs.Valid.{Each, IsFrame, IsThread, IsUser}
 use Rattle.image_codec.specs.declared.page_image.PageImage.{PageImage}
 use Rattle.image_codec.specs.declared.thread_image.ThreadImage.{ThreadImage}
 use Rattle.image_codec.specs.declared.process_image.ProcImage.{ProcImage}
 use Rattle.image_codec.specs.Texts.{EachFrom}
 use Rattle.image_codec.specs.UserParts.{page_entry, thread_entry}
-use Rattle.image_codec.specs.ProcessTests.{BREAK_LIMIT, is_break_start, is_break_end, is_heap_page, is_free_of_break, is_above_page, is_page_number, is_page_rights, is_page_content, return_content, has_page, has_pages, has_heap}
+use Rattle.image_codec.specs.ProcessTests.{BREAK_LIMIT, is_heap_page, is_free_of_break, is_above_page, is_page_number, is_page_content, return_content, has_page, has_pages, has_heap}
 use Rattle.image_codec.specs.ProcessImages.{IsPage, IsWaiter, IsRegisters, IsThreadImage, is_whole, threads_of, IsImage, HasImage}
 use Rattle.guest_proc.specs.Guests.{IsAlone}
 use Rattle.guest_proc.proofs.Images.{front, back, rising, past_front, lt_true}
@@ -155,10 +153,11 @@ next_is before p (q ∷ pages) below =
 pages_fit : (start end : ℕ) (before pages : List PageImage) → IsNext before pages → T (is_sorted nat_cmp (each page_entry pages)) → All (λ e. IsKept start end e.0 e.1) (each page_entry pages) → EachFrom (IsPage start end) before pages
 unfolding EachFrom
 pages_fit start end before [] next sorted are = tt
-pages_fit start end before (p ∷ pages) next sorted are =
-    (page_fits start end before p next (first_of (λ e. IsKept start end e.0 e.1) (page_entry p) (each page_entry pages) are),
-    pages_fit start end (before ++ p ∷ []) pages (next_is before p pages (front (below_all nat_cmp p.number (each page_entry pages)) (is_sorted nat_cmp (each page_entry pages)) sorted))
-    (back (below_all nat_cmp p.number (each page_entry pages)) (is_sorted nat_cmp (each page_entry pages)) sorted) (rest_of (λ e. IsKept start end e.0 e.1) (page_entry p) (each page_entry pages) are))
+pages_fit start end before (p ∷ pages) next sorted are = (
+  page_fits start end before p next (first_of (λ e. IsKept start end e.0 e.1) (page_entry p) (each page_entry pages) are),
+  pages_fit start end (before ++ p ∷ []) pages (next_is before p pages (front (below_all nat_cmp p.number (each page_entry pages)) (is_sorted nat_cmp (each page_entry pages)) sorted))
+      (back (below_all nat_cmp p.number (each page_entry pages)) (is_sorted nat_cmp (each page_entry pages)) sorted) (rest_of (λ e. IsKept start end e.0 e.1) (page_entry p) (each page_entry pages) are),
+)
 
 pages_fit_all : (user : UserPart) (pages : List PageImage) → IsUser user → each page_entry pages ≡ map.entries user.memory → EachFrom (IsPage user.break_start user.break_end) [] pages
 pages_fit_all user pages is same =

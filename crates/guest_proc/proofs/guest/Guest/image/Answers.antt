@@ -1,7 +1,6 @@
 use Rattle.std.proofs.Common.{refl, sym, ap, subst, ◌∙◌}
 use Rattle.plain_machine.specs.declared.user_part.UserPart.{UserPart}
 use Rattle.plain_machine.specs.Valid.{IsUser}
-use Rattle.image_codec.specs.ProcessImages.{HasImage}
 use Rattle.guest_proc.specs.Guests.{GuestPart, IsAlone}
 use Rattle.guest_proc.proofs.Images.{part_of}
 use Rattle.guest_proc.proofs.FittingImages.{image_fits}
