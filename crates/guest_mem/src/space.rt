@@ -1,4 +1,4 @@
-ghost use Rattle.std.specs.Prelude.{◌≡◌, ◌+◌, ◌≤◌, ◌<◌, ◌*◌, ◌/◌, ◌%◌, ◌^◌, ◌⊎◌, ◌↔◌, ◌++◌, Some, None, length, is_some, find, IsSome, IsTrue, Err, IfErr, [], replicate, IfOk, OnOk, OnErr, option_map};
+ghost use Rattle.std.specs.Prelude.{◌≡◌, ◌+◌, ◌≤◌, ◌<◌, ◌*◌, ◌/◌, ◌%◌, ◌^◌, ◌⊎◌, ◌↔◌, ◌++◌, Some, None, length, is_some, find, IsSome, IfSome, IsTrue, Err, IfErr, [], replicate, IfOk, OnOk, OnErr, option_map};
 ghost use Rattle.std.specs.Option.{option_copied};
 ghost use Rattle.std.specs.Result.{result_ok, result_err, result_map_both};
 ghost use Rattle.std.specs.FinMap as map;
@@ -57,7 +57,8 @@ impl Space {
 
     /// How many pages stand.
     pub fn len(&self) -> usize
-        ensures { result ≡ map.len self.now }
+        ensures count { result ≡ map.len self.now }
+        ensures limit { result ≤ PAGE_LIMIT }
     {
         self.frames.len()
     }
@@ -76,7 +77,8 @@ impl Space {
 
     /// The least page number above this one, or the least of all where none is given.
     pub fn next_page(&self, above: Option<u32>) -> Option<u32>
-        ensures { result ≡ find (is_above above) (map.keys self.now) }
+        ensures next { result ≡ find (is_above above) (map.keys self.now) }
+        ensures place { IfSome result (λ page. page < 2 ^ 20) }
     {
         match self.frames.next_from(start_above(above)) {
             None => None,

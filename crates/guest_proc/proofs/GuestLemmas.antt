@@ -2,7 +2,11 @@
 use Rattle.std.proofs.Common.{◌≡◌, List, ℕ, refl, sym, ap, subst, ◌∙◌, true, false, if◌then◌else◌}
 use Rattle.std.specs.Prelude.{Option, Some, None, option_map, is_some}
 use Rattle.std.specs.Ordering.{nat_cmp}
+use Rattle.std.specs.Cmp.{nat_cmp_total}
 use Rattle.std.specs.FinMap as map
+use Rattle.views.proofs.MapLaws.{get_insert_same}
+use Rattle.elf32.specs.declared.program.Program.{Program}
+use Rattle.plain_machine.specs.Start.{start_user, start_thread, start_regs}
 use Rattle.sys_abi.specs.declared.request.Request.{Request}
 use Rattle.sys_abi.specs.declared.reply.Reply.{Reply}
 use Rattle.plain_machine.specs.declared.regs.Regs.{Regs}
@@ -122,3 +126,8 @@ put_whole memory threads t q reply bytes regs regs' memory' threads' has after m
     ∙ ap (λ r. with_parts user (with_spans memory (written_spans memory q) bytes) (threads_with_regs threads t r (map.get threads t))) (sym after)
     ∙ ap (λ x. with_parts user (with_spans memory (written_spans memory q) bytes) x) (sym ths')
     ∙ ap (λ x. with_parts user x threads') (sym m')
+
+-- the one thread of a start
+pub start_has_thread : (program : Program) (arguments : List ℕ) (t : ℕ) → is_some (map.get (start_user program arguments t).threads t) ≡ true
+unfolding start_user
+start_has_thread program arguments t = ap is_some (get_insert_same nat_cmp_total map.nat_cmp-IsAntisymmetric map.empty t (start_thread (start_regs program arguments)))

@@ -5,6 +5,8 @@ pub mod ThreadLemmas
 pub mod LendLemmas
 pub mod GuestLemmas
 pub mod Loading
+pub mod Images
+pub mod FittingImages
 pub mod Breaks
 pub mod StackLemmas
 pub mod Taking

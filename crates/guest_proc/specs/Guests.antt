@@ -1,5 +1,5 @@
 -- A guest as its callers see it: its virtual number and its user part; and what an answer tells of where a thread stands.
-use Rattle.std.specs.Prelude.{◌≡◌, ℕ, true, List, is_some, refl}
+use Rattle.std.specs.Prelude.{◌≡◌, ℕ, true, List, [], Some, is_some, refl}
 use Rattle.std.specs.Coded.{Coded, code_by, coded×}
 use Rattle.std.specs.Ordering.{nat_cmp}
 use Rattle.std.specs.FinMap as map
@@ -59,3 +59,9 @@ with_parts user memory threads = record {
 abbrev pub Puts : Memory → map.FinMap nat_cmp ThreadPart → ℕ → Request → Reply → List ℕ → Memory → map.FinMap nat_cmp ThreadPart → Type 0
 Puts memory threads t q reply bytes memory' threads' =
     (user : UserPart) → user.memory ≡ memory → user.threads ≡ threads → put user t q reply bytes ≡ with_parts user memory' threads'
+
+-- one thread, which no handler interrupted, and which nobody waits for on a word
+pub record IsAlone (user : UserPart) : Type 0 where
+  pub threads : map.len user.threads ≡ 1
+  pub contexts : (t : ℕ) (thread : ThreadPart) → map.get user.threads t ≡ Some thread → thread.contexts ≡ []
+  pub waiters : user.waiters ≡ []

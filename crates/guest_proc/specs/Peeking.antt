@@ -1,5 +1,5 @@
 -- A memory that is looked at: the memory as it would be after the store that is remembered.
-use Rattle.std.specs.Prelude.{◌≡◌, ℕ, Option, Some, None, unwrap_or}
+use Rattle.std.specs.Prelude.{◌≡◌, Option, Some, None, unwrap_or}
 use Rattle.plain_machine.specs.Memory.{Memory, store}
 use Rattle.plain_machine.specs.Instructions.{Effect, Next as ToNext, Calls, Traps}
 use Rattle.rv_isa.specs.declared.outcome.Outcome.{Outcome}

@@ -1,15 +1,20 @@
-ghost use Rattle.std.specs.Prelude.{◌≡◌, ◌≢◌, ◌↔◌, ◌≤◌, length, All, Some, None, Err, IfOk, OnErr, OnOk, false};
+ghost use Rattle.std.specs.Prelude.{◌≡◌, ◌≢◌, ◌↔◌, ◌<◌, ◌≤◌, ◌^◌, length, map as each, All, Some, None, Err, IfOk, OnErr, OnOk, false};
+ghost use Rattle.std.specs.FinMap as map;
 ghost use Rattle.elf32.specs.Pages.{page_count};
 ghost use Rattle.elf32.specs.Programs.{IsWellPlaced};
 ghost use Rattle.plain_machine.specs.Start.{start_user};
 ghost use Rattle.plain_machine.specs.Steps.{user_step, user_steps, waits};
 ghost use Rattle.plain_machine.specs.Buffers.{lent, written_spans};
 ghost use Rattle.plain_machine.specs.Put.{put, local_row};
-ghost use Rattle.guest_proc.specs.Guests.{HasThread, Tells, ran_at};
+ghost use Rattle.plain_machine.specs.Valid.{IsUser};
+ghost use Rattle.image_codec.specs.ProcessImages.{HasImage};
+ghost use Rattle.image_codec.specs.UserParts.{user_of, page_entry, thread_entry};
+ghost use Rattle.guest_proc.specs.Guests.{HasThread, IsAlone, Tells, ran_at};
 ghost use Rattle.guest_proc.specs.Lending.{CanTake};
 
 use crate::answer::answer_in;
 use crate::buffers::{LendFault, lend_from};
+use crate::image::{space_of, thread_images, threads_of};
 use crate::look::look_at;
 use crate::ram::Ram;
 use crate::ran::{Ran, ran_of};
@@ -17,11 +22,13 @@ use crate::run::run_instructions;
 use crate::start::{break_of, start_actions, start_space, start_threads};
 use crate::threads::{regs_of, set_regs};
 use elf32::Program;
+use image_codec::ProcImage;
 use plain_machine::{SignalAction, ThreadPart, Waiter};
 use std::alloc::{AllocError, Global};
 use std::marker::Model;
 use sys_abi::errors::ENOSYS;
 use sys_abi::{Errno, Reply, Request, Tid, Transfer, VPid};
+use views::duplicate::Duplicate;
 use views::list_of::ListOf;
 use views::number_map::NumberMap;
 
@@ -83,6 +90,52 @@ impl Guest {
             threads: start_threads(alloc, pid.0, program, arguments)?,
             actions: start_actions(alloc)?,
             waiters: ListOf::new(alloc),
+        })
+    }
+
+    /// The image of the process: copies of all that its part holds, in rising order of the numbers of pages and threads.
+    #[tactic(auto, unfolding(image_codec::specs::UserParts::user_of))]
+    pub fn image(&self, alloc: Global) -> Result<ProcImage, AllocError>
+        ensures pid { IfOk result (λ image. image.pid ≡ self.now.pid) }
+        ensures user { IfOk result (λ image. user_of image ≡ self.now.user) }
+        ensures pages { IfOk result (λ image. each page_entry image.pages ≡ map.entries self.now.user.memory) }
+        ensures threads { IfOk result (λ image. each thread_entry image.threads ≡ map.entries self.now.user.threads) }
+
+        // So the image can be made a guest again.
+        ensures numbers { IfOk result (λ image. All (λ page. page.number < 2 ^ 20) image.pages) }
+        ensures few { IfOk result (λ image. length image.pages ≤ 2048) }
+
+        // And so it has a spelling, where the part is one that a run reaches.
+        ensures fits { IfOk result (λ image. IsUser self.now.user → IsAlone self.now.user → HasImage image) }
+    {
+        Ok(ProcImage {
+            pid: self.pid,
+            break_start: self.break_start,
+            break_end: self.break_end,
+            pages: self.ram.images(alloc)?,
+            actions: self.actions.duplicate(alloc)?,
+            waiters: self.waiters.duplicate(alloc)?,
+            threads: thread_images(alloc, &self.threads)?,
+        })
+    }
+
+    /// The process of an image. The pages are taken from it as they are.
+    #[tactic(auto, unfolding(image_codec::specs::UserParts::user_of))]
+    pub fn of_image(alloc: Global, image: ProcImage) -> Result<Guest, AllocError>
+        requires numbers { All (λ page. page.number < 2 ^ 20) image.pages }
+        requires few { length image.pages ≤ 2048 }
+        ensures { IfOk result (λ guest. guest ≡ record { pid = image.pid; user = user_of image }) }
+    {
+        Ok(Guest {
+            pid: image.pid,
+            ram: Ram {
+                space: space_of(alloc, image.pages)?,
+            },
+            break_start: image.break_start,
+            break_end: image.break_end,
+            threads: threads_of(alloc, image.threads)?,
+            actions: image.actions,
+            waiters: image.waiters,
         })
     }
 

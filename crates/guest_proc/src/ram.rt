@@ -1,9 +1,15 @@
-ghost use Rattle.std.specs.Prelude.{◌≡◌, ℕ, Option};
+ghost use Rattle.std.specs.Prelude.{◌≡◌, ◌<◌, ◌≤◌, ◌^◌, ℕ, Option, length, map as each, All, IfOk};
+ghost use Rattle.std.specs.FinMap as map;
 ghost use Rattle.plain_machine.specs.Memory.{Memory, fetch};
+ghost use Rattle.image_codec.specs.UserParts.{page_entry};
 
+use crate::image::page_images;
 use guest_mem::Space;
+use image_codec::PageImage;
 use rv_isa::{AccessFault, GuestMemory};
+use std::alloc::{AllocError, Global};
 use std::marker::Model;
+use views::list_of::ListOf;
 
 /// An address space as the memory of the processor.
 #[derive(Drop)]
@@ -31,6 +37,15 @@ impl Ram {
         ensures { result ≡ fetch self.now address }
     {
         self.space.fetch(address).ok()
+    }
+
+    /// Copies of its pages, in rising order of their numbers.
+    pub fn images(&self, alloc: Global) -> Result<ListOf<PageImage>, AllocError>
+        ensures entries { IfOk result (λ pages. each page_entry pages ≡ map.entries self.now) }
+        ensures numbers { IfOk result (All (λ page. page.number < 2 ^ 20)) }
+        ensures few { IfOk result (λ pages. length pages ≤ 2048) }
+    {
+        page_images(alloc, &self.space)
     }
 }
 

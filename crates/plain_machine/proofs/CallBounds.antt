@@ -1,5 +1,5 @@
 -- A call that is served leaves a valid kernel part, and answers a word and bytes; what a call reads is at most 65,536 bytes.
---     keeps_serve      each row      lent_length      what is lent to a row
+--     keeps_serve      each row      lent_length      what is lent to a row      serve_answers      the answer can be put
 use Rattle.std.proofs.Common.{◌≡◌, ℕ, zero, suc, ◌+◌, ◌≤◌, Bool, true, false, cond, List, [], ◌∷◌, length, refl, sym, subst, arith}
 use Rattle.std.specs.Prelude.{◌==◌, Option, Some, None, All}
 use Rattle.std.specs.Option.{option_map}
@@ -27,45 +27,51 @@ use Rattle.plain_machine.specs.Rows.Write.{write_object, write_row}
 use Rattle.plain_machine.specs.Rows.End.{exit_group_row}
 use Rattle.plain_machine.specs.Serve.{row, serve}
 use Rattle.plain_machine.specs.Valid.{IsWord, IsByte, IsKernel, IsFrame, Each}
+use Rattle.plain_machine.specs.Laws.{ServeAnswers}
 use Rattle.plain_machine.proofs.Giving.{Giving, gives, nothing, where_, either, then_, mapped}
 use Rattle.plain_machine.proofs.Trying.{Trying, succeeds, fails, after}
 use Rattle.plain_machine.proofs.MemoryBounds.{bytes_read}
+use Rattle.plain_machine.proofs.MemoryPages.{FitsSpans, no_bytes_fit, fits_taken}
 use Rattle.plain_machine.proofs.KernelBounds.{IsNextKernel, same_kernel, end_keeps}
 
--- what a served call leaves and answers
-pub record Fits (k : PlainKernel) (served : Served) : Type 0 where
+-- what a served call leaves and answers, where its answer may write these spans
+pub record Fits (k : PlainKernel) (spans : List Span) (served : Served) : Type 0 where
   pub kernel : IsNextKernel k served.kernel
   pub reply : IsWord (word_of served.reply)
   pub bytes : All IsByte served.bytes
+  pub room : FitsSpans spans (length served.bytes)
 
-keeps_settled : (k : PlainKernel) (attempt : Try Served) → IsKernel k → Trying attempt (Fits k) → Giving (settled k attempt) (Fits k)
-keeps_settled k (Fails e) is holds = gives (refused k e) (record { kernel = same_kernel k is; reply = omega arith; bytes = All-nil IsByte })
-keeps_settled k NotReady is holds = nothing
-keeps_settled k (Gives served) is holds = gives served (holds.each served refl)
+keeps_settled : (k : PlainKernel) (spans : List Span) (attempt : Try Served) → IsKernel k → Trying attempt (Fits k spans) → Giving (settled k attempt) (Fits k spans)
+keeps_settled k spans (Fails e) is holds = gives (refused k e) (record { kernel = same_kernel k is; reply = omega arith; bytes = All-nil IsByte; room = no_bytes_fit spans })
+keeps_settled k spans NotReady is holds = nothing
+keeps_settled k spans (Gives served) is holds = gives served (holds.each served refl)
 
-module _ (k : PlainKernel) (is : IsKernel k) (given : List ℕ) (short : length given ≤ TRANSFER_LIMIT) where
-  keeps_write_object : (object : Object) → Trying (write_object k object given) (Fits k)
+module _ (k : PlainKernel) (is : IsKernel k) (given : List ℕ) (short : length given ≤ TRANSFER_LIMIT) (spans : List Span) where
+  keeps_write_object : (object : Object) → Trying (write_object k object given) (Fits k spans)
   unfolding write_object
-  keeps_write_object Console = succeeds _ (record { kernel = same_kernel k is; reply = omega arith; bytes = All-nil IsByte })
+  keeps_write_object Console = succeeds _ (record { kernel = same_kernel k is; reply = omega arith; bytes = All-nil IsByte; room = no_bytes_fit spans })
   keeps_write_object _ = fails ENOSYS
 
-  keeps_write : (p : VPid) (fd : ℕ) → Trying (write_row k p fd given) (Fits k)
+  keeps_write : (p : VPid) (fd : ℕ) → Trying (write_row k p fd given) (Fits k spans)
   unfolding write_row
   keeps_write p fd = after (found (description_at k p fd) EBADF) (λ description there. after (need (may_write description.flags) EBADF) (λ allowed can. keeps_write_object description.object))
 
-  keeps_exit_group : (p : VPid) → Trying (exit_group_row k p) (Fits k)
+  keeps_exit_group : (p : VPid) → Trying (exit_group_row k p) (Fits k spans)
   unfolding exit_group_row
-  keeps_exit_group p = succeeds _ (record { kernel = end_keeps k p is; reply = omega arith; bytes = All-nil IsByte })
+  keeps_exit_group p = succeeds _ (record { kernel = end_keeps k p is; reply = omega arith; bytes = All-nil IsByte; room = no_bytes_fit spans })
 
-  keeps_row : (p : VPid) (t : ℕ) (q : Request) → Trying (row k p t q given) (Fits k)
+  keeps_row : (p : VPid) (t : ℕ) (q : Request) → Trying (row k p t q given) (Fits k spans)
   unfolding row
   keeps_row p t (Write fd buffer count) = keeps_write p fd
   keeps_row p t (ExitGroup code) = keeps_exit_group p
   keeps_row p t _ = fails ENOSYS
 
-  pub keeps_serve : (p : VPid) (t : ℕ) (q : Request) → Giving (serve k p t q given) (Fits k)
+  serve_fits : (p : VPid) (t : ℕ) (q : Request) → Giving (serve k p t q given) (Fits k spans)
   unfolding serve
-  keeps_serve p t q = keeps_settled k (row k p t q given) is (keeps_row p t q)
+  serve_fits p t q = keeps_settled k spans (row k p t q given) is (keeps_row p t q)
+
+pub keeps_serve : (k : PlainKernel) → IsKernel k → (memory : Memory) (q : Request) (given : List ℕ) → length given ≤ TRANSFER_LIMIT → (p : VPid) (t : ℕ) → Giving (serve k p t q given) (Fits k (written_spans memory q))
+keeps_serve k is memory q given short p t = serve_fits k is given short (written_spans memory q) p t q
 
 -- what a call reads
 pub record IsShort (source : Source) : Type 0 where
@@ -123,3 +129,17 @@ pub lent_length : (memory : Memory) (q : Request) → Each memory IsFrame → Gi
 unfolding lent
 lent_length memory q are = then_ (given_of memory q) {f = if_writable memory q} (λ given is.
     where_ (list_all (can_write memory) (written_spans memory q)) (λ can. gives given ((given_short memory q are).each given is)))
+
+-- each buffer that the answer may write can be written
+lent_writable : (memory : Memory) (q : Request) → Giving (lent memory q) (λ given. list_all (can_write memory) (written_spans memory q) ≡ true)
+unfolding lent
+lent_writable memory q = then_ (given_of memory q) {f = if_writable memory q} (λ given is. where_ (list_all (can_write memory) (written_spans memory q)) (λ can. gives given can))
+
+pub serve_answers : ServeAnswers
+serve_answers k user p t q given served is valid is_lent goes =
+    let fit = (keeps_serve k is user.memory q given ((lent_length user.memory q valid.memory).each given is_lent) p t).each served goes in
+    record {
+      reply = fit.reply;
+      bytes = fit.bytes;
+      room = fits_taken user.memory (written_spans user.memory q) served.bytes ((lent_writable user.memory q).each given is_lent) fit.room;
+    }

@@ -1,8 +1,9 @@
--- Every row of the instruction table keeps registers words and memory valid.
-use Rattle.std.proofs.Common.{◌≡◌, ℕ, zero, suc, ◌+◌, ◌-◌, ◌*◌, ◌/◌, ◌%◌, ◌^◌, ◌<◌, ◌≤◌, Bool, true, false, cond, List, [], ◌∷◌, refl, subst, ◌∙◌, arith}
+-- Every row of the instruction table keeps registers words and memory valid, with its pages and what may not be written of them.
+use Rattle.std.proofs.Common.{◌≡◌, ℕ, zero, suc, ◌+◌, ◌-◌, ◌*◌, ◌/◌, ◌%◌, ◌^◌, ◌<◌, ◌≤◌, Bool, true, false, cond, List, [], ◌∷◌, refl, sym, subst, ◌≢◌, ◌∙◌, arith}
 use Rattle.std.specs.Prelude.{◌==◌, nat_lt, not, Option, Some, None, slice_index, slice_set, All, bit_and, int_lt, pos}
 use Rattle.std.proofs.lemmas.List.Elements.{All-set}
-use Rattle.std.proofs.lemmas.List.{length-set}
+use Rattle.std.proofs.lemmas.List.{length-set, get_or-set_other}
+use Rattle.std.proofs.lemmas.Bool.Decides.{nat_tests}
 use Rattle.std.proofs.lemmas.Nat.{or_lt, xor_lt, and_le_l}
 use Rattle.std.proofs.Math.Nat.{div-le_self, mod-le}
 use Rattle.plain_machine.specs.declared.instruction.Insn.{Insn}
@@ -17,30 +18,32 @@ use Rattle.plain_machine.specs.Valid.{IsWord, IsRegs}
 use Rattle.plain_machine.proofs.Giving.{Giving, mapped}
 use Rattle.plain_machine.proofs.WordBounds.{shifted_word, product_high, signed_small, unsigned_high, quotient_word, remainder_word, either_word, flag_word, signed_back, extended_word, extended_byte, extended_half}
 use Rattle.plain_machine.proofs.MemoryBounds.{IsMemory, word_read, kept_by_store}
+use Rattle.plain_machine.proofs.MemoryPages.{KeepsPages, kept_pages, store_keeps}
 
-pub record IsAfter (x : Regs) (m : Memory) : Type 0 where
+pub record IsAfter (before : Memory) (x : Regs) (m : Memory) : Type 0 where
   pub regs : IsRegs x
   pub memory : IsMemory m
+  pub pages : KeepsPages before m
 
--- what an effect leaves, where it goes on, is valid
-pub record Keeps (done : Effect) : Type 0 where
-  pub each : (regs : Regs) (memory : Memory) → done ≡ Next regs memory → IsAfter regs memory
+-- what an effect leaves of this memory, where it goes on, is valid
+pub record Keeps (before : Memory) (done : Effect) : Type 0 where
+  pub each : (regs : Regs) (memory : Memory) → done ≡ Next regs memory → IsAfter before regs memory
 
-goes_on : (regs : Regs) (memory : Memory) → IsRegs regs → IsMemory memory → Keeps (Next regs memory)
-goes_on regs memory first second = record {
+goes_on : (before : Memory) (regs : Regs) (memory : Memory) → IsRegs regs → IsMemory memory → KeepsPages before memory → Keeps before (Next regs memory)
+goes_on before regs memory first second third = record {
   each = λ other after is.
       let same_regs : regs ≡ other = cc in
       let same_memory : memory ≡ after = cc in
-      record { regs = subst IsRegs same_regs first; memory = subst IsMemory same_memory second };
+      record { regs = subst IsRegs same_regs first; memory = subst IsMemory same_memory second; pages = subst (KeepsPages before) same_memory third };
 }
 
-traps : (s : ℕ) → Keeps (Traps s)
+traps : {before : Memory} (s : ℕ) → Keeps before (Traps s)
 traps s = record { each = λ regs memory is. cc }
 
-calls : Keeps Calls
+calls : {before : Memory} → Keeps before Calls
 calls = record { each = λ regs memory is. cc }
 
-either_effect : (b : Bool) {first second : Effect} → Keeps first → Keeps second → Keeps (cond b first second)
+either_effect : {before : Memory} (b : Bool) {first second : Effect} → Keeps before first → Keeps before second → Keeps before (cond b first second)
 either_effect true holds other = holds
 either_effect false other holds = holds
 
@@ -57,54 +60,62 @@ pub next_word : (regs : Regs) → IsWord (next_pc regs)
 next_word regs = omega arith
 
 pub regs_at : (regs : Regs) (address : ℕ) → IsRegs regs → IsWord address → IsRegs (at_pc regs address)
-regs_at regs address are is = record { count = are.count; words = are.words; pc = is }
+regs_at regs address are is = record { count = are.count; zero = are.zero; words = are.words; pc = is }
 
 pub regs_with : (regs : Regs) (i value : ℕ) → IsRegs regs → IsWord value → IsRegs (with_reg regs i value)
-regs_with regs i value are is = chosen (i == 0)
+regs_with regs i value are is = chosen (i == 0) refl
   where
-    chosen : (b : Bool) → IsRegs (cond b regs (record { x = slice_set regs.x i value; pc = regs.pc }))
-    chosen true = are
-    chosen false = record { count = length-set regs.x i value ∙ are.count; words = All-set IsWord regs.x i value is are.words; pc = are.pc }
+    apart : (i == 0) ≡ false → 0 ≢ i
+    apart is_not same = let back : i ≡ 0 = sym same in grind (arith, nat_tests)
+
+    chosen : (b : Bool) → (i == 0) ≡ b → IsRegs (cond b regs (record { x = slice_set regs.x i value; pc = regs.pc }))
+    chosen true at = are
+    chosen false at = record {
+      count = length-set regs.x i value ∙ are.count;
+      zero = get_or-set_other regs.x i 0 value 0 (apart at) ∙ are.zero;
+      words = All-set IsWord regs.x i value is are.words;
+      pc = are.pc;
+    }
 
 module _ (regs : Regs) (memory : Memory) (are : IsRegs regs) (before : IsMemory memory) where
-  keeps_next : Keeps (Next (at_pc regs (next_pc regs)) memory)
-  keeps_next = goes_on _ memory (regs_at regs _ are (next_word regs)) before
+  keeps_next : Keeps memory (Next (at_pc regs (next_pc regs)) memory)
+  keeps_next = goes_on memory _ memory (regs_at regs _ are (next_word regs)) before (kept_pages memory)
 
-  keeps_write : (rd value : ℕ) → IsWord value → Keeps (writes regs memory rd value)
-  keeps_write rd value is = goes_on _ memory (regs_at _ _ (regs_with regs rd value are is) (next_word regs)) before
+  keeps_write : (rd value : ℕ) → IsWord value → Keeps memory (writes regs memory rd value)
+  keeps_write rd value is = goes_on memory _ memory (regs_at _ _ (regs_with regs rd value are is) (next_word regs)) before (kept_pages memory)
 
-  keeps_jump : (rd target : ℕ) → IsWord target → Keeps (jumps regs memory rd target)
+  keeps_jump : (rd target : ℕ) → IsWord target → Keeps memory (jumps regs memory rd target)
   keeps_jump rd target is =
-      either_effect (target % 4 == 0) (goes_on _ memory (regs_at _ _ (regs_with regs rd (next_pc regs) are (next_word regs)) is) before) (traps _)
+      either_effect (target % 4 == 0) (goes_on memory _ memory (regs_at _ _ (regs_with regs rd (next_pc regs) are (next_word regs)) is) before (kept_pages memory)) (traps _)
 
-  keeps_branch : (taken : Bool) (target : ℕ) → IsWord target → Keeps (branches regs memory taken target)
-  keeps_branch taken target is = either_effect taken (either_effect (target % 4 == 0) (goes_on _ memory (regs_at regs target are is) before) (traps _)) keeps_next
+  keeps_branch : (taken : Bool) (target : ℕ) → IsWord target → Keeps memory (branches regs memory taken target)
+  keeps_branch taken target is = either_effect taken (either_effect (target % 4 == 0) (goes_on memory _ memory (regs_at regs target are is) before (kept_pages memory)) (traps _)) keeps_next
 
-  write_modulo : (rd n : ℕ) → Keeps (writes regs memory rd (n % 2 ^ 32))
+  write_modulo : (rd n : ℕ) → Keeps memory (writes regs memory rd (n % 2 ^ 32))
   write_modulo rd n = keeps_write rd (n % 2 ^ 32) (omega arith)
 
-  jump_modulo : (rd n : ℕ) → Keeps (jumps regs memory rd (n % 2 ^ 32))
+  jump_modulo : (rd n : ℕ) → Keeps memory (jumps regs memory rd (n % 2 ^ 32))
   jump_modulo rd n = keeps_jump rd (n % 2 ^ 32) (omega arith)
 
-  branch_modulo : (taken : Bool) (n : ℕ) → Keeps (branches regs memory taken (n % 2 ^ 32))
+  branch_modulo : (taken : Bool) (n : ℕ) → Keeps memory (branches regs memory taken (n % 2 ^ 32))
   branch_modulo taken n = keeps_branch taken (n % 2 ^ 32) (omega arith)
 
-  keeps_load : (rd bound : ℕ) (extended : ℕ → ℕ) (found : Option ℕ) → Giving found (λ value. value < bound) → ((value : ℕ) → value < bound → IsWord (extended value)) → Keeps (loads regs memory rd extended found)
+  keeps_load : (rd bound : ℕ) (extended : ℕ → ℕ) (found : Option ℕ) → Giving found (λ value. value < bound) → ((value : ℕ) → value < bound → IsWord (extended value)) → Keeps memory (loads regs memory rd extended found)
   keeps_load rd bound extended None read fits = traps _
   keeps_load rd bound extended (Some value) read fits = keeps_write rd (extended value) (fits value (read.each value refl))
 
-  keeps_store : (found : Option Memory) → Giving found IsMemory → Keeps (stores regs found)
-  keeps_store None stored = traps _
-  keeps_store (Some after) stored = goes_on _ after (regs_at regs _ are (next_word regs)) (stored.each after refl)
+  keeps_store : (found : Option Memory) → Giving found IsMemory → Giving found (KeepsPages memory) → Keeps memory (stores regs found)
+  keeps_store None stored keeps = traps _
+  keeps_store (Some after) stored keeps = goes_on memory _ after (regs_at regs _ are (next_word regs)) (stored.each after refl) (keeps.each after refl)
 
-  loads_byte : (rd address : ℕ) (extended : ℕ → ℕ) → ((value : ℕ) → value < 2 ^ 8 → IsWord (extended value)) → Keeps (loads regs memory rd extended (load memory address 1))
+  loads_byte : (rd address : ℕ) (extended : ℕ → ℕ) → ((value : ℕ) → value < 2 ^ 8 → IsWord (extended value)) → Keeps memory (loads regs memory rd extended (load memory address 1))
   loads_byte rd address extended = keeps_load rd (2 ^ 8) extended (load memory address 1) (word_read memory address 1 before.frames)
 
-  loads_half : (rd address : ℕ) (extended : ℕ → ℕ) → ((value : ℕ) → value < 2 ^ 16 → IsWord (extended value)) → Keeps (loads regs memory rd extended (load memory address 2))
+  loads_half : (rd address : ℕ) (extended : ℕ → ℕ) → ((value : ℕ) → value < 2 ^ 16 → IsWord (extended value)) → Keeps memory (loads regs memory rd extended (load memory address 2))
   loads_half rd address extended = keeps_load rd (2 ^ 16) extended (load memory address 2) (word_read memory address 2 before.frames)
 
   -- the rows, at words
-  keeps_row : (op : Op) (rd i a b : ℕ) → IsWord i → IsWord a → IsWord b → Keeps (effect_by op rd i a b regs memory)
+  keeps_row : (op : Op) (rd i a b : ℕ) → IsWord i → IsWord a → IsWord b → Keeps memory (effect_by op rd i a b regs memory)
   unfolding effect_by
   keeps_row Lui rd i a b hi ha hb = keeps_write rd _ hi
   keeps_row Auipc rd i a b hi ha hb = write_modulo rd _
@@ -121,9 +132,9 @@ module _ (regs : Regs) (memory : Memory) (are : IsRegs regs) (before : IsMemory 
   keeps_row Lw rd i a b hi ha hb = keeps_load rd (2 ^ 32) same _ (word_read memory _ 4 before.frames) (λ value is. is)
   keeps_row Lbu rd i a b hi ha hb = loads_byte rd _ same (λ value is. omega arith)
   keeps_row Lhu rd i a b hi ha hb = loads_half rd _ same (λ value is. omega arith)
-  keeps_row Sb rd i a b hi ha hb = keeps_store _ (kept_by_store memory _ 1 b before)
-  keeps_row Sh rd i a b hi ha hb = keeps_store _ (kept_by_store memory _ 2 b before)
-  keeps_row Sw rd i a b hi ha hb = keeps_store _ (kept_by_store memory _ 4 b before)
+  keeps_row Sb rd i a b hi ha hb = keeps_store _ (kept_by_store memory _ 1 b before) (store_keeps memory _ 1 b)
+  keeps_row Sh rd i a b hi ha hb = keeps_store _ (kept_by_store memory _ 2 b before) (store_keeps memory _ 2 b)
+  keeps_row Sw rd i a b hi ha hb = keeps_store _ (kept_by_store memory _ 4 b before) (store_keeps memory _ 4 b)
   keeps_row Addi rd i a b hi ha hb = write_modulo rd _
   keeps_row Slti rd i a b hi ha hb = keeps_write rd _ (flag_word _)
   keeps_row Sltiu rd i a b hi ha hb = keeps_write rd _ (flag_word _)
@@ -155,7 +166,7 @@ module _ (regs : Regs) (memory : Memory) (are : IsRegs regs) (before : IsMemory 
   keeps_row Ecall rd i a b hi ha hb = calls
   keeps_row Ebreak rd i a b hi ha hb = traps _
 
-  keeps_insn : (insn : Insn) → IsWord (word insn.imm) → Keeps (effect insn regs memory)
+  keeps_insn : (insn : Insn) → IsWord (word insn.imm) → Keeps memory (effect insn regs memory)
   unfolding effect
   keeps_insn insn small = keeps_row insn.op insn.rd _ _ _ small (reg_word regs insn.rs1 are) (reg_word regs insn.rs2 are)
 
@@ -180,14 +191,14 @@ unfolding decoded
 decoded_word w = mapped {P = λ insn. IsWord (word insn.imm)} (λ op. insn_of op (encoding op).format w) (record { each = λ op is. insn_word op (encoding op).format w })
 
 module _ (regs : Regs) (memory : Memory) (are : IsRegs regs) (before : IsMemory memory) where
-  keeps_decoded : (found : Option Insn) → Giving found (λ insn. IsWord (word insn.imm)) → Keeps (effect_of_insn found regs memory)
+  keeps_decoded : (found : Option Insn) → Giving found (λ insn. IsWord (word insn.imm)) → Keeps memory (effect_of_insn found regs memory)
   keeps_decoded None read = traps _
   keeps_decoded (Some insn) read = keeps_insn regs memory are before insn (read.each insn refl)
 
-  keeps_fetched : (found : Option ℕ) → Keeps (effect_of_word found regs memory)
+  keeps_fetched : (found : Option ℕ) → Keeps memory (effect_of_word found regs memory)
   keeps_fetched None = traps _
   keeps_fetched (Some w) = keeps_decoded (decoded w) (decoded_word w)
 
-  pub keeps_at : Keeps (effect_at regs memory)
+  pub keeps_at : Keeps memory (effect_at regs memory)
   unfolding effect_at
   keeps_at = keeps_fetched (fetch memory regs.pc)

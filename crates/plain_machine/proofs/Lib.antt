@@ -1,6 +1,7 @@
 pub mod RunLaws
 pub mod WordBounds
 pub mod MemoryBounds
+pub mod MemoryPages
 pub mod EffectBounds
 pub mod UserBounds
 pub mod KernelBounds
@@ -8,6 +9,7 @@ pub mod Trying
 pub mod CallBounds
 pub mod StepBounds
 pub mod StartPages
+pub mod StartHeaps
 pub mod StartUsers
 pub mod StartKernels
 pub mod Giving

@@ -1,5 +1,5 @@
 -- One more process at a start, with its user part, leaves the state valid.
-use Rattle.std.proofs.Common.{◌≡◌, ◌≢◌, ℕ, ◌+◌, ◌<◌, ◌≤◌, Bool, true, false, cond, List, [], ◌∷◌, refl, sym, ap, subst, ◌∙◌, arith, ⊎_elim}
+use Rattle.std.proofs.Common.{◌≡◌, ◌≢◌, ℕ, ◌+◌, ◌<◌, ◌≤◌, Bool, true, false, cond, List, [], ◌∷◌, ◌^◌, length, refl, sym, ap, subst, ◌∙◌, arith, ⊎_elim}
 use Rattle.std.specs.Prelude.{Option, Some, None, is_some, All}
 use Rattle.std.specs.List.{list_any}
 use Rattle.std.specs.declared.cmp.Ordering.{Ordering}
@@ -19,11 +19,11 @@ use Rattle.plain_machine.specs.declared.user_part.UserPart.{UserPart}
 use Rattle.plain_machine.specs.declared.description.Descriptor.{Descriptor}
 use Rattle.plain_machine.specs.Kernel.{pid, slot, is_live, is_live_process, is_held, refers_to}
 use Rattle.plain_machine.specs.Start.{Launched, NamedFile, FIRST_PID, console_of, console_description, console_descriptor, start_process, start_user, with_process, with_processes, with_file, with_files, with_users, empty_kernel, start_kernel, start}
-use Rattle.plain_machine.specs.Valid.{IsKernel, IsProcess, IsDescriptor, IsGivenOut, IsSignalSet, IsUser, IsValid, SameThreads, Each}
+use Rattle.plain_machine.specs.Valid.{IsKernel, IsProcess, IsDescriptor, IsGivenOut, IsSignalSet, IsWord, IsUser, IsValid, SameThreads, Each}
 use Rattle.plain_machine.specs.Launches.{IsLaunched}
 use Rattle.plain_machine.specs.Laws.{StartIsValid}
 use Rattle.plain_machine.proofs.StartPages.{all_tail}
-use Rattle.plain_machine.proofs.StartUsers.{start_user_is}
+use Rattle.plain_machine.proofs.StartUsers.{one_entry, start_user_is}
 
 -- an entry of a map with one more is the new one, or was there
 module _ {K X : Type 0} {R : K → K → Ordering} (o : IsTotalOrder R) (exact : map.IsAntisymmetric R) where
@@ -58,18 +58,11 @@ still_held before after kept d held =
     refers at descriptor found is true passes = let some = some_among-values slot_total slot_exact (refers_to d) after at descriptor found passes in cc
     refers at descriptor found is false passes = refl
 
--- the one thread of a new process
-one_thread : (p : ℕ) → map.len (map.insert (map.empty {X = ℕ} {R = nat_cmp}) p 0) ≡ 1
-one_thread p =
-    let none : map.get (map.empty {X = ℕ} {R = nat_cmp}) p ≡ None = map.get-empty nat_cmp p in
-    map.len-insert nat_cmp_total map.empty p 0 ∙ ap (λ found. cond (is_some found) (map.len (map.empty {X = ℕ} {R = nat_cmp})) (map.len (map.empty {X = ℕ} {R = nat_cmp}) + 1)) none
-    ∙ ap (λ n. n + 1) (map.len-empty nat_cmp ℕ) ∙ omega arith
-
 new_process : (p : ℕ) → FIRST_PID ≤ p → IsProcess (p + 1) (pid p) (start_process p)
 new_process p first = record {
   number = (first, omega arith);
   pending = omega arith;
-  life = let one = one_thread p in (omega arith, omega arith);
+  life = let one : map.len (map.insert (map.empty {X = ℕ} {R = nat_cmp}) p 0) ≡ 1 = one_entry p 0 in (omega arith, omega arith);
   threads = each_with nat_cmp_total map.nat_cmp-IsAntisymmetric (λ t signals. IsGivenOut (p + 1) t × IsSignalSet signals) map.empty p 0 ((first, omega arith), omega arith)
       (λ t signals other found. absurd (no_entry nat_cmp_total map.nat_cmp-IsAntisymmetric t signals found));
 }
@@ -171,13 +164,13 @@ threads_added k users p host user old new q process u known found =
     (λ q process other known v there. old q process v known (sym (get_insert_other vpid_total vpid_exact users (pid p) user q other) ∙ there))
     q process known u found
 
-pub launched_valid : (k : PlainKernel) (users : map.FinMap vpid_cmp UserPart) (p : ℕ) (launched : Launched) → k.next_id ≡ p → IsLaunched launched → IsValid (record { kernel = k; users = users })
+pub launched_valid : (k : PlainKernel) (users : map.FinMap vpid_cmp UserPart) (p : ℕ) (launched : Launched) → k.next_id ≡ p → IsWord p → IsLaunched launched → IsValid (record { kernel = k; users = users })
     → IsValid (record { kernel = with_process k p launched.host; users = map.insert users (pid p) (start_user launched.program launched.arguments p) })
-launched_valid k users p launched next starts is =
+launched_valid k users p launched next small starts is =
     let user = start_user launched.program launched.arguments p in
     record {
       kernel = process_added k p launched.host is.kernel next;
-      users = each_with vpid_total vpid_exact (λ q u. IsUser u) users (pid p) user (start_user_is launched p starts) (λ q u other found. is.users q u found);
+      users = each_with vpid_total vpid_exact (λ q u. IsUser u) users (pid p) user (start_user_is launched p starts small) (λ q u other found. is.users q u found);
       alive = λ q. ⊎_elim
           (λ here. subst (λ x. is_some (map.get (map.insert users (pid p) user) x) ≡ is_live (with_process k p launched.host) x) (sym here)
           (ap is_some (get_insert_same vpid_total vpid_exact users (pid p) user) ∙ sym (live_new k p launched.host is.kernel next)))
@@ -191,12 +184,13 @@ unfolding with_process
 next_after k p host = refl
 
 -- the processes of a job's programs, one after the other
-launched_all : (jobs : List Launched) (k : PlainKernel) (users : map.FinMap vpid_cmp UserPart) (p : ℕ) → k.next_id ≡ p → All IsLaunched jobs → IsValid (record { kernel = k; users = users })
+launched_all : (jobs : List Launched) (k : PlainKernel) (users : map.FinMap vpid_cmp UserPart) (p : ℕ) → k.next_id ≡ p → p + length jobs ≤ 2 ^ 32 → All IsLaunched jobs → IsValid (record { kernel = k; users = users })
     → IsValid (record { kernel = with_processes k p jobs; users = with_users users p jobs })
 unfolding with_processes with_users
-launched_all [] k users p next are is = is
-launched_all (launched ∷ rest) k users p next are is =
-    launched_all rest (with_process k p launched.host) _ (p + 1) (next_after k p launched.host) (all_tail IsLaunched launched rest are) (launched_valid k users p launched next (are 0 launched (omega arith)) is)
+launched_all [] k users p next fits are is = is
+launched_all (launched ∷ rest) k users p next fits are is =
+    launched_all rest (with_process k p launched.host) _ (p + 1) (next_after k p launched.host) (omega arith) (all_tail IsLaunched launched rest are)
+    (launched_valid k users p launched next (omega arith) (are 0 launched (omega arith)) is)
 
 -- named files are no part of what is valid
 file_valid : (k : PlainKernel) (users : map.FinMap vpid_cmp UserPart) (file : NamedFile) → IsValid (record { kernel = k; users = users }) → IsValid (record { kernel = with_file k file; users = users })
@@ -251,5 +245,5 @@ empty_next = refl
 
 pub start_is_valid : StartIsValid
 unfolding start start_kernel
-start_is_valid jobs files are =
-    launched_all jobs (with_files empty_kernel files) map.empty FIRST_PID (files_next files empty_kernel ∙ empty_next) are (files_valid files empty_kernel map.empty empty_valid)
+start_is_valid jobs files few are =
+    launched_all jobs (with_files empty_kernel files) map.empty FIRST_PID (files_next files empty_kernel ∙ empty_next) (omega arith) are (files_valid files empty_kernel map.empty empty_valid)

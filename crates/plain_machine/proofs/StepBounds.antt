@@ -2,7 +2,6 @@
 use Rattle.std.proofs.Common.{◌≡◌, ℕ, ◌+◌, ◌≤◌, Bool, true, false, cond, List, [], length, refl, sym, ap, subst, ◌∙◌, arith, ⊎_elim}
 use Rattle.std.specs.Prelude.{◌==◌, ◌&&◌, nat_le, Option, Some, None, is_some}
 use Rattle.std.specs.FinMap as map
-use Rattle.std.proofs.lemmas.List.Elements.{All-nil}
 use Rattle.std.proofs.lemmas.Bool.Decides.{nat_tests}
 use Rattle.views.proofs.MapLaws.{get_insert_same, get_insert_other, get-retain, same_or_other}
 use Rattle.sys_abi.specs.declared.identity.VPid.{VPid}
@@ -25,11 +24,11 @@ use Rattle.plain_machine.specs.Put.{put, local_row, error}
 use Rattle.plain_machine.specs.Serve.{serve}
 use Rattle.plain_machine.specs.Records.{Outcome, outcome, QUANTUM, quiet, with_user, living, user_ends, if_ends, with_arrived, outcome_of_user, outcome_of_call, outcome_of_ask, outcome_of_lent, outcome_of_serve, outcome_of_signal, outcome_of_trap, outcome_of_arrival}
 use Rattle.plain_machine.specs.Valid.{IsDirection, IsUser, IsValid, SameThreads, Each}
-use Rattle.plain_machine.specs.Laws.{StepKeepsValid}
+use Rattle.plain_machine.specs.Laws.{StepKeepsValid, IsAnswer}
 use Rattle.plain_machine.proofs.Giving.{Giving, gives, nothing, where_, either, then_, mapped}
-use Rattle.plain_machine.proofs.UserBounds.{Follows, keeps_steps, keeps_put}
+use Rattle.plain_machine.proofs.UserBounds.{Follows, keeps_steps, keeps_put, keeps_refusal}
 use Rattle.plain_machine.proofs.KernelBounds.{IsNextKernel, retained, end_keeps}
-use Rattle.plain_machine.proofs.CallBounds.{Fits, keeps_serve, lent_length}
+use Rattle.plain_machine.proofs.CallBounds.{keeps_serve, lent_length, serve_answers}
 
 abbrev Valid : Option Outcome → Type 0
 Valid found = Giving found (λ o. IsValid o.state)
@@ -99,25 +98,31 @@ module _ (g : Plain) (is : IsValid g) where
 
   -- calls
   valid_put : (p : VPid) (t : ℕ) (user : UserPart) (q : Request) (e : ℕ) → map.get g.users p ≡ Some user → IsValid (with_user g p (put user t q (error e) []))
-  valid_put p t user q e there = user_follows g p user _ is there (keeps_put user t q (error e) [] (is.users p user there) (omega arith) (All-nil _))
+  valid_put p t user q e there = user_follows g p user _ is there (keeps_refusal user t q e (is.users p user there))
 
   valid_local : (p : VPid) (t : ℕ) (user : UserPart) (q : Request) → map.get g.users p ≡ Some user → IsValid (with_user g p (local_row user t q))
   unfolding local_row
   valid_local p t user q there = valid_put p t user q _ there
 
-  valid_serve : (p : VPid) (t : ℕ) (user : UserPart) (q : Request) (served : Option Served) → map.get g.users p ≡ Some user → Giving served (Fits g.kernel) → Valid (outcome_of_serve g p t user q served)
+  valid_serve : (p : VPid) (t : ℕ) (user : UserPart) (q : Request) (served : Option Served) → map.get g.users p ≡ Some user → Giving served (λ done. IsNextKernel g.kernel done.kernel × IsAnswer user q done)
+      → Valid (outcome_of_serve g p t user q served)
   valid_serve p t user q None there fits = nothing
   valid_serve p t user q (Some served) there fits =
       let fit = fits.each served refl in
       let after = put user t q served.reply served.bytes in
-      gives _ (living_valid (with_user g p after) served.kernel (user_follows g p user after is there (keeps_put user t q served.reply served.bytes (is.users p user there) fit.reply fit.bytes)) fit.kernel)
+      gives _ (living_valid (with_user g p after) served.kernel
+      (user_follows g p user after is there (keeps_put user t q served.reply served.bytes (is.users p user there) fit.1.reply fit.1.bytes fit.1.room)) fit.0)
 
   valid_lent : (p : VPid) (t : ℕ) (user : UserPart) (q : Request) (given : Option (List ℕ)) → map.get g.users p ≡ Some user → lent user.memory q ≡ given → Valid (outcome_of_lent g p t user q given)
   valid_lent p t user q None there is_lent = gives _ (valid_put p t user q _ there)
   valid_lent p t user q (Some given) there is_lent =
       either (is_local q) (λ local. gives _ (valid_local p t user q there))
       (λ global. valid_serve p t user q (serve g.kernel p t q given) there
-      (keeps_serve g.kernel is.kernel given ((lent_length user.memory q (is.users p user there).memory).each given is_lent) p t q))
+      (record {
+        each = λ served goes.
+            let fit = (keeps_serve g.kernel is.kernel user.memory q given ((lent_length user.memory q (is.users p user there).memory).each given is_lent) p t).each served goes in
+            (fit.kernel, serve_answers g.kernel user p t q given served is.kernel (is.users p user there) is_lent goes);
+      }))
 
   valid_ask : (p : VPid) (t : ℕ) (user : UserPart) (at : UserStep) → map.get g.users p ≡ Some user → Valid (outcome_of_ask g p t user at)
   valid_ask p t user (Asks q) there = valid_lent p t user q (lent user.memory q) there refl

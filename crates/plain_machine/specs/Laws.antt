@@ -1,15 +1,26 @@
 -- Laws of runs, each of which the contract of `run_laws` promises.
-use Rattle.std.specs.Prelude.{◌≡◌, ◌≢◌, true, List, [], ◌∷◌, ◌++◌, Option, Some, None, All}
+use Rattle.std.specs.Prelude.{◌≡◌, ◌≢◌, ◌≤◌, ℕ, true, List, [], ◌∷◌, ◌++◌, length, Option, Some, None, All}
 use Rattle.std.specs.FinMap as map
 use Rattle.sys_abi.specs.declared.identity.VPid.{VPid}
+use Rattle.sys_abi.specs.declared.reply.Reply.{Reply}
+use Rattle.sys_abi.specs.declared.request.Request.{Request}
 use Rattle.sys_abi.specs.declared.record.Record.{Record}
 use Rattle.sys_abi.specs.declared.record.Record.TheVariants.{User, Call, Deliver}
 use Rattle.plain_machine.specs.declared.plain.Plain.{Plain}
+use Rattle.plain_machine.specs.declared.kernel.PlainKernel.{PlainKernel}
+use Rattle.plain_machine.specs.declared.user_part.UserPart.{UserPart}
 use Rattle.plain_machine.specs.Kernel.{is_live, pid}
+use Rattle.plain_machine.specs.Attempts.{Served}
+use Rattle.plain_machine.specs.Steps.{user_steps}
+use Rattle.plain_machine.specs.Buffers.{lent, written_spans}
+use Rattle.plain_machine.specs.Put.{word_of, put, put_fault, local_row, CanTake}
+use Rattle.plain_machine.specs.Serve.{serve}
 use Rattle.plain_machine.specs.Records.{Outcome, outcome, step}
 use Rattle.plain_machine.specs.Runs.{run, console}
-use Rattle.plain_machine.specs.Start.{Launched, NamedFile, start}
-use Rattle.plain_machine.specs.Valid.{IsValid}
+use Rattle.elf32.specs.Pages.{page_count}
+use Rattle.elf32.specs.Programs.{program_of, IsWellPlaced}
+use Rattle.plain_machine.specs.Start.{Launched, NamedFile, start, start_user, PROGRAM_LIMIT}
+use Rattle.plain_machine.specs.Valid.{IsWord, IsByte, IsKernel, IsUser, IsValid}
 use Rattle.plain_machine.specs.Launches.{IsLaunched}
 
 -- the process that a record is of
@@ -26,11 +37,50 @@ RecordIsLocal =
 
 -- a start is valid, whatever the named files
 abbrev pub StartIsValid : Type 0
-StartIsValid = (jobs : List Launched) (files : List NamedFile) → All IsLaunched jobs → IsValid (start jobs files)
+StartIsValid = (jobs : List Launched) (files : List NamedFile) → length jobs ≤ PROGRAM_LIMIT → All IsLaunched jobs → IsValid (start jobs files)
 
 -- each step from a valid state leads to a valid one
 abbrev pub StepKeepsValid : Type 0
 StepKeepsValid = (g next : Plain) (r : Record) → IsValid g → step g r ≡ Some next → IsValid next
+
+-- what a program of a file gives a job, where the file's reader accepts it
+abbrev pub ReadIsLaunched : Type 0
+ReadIsLaunched =
+    (host : ℕ) (file arguments : List ℕ) → All IsByte file → All IsByte arguments → All IsWellPlaced (program_of file).segments → page_count (program_of file).segments ≤ 1536
+    → IsLaunched (record { host = host; program = program_of file; arguments = arguments })
+
+-- a process's part is valid at its start, and stays so over its steps and over the answers to its calls
+abbrev pub StartIsUser : Type 0
+StartIsUser = (launched : Launched) (t : ℕ) → IsLaunched launched → IsWord t → IsUser (start_user launched.program launched.arguments t)
+
+abbrev pub UserStepsKeepUser : Type 0
+UserStepsKeepUser = (n : ℕ) (user after : UserPart) (t : ℕ) → IsUser user → user_steps n user t ≡ Some after → IsUser after
+
+abbrev pub PutKeepsUser : Type 0
+PutKeepsUser =
+    (user : UserPart) (t : ℕ) (q : Request) (reply : Reply) (bytes : List ℕ) → IsUser user → IsWord (word_of reply) → All IsByte bytes → CanTake user.memory (written_spans user.memory q) bytes
+    → IsUser (put user t q reply bytes)
+
+abbrev pub FaultKeepsUser : Type 0
+FaultKeepsUser = (user : UserPart) (t : ℕ) (q : Request) → IsUser user → IsUser (put_fault user t q)
+
+abbrev pub LocalKeepsUser : Type 0
+LocalKeepsUser = (user : UserPart) (t : ℕ) (q : Request) → IsUser user → IsUser (local_row user t q)
+
+-- no more threads wait than there are
+abbrev pub WaitersAreFew : Type 0
+WaitersAreFew = (user : UserPart) → IsUser user → length user.waiters ≤ map.len user.threads
+
+-- what a call's row answers is a word, and its bytes can be written where the answer puts them
+pub record IsAnswer (user : UserPart) (q : Request) (served : Served) : Type 0 where
+  pub reply : IsWord (word_of served.reply)
+  pub bytes : All IsByte served.bytes
+  pub room : CanTake user.memory (written_spans user.memory q) served.bytes
+
+abbrev pub ServeAnswers : Type 0
+ServeAnswers =
+    (k : PlainKernel) (user : UserPart) (p : VPid) (t : ℕ) (q : Request) (given : List ℕ) (served : Served) → IsKernel k → IsUser user → lent user.memory q ≡ Some given
+    → serve k p t q given ≡ Some served → IsAnswer user q served
 
 -- one more record at a trace's end
 abbrev pub RunOfOneMore : Type 0

@@ -1,7 +1,8 @@
 -- The part of a process after a call's answer: a0 holds the answer, the thread goes on after the call, and the bytes stand where the call asked for them.
 -- Source: the system call convention of RISC-V Linux (`man 2 syscall`): an error is the negative of its number in a0.
 --     put user t q reply bytes      after the answer of a call      local_row user t q      after a call that the process answers alone
-use Rattle.std.specs.Prelude.{ℕ, ◌-◌, ◌%◌, ◌^◌, List, [], ◌∷◌, length, take, drop, Option, Some, None}
+--     CanTake memory spans bytes    the bytes can be written where an answer puts them
+use Rattle.std.specs.Prelude.{◌≡◌, ℕ, ◌-◌, ◌%◌, ◌^◌, List, [], ◌∷◌, length, take, drop, Option, Some, None, is_some, true}
 use Rattle.std.specs.FinMap as map
 use Rattle.sys_abi.specs.declared.request.Request.{Request}
 use Rattle.sys_abi.specs.declared.reply.Reply.{Reply}
@@ -9,7 +10,8 @@ use Rattle.sys_abi.specs.declared.reply.Reply.TheVariants.{Value, Error}
 use Rattle.sys_abi.specs.declared.errors.TheConstants.{ENOSYS, EFAULT}
 use Rattle.plain_machine.specs.declared.user_part.UserPart.{UserPart}
 use Rattle.plain_machine.specs.declared.user_part.ThreadPart.{ThreadPart}
-use Rattle.plain_machine.specs.Memory.{Memory, with_bytes}
+use Rattle.plain_machine.specs.declared.memory.Right.TheVariants.{Write as ToWrite}
+use Rattle.plain_machine.specs.Memory.{Memory, bytes_at, with_bytes}
 use Rattle.plain_machine.specs.Registers.{with_reg, at_pc, next_pc}
 use Rattle.plain_machine.specs.Steps.{with_thread, with_regs}
 use Rattle.plain_machine.specs.declared.buffers.Span.{Span}
@@ -35,6 +37,16 @@ with_spans memory [] bytes = memory
 with_spans memory (at ∷ []) bytes = with_bytes memory at.address bytes
 with_spans memory (at ∷ next ∷ rest) bytes =
     let front = length bytes - next.length in with_bytes (with_bytes memory at.address (take front bytes)) next.address (drop front bytes)
+
+abbrev pub CanHold : Memory → ℕ → List ℕ → Type 0
+CanHold memory address bytes = is_some (bytes_at memory ToWrite address (length bytes)) ≡ true
+
+abbrev pub CanTake : Memory → List Span → List ℕ → Type 0
+CanTake memory [] bytes = Unit {0}
+CanTake memory (at ∷ []) bytes = CanHold memory at.address bytes
+CanTake memory (at ∷ next ∷ rest) bytes =
+    let front = length bytes - next.length in
+    CanHold memory at.address (take front bytes) × CanHold (with_bytes memory at.address (take front bytes)) next.address (drop front bytes)
 
 abbrev pub put_by : UserPart → ℕ → ℕ → Memory → Option ThreadPart → UserPart
 put_by user t value memory None = user

@@ -131,6 +131,13 @@ RETURN_PAGE = 0x80000
 abbrev pub return_code : List ℕ
 return_code = low_bytes 4 0x08B00893 ++ low_bytes 4 0x00000073
 
+-- the code, and zeros
+unfoldable pub return_bytes : List ℕ
+return_bytes = page_of return_code
+
+abbrev pub return_frame : Frame
+return_frame = record { rights = 5; page = return_bytes }
+
 -- programs lie below 0x40000000
 abbrev pub PROGRAM_PAGES : ℕ
 PROGRAM_PAGES = 2 ^ 18
@@ -160,6 +167,10 @@ start_user program arguments t = record {
   actions = replicate 31 default_action;
   waiters = [];
 }
+
+-- a job has at most so many programs
+abbrev pub PROGRAM_LIMIT : ℕ
+PROGRAM_LIMIT = 128
 
 -- processes are numbered from here on
 abbrev pub FIRST_PID : ℕ

@@ -1,7 +1,7 @@
 -- What holds of every plain state that a run reaches: a fact a topic, each over the maps that it speaks of.
 -- Source: the limits of docs/MACHINE.md.
 --     IsKernel k      of the kernel part      IsUser user      of one process's part      IsValid g      of both, and of how they fit together
-use Rattle.std.specs.Prelude.{◌≡◌, ℕ, ◌%◌, ◌^◌, ◌<◌, ◌≤◌, true, length, Some, is_some, All}
+use Rattle.std.specs.Prelude.{◌≡◌, ◌≢◌, ℕ, ◌*◌, ◌%◌, ◌^◌, ◌<◌, ◌≤◌, nat_lt, true, length, slice_index, Some, is_some, All, AllPairs}
 use Rattle.std.specs.Ordering.{nat_cmp}
 use Rattle.std.specs.declared.cmp.Ordering.{Ordering}
 use Rattle.std.specs.FinMap as map
@@ -11,6 +11,8 @@ use Rattle.plain_machine.specs.declared.memory.Frame.{Frame}
 use Rattle.plain_machine.specs.declared.regs.Regs.{Regs}
 use Rattle.plain_machine.specs.declared.user_part.UserPart.{UserPart}
 use Rattle.plain_machine.specs.declared.user_part.ThreadPart.{ThreadPart}
+use Rattle.plain_machine.specs.declared.user_part.SignalAction.{SignalAction}
+use Rattle.plain_machine.specs.declared.user_part.Waiter.{Waiter}
 use Rattle.plain_machine.specs.declared.process.Process.{Process}
 use Rattle.plain_machine.specs.declared.process.Life.{Life}
 use Rattle.plain_machine.specs.declared.process.Life.TheVariants.{Live, Zombie}
@@ -19,7 +21,8 @@ use Rattle.plain_machine.specs.declared.channel.Direction.{Direction}
 use Rattle.plain_machine.specs.declared.kernel.PlainKernel.{PlainKernel}
 use Rattle.plain_machine.specs.declared.plain.Plain.{Plain}
 use Rattle.plain_machine.specs.Kernel.{is_live, is_held}
-use Rattle.plain_machine.specs.Start.{FIRST_PID}
+use Rattle.plain_machine.specs.Memory.{Memory}
+use Rattle.plain_machine.specs.Start.{FIRST_PID, RETURN_PAGE, return_frame}
 
 abbrev pub IsWord : ℕ → Type 0
 IsWord n = n < 2 ^ 32
@@ -68,8 +71,10 @@ pub record IsKernel (k : PlainKernel) : Type 0 where
   pub descriptions : Each k.descriptions (λ d description. is_held k.descriptors d ≡ true)
   pub directions : Each k.directions (λ dir direction. IsDirection direction)
 
+-- x0 is 0
 pub record IsRegs (regs : Regs) : Type 0 where
   pub count : length regs.x ≡ 32
+  pub zero : slice_index regs.x 0 ≡ 0
   pub words : All IsWord regs.x
   pub pc : IsWord regs.pc
 
@@ -86,15 +91,36 @@ pub record IsThread (thread : ThreadPart) : Type 0 where
   pub count : length thread.contexts ≤ 64
   pub contexts : All (λ context. IsRegs context.regs × IsSignalSet context.mask) thread.contexts
 
+pub record IsAction (action : SignalAction) : Type 0 where
+  pub handler : IsWord action.handler
+  pub flags : IsWord action.flags
+  pub mask : IsWord action.mask
+
+-- a thread of the process waits on a word
+pub record IsWaiter (threads : map.FinMap nat_cmp ThreadPart) (waiter : Waiter) : Type 0 where
+  pub thread : is_some (map.get threads waiter.tid) ≡ true
+  pub address : IsWord waiter.address
+
+-- of the pages from the break's start to below 0x40000000 those are there that hold a byte below the break, and no others
+abbrev pub IsHeap : Memory → ℕ → ℕ → Type 0
+IsHeap memory break_start break_end =
+    (place : ℕ) → break_start ≤ 4096 * place → place < 0x40000 → is_some (map.get memory place) ≡ nat_lt (4096 * place) break_end
+
 pub record IsUser (user : UserPart) : Type 0 where
   pub pages : map.len user.memory ≤ 2048
   pub memory : Each user.memory IsFrame
+  pub return_page : map.get user.memory RETURN_PAGE ≡ Some return_frame
   pub break_start : user.break_start % 4096 ≡ 0
   pub break_order : user.break_start ≤ user.break_end
   pub break_limit : user.break_end ≤ 0x40000000
+  pub heap : IsHeap user.memory user.break_start user.break_end
+  pub thread_count : map.len user.threads ≤ 64
+  pub thread_numbers : Each user.threads (λ t thread. IsWord t)
   pub threads : Each user.threads (λ t thread. IsThread thread)
   pub actions : length user.actions ≡ 31
-  pub waiters : All (λ waiter. is_some (map.get user.threads waiter.tid) ≡ true) user.waiters
+  pub handlers : All IsAction user.actions
+  pub waiters : All (IsWaiter user.threads) user.waiters
+  pub waiters_apart : AllPairs (λ waiter later. waiter.tid ≢ later.tid) user.waiters
 
 -- a process's part has the threads that the kernel part has of it
 abbrev pub SameThreads : Process → UserPart → Type 0

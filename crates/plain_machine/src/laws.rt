@@ -1,4 +1,4 @@
-ghost use Rattle.plain_machine.specs.Laws.{RecordIsLocal, StartIsValid, StepKeepsValid, RunOfOneMore, ConsoleOfOneMore};
+ghost use Rattle.plain_machine.specs.Laws.{RecordIsLocal, StartIsValid, StepKeepsValid, RunOfOneMore, ConsoleOfOneMore, ReadIsLaunched, StartIsUser, UserStepsKeepUser, PutKeepsUser, FaultKeepsUser, LocalKeepsUser, WaitersAreFew, ServeAnswers};
 ghost use Rattle.plain_machine.specs.Examples.{AreDecoded, AreQuotients, AreProducts, IsStarted, AreAnswers};
 
 /// The laws of runs, for proofs about traces. It does nothing.
@@ -8,6 +8,16 @@ pub fn run_laws()
     ensures valid { StepKeepsValid }
     ensures run { RunOfOneMore }
     ensures console { ConsoleOfOneMore }
+
+    // Of one process's part.
+    ensures launched { ReadIsLaunched }
+    ensures user_start { StartIsUser }
+    ensures user_steps { UserStepsKeepUser }
+    ensures user_put { PutKeepsUser }
+    ensures user_fault { FaultKeepsUser }
+    ensures user_local { LocalKeepsUser }
+    ensures waiters { WaitersAreFew }
+    ensures answers { ServeAnswers }
 {}
 
 /// Worked examples of the definitions, so that a change of one shows. It does nothing.

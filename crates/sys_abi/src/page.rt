@@ -39,9 +39,12 @@ impl Page {
         requires { length bytes.now ≡ PAGE_SIZE }
         ensures { IfOk result (λ page. page ≡ bytes.now) }
     {
-        let mut page = Page::zeroed(alloc)?;
-        page.write(0, bytes);
-        Ok(page)
+        let Ok(array) = <&[u8; PAGE_SIZE]>::try_from(bytes) else {
+            unreachable!();
+        };
+        Ok(Page {
+            bytes: Box::new(alloc, *array)?,
+        })
     }
 
     #[inline]

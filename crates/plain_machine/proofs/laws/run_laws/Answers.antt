@@ -1,5 +1,8 @@
 use Rattle.plain_machine.proofs.StepBounds.{step_keeps_valid}
 use Rattle.plain_machine.proofs.StartKernels.{start_is_valid}
+use Rattle.plain_machine.proofs.StartUsers.{start_user_is, read_is_launched}
+use Rattle.plain_machine.proofs.UserBounds.{user_steps_keep_user, put_keeps_user, fault_keeps_user, local_keeps_user, waiters_are_few}
+use Rattle.plain_machine.proofs.CallBounds.{serve_answers}
 use Rattle.plain_machine.proofs.RunLaws.{run_of_one_more, console_of_one_more}
 use Rattle.plain_machine.proofs.Locality.{record_is_local}
 use Rattle.plain_machine.proofs.laws.run_laws.Goals as goal
@@ -18,3 +21,27 @@ returns-clause-run c = run_of_one_more
 
 pub returns-clause-console : goal.returns-clause-console
 returns-clause-console c = console_of_one_more
+
+pub returns-clause-launched : goal.returns-clause-launched
+returns-clause-launched c = read_is_launched
+
+pub returns-clause-user_start : goal.returns-clause-user_start
+returns-clause-user_start c = start_user_is
+
+pub returns-clause-user_steps : goal.returns-clause-user_steps
+returns-clause-user_steps c = user_steps_keep_user
+
+pub returns-clause-user_put : goal.returns-clause-user_put
+returns-clause-user_put c = put_keeps_user
+
+pub returns-clause-user_fault : goal.returns-clause-user_fault
+returns-clause-user_fault c = fault_keeps_user
+
+pub returns-clause-user_local : goal.returns-clause-user_local
+returns-clause-user_local c = local_keeps_user
+
+pub returns-clause-answers : goal.returns-clause-answers
+returns-clause-answers c = serve_answers
+
+pub returns-clause-waiters : goal.returns-clause-waiters
+returns-clause-waiters c = waiters_are_few

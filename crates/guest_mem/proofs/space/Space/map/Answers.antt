@@ -19,7 +19,7 @@ insert_zeroed-requires-clause-room c =
     let free = free_front c.args.self.now c.args.page c.loop-number.number c.args.count c.loop-number.auto.number-end c.requires.free in
     let size : map.len c.loop-number.self ≡ map.len c.args.self.now + c.loop-number.number =
     ap (λ (m : Memory). map.len m) c.loop-number.invariant ∙ len-with_pages c.args.self.now c.args.page c.loop-number.number c.args.rights [] free in
-    omega (arith, c.len.ensures, size)
+    omega (arith, c.len.ensures.count, size)
 
 pub loop-number-preserved : goal.loop-number-preserved
 loop-number-preserved c =

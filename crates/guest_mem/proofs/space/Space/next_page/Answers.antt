@@ -6,11 +6,11 @@ use Rattle.plain_machine.specs.Memory.{Memory}
 use Rattle.guest_mem.proofs.NextPages.{find-next}
 use Rattle.guest_mem.proofs.space.Space.next_page.Goals as goal
 
-pub returns-in-None : goal.returns-in-None
-returns-in-None c =
+pub returns-in-None-clause-next : goal.returns-in-None-clause-next
+returns-in-None-clause-next c =
     find-next c.self.inside.frames c.args.above c.start_above.result None c.start_above.ensures c.in-None.ensures ∙ ap (λ (m : Memory). find (is_above c.args.above) (map.keys m)) c.self.view_is
 
-pub returns-in-Some : goal.returns-in-Some
-returns-in-Some c =
+pub returns-in-Some-clause-next : goal.returns-in-Some-clause-next
+returns-in-Some-clause-next c =
     find-next c.self.inside.frames c.args.above c.start_above.result (Some c.in-Some.page) c.start_above.ensures c.in-Some.ensures
     ∙ ap (λ (m : Memory). find (is_above c.args.above) (map.keys m)) c.self.view_is

@@ -1,4 +1,4 @@
-use Rattle.std.proofs.Common.{◌≡◌, ◌∙◌, ap, sym}
+use Rattle.std.proofs.Common.{◌∙◌, ap, sym}
 use Rattle.plain_machine.specs.declared.user_part.UserPart.{UserPart}
 use Rattle.plain_machine.specs.Steps.{user_step, waits}
 use Rattle.guest_proc.specs.Guests.{GuestPart, ran_at}

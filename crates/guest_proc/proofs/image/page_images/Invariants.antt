@@ -1,0 +1,10 @@
+use Rattle.std.proofs.Common.{length}
+use Rattle.std.specs.FinMap as map
+use Rattle.guest_proc.proofs.Images.{above, CopiesPages}
+use Rattle.guest_proc.proofs.image.page_images.Given as goal
+
+abbrev pub invariant-loop-number : goal.invariant-loop-number
+invariant-loop-number l = CopiesPages l.space l.pages.items l.last
+
+abbrev pub decreases-loop-number : goal.decreases-loop-number
+decreases-loop-number l = length (above l.last (map.entries l.space))

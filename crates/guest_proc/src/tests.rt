@@ -1,0 +1,62 @@
+// What no clause can say: that calls succeed with memory to spare. The program was put together by hand: five instructions
+// and a call, on one page.
+ghost use Rattle.std.specs.Prelude.{◌≡◌, IfOk};
+ghost use Rattle.guest_proc.specs.Guests.{HasThread};
+
+use crate::{Guest, Ran};
+use elf32::read_elf;
+use std::alloc::{AllocError, Global};
+use std::test::Fail;
+use sys_abi::{Tid, VPid};
+
+/// Writes `hello` by two calls, from one segment that is the whole file, at 0x10000.
+const HELLO: [u8; 126] = [
+    0x7F, 0x45, 0x4C, 0x46, 0x01, 0x01, 0x01, 0x00, 0x00, 0x00, 0x00, 0x00, 0x00, 0x00, 0x00, 0x00,
+    0x02, 0x00, 0xF3, 0x00, 0x01, 0x00, 0x00, 0x00, 0x54, 0x00, 0x01, 0x00, 0x34, 0x00, 0x00, 0x00,
+    0x00, 0x00, 0x00, 0x00, 0x00, 0x00, 0x00, 0x00, 0x34, 0x00, 0x20, 0x00, 0x01, 0x00, 0x00, 0x00,
+    0x00, 0x00, 0x00, 0x00, 0x01, 0x00, 0x00, 0x00, 0x00, 0x00, 0x00, 0x00, 0x00, 0x00, 0x01, 0x00,
+    0x00, 0x00, 0x01, 0x00, 0x7E, 0x00, 0x00, 0x00, 0x7E, 0x00, 0x00, 0x00, 0x05, 0x00, 0x00, 0x00,
+    0x00, 0x10, 0x00, 0x00, 0x13, 0x05, 0x10, 0x00, 0x97, 0x05, 0x00, 0x00, 0x93, 0x85, 0x05, 0x02,
+    0x13, 0x06, 0x60, 0x00, 0x93, 0x08, 0x00, 0x04, 0x73, 0x00, 0x00, 0x00, 0x13, 0x05, 0x00, 0x00,
+    0x93, 0x08, 0xE0, 0x05, 0x73, 0x00, 0x00, 0x00, 0x68, 0x65, 0x6C, 0x6C, 0x6F, 0x0A,
+];
+
+const PID: VPid = VPid(40_000);
+
+const THREAD: Tid = Tid(40_000);
+
+/// The start of the program of a file.
+#[tactic(auto, using(crate::proofs::GuestLemmas::start_has_thread))]
+fn started(alloc: Global, file: &[u8]) -> Result<Guest, Fail>
+    ensures { IfOk result (λ guest. HasThread guest.user 40000) }
+{
+    let program = read_elf(alloc, file)?;
+    Ok(Guest::load(alloc, PID, &program, b"hello\0")?)
+}
+
+fn copy_of(alloc: Global, guest: &Guest) -> Result<Guest, AllocError>
+    ensures { IfOk result (λ copy. copy ≡ guest.now) }
+{
+    let image = guest.image(alloc)?;
+    Guest::of_image(alloc, image)
+}
+
+/// How far a guest runs, and whether it stands at a call then.
+fn run(guest: &mut Guest) -> (u32, bool)
+    requires { HasThread guest.old.user 40000 }
+{
+    let (count, ran) = guest.run(THREAD, 100);
+    (count, matches!(ran, Ran::Asks(_)))
+}
+
+#[test]
+fn the_guest_of_an_image_runs_on_the_same(rt: HostRuntime) -> Result<(), Fail> {
+    let alloc = rt.alloc();
+    let mut guest = started(alloc, &HELLO)?;
+    let mut copy = copy_of(alloc, &guest)?;
+    assert_eq!(rt; copy.pid(), PID);
+    assert_eq!(rt; copy.image(alloc)?.pages.len(), 66);
+    assert_eq!(rt; run(&mut guest), (5, true));
+    assert_eq!(rt; run(&mut copy), (5, true));
+    Ok(())
+}
