@@ -13,9 +13,11 @@
 
 mod fields;
 pub mod log_lines;
+pub mod requests;
 pub mod trace;
 
 pub use log_lines::{Progress, log_text};
+pub use requests::{Schedule, Tally, request_laws};
 pub use trace::{Trace, TraceFault};
 
 #[cfg(test)]

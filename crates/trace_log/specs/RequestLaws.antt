@@ -1,0 +1,94 @@
+-- Laws of requests and marks, each of which the contract of `request_laws` promises.
+use Rattle.std.specs.Prelude.{◌≡◌, ℕ, ◌+◌, ◌<◌, ◌≤◌, Bool, true, false, List, [], ◌∷◌, ◌++◌, Some, None, All}
+use Rattle.std.specs.List.{count_by}
+use Rattle.std.specs.FinMap as map
+use Rattle.sys_abi.specs.declared.record.Record.{Record}
+use Rattle.sys_abi.specs.declared.record.Record.TheVariants.{Cut}
+use Rattle.plain_machine.specs.declared.plain.Plain.{Plain}
+use Rattle.plain_machine.specs.Records.{step}
+use Rattle.plain_machine.specs.Runs.{run}
+use Rattle.plain_machine.specs.Tests.{full_arrive, is_work}
+use Rattle.trace_log.specs.declared.requests.Schedule.{Schedule}
+use Rattle.trace_log.specs.LogText.{at_start as log_start, after_all, line_of, log_text}
+use Rattle.trace_log.specs.Requests.{Requests, Reaches, LeadsTo, MayStand, CanBeHeld, CutAt, IsAnswered, is_mark, next_requests, cut_marks}
+
+abbrev pub is_cut : Record → Bool
+is_cut (Cut generation) = true
+is_cut _ = false
+
+-- one more record at a trace's end
+abbrev pub GoesOnByOne : Type 0
+GoesOnByOne =
+    (schedule : Schedule) (start g next : Plain) (now : Requests) (trace : List Record) (r : Record) →
+    Reaches schedule start trace g now → MayStand g now r → step g r ≡ Some next → Reaches schedule start (trace ++ r ∷ []) next (next_requests schedule g now r)
+
+-- a front of a trace is one too, and the rest leads on from where it comes to
+pub record Splits (schedule : Schedule) (start : Plain) (front rest : List Record) (last : Plain) (later : Requests) : Type 0 where
+  pub state : Plain
+  pub requests : Requests
+  pub front_reaches : Reaches schedule start front state requests
+  pub rest_leads : LeadsTo schedule state requests rest last later
+
+abbrev pub HasFronts : Type 0
+HasFronts =
+    (schedule : Schedule) (start last : Plain) (later : Requests) (front rest : List Record) →
+    Reaches schedule start (front ++ rest) last later → Splits schedule start front rest last later
+
+-- it is a run
+abbrev pub IsARun : Type 0
+IsARun = (schedule : Schedule) (start last : Plain) (later : Requests) (trace : List Record) → Reaches schedule start trace last later → run start trace ≡ Some last
+
+-- without `every` the traces are the runs without a mark
+abbrev pub HasNoMarks : Type 0
+HasNoMarks =
+    (schedule : Schedule) (start last : Plain) (later : Requests) (trace : List Record) →
+    schedule.every ≡ None → Reaches schedule start trace last later → All (λ r. is_mark r ≡ false) trace × IsAnswered later
+
+abbrev pub IsEachWithoutMarks : Type 0
+IsEachWithoutMarks =
+    (schedule : Schedule) (start last : Plain) (trace : List Record) →
+    schedule.every ≡ None → run start trace ≡ Some last → All (λ r. is_mark r ≡ false) trace → (later : Requests) × Reaches schedule start trace last later
+
+-- the tally has the number of work records, and each cut raises the greatest generation by one
+abbrev pub CountsWork : Type 0
+CountsWork =
+    (schedule : Schedule) (start last : Plain) (later : Requests) (trace : List Record) →
+    Reaches schedule start trace last later → later.tally.work ≡ count_by is_work trace
+
+abbrev pub CountsCuts : Type 0
+CountsCuts =
+    (schedule : Schedule) (start last : Plain) (later : Requests) (trace : List Record) →
+    Reaches schedule start trace last later → later.tally.greatest ≡ schedule.opening + count_by is_cut trace
+
+-- a cut's state has nothing on the way and nothing that no image holds, and its generation is above the opening one
+pub record IsCut (schedule : Schedule) (later : Requests) (generation : ℕ) (g : Plain) : Type 0 where
+  pub held : CanBeHeld g
+  pub arrived : full_arrive g ≡ g
+  pub above : schedule.opening < generation
+  pub most : generation ≤ later.tally.greatest
+
+abbrev pub CutsAreCuts : Type 0
+CutsAreCuts =
+    (schedule : Schedule) (start last g : Plain) (later : Requests) (trace : List Record) (generation : ℕ) →
+    Reaches schedule start trace last later → CutAt start trace generation g → IsCut schedule later generation g
+
+-- no two cuts of a trace have one generation
+abbrev pub CutsDiffer : Type 0
+CutsDiffer =
+    (schedule : Schedule) (start last g h : Plain) (later : Requests) (trace : List Record) (generation : ℕ) →
+    Reaches schedule start trace last later → CutAt start trace generation g → CutAt start trace generation h → g ≡ h
+
+-- a cut stays one as the trace grows, and a new one is at the state there
+abbrev pub CutStays : Type 0
+CutStays = (start g : Plain) (trace more : List Record) (generation : ℕ) → CutAt start trace generation g → CutAt start (trace ++ more) generation g
+
+abbrev pub CutIsMade : Type 0
+CutIsMade = (start g : Plain) (trace : List Record) (generation : ℕ) → run start trace ≡ Some g → CutAt start (trace ++ Cut generation ∷ []) generation g
+
+-- where there are no channels, nothing is on the way and a cut has no marks
+abbrev pub NoChannels : Type 0
+NoChannels = (g : Plain) → map.entries g.kernel.directions ≡ [] → (full_arrive g ≡ g) × (cut_marks g ≡ [])
+
+-- the log grows by the record's line
+abbrev pub LogGrows : Type 0
+LogGrows = (trace : List Record) (r : Record) → log_text (trace ++ r ∷ []) ≡ log_text trace ++ line_of (after_all log_start trace) r
