@@ -3,3 +3,7 @@ pub mod Pieces
 pub mod Bytes
 pub mod Lists
 pub mod LogLines
+pub mod RequestFronts
+pub mod RequestMarks
+pub mod RequestCounts
+pub mod RequestCuts

@@ -16,6 +16,12 @@ abbrev pub is_cut : Record → Bool
 is_cut (Cut generation) = true
 is_cut _ = false
 
+-- what leads on from where another came to leads on from where that began
+abbrev pub GoesOn : Type 0
+GoesOn =
+    (schedule : Schedule) (g half last : Plain) (now mid later : Requests) (front rest : List Record) →
+    LeadsTo schedule g now front half mid → LeadsTo schedule half mid rest last later → LeadsTo schedule g now (front ++ rest) last later
+
 -- one more record at a trace's end
 abbrev pub GoesOnByOne : Type 0
 GoesOnByOne =

@@ -4,7 +4,7 @@
 --     Reaches                  the trace is a run whose records may all stand where they do, and it comes to this state and this far
 --     IsAnswered               no request is open
 --     CutAt                    the trace has the cut of a generation, and this is the state there
-use Rattle.std.specs.Prelude.{◌≡◌, ◌==◌, ◌&&◌, ℕ, ◌+◌, ◌-◌, ◌%◌, ◌^◌, ◌<◌, Bool, true, false, cond, nat_lt, List, [], ◌∷◌, ◌++◌, filter, length, Option, Some, None, IsSomeAnd, if◌then◌else◌}
+use Rattle.std.specs.Prelude.{◌≡◌, ◌==◌, ◌&&◌, ℕ, ◌+◌, ◌-◌, ◌%◌, ◌^◌, ◌<◌, Bool, true, false, nat_lt, List, [], ◌∷◌, ◌++◌, filter, length, Option, Some, None, IsSomeAnd, if◌then◌else◌}
 use Rattle.std.specs.List.{filter_map}
 use Rattle.std.specs.FinMap as map
 use Rattle.sys_abi.specs.declared.identity.VPid.{VPid}
@@ -17,7 +17,7 @@ use Rattle.plain_machine.specs.declared.channel.Direction.{Direction}
 use Rattle.plain_machine.specs.Kernel.{slot}
 use Rattle.plain_machine.specs.Records.{step}
 use Rattle.plain_machine.specs.Runs.{run}
-use Rattle.plain_machine.specs.Tests.{ended, full_arrive, is_work, unsupported}
+use Rattle.plain_machine.specs.Tests.{ended, full_arrive, unsupported}
 use Rattle.trace_log.specs.declared.requests.Schedule.{Schedule}
 use Rattle.trace_log.specs.declared.requests.Tally.{Tally}
 
