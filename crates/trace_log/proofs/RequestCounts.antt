@@ -55,12 +55,12 @@ pub counts_work : CountsWork
 counts_work schedule start last later trace whole = from_zero later.tally.work (count_by is_work trace) (work_in schedule start last (at_start schedule) later trace whole)
 
 -- the marks that stand between a cut and its outcome
-abbrev is_between : Record → Bool
+abbrev pub is_between : Record → Bool
 is_between (Drained dir n) = true
 is_between (Refilled dir n) = true
 is_between _ = false
 
-abbrev AllBetween : List Record → Type 0
+abbrev pub AllBetween : List Record → Type 0
 AllBetween [] = Unit {0}
 AllBetween (mark ∷ still) = (is_between mark ≡ true) × AllBetween still
 
@@ -82,7 +82,7 @@ both_between : (xs ys : List Record) → AllBetween xs → AllBetween ys → All
 both_between [] ys all others = others
 both_between (x ∷ xs) ys all others = (all.0, both_between xs ys all.1 others)
 
-marks_between : (g : Plain) → AllBetween (cut_marks g)
+pub marks_between : (g : Plain) → AllBetween (cut_marks g)
 unfolding cut_marks
 marks_between g = both_between (all_left Drained g) (all_left Refilled g) (left_between Drained (λ dir n. refl) (map.entries g.kernel.directions)) (left_between Refilled (λ dir n. refl) (map.entries g.kernel.directions))
 

@@ -1,20 +1,25 @@
 -- Laws of requests and marks, each of which the contract of `request_laws` promises.
-use Rattle.std.specs.Prelude.{◌≡◌, ℕ, ◌+◌, ◌<◌, ◌≤◌, Bool, true, false, List, [], ◌∷◌, ◌++◌, Some, None, All}
+use Rattle.std.specs.Prelude.{◌≡◌, ◌⊎◌, ◌&&◌, ℕ, ◌+◌, ◌-◌, ◌^◌, ◌<◌, ◌≤◌, Bool, true, false, nat_lt, if◌then◌else◌, List, [], ◌∷◌, ◌++◌, Some, None, All}
 use Rattle.std.specs.List.{count_by}
 use Rattle.std.specs.FinMap as map
 use Rattle.sys_abi.specs.declared.record.Record.{Record}
-use Rattle.sys_abi.specs.declared.record.Record.TheVariants.{Cut}
+use Rattle.sys_abi.specs.declared.record.Record.TheVariants.{Cut, Complete, Refused}
+use Rattle.sys_abi.specs.declared.record.Cause.TheVariants.{DiskFault, Memory}
+use Rattle.sys_abi.specs.declared.identity.VPid.{VPid}
 use Rattle.plain_machine.specs.declared.plain.Plain.{Plain}
 use Rattle.plain_machine.specs.Records.{step}
 use Rattle.plain_machine.specs.Runs.{run}
 use Rattle.plain_machine.specs.Tests.{full_arrive, is_work}
 use Rattle.trace_log.specs.declared.requests.Schedule.{Schedule}
 use Rattle.trace_log.specs.LogText.{at_start as log_start, after_all, line_of, log_text}
-use Rattle.trace_log.specs.Requests.{Requests, Reaches, LeadsTo, MayStand, CanBeHeld, CutAt, IsAnswered, is_mark, next_requests, cut_marks}
+use Rattle.trace_log.specs.Requests.{Requests, NoRequest, Requested, Reaches, LeadsTo, MayStand, CanBeHeld, CutAt, IsAnswered, at_start, is_mark, is_multiple_of, made_by, next_requests, cut_marks}
 
 abbrev pub is_cut : Record → Bool
 is_cut (Cut generation) = true
 is_cut _ = false
+
+abbrev pub Begins : Type 0
+Begins = (schedule : Schedule) (start : Plain) → Reaches schedule start [] start (at_start schedule)
 
 -- what leads on from where another came to leads on from where that began
 abbrev pub GoesOn : Type 0
@@ -65,6 +70,39 @@ abbrev pub CountsCuts : Type 0
 CountsCuts =
     (schedule : Schedule) (start last : Plain) (later : Requests) (trace : List Record) →
     Reaches schedule start trace last later → later.tally.greatest ≡ schedule.opening + count_by is_cut trace
+
+-- where no request is open, a work record makes one exactly where it brings their number to a multiple of `every` and there is a generation left
+abbrev pub RequestsAtMultiples : Type 0
+RequestsAtMultiples =
+    (schedule : Schedule) (start g : Plain) (now : Requests) (trace : List Record) (r : Record) →
+    Reaches schedule start trace g now → IsAnswered now → is_work r ≡ true →
+    (next_requests schedule g now r).phase
+    ≡ (if is_multiple_of schedule.every (count_by is_work trace + 1) && nat_lt (schedule.opening + count_by is_cut trace) (2 ^ 64 - 2) then Requested [] else NoRequest)
+
+-- while a request waits, no process makes more than two work records
+abbrev pub AtMostTwo : Type 0
+AtMostTwo =
+    (schedule : Schedule) (start last : Plain) (later : Requests) (trace : List Record) (since : List VPid) →
+    Reaches schedule start trace last later → later.phase ≡ Requested since → (p : VPid) → made_by p since ≤ 2
+
+-- after a cut come its marks as far as the trace goes, or all of them and then its outcome
+pub record StillMarks (marks rest : List Record) : Type 0 where
+  pub still : List Record
+  pub whole : rest ++ still ≡ marks
+
+pub record HasOutcome (generation : ℕ) (marks rest : List Record) : Type 0 where
+  pub outcome : Record
+  pub more : List Record
+  pub whole : rest ≡ marks ++ outcome ∷ more
+  pub kind : (outcome ≡ Complete generation) ⊎ ((outcome ≡ Refused DiskFault) ⊎ (outcome ≡ Refused Memory))
+
+abbrev pub FollowsCut : ℕ → List Record → List Record → Type 0
+FollowsCut generation marks rest = StillMarks marks rest ⊎ HasOutcome generation marks rest
+
+abbrev pub MarksFollowCuts : Type 0
+MarksFollowCuts =
+    (schedule : Schedule) (start last g : Plain) (later : Requests) (trace : List Record) (generation : ℕ) →
+    Reaches schedule start trace last later → (cut : CutAt start trace generation g) → FollowsCut generation (cut_marks g) cut.rest
 
 -- a cut's state has nothing on the way and nothing that no image holds, and its generation is above the opening one
 pub record IsCut (schedule : Schedule) (later : Requests) (generation : ℕ) (g : Plain) : Type 0 where

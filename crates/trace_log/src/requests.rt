@@ -1,6 +1,6 @@
 ghost use Rattle.std.specs.Prelude.{◌≡◌, ◌+◌, ◌^◌, ◌<◌, IfSome};
 ghost use Rattle.trace_log.specs.Requests.{first_tally, tally_after, asks};
-ghost use Rattle.trace_log.specs.RequestLaws.{GoesOn, GoesOnByOne, HasFronts, IsARun, HasNoMarks, IsEachWithoutMarks, CountsWork, CountsCuts, CutsAreCuts, CutsDiffer, CutStays, CutIsMade, NoChannels, LogGrows};
+ghost use Rattle.trace_log.specs.RequestLaws.{Begins, GoesOn, GoesOnByOne, HasFronts, IsARun, HasNoMarks, IsEachWithoutMarks, CountsWork, CountsCuts, RequestsAtMultiples, AtMostTwo, MarksFollowCuts, CutsAreCuts, CutsDiffer, CutStays, CutIsMade, NoChannels, LogGrows};
 
 use sys_abi::Record;
 
@@ -70,6 +70,7 @@ impl Tally {
 
 /// The laws of requests and marks, for proofs about traces. It does nothing.
 pub fn request_laws()
+    ensures begins { Begins }
     ensures joins { GoesOn }
     ensures goes_on { GoesOnByOne }
     ensures fronts { HasFronts }
@@ -78,6 +79,9 @@ pub fn request_laws()
     ensures without_marks { IsEachWithoutMarks }
     ensures work { CountsWork }
     ensures cuts { CountsCuts }
+    ensures multiples { RequestsAtMultiples }
+    ensures two { AtMostTwo }
+    ensures marks { MarksFollowCuts }
     ensures are_cuts { CutsAreCuts }
     ensures differ { CutsDiffer }
     ensures stays { CutStays }

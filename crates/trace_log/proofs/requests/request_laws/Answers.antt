@@ -2,6 +2,7 @@ use Rattle.trace_log.proofs.RequestFronts.{goes_on, goes_on_by_one, has_fronts, 
 use Rattle.trace_log.proofs.RequestMarks.{has_no_marks, is_each_without_marks}
 use Rattle.trace_log.proofs.RequestCounts.{counts_work, counts_cuts}
 use Rattle.trace_log.proofs.RequestCuts.{cuts_are_cuts, cuts_differ, no_channels}
+use Rattle.trace_log.proofs.RequestPhases.{begins, requests_at_multiples, at_most_two, marks_follow_cuts}
 use Rattle.trace_log.proofs.LogLines.{log_grows}
 use Rattle.trace_log.proofs.requests.request_laws.Goals as goal
 
@@ -40,3 +41,15 @@ returns-clause-differ c = cuts_differ
 
 pub returns-clause-no_channels : goal.returns-clause-no_channels
 returns-clause-no_channels c = no_channels
+
+pub returns-clause-begins : goal.returns-clause-begins
+returns-clause-begins c = begins
+
+pub returns-clause-multiples : goal.returns-clause-multiples
+returns-clause-multiples c = requests_at_multiples
+
+pub returns-clause-two : goal.returns-clause-two
+returns-clause-two c = at_most_two
+
+pub returns-clause-marks : goal.returns-clause-marks
+returns-clause-marks c = marks_follow_cuts
