@@ -1,4 +1,4 @@
-ghost use Rattle.std.specs.Prelude.{◌≡◌, ◌+◌, ◌^◌, ◌<◌, IfSome};
+ghost use Rattle.std.specs.Prelude.{◌≡◌, ◌+◌, ◌^◌, ◌<◌, ◌≤◌, IfSome};
 ghost use Rattle.trace_log.specs.Requests.{first_tally, tally_after, asks};
 ghost use Rattle.trace_log.specs.RequestLaws.{Begins, GoesOn, GoesOnByOne, HasFronts, IsARun, HasNoMarks, IsEachWithoutMarks, CountsWork, CountsCuts, RequestsAtMultiples, AtMostTwo, MarksFollowCuts, CutsAreCuts, CutsDiffer, CutStays, CutIsMade, NoChannels, LogGrows};
 
@@ -54,7 +54,8 @@ impl Tally {
     #[tactic(auto, unfolding(crate::specs::Requests::tally_after))]
     pub fn pass(&mut self, event: &Record)
         requires { self.old.work + 1 < 2 ^ 64 }
-        ensures { self.new ≡ tally_after self.old event.now }
+        ensures value { self.new ≡ tally_after self.old event.now }
+        ensures more { self.new.work ≤ self.old.work + 1 }
     {
         match *event {
             Record::User { .. } | Record::Call { .. } | Record::Deliver { .. } => self.work += 1,
