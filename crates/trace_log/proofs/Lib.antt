@@ -7,3 +7,4 @@ pub mod RequestMarks
 pub mod RequestCounts
 pub mod RequestCuts
 pub mod RequestPhases
+pub mod RequestSteps

@@ -4,3 +4,4 @@ pub mod Trace
 pub mod LogText
 pub mod Requests
 pub mod RequestLaws
+pub mod RequestSteps

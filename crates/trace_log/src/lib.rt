@@ -19,7 +19,7 @@ pub mod requests;
 pub mod trace;
 
 pub use log_lines::{Progress, log_text};
-pub use requests::{Schedule, Tally, request_laws};
+pub use requests::{Schedule, Tally, request_laws, request_steps};
 pub use trace::{Trace, TraceFault};
 
 #[cfg(test)]

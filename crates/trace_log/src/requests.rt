@@ -1,6 +1,7 @@
 ghost use Rattle.std.specs.Prelude.{◌≡◌, ◌+◌, ◌^◌, ◌<◌, ◌≤◌, IfSome};
 ghost use Rattle.trace_log.specs.Requests.{first_tally, tally_after, asks};
 ghost use Rattle.trace_log.specs.RequestLaws.{Begins, GoesOn, GoesOnByOne, HasFronts, IsARun, HasNoMarks, IsEachWithoutMarks, CountsWork, CountsCuts, RequestsAtMultiples, AtMostTwo, MarksFollowCuts, CutsAreCuts, CutsDiffer, CutStays, CutIsMade, NoChannels, LogGrows};
+ghost use Rattle.trace_log.specs.RequestSteps.{MarkStays, StandsAlone, Arrives, ArrivesMeanwhile, WorksMeanwhile, Lapses, IsRefusedForKind, IsRefused, IsCutNow, PassesDrained, PassesRefilled, Completes, FailsAfterCut};
 
 use sys_abi::Record;
 
@@ -89,4 +90,21 @@ pub fn request_laws()
     ensures made { CutIsMade }
     ensures no_channels { NoChannels }
     ensures log { LogGrows }
+{}
+
+/// How a request goes on, record by record, for proofs about traces. It does nothing.
+pub fn request_steps()
+    ensures stays { MarkStays }
+    ensures alone { StandsAlone }
+    ensures arrives { Arrives }
+    ensures arrives_meanwhile { ArrivesMeanwhile }
+    ensures works_meanwhile { WorksMeanwhile }
+    ensures lapses { Lapses }
+    ensures refused_for_kind { IsRefusedForKind }
+    ensures refused { IsRefused }
+    ensures cut { IsCutNow }
+    ensures drained { PassesDrained }
+    ensures refilled { PassesRefilled }
+    ensures completes { Completes }
+    ensures fails { FailsAfterCut }
 {}
