@@ -1,5 +1,10 @@
 pub mod OneRecord
-pub mod Pieces
 pub mod Bytes
 pub mod Lists
 pub mod LogLines
+pub mod RequestFronts
+pub mod RequestMarks
+pub mod RequestCounts
+pub mod RequestCuts
+pub mod RequestPhases
+pub mod RequestSteps

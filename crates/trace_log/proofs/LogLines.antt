@@ -10,6 +10,7 @@ use Rattle.sys_abi.specs.declared.record.Kind.{Kind}
 use Rattle.sys_abi.specs.declared.identity.VPid.{VPid}
 use Rattle.sys_abi.specs.declared.identity.Fd.{Fd}
 use Rattle.trace_log.specs.declared.log_lines.Progress.{Progress}
+use Rattle.trace_log.specs.RequestLaws.{LogGrows}
 use Rattle.trace_log.specs.LogText.{line_of, kind_text, after, after_all, at_start, lines_from, log_text}
 
 -- nine pieces in a row
@@ -45,6 +46,9 @@ lines_from-push so_far [] r = append-nil (line_of so_far r)
 lines_from-push so_far (q ∷ rs) r =
     ap (λ text. line_of so_far q ++ text) (lines_from-push (after so_far q) rs r)
     ∙ sym (append_assoc (line_of so_far q) (lines_from (after so_far q) rs) (line_of (after_all (after so_far q) rs) r))
+
+pub log_grows : LogGrows
+log_grows trace r = lines_from-push at_start trace r
 
 -- how far a log has come after the records, and its text
 pub record HasCome (records : List Record) (so_far : Progress) (text : List ℕ) : Type 0 where

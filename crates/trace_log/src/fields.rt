@@ -1,8 +1,7 @@
-ghost use Rattle.std.specs.Prelude.{◌≡◌, ◌++◌, IsTrue, IfSome, IfNone, OnOk, OnErr};
+ghost use Rattle.std.specs.Prelude.{◌≡◌, ◌++◌, IsTrue, IfSome, IfNone};
 ghost use Rattle.trace_log.specs.Spelling.{bare, of_thread, of_bytes, of_generation, bytes_of, fields_of, is_spellable, kind_number, IsInRange, IsSmall, IsSmallDir, HasSpelling};
 ghost use Rattle.trace_log.specs.Candidate.{candidate, refusal_in, dir_in, generation_in};
 
-use std::alloc::AllocError;
 use sys_abi::{Cause, ConnId, Dir, Fd, Kind, Record, Signal, Tid, VPid};
 
 /// The fields of a record in a trace's file, in their order there. Fields that a kind of record
@@ -239,17 +238,18 @@ impl Fields {
         u64::from(self.b) + (u64::from(self.n) << 32)
     }
 
-    /// Puts the bytes of the fields at the end.
-    pub fn write(self, bytes: &mut Vec<u8>) -> Result<(), AllocError>
-        ensures { OnOk result (bytes.new.items ≡ bytes.old.items ++ bytes_of self) }
+    /// The bytes of the fields.
+    pub fn bytes(self) -> [u8; 16]
+        ensures { result ≡ bytes_of self }
     {
-        bytes.push(self.kind)?;
-        bytes.push(self.x)?;
-        bytes.extend_from_slice(&self.fd.to_le_bytes())?;
-        bytes.extend_from_slice(&self.a.to_le_bytes())?;
-        bytes.extend_from_slice(&self.b.to_le_bytes())?;
-        bytes.extend_from_slice(&self.n.to_le_bytes())?;
-        Ok(())
+        let fd = self.fd.to_le_bytes();
+        let a = self.a.to_le_bytes();
+        let b = self.b.to_le_bytes();
+        let n = self.n.to_le_bytes();
+        [
+            self.kind, self.x, fd[0], fd[1], a[0], a[1], a[2], a[3], b[0], b[1], b[2], b[3], n[0],
+            n[1], n[2], n[3],
+        ]
     }
 
     /// The fields that have these bytes.

@@ -1,11 +1,58 @@
-use crate::{Trace, TraceFault, log_text};
+use crate::{Schedule, Trace, TraceFault, log_text};
 use std::test::Fail;
-use sys_abi::{Cause, ConnId, Dir, Fd, Kind, Record, Tid, VPid};
+use sys_abi::{Cause, ConnId, Dir, Fd, Kind, Record, Signal, Tid, VPid};
 
 // A `User` record of process and thread 40000 with 5 instructions.
 const STEPS: [u8; 16] = [1, 0, 0, 0, 0x40, 0x9C, 0, 0, 0x40, 0x9C, 0, 0, 5, 0, 0, 0];
 
 const PROCESS: VPid = VPid(40000);
+
+// Process 40001 is 0x9C41, thread 40002 is 0x9C42.
+#[rattlefmt::skip]
+const EACH_KIND: [[u8; 16]; 12] = [
+    [2, 0, 0, 0, 0x41, 0x9C, 0, 0, 0x42, 0x9C, 0, 0, 0, 0, 0, 0],
+    [3, 31, 0, 0, 0x41, 0x9C, 0, 0, 0x42, 0x9C, 0, 0, 0, 0, 0, 0],
+    [4, 1, 0, 0, 0x41, 0x9C, 0, 0, 7, 0, 0, 0, 0, 0, 1, 0],
+    [5, 0, 0, 0, 0, 0, 0, 0, 2, 0, 0, 0, 1, 0, 0, 0],
+    [6, 1, 0, 0, 0x41, 0x9C, 0, 0, 7, 0, 0, 0, 3, 0, 0, 0],
+    [7, 1, 0, 0, 0x41, 0x9C, 0, 0, 7, 0, 0, 0, 3, 0, 0, 0],
+    [8, 0, 0, 0, 0, 0, 0, 0, 2, 1, 0, 0, 0, 0, 0, 0],
+    [9, 1, 255, 0, 0x41, 0x9C, 0, 0, 5, 0, 0, 0, 0, 0, 0, 0],
+    [9, 1, 3, 0, 0x41, 0x9C, 0, 0, 6, 0, 0, 0, 0, 0, 0, 0],
+    [9, 2, 0, 0, 0, 0, 0, 0, 0, 0, 0, 0, 0, 0, 0, 0],
+    [9, 3, 0, 0, 0, 0, 0, 0, 0, 0, 0, 0, 0, 0, 0, 0],
+    [10, 0, 0, 0, 0, 0, 0, 0, 0, 0, 0, 0, 0, 0, 0, 0],
+];
+
+// Each differs in one field from a record's bytes.
+#[rattlefmt::skip]
+const DAMAGED: [[u8; 16]; 20] = [
+    // no such kind
+    [0, 0, 0, 0, 0, 0, 0, 0, 0, 0, 0, 0, 0, 0, 0, 0],
+    [11, 0, 0, 0, 0, 0, 0, 0, 0, 0, 0, 0, 0, 0, 0, 0],
+    // a field that the kind doesn't use
+    [1, 1, 0, 0, 0x40, 0x9C, 0, 0, 0x40, 0x9C, 0, 0, 5, 0, 0, 0],
+    [1, 0, 1, 0, 0x40, 0x9C, 0, 0, 0x40, 0x9C, 0, 0, 5, 0, 0, 0],
+    [2, 0, 0, 0, 0x40, 0x9C, 0, 0, 0x40, 0x9C, 0, 0, 1, 0, 0, 0],
+    [3, 4, 0, 0, 0x40, 0x9C, 0, 0, 0x40, 0x9C, 0, 0, 0, 0, 0, 1],
+    [4, 0, 0, 1, 0x40, 0x9C, 0, 0, 1, 0, 0, 0, 1, 0, 0, 0],
+    [5, 0, 0, 0, 1, 0, 0, 0, 1, 0, 0, 0, 0, 0, 0, 0],
+    [8, 1, 0, 0, 0, 0, 0, 0, 1, 0, 0, 0, 0, 0, 0, 0],
+    [9, 1, 3, 0, 0x40, 0x9C, 0, 0, 5, 0, 0, 0, 1, 0, 0, 0],
+    [9, 2, 3, 0, 0, 0, 0, 0, 0, 0, 0, 0, 0, 0, 0, 0],
+    [9, 3, 0, 0, 1, 0, 0, 0, 0, 0, 0, 0, 0, 0, 0, 0],
+    [10, 0, 0, 0, 0, 0, 0, 0, 0, 0, 0, 0, 0, 0, 0, 1],
+    // no signal
+    [3, 0, 0, 0, 0x40, 0x9C, 0, 0, 0x40, 0x9C, 0, 0, 0, 0, 0, 0],
+    [3, 32, 0, 0, 0x40, 0x9C, 0, 0, 0x40, 0x9C, 0, 0, 0, 0, 0, 0],
+    // no cause
+    [9, 0, 0, 0, 0, 0, 0, 0, 0, 0, 0, 0, 0, 0, 0, 0],
+    [9, 4, 0, 0, 0, 0, 0, 0, 0, 0, 0, 0, 0, 0, 0, 0],
+    // no unsupported kind
+    [9, 1, 3, 0, 0x40, 0x9C, 0, 0, 4, 0, 0, 0, 0, 0, 0, 0],
+    [9, 1, 3, 0, 0x40, 0x9C, 0, 0, 7, 0, 0, 0, 0, 0, 0, 0],
+    [9, 1, 3, 0, 0x40, 0x9C, 0, 0, 5, 1, 0, 0, 0, 0, 0, 0],
+];
 
 #[test]
 fn file_of_a_trace(rt: HostRuntime) -> Result<(), Fail> {
@@ -30,6 +77,85 @@ fn file_of_a_trace(rt: HostRuntime) -> Result<(), Fail> {
     longer.extend_from_slice(&STEPS[..15])?;
     let cut_off = Trace::from_bytes(alloc, longer.as_slice()).err();
     assert_eq!(rt; cut_off, Some(TraceFault::Bad(16)));
+    Ok(())
+}
+
+#[test]
+fn bytes_of_each_kind(rt: HostRuntime) -> Result<(), Fail> {
+    let alloc = rt.alloc();
+    let p = VPid(40001);
+    let dir = Dir {
+        conn: ConnId { pid: p, num: 7 },
+        side: 1,
+    };
+    let mut trace = Trace::new(alloc);
+    trace.reserve(12)?;
+    trace.append(Record::Call { p, t: Tid(40002) });
+    trace.append(Record::Deliver {
+        p,
+        t: Tid(40002),
+        s: Signal(31),
+    });
+    trace.append(Record::Arrive { dir, n: 65536 });
+    trace.append(Record::Cut {
+        generation: 0x1_0000_0002,
+    });
+    trace.append(Record::Drained { dir, n: 3 });
+    trace.append(Record::Refilled { dir, n: 3 });
+    trace.append(Record::Complete { generation: 258 });
+    trace.append(Record::Refused {
+        cause: Cause::Unsupported {
+            p,
+            fd: Fd(255),
+            kind: Kind::Datagram,
+        },
+    });
+    trace.append(Record::Refused {
+        cause: Cause::Unsupported {
+            p,
+            fd: Fd(3),
+            kind: Kind::Counter,
+        },
+    });
+    trace.append(Record::Refused {
+        cause: Cause::DiskFault,
+    });
+    trace.append(Record::Refused {
+        cause: Cause::Memory,
+    });
+    trace.append(Record::Lapsed);
+    let bytes = trace.to_bytes(alloc)?;
+    assert_eq!(rt; bytes.as_slice(), EACH_KIND.as_flattened());
+    let read = Trace::from_bytes(alloc, EACH_KIND.as_flattened())?;
+    assert_eq!(rt; read.as_slice(), trace.as_slice());
+    Ok(())
+}
+
+#[test]
+fn damaged_records_are_bad_at_their_place(rt: HostRuntime) -> Result<(), Fail> {
+    let alloc = rt.alloc();
+    for damaged in DAMAGED {
+        let bytes = [STEPS, damaged, STEPS];
+        let fault = Trace::from_bytes(alloc, bytes.as_flattened()).err();
+        assert_eq!(rt; fault, Some(TraceFault::Bad(16)), "at {damaged:?}");
+    }
+    Ok(())
+}
+
+#[test]
+fn a_rest_is_bad_at_its_place(rt: HostRuntime) -> Result<(), Fail> {
+    let alloc = rt.alloc();
+    let bytes = [STEPS, STEPS, STEPS];
+    for length in 0..34_usize {
+        let fault = Trace::from_bytes(alloc, &bytes.as_flattened()[..length]).err();
+        let want = match length {
+            0 | 16 | 32 => None,
+            1..=15 => Some(TraceFault::Bad(0)),
+            17..=31 => Some(TraceFault::Bad(16)),
+            _ => Some(TraceFault::Bad(32)),
+        };
+        assert_eq!(rt; fault, want, "at {length}");
+    }
     Ok(())
 }
 
@@ -79,4 +205,35 @@ checkpoint 7 lapsed
 ";
     assert_eq!(rt; text.as_slice(), lines.as_bytes());
     Ok(())
+}
+
+#[test]
+fn every_second_work_record_asks(rt: HostRuntime) {
+    let schedule = Schedule {
+        every: Some(2),
+        opening: 7,
+    };
+    let mut tally = schedule.first_tally();
+    let call = Record::Call {
+        p: PROCESS,
+        t: Tid(40000),
+    };
+    tally.pass(&call);
+    assert!(rt; !schedule.asks(tally));
+    tally.pass(&call);
+    assert!(rt; schedule.asks(tally));
+    tally.pass(&Record::Cut { generation: 8 });
+    assert_eq!(rt; tally.greatest, 8);
+    assert!(rt; tally.is_unfinished);
+    tally.pass(&Record::Complete { generation: 8 });
+    assert!(rt; !tally.is_unfinished);
+    assert_eq!(rt; tally.work, 2);
+
+    let spent = Schedule {
+        every: Some(1),
+        opening: u64::MAX - 1,
+    };
+    let mut tally = spent.first_tally();
+    tally.pass(&call);
+    assert!(rt; !spent.asks(tally));
 }

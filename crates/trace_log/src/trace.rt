@@ -152,7 +152,7 @@ fn spell(alloc: Global, records: &[Record]) -> Result<Vec<u8>, AllocError>
 {
     let mut bytes = Vec::with_capacity(alloc, records.len().saturating_mul(16))?;
     for event in records {
-        Fields::of(event).write(&mut bytes)?;
+        bytes.extend_from_slice(&Fields::of(event).bytes())?;
     }
     Ok(bytes)
 }
