@@ -16,8 +16,8 @@ use Rattle.image_store.specs.declared.store_fault.StoreFault.TheVariants.{DiskFa
 pub record HasCause {A E : Type 0} (result : Result A E) (fault : E) (old new : ℕ) : Type 0 where
   pub later : old ≤ new
   pub failed : IsFaultOf result fault old new
-  -- it is a count of 64 bits
-  pub small : new < 2 ^ 64
+  -- a count of 64 bits stays one
+  pub small : old < 2 ^ 64 → new < 2 ^ 64
 
 abbrev pub IsOutside : StoreFault → Type 0
 IsOutside DiskFault = Unit {0}

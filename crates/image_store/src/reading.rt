@@ -7,7 +7,7 @@ ghost use Rattle.image_codec.specs.declared.manifest.Manifest.{Manifest};
 ghost use Rattle.image_store.specs.StandIn.{SpellsManifest, DamagedManifest};
 ghost use Rattle.image_store.specs.Slots.{manifest_of, generation_of};
 ghost use Rattle.image_store.specs.FoundSets.{file_at, files_from, set_of, IsSet};
-ghost use Rattle.image_store.specs.SetDamages.{damage_at, damage_from, IsDamagedAt};
+ghost use Rattle.image_store.specs.SetDamages.{damage_at, damage_from, IsFirstDamage};
 ghost use Rattle.image_store.specs.StoreCrashes.{ChangesNothing};
 ghost use Rattle.image_store.specs.StoreCauses.{HasCause, IsOutside, IsOfReading, IsOrOutside, IsManifestOrOutside, TellsDamage};
 
@@ -159,7 +159,7 @@ pub fn read_set<F: Folder>(
 
     ensures found { IfOk result (λ set. ForSome (F.reads disk.old) (λ files. IsSet (set_of files info) info.generation set.files)) }
     ensures only { ForSome (F.reads disk.old) (λ files. (g : ℕ) (bytes : List (List ℕ)) → IsSet (set_of files info) g bytes → IsOrOutside result bytes) }
-    ensures damaged { (d : Place) → result ≡ Err (StoreFault.Damaged d) → ForSome (F.reads disk.old) (λ files. IsDamagedAt (set_of files info) d) }
+    ensures damaged { (d : Place) → result ≡ Err (StoreFault.Damaged d) → ForSome (F.reads disk.old) (λ files. IsFirstDamage (set_of files info) d) }
     ensures read { IfErr result IsOfReading }
     ensures nothing { ChangesNothing F.reads F.moment F.may_leave F.left_since disk.old disk.new }
     ensures cause { HasCause result StoreFault.DiskFault (F.faults disk.old) (F.faults disk.new) }

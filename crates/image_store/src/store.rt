@@ -60,6 +60,7 @@ impl Store {
         ensures refused { IfErr result IsOutside }
 
         // A crash at any moment leaves only what one before the call could leave.
+        ensures crash { LeavesOnly F.moment F.left_since disk.old disk.new (F.may_leave disk.old) }
         ensures nothing { ChangesNothing F.reads F.moment F.may_leave F.left_since disk.old disk.new }
         ensures cause { HasCause result StoreFault.DiskFault (F.faults disk.old) (F.faults disk.new) }
     {
@@ -162,6 +163,7 @@ impl Store {
             → ForSome (F.reads disk.old) (λ files. HasDamage (last_set files) d) }
 
         // The folder stays as it is, and the store goes on to fit it.
+        ensures crash { LeavesOnly F.moment F.left_since disk.old disk.new (F.may_leave disk.old) }
         ensures fits { FitsFolder self.now (F.reads disk.new) (F.may_leave disk.new) }
         ensures nothing { ChangesNothing F.reads F.moment F.may_leave F.left_since disk.old disk.new }
         ensures cause { HasCause result StoreFault.DiskFault (F.faults disk.old) (F.faults disk.new) }
