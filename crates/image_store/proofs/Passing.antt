@@ -6,7 +6,7 @@
 use Rattle.std.proofs.Common.{◌≡◌, ◌⊎◌, ℕ, ◌≤◌, inl, inr, refl, sym, ap, subst, ◌∙◌, arith}
 use Rattle.std.specs.Prelude.{Option, Some, None, option_map, is_some, Result, Ok, Err, OnOk}
 use Rattle.set_disk.specs.Files.{Files}
-use Rattle.set_disk.specs.Crash.{AfterStep, Same, Takes}
+use Rattle.set_disk.specs.Crash.{AfterStep, IsSettled, Only, Same, Takes}
 use Rattle.set_disk.specs.Moments.{Passes, LeavesOnly}
 use Rattle.set_disk.specs.declared.disk_fault.DiskFault.{DiskFault}
 use Rattle.set_disk.specs.declared.disk_fault.DiskFault.TheVariants.{Failed, Memory}
@@ -116,3 +116,16 @@ told_still old new before same is = at_new new (same ∙ ap is_some is)
     at_new : (new : Option Files) → is_some new ≡ is_some (Some before) → (files : Files) × (new ≡ Some files)
     at_new None e = absurd (cc)
     at_new (Some files) e = (files, refl)
+
+-- one change of what reads give after another
+pub reads_then : (a b c : Option Files) (f g h : Files → Files) → b ≡ option_map f a → c ≡ option_map g b → ((files : Files) → a ≡ Some files → g (f files) ≡ h files) → c ≡ option_map h a
+reads_then None b c f g h first second same = second ∙ ap (option_map g) first
+reads_then (Some files) b c f g h first second same = second ∙ ap (option_map g) first ∙ ap Some (same files refl)
+
+pub reads_ok : {A : Type 0} (result : Result A DiskFault) (a b c : Option Files) (f g h : Files → Files) → b ≡ option_map f a → OnOk result (c ≡ option_map g b) → ((files : Files) → a ≡ Some files → g (f files) ≡ h files) → OnOk result (c ≡ option_map h a)
+reads_ok (Ok value) a b c f g h first second same = reads_then a b c f g h first second same
+reads_ok (Err fault) a b c f g h first second same = tt
+
+-- what a settled folder leaves, where it tells its content
+pub settled_at : (told : Option Files) (images : Files → Type 0) (files : Files) → IsSettled told images → told ≡ Some files → Only files images
+settled_at told images files settled is = let P : Option Files → Type 0 = λ o. IsSettled o images in subst P is settled

@@ -3,7 +3,7 @@ ghost use Rattle.set_disk.specs.Files.{with_write};
 ghost use Rattle.set_disk.specs.Crash.{IsSettled, Torn};
 ghost use Rattle.set_disk.specs.Moments.{Passes};
 ghost use Rattle.image_store.specs.Slots.{manifest_name};
-ghost use Rattle.image_store.specs.SlotWrites.{with_closed};
+ghost use Rattle.image_store.specs.SlotWrites.{closing_step, with_closed};
 ghost use Rattle.image_store.specs.StoreCrashes.{SameTold};
 ghost use Rattle.image_store.specs.StoreCauses.{HasCause};
 
@@ -35,11 +35,12 @@ pub fn close_gate<F: Folder>(disk: &mut F, slot: u32, gate: Option<u8>) -> Resul
     ensures closed { OnOk result (F.reads disk.new ≡ option_map (with_closed slot gate) (F.reads disk.old)) }
     ensures durable { OnOk result (IsSettled (F.reads disk.new) (F.may_leave disk.new)) }
     ensures told { SameTold (F.reads disk.old) (F.reads disk.new) }
-    ensures crash { Passes F.moment F.may_leave F.left_since (Torn (manifest_name slot) 0 1) disk.old disk.new }
+    ensures crash { Passes F.moment F.may_leave F.left_since (closing_step slot gate) disk.old disk.new }
     ensures cause { HasCause result DiskFault.Failed (F.faults disk.old) (F.faults disk.new) }
 {
     match gate {
-        None | Some(OPEN) => write_gate(disk, slot, CLOSED),
+        None => write_gate(disk, slot, CLOSED),
+        Some(OPEN) => write_gate(disk, slot, CLOSED),
         Some(_) => Ok(()),
     }
 }

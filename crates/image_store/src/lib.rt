@@ -15,6 +15,7 @@
 
 mod gate;
 mod head;
+mod probe;
 mod reading;
 pub mod set_info;
 mod stand_in;

@@ -10,12 +10,12 @@ ghost use Rattle.image_store.specs.StoreCrashes.{ChangesNothing, OldOrNew, SameT
 ghost use Rattle.image_store.specs.SetDamages.{HasDamage};
 ghost use Rattle.image_store.specs.StoreCauses.{HasCause, IsOutside, IsOrOutside};
 
-use crate::gate::{OPEN, close_gate, write_gate};
+use crate::gate::OPEN;
 use crate::head::read_head;
 use crate::reading::read_set;
 use crate::set_info::SetInfo;
 use crate::store_fault::StoreFault;
-use crate::writing::{fill_slot, manifest_bytes};
+use crate::writing::{manifest_bytes, write_set};
 use image_codec::SetBytes;
 use set_disk::Folder;
 use std::alloc::Global;
@@ -139,9 +139,7 @@ impl Store {
         let slot = slot_to_write(self.last);
         let images = set.files.as_slice();
         let manifest = manifest_bytes(alloc, generation, images)?;
-        close_gate(disk, slot, self.gate(slot))?;
-        fill_slot(disk, slot, images, &manifest)?;
-        write_gate(disk, slot, OPEN)?;
+        write_set(disk, slot, self.gate(slot), images, &manifest)?;
         Ok((self.with_set(slot, generation), generation))
     }
 

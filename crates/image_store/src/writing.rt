@@ -1,14 +1,16 @@
-ghost use Rattle.std.specs.Prelude.{◌≡◌, ◌+◌, ◌*◌, ◌<◌, ◌≤◌, ◌^◌, length, map, OnOk, option_map, IfOk};
+ghost use Rattle.std.specs.Prelude.{◌≡◌, ◌+◌, ◌*◌, ◌<◌, ◌≤◌, ◌^◌, length, map, slice_index, OnOk, option_map, IfOk};
 ghost use Rattle.std.specs.Option.{ForSome};
 ghost use Rattle.std.specs.FinMap as files_by_name;
 ghost use Rattle.set_disk.specs.Crash.{IsSettled};
-ghost use Rattle.set_disk.specs.Moments.{Passes};
-ghost use Rattle.image_store.specs.Slots.{manifest_of};
+ghost use Rattle.set_disk.specs.Moments.{LeavesOnly, Passes};
+ghost use Rattle.image_store.specs.Slots.{gate_of, manifest_of};
 ghost use Rattle.image_store.specs.SlotWrites.{with_images, with_manifest, OnlyFile, KeepsManifest, KeepsGate};
+ghost use Rattle.image_store.specs.SlotImages.{IsInPut, IsPut};
 ghost use Rattle.image_store.specs.StandIn.{SpellsManifest};
 ghost use Rattle.image_store.specs.StoreCrashes.{SameTold};
 ghost use Rattle.image_store.specs.StoreCauses.{HasCause};
 
+use crate::gate::{OPEN, close_gate, write_gate};
 use crate::stand_in::write_manifest;
 use image_codec::Manifest;
 use set_disk::{DiskFault, FileName, Folder};
@@ -84,7 +86,7 @@ fn write_body<F: Folder>(disk: &mut F, slot: u32, manifest: &[u8]) -> Result<(),
 }
 
 /// Writes a set into a slot behind its gate, and makes it durable.
-pub fn fill_slot<F: Folder>(
+fn fill_slot<F: Folder>(
     disk: &mut F,
     slot: u32,
     images: &[ListOf<u8>],
@@ -104,4 +106,31 @@ pub fn fill_slot<F: Folder>(
     write_images(disk, slot, images)?;
     write_body(disk, slot, manifest)?;
     disk.sync()
+}
+
+/// Writes a set into a slot whose manifest has this gate, if it has one: closes the gate, fills the
+/// slot and opens it, with a sync after each.
+pub fn write_set<F: Folder>(
+    disk: &mut F,
+    slot: u32,
+    gate: Option<u8>,
+    images: &[ListOf<u8>],
+    manifest: &[u8],
+) -> Result<(), DiskFault>
+    requires settled { IsSettled (F.reads disk.old) (F.may_leave disk.old) }
+    requires gate { ForSome (F.reads disk.old) (λ files. gate_of (manifest_of files slot) ≡ gate) }
+    requires few { length images.now ≤ 129 }
+    requires some { 0 < length manifest.now }
+    requires open { slice_index manifest.now 0 ≡ 1 }
+
+    ensures written { OnOk result (ForSome (F.reads disk.old) (λ files. ForSome (F.reads disk.new) (IsPut slot files manifest.now images.now))) }
+    ensures durable { OnOk result (IsSettled (F.reads disk.new) (F.may_leave disk.new)) }
+    ensures told { SameTold (F.reads disk.old) (F.reads disk.new) }
+    ensures crash { ForSome (F.reads disk.old) (λ files.
+        LeavesOnly F.moment F.left_since disk.old disk.new (IsInPut slot files manifest.now images.now)) }
+    ensures cause { HasCause result DiskFault.Failed (F.faults disk.old) (F.faults disk.new) }
+{
+    close_gate(disk, slot, gate)?;
+    fill_slot(disk, slot, images, manifest)?;
+    write_gate(disk, slot, OPEN)
 }
