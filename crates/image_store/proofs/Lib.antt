@@ -6,3 +6,5 @@ mod SlotSteps
 mod SlotFiles
 mod PutImages
 mod PutStretches
+mod Openings
+mod Puts

@@ -117,3 +117,17 @@ module _ (text : List ℕ) (m : Manifest) (spelled : SpellsManifest text m) wher
   unfolding count_of
   spelled_count =
       ap (λ bytes. from_le_bytes w32 bytes) (ap (take 4) behind_generation ∙ take_at (bytes_of n32 (length m.lengths)) rest 4 count_length) ∙ read_count
+
+-- the generation from its bytes
+generation_byte : (manifest : List ℕ) (k : ℕ) → k < 8 → slice_index manifest (8 + k) ≡ slice_index (take 8 (drop 8 manifest)) k
+generation_byte manifest k lt = sym (get_or-take 8 (drop 8 manifest) k 0 lt ∙ get_or-drop 8 manifest k 0)
+
+pub generation_bytes : (m : List ℕ) → from_le_bytes w64 (slice_index m 8 ∷ slice_index m 9 ∷ slice_index m 10 ∷ slice_index m 11 ∷ slice_index m 12 ∷ slice_index m 13 ∷ slice_index m 14 ∷ slice_index m 15 ∷ []) ≡ generation_of m
+unfolding generation_of
+generation_bytes m =
+    let at : (k : ℕ) → k < 8 → slice_index m (8 + k) ≡ slice_index (take 8 (drop 8 m)) k = generation_byte m in
+    λ i. from_le_bytes w64 (at 0 (omega arith) i ∷ at 1 (omega arith) i ∷ at 2 (omega arith) i ∷ at 3 (omega arith) i ∷ at 4 (omega arith) i ∷ at 5 (omega arith) i ∷ at 6 (omega arith) i ∷ at 7 (omega arith) i ∷ [])
+
+-- what a read of so many bytes places at the front of a buffer
+pub read_take : (n size : ℕ) (buf old bytes : List ℕ) → n ≡ length (take size bytes) → buf ≡ take size bytes ++ drop n old → take n buf ≡ take size bytes
+read_take n size buf old bytes count is = ap (take n) is ∙ take_at (take size bytes) (drop n old) n (sym count)

@@ -4,7 +4,7 @@
 --     unchanged          a stretch that changes nothing leaves only what could be left before
 --     told_same, told_after      the folder goes on to tell its content
 use Rattle.std.proofs.Common.{◌≡◌, ◌⊎◌, ℕ, ◌≤◌, inl, inr, refl, sym, ap, subst, ◌∙◌, arith}
-use Rattle.std.specs.Prelude.{Option, Some, None, option_map, is_some, Result, Ok, Err, OnOk}
+use Rattle.std.specs.Prelude.{Option, Some, None, option_map, is_some, IfSome, Result, Ok, Err, OnOk, OnErr}
 use Rattle.set_disk.specs.Files.{Files}
 use Rattle.set_disk.specs.Crash.{AfterStep, IsSettled, Only, Same, Takes}
 use Rattle.set_disk.specs.Moments.{Passes, LeavesOnly}
@@ -129,3 +129,14 @@ reads_ok (Err fault) a b c f g h first second same = tt
 -- what a settled folder leaves, where it tells its content
 pub settled_at : (told : Option Files) (images : Files → Type 0) (files : Files) → IsSettled told images → told ≡ Some files → Only files images
 settled_at told images files settled is = let P : Option Files → Type 0 = λ o. IsSettled o images in subst P is settled
+
+pub told_at : (P : Files → Type 0) (told : Option Files) (files : Files) → IfSome told P → told ≡ Some files → P files
+told_at P told files holds is = let Q : Option Files → Type 0 = λ o. IfSome o P in subst Q is holds
+
+-- a settled folder stays settled while nothing changes
+pub settled_same : {D : Type 0} {moment : D → ℕ} {may_leave : D → Files → Type 0} {left_since : D → ℕ → Files → Type 0} {a b : D} (files : Files) → Passes moment may_leave left_since Same a b → Only files (may_leave a) → Only files (may_leave b)
+settled_same files stretch only = λ image left. let it = stretch.now image left in it.2 ∙ only it.0 it.1
+
+pub on_err : {A E P : Type 0} (result : Result A E) → P → OnErr result P
+on_err (Ok value) p = tt
+on_err (Err fault) p = p

@@ -1,6 +1,6 @@
 -- What a store knows of its folder.
 --     Known                         the gate byte of each slot's manifest as the store found or left it, if it has one; the set that counts; the floor
---     next_generation store         one more than the greater of the floor and the generation of the set that counts
+--     generation_after floor last, next_generation store      one more than the greater of the floor and the generation of the set that counts
 --     gate_known store slot         the gate byte of a slot
 --     with_set store slot g         what it knows once a set of this generation was put into the slot
 --     within_floor floor info       the set, unless there is a floor and its generation is greater
@@ -20,8 +20,11 @@ pub record Known : Type 0 where
   -- 0 is no floor
   pub floor : ℕ
 
-unfoldable pub next_generation : Known → ℕ
-next_generation store = suc (max store.floor (option_map_or (λ info. info.generation) store.last 0))
+unfoldable pub generation_after : ℕ → Option SetInfo → ℕ
+generation_after floor last = suc (max floor (option_map_or (λ info. info.generation) last 0))
+
+abbrev pub next_generation : Known → ℕ
+next_generation store = generation_after store.floor store.last
 
 abbrev pub gate_known : Known → ℕ → Option ℕ
 gate_known store slot = if slot == 0 then store.first else store.second

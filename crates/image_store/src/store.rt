@@ -5,7 +5,7 @@ ghost use Rattle.set_disk.specs.Moments.{LeavesOnly};
 ghost use Rattle.image_codec.specs.declared.damage.Damage.{Damage as Place};
 ghost use Rattle.image_store.specs.Slots.{later, slot_to_write};
 ghost use Rattle.image_store.specs.FoundSets.{last_set, HasSet};
-ghost use Rattle.image_store.specs.StoreStates.{FitsFolder, NoneAbove, next_generation, within_floor, gate_known, with_set};
+ghost use Rattle.image_store.specs.StoreStates.{FitsFolder, NoneAbove, generation_after, next_generation, within_floor, gate_known, with_set};
 ghost use Rattle.image_store.specs.StoreCrashes.{ChangesNothing, OldOrNew, SameTold};
 ghost use Rattle.image_store.specs.SetDamages.{HasDamage};
 ghost use Rattle.image_store.specs.StoreCauses.{HasCause, IsOutside, IsOrOutside};
@@ -91,11 +91,7 @@ impl Store {
         requires { next_generation self.now < 2 ^ 64 - 1 }
         ensures { result ≡ next_generation self.now }
     {
-        let last = match self.last {
-            None => 0,
-            Some(info) => info.generation,
-        };
-        self.floor.max(last) + 1
+        generation_after(self.floor, self.last)
     }
 
     /// Writes a set into the slot that does not count, with the next generation, so that a crash at
@@ -199,6 +195,18 @@ impl Store {
                 ..self
             }
         }
+    }
+}
+
+/// One more than the greater of the floor and the generation of the set.
+#[tactic(auto, unfolding(crate::specs::StoreStates::generation_after))]
+fn generation_after(floor: u64, last: Option<SetInfo>) -> u64
+    requires { generation_after floor last < 2 ^ 64 - 1 }
+    ensures { result ≡ generation_after floor last }
+{
+    match last {
+        Some(info) if info.generation > floor => info.generation + 1,
+        _ => floor + 1,
     }
 }
 
