@@ -3,6 +3,7 @@
 #![tactic(auto)]
 
 pub mod damage;
+mod fields;
 pub mod manifest;
 pub mod process_image;
 pub mod set_bytes;
