@@ -14,7 +14,7 @@ use Rattle.image_store.specs.Slots.{manifest_name, manifest_of, count_of, info_o
 use Rattle.image_store.specs.SlotImages.{KeepsOthers, NoneOrKept, IsBeforePut, IsPut, IsInPut}
 use Rattle.image_store.specs.FoundSets.{FoundSet, file_at, files_from, set_of, last_set, IsSet, HasSet}
 use Rattle.image_codec.specs.declared.manifest.Manifest.{Manifest}
-use Rattle.image_store.specs.StandIn.{SpellsManifest}
+use Rattle.image_codec.specs.Manifests.{SpellsManifest}
 use Rattle.image_store.specs.StoreCrashes.{OldOrNew}
 use Rattle.image_store.specs.declared.set_info.SetInfo.{SetInfo}
 use Rattle.image_store.proofs.ManifestFronts.{info_some, info_open, spelled_gate, spelled_length, spelled_generation, spelled_count}

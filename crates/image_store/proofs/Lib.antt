@@ -8,3 +8,6 @@ mod PutImages
 mod PutStretches
 mod Openings
 mod Puts
+mod Readings
+mod SetReadings
+mod Gets

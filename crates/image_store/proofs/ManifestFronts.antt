@@ -9,7 +9,8 @@ use Rattle.std.proofs.lemmas.Bool.Decides.{nat_tests}
 use Rattle.std.proofs.lemmas.List.{take_at, drop_at, get_or-take, get_or-drop, take-take, drop-take}
 use Rattle.std.proofs.lemmas.Nat.{from_le_bytes-to_le_bytes_4, from_le_bytes-to_le_bytes_8}
 use Rattle.image_codec.specs.declared.manifest.Manifest.{Manifest}
-use Rattle.image_store.specs.StandIn.{SpellsManifest, IsManifest, is_file_count, manifest_text, bytes_of, n8, n32, n64, MANIFEST_MAGIC, COMPLETE}
+use Rattle.image_codec.specs.Format.{bytes_of, n8, n32, n64}
+use Rattle.image_codec.specs.Manifests.{SpellsManifest, manifest_text, MANIFEST_MAGIC, COMPLETE}
 use Rattle.image_store.specs.Slots.{is_complete, generation_of, count_of, info_of}
 use Rattle.image_store.specs.declared.set_info.SetInfo.{SetInfo}
 

@@ -11,7 +11,7 @@ use Rattle.std.proofs.lemmas.Option.{slice_get-get_or}
 use Rattle.set_disk.specs.Files.{Files}
 use Rattle.set_disk.specs.Crash.{Only}
 use Rattle.image_codec.specs.declared.manifest.Manifest.{Manifest}
-use Rattle.image_store.specs.StandIn.{SpellsManifest}
+use Rattle.image_codec.specs.Manifests.{SpellsManifest}
 use Rattle.image_store.specs.Slots.{gate_of, manifest_of, last, slot_to_write}
 use Rattle.image_store.specs.FoundSets.{FoundSet, last_set, HasSet}
 use Rattle.image_store.specs.StoreStates.{Known, FitsFiles, generation_after, next_generation, gate_known, with_set}

@@ -8,7 +8,7 @@ use Rattle.std.specs.FinMap as files_by_name
 use Rattle.set_disk.specs.Files.{Files}
 use Rattle.set_disk.specs.declared.file_name.FileName.{FileName}
 use Rattle.image_codec.specs.declared.manifest.Manifest.{Manifest}
-use Rattle.image_store.specs.StandIn.{SpellsManifest}
+use Rattle.image_codec.specs.Manifests.{SpellsManifest}
 use Rattle.image_store.specs.Slots.{manifest_of, count_of, last}
 use Rattle.image_store.specs.declared.set_info.SetInfo.{SetInfo}
 

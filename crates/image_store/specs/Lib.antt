@@ -1,4 +1,3 @@
-pub mod StandIn
 pub mod Slots
 pub mod FaultsOf
 pub mod FoundSets

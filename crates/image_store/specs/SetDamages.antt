@@ -7,7 +7,7 @@ use Rattle.std.specs.Prelude.{◌≡◌, ◌⊎◌, ℕ, zero, suc, min, if◌th
 use Rattle.std.specs.Option.{option_or}
 use Rattle.image_codec.specs.declared.damage.Damage.{Damage}
 use Rattle.image_codec.specs.declared.manifest.Manifest.{Manifest}
-use Rattle.image_store.specs.StandIn.{SpellsManifest, DamagedManifest}
+use Rattle.image_codec.specs.Manifests.{SpellsManifest, DamagedManifest}
 use Rattle.image_store.specs.FoundSets.{FoundSet}
 
 unfoldable pub damage_at : ℕ → ℕ → Option (List ℕ) → Option Damage

@@ -15,10 +15,8 @@
 
 mod gate;
 mod head;
-mod probe;
 mod reading;
 pub mod set_info;
-mod stand_in;
 pub mod store;
 pub mod store_fault;
 mod writing;

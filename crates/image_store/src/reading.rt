@@ -4,7 +4,7 @@ ghost use Rattle.std.specs.FinMap as files_by_name;
 ghost use Rattle.set_disk.specs.Files.{contents};
 ghost use Rattle.image_codec.specs.declared.damage.Damage.{Damage as Place};
 ghost use Rattle.image_codec.specs.declared.manifest.Manifest.{Manifest};
-ghost use Rattle.image_store.specs.StandIn.{SpellsManifest, DamagedManifest};
+ghost use Rattle.image_codec.specs.Manifests.{SpellsManifest, DamagedManifest};
 ghost use Rattle.image_store.specs.Slots.{manifest_of, generation_of};
 ghost use Rattle.image_store.specs.FoundSets.{file_at, files_from, set_of, IsSet};
 ghost use Rattle.image_store.specs.SetDamages.{damage_at, damage_from, IsFirstDamage};
@@ -12,8 +12,8 @@ ghost use Rattle.image_store.specs.StoreCrashes.{ChangesNothing};
 ghost use Rattle.image_store.specs.StoreCauses.{HasCause, IsOutside, IsOfReading, IsOrOutside, IsManifestOrOutside, TellsDamage};
 
 use crate::set_info::SetInfo;
-use crate::stand_in::read_manifest;
 use crate::store_fault::StoreFault;
+use image_codec::manifest::read_manifest;
 use image_codec::{Damage, Manifest, SetBytes};
 use set_disk::{FileName, Folder};
 use std::alloc::Global;
@@ -27,6 +27,7 @@ pub fn read_front<F: Folder>(
     len: u64,
 ) -> Result<Vec<u8>, StoreFault>
     ensures bytes { IfOk result (λ bytes. ForSome (F.reads disk.old) (λ files. bytes.items ≡ take len (contents files name))) }
+    ensures fits { IfOk result (λ bytes. list_length bytes.items ≤ len) }
     ensures refused { IfErr result IsOutside }
     ensures nothing { ChangesNothing F.reads F.moment F.may_leave F.left_since disk.old disk.new }
     ensures cause { HasCause result StoreFault.DiskFault (F.faults disk.old) (F.faults disk.new) }
@@ -91,15 +92,15 @@ fn read_image<F: Folder>(
     ensures nothing { ChangesNothing F.reads F.moment F.may_leave F.left_since disk.old disk.new }
     ensures cause { HasCause result StoreFault.DiskFault (F.faults disk.old) (F.faults disk.new) }
 {
-    let bytes = read_front(alloc, disk, name, length)?;
-    let len = bytes.len() as u64;
+    let image = ListOf::from_vec(read_front(alloc, disk, name, length)?);
+    let len = image.len() as u64;
     if len < length {
         return Err(StoreFault::Damaged(Damage {
             file: name.index,
             offset: len,
         }));
     }
-    Ok(ListOf::from_vec(bytes))
+    Ok(image)
 }
 
 /// Reads the files of the slot from 1 on, which have these lengths.

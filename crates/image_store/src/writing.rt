@@ -6,13 +6,13 @@ ghost use Rattle.set_disk.specs.Moments.{LeavesOnly, Passes};
 ghost use Rattle.image_store.specs.Slots.{gate_of, manifest_of};
 ghost use Rattle.image_store.specs.SlotWrites.{with_images, with_manifest, OnlyFile, KeepsManifest, KeepsGate};
 ghost use Rattle.image_store.specs.SlotImages.{IsInPut, IsPut};
-ghost use Rattle.image_store.specs.StandIn.{SpellsManifest};
+ghost use Rattle.image_codec.specs.Manifests.{SpellsManifest};
 ghost use Rattle.image_store.specs.StoreCrashes.{SameTold};
 ghost use Rattle.image_store.specs.StoreCauses.{HasCause};
 
 use crate::gate::{OPEN, close_gate, write_gate};
-use crate::stand_in::write_manifest;
 use image_codec::Manifest;
+use image_codec::manifest::write_manifest;
 use set_disk::{DiskFault, FileName, Folder};
 use std::alloc::{AllocError, Global};
 use views::list_of::ListOf;

@@ -2,7 +2,7 @@ use Rattle.std.proofs.Common.{◌≡◌, ◌<◌, ◌≤◌, ℕ, List, ◌∙�
 use Rattle.std.specs.Prelude.{map, IsTrue}
 use Rattle.std.proofs.lemmas.List.{take_all, length-map}
 use Rattle.std.proofs.lemmas.Bool.Decides.{nat_tests}
-use Rattle.image_store.specs.StandIn.{is_file_count}
+use Rattle.image_codec.specs.Manifests.{is_file_count}
 use Rattle.image_store.proofs.writing.manifest_bytes.Goals as goal
 
 counted : (n m : ℕ) → n ≡ m → 0 < m → m ≤ 129 → IsTrue (is_file_count n)
