@@ -11,6 +11,8 @@ use Rattle.set_disk.specs.Crash.{Same}
 use Rattle.set_disk.specs.Moments.{Passes}
 use Rattle.image_store.specs.Slots.{manifest_of, generation_of, info_of, later, last}
 use Rattle.image_store.specs.FoundSets.{FoundSet, set_of, last_set, IsSet, HasSet}
+use Rattle.image_codec.specs.declared.damage.Damage.{Damage as Place}
+use Rattle.image_store.specs.SetDamages.{IsFirstDamage, HasDamage}
 use Rattle.image_store.specs.StoreStates.{Known, FitsFiles}
 use Rattle.image_store.specs.declared.set_info.SetInfo.{SetInfo}
 use Rattle.image_store.proofs.ManifestFronts.{info_some}
@@ -54,6 +56,15 @@ has_found files info found bytes is same set =
 pub set_found : (files : Files) (info : SetInfo) (n : ℕ) (bytes : List (List ℕ)) → last files ≡ Some info → HasSet (last_set files) n bytes → IsSet (set_of files info) n bytes
 set_found files info n bytes is (set, found, whole) =
     subst (λ s. IsSet s n bytes) (same_Some set (set_of files info) (sym found ∙ last_set_is files info is)) whole
+
+-- the same of its damage
+pub no_damage_none : (files : Files) (damage : Place) → last files ≡ None → HasDamage (last_set files) damage → ⊥
+unfolding last_set
+no_damage_none files damage none (set, is, there) = let nothing : last_set files ≡ None = ap (option_map (set_of files)) none in (cc)
+
+pub damage_found_set : (files : Files) (info : SetInfo) (damage : Place) → last files ≡ Some info → HasDamage (last_set files) damage → IsFirstDamage (set_of files info) damage
+damage_found_set files info damage is (set, found, there) =
+    subst (λ s. IsFirstDamage s damage) (same_Some set (set_of files info) (sym found ∙ last_set_is files info is)) there
 
 pub fits_still : {D : Type 0} {moment : D → ℕ} {may_leave : D → Files → Type 0} {left_since : D → ℕ → Files → Type 0} {a b : D} (store : Known) (files : Files) → Passes moment may_leave left_since Same a b → FitsFiles store files (may_leave a) → FitsFiles store files (may_leave b)
 fits_still store files stretch fits = record { settled = settled_same files stretch fits.settled; first = fits.first; second = fits.second; last = fits.last }

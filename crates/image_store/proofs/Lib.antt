@@ -1,13 +1,14 @@
-mod Passing
-mod Causes
-mod ManifestFronts
-mod LastSets
-mod SlotSteps
-mod SlotFiles
-mod PutImages
-mod PutStretches
-mod Openings
-mod Puts
-mod Readings
-mod SetReadings
-mod Gets
+pub mod Passing
+pub mod Causes
+pub mod ManifestFronts
+pub mod LastSets
+pub mod SlotSteps
+pub mod SlotFiles
+pub mod PutImages
+pub mod PutStretches
+pub mod Openings
+pub mod Puts
+pub mod Readings
+pub mod SetReadings
+pub mod Gets
+pub mod SetLaws

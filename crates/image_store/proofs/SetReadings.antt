@@ -28,6 +28,24 @@ refused r fault bytes is outside = subst (λ x. IsOrOutside x bytes) (sym is) ou
 same_fault : {A : Type 0} (r : Result A StoreFault) (fault other : StoreFault) → r ≡ Err fault → r ≡ Err other → fault ≡ other
 same_fault r fault other is also = (cc)
 
+no_damage : (n : ℕ) (b : Bool) (place : Place) → b ≡ true → (if b then None else Some place) ≡ None
+no_damage n true place is = refl
+no_damage n false place is = (cc)
+
+fits : (index : ℕ) (bytes : List ℕ) → damage_at index (length bytes) (Some bytes) ≡ None
+unfolding damage_at
+fits index bytes = no_damage 0 (length bytes == length bytes) _ (grind (arith, nat_tests))
+
+pub whole_none : (index : ℕ) (bytes : List (List ℕ)) → damage_from index (map length bytes) (map Some bytes) ≡ None
+whole_none index [] = refl
+whole_none index (file ∷ bytes) = ap (λ d. option_or d (damage_from (suc index) (map length bytes) (map Some bytes))) (fits index file) ∙ whole_none (suc index) bytes
+
+pub same_somes : (xs ys : List (List ℕ)) → map Some xs ≡ map Some ys → xs ≡ ys
+same_somes [] [] is = refl
+same_somes [] (y ∷ ys) is = (cc)
+same_somes (x ∷ xs) [] is = (cc)
+same_somes (x ∷ xs) (y ∷ ys) is = let rest : map Some xs ≡ map Some ys = cc in let more = same_somes xs ys rest in let one : x ≡ y = cc in (λ i. one i ∷ more i)
+
 module _ (files : Files) (info : SetInfo) where
   abbrev text : List ℕ
   text = manifest_of files info.slot
@@ -58,18 +76,6 @@ module _ (files : Files) (info : SetInfo) where
   tells_none (Damaged d) damage tells none reading = (cc)
   tells_none Memory damage tells none reading = tt
 
-  no_damage : (n : ℕ) (b : Bool) (place : Place) → b ≡ true → (if b then None else Some place) ≡ None
-  no_damage n true place is = refl
-  no_damage n false place is = (cc)
-
-  fits : (index : ℕ) (bytes : List ℕ) → damage_at index (length bytes) (Some bytes) ≡ None
-  unfolding damage_at
-  fits index bytes = no_damage 0 (length bytes == length bytes) _ (grind (arith, nat_tests))
-
-  pub whole_none : (index : ℕ) (bytes : List (List ℕ)) → damage_from index (map length bytes) (map Some bytes) ≡ None
-  whole_none index [] = refl
-  whole_none index (file ∷ bytes) = ap (λ d. option_or d (damage_from (suc index) (map length bytes) (map Some bytes))) (fits index file) ∙ whole_none (suc index) bytes
-
   whole_lengths : (m : Manifest) (g : ℕ) (bytes : List (List ℕ)) → SpellsManifest text m → m ≡ record { generation = g; lengths = map length bytes } → IsSet (set_of files info) g bytes → damage_from 1 m.lengths (files_from (file_at files info.slot) 1 (length m.lengths)) ≡ None
   whole_lengths m g bytes spelled same set =
       (λ i. damage_from 1 (same i).lengths ((count_is m spelled ∙ files_of g bytes set) i)) ∙ whole_none 1 bytes
@@ -98,9 +104,3 @@ module _ (files : Files) (info : SetInfo) where
 
   pub only_set : (m : Manifest) (images : List (List ℕ)) → SpellsManifest text m → files_from (file_at files info.slot) 1 (length m.lengths) ≡ map Some images → (g : ℕ) (bytes : List (List ℕ)) → IsSet (set_of files info) g bytes → images ≡ bytes
   only_set m images spelled read g bytes set = same_somes images bytes (sym read ∙ count_is m spelled ∙ files_of g bytes set)
-    where
-      same_somes : (xs ys : List (List ℕ)) → map Some xs ≡ map Some ys → xs ≡ ys
-      same_somes [] [] is = refl
-      same_somes [] (y ∷ ys) is = (cc)
-      same_somes (x ∷ xs) [] is = (cc)
-      same_somes (x ∷ xs) (y ∷ ys) is = let rest : map Some xs ≡ map Some ys = cc in let more = same_somes xs ys rest in let one : x ≡ y = cc in (λ i. one i ∷ more i)

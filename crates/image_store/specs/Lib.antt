@@ -7,3 +7,4 @@ pub mod SetDamages
 pub mod StoreCauses
 pub mod SlotWrites
 pub mod SlotImages
+pub mod StoreLaws

@@ -3,6 +3,7 @@
 --     IsOutside fault                   the disk failed or memory ran out
 --     IsOfReading fault                 any refusal but that no set counts
 --     IsOrOutside result bytes          the result is the set of these files, or the disk failed or memory ran out
+--     IsDamageOrOutside result damage   the result is this damage, or the disk failed or memory ran out
 --     IsManifestOrOutside result m      the same of a manifest
 --     TellsDamage result damage         the result is this damage, Ok where there is none, or the disk failed or memory ran out
 use Rattle.std.specs.Prelude.{◌≡◌, ℕ, ◌^◌, ◌<◌, ◌≤◌, List, Option, Some, None, Result, Ok, Err}
@@ -34,6 +35,13 @@ IsOfReading Memory = Unit {0}
 abbrev pub IsOrOutside : Result SetBytes StoreFault → List (List ℕ) → Type 0
 IsOrOutside (Ok set) bytes = set.files ≡ bytes
 IsOrOutside (Err fault) bytes = IsOutside fault
+
+abbrev pub IsDamageOrOutside : Result SetBytes StoreFault → Damage → Type 0
+IsDamageOrOutside (Ok set) damage = ⊥
+IsDamageOrOutside (Err DiskFault) damage = Unit {0}
+IsDamageOrOutside (Err NoSet) damage = ⊥
+IsDamageOrOutside (Err (Damaged found)) damage = found ≡ damage
+IsDamageOrOutside (Err Memory) damage = Unit {0}
 
 abbrev pub IsManifestOrOutside : Result Manifest StoreFault → Manifest → Type 0
 IsManifestOrOutside (Ok found) m = found ≡ m

@@ -11,6 +11,7 @@ use Rattle.std.specs.Option.{option_map_or, ForSome}
 use Rattle.set_disk.specs.Files.{Files}
 use Rattle.set_disk.specs.Crash.{Only}
 use Rattle.image_store.specs.Slots.{gate_of, manifest_of, last}
+use Rattle.image_store.specs.FoundSets.{last_set}
 use Rattle.image_store.specs.declared.set_info.SetInfo.{SetInfo}
 
 pub record Known : Type 0 where
@@ -51,4 +52,4 @@ abbrev pub FitsFolder : Known → Option Files → (Files → Type 0) → Type 0
 FitsFolder store told images = ForSome told (λ files. FitsFiles store files images)
 
 abbrev pub NoneAbove : ℕ → Files → Type 0
-NoneAbove floor files = 0 < floor → IfSome (last files) (λ info. info.generation ≤ floor)
+NoneAbove floor files = 0 < floor → IfSome (last_set files) (λ set. set.generation ≤ floor)

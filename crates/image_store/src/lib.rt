@@ -15,6 +15,7 @@
 
 mod gate;
 mod head;
+pub mod laws;
 mod reading;
 pub mod set_info;
 pub mod store;
@@ -22,6 +23,7 @@ pub mod store_fault;
 mod writing;
 
 pub use image_codec::{Damage, SetBytes};
+pub use laws::store_laws;
 pub use set_info::SetInfo;
 pub use store::Store;
 pub use store_fault::StoreFault;

@@ -8,7 +8,7 @@ ghost use Rattle.image_store.specs.FoundSets.{last_set, HasSet};
 ghost use Rattle.image_store.specs.StoreStates.{FitsFolder, NoneAbove, generation_after, next_generation, within_floor, gate_known, with_set};
 ghost use Rattle.image_store.specs.StoreCrashes.{ChangesNothing, OldOrNew, SameTold};
 ghost use Rattle.image_store.specs.SetDamages.{HasDamage};
-ghost use Rattle.image_store.specs.StoreCauses.{HasCause, IsOutside, IsOrOutside};
+ghost use Rattle.image_store.specs.StoreCauses.{HasCause, IsDamageOrOutside, IsOrOutside, IsOutside};
 
 use crate::gate::OPEN;
 use crate::head::read_head;
@@ -152,7 +152,9 @@ impl Store {
         ensures only { ForSome (F.reads disk.old) (λ files. (g : ℕ) (bytes : List (List ℕ)) → HasSet (last_set files) g bytes
             → IsOrOutside result bytes) }
 
-        // Where it is damaged the first damage is told.
+        // Where it is damaged the first damage is told, and only there.
+        ensures broken { ForSome (F.reads disk.old) (λ files. (d : Place) → HasDamage (last_set files) d
+            → IsDamageOrOutside result d) }
         ensures damaged { (d : Place) → result ≡ Err (StoreFault.Damaged d)
             → ForSome (F.reads disk.old) (λ files. HasDamage (last_set files) d) }
 

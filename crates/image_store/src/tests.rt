@@ -51,6 +51,7 @@ fn compare(
 }
 
 #[test]
+#[tactic(auto, unfolding(crate::specs::StoreStates::generation_after))]
 fn a_crash_leaves_the_old_set_or_the_new(rt: HostRuntime) -> Result<(), Fail> {
     let alloc = rt.alloc();
     let mut folder = MemFolder::new(alloc, &[])?;
@@ -84,6 +85,7 @@ fn a_crash_leaves_the_old_set_or_the_new(rt: HostRuntime) -> Result<(), Fail> {
 }
 
 /// Opens the folder, puts both sets and reads the second one. Counts the sets that were put.
+#[tactic(auto, unfolding(crate::specs::StoreStates::generation_after))]
 fn run(
     rt: &(impl Abort + AllocGlobal),
     folder: &mut MemFolder,
@@ -158,12 +160,14 @@ fn which_set_counts(rt: HostRuntime) -> Result<(), Fail> {
 }
 
 /// Writes over a file of slot 0, or cuts it.
+#[derive(Drop)]
 enum Change {
     Write(u32, u64, &'static str),
     Cut(u32, u64),
 }
 
 #[test]
+#[tactic(auto, unfolding(crate::specs::StoreStates::generation_after))]
 fn where_a_set_is_damaged(rt: HostRuntime) -> Result<(), Fail> {
     let alloc = rt.alloc();
     let rows = [

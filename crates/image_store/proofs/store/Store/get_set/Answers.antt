@@ -2,9 +2,10 @@ use Rattle.std.proofs.Common.{◌∙◌, ap, sym}
 use Rattle.std.proofs.lemmas.Result.{IfOk-weaker}
 use Rattle.image_store.specs.FoundSets.{set_of}
 use Rattle.image_store.specs.StoreStates.{Known}
-use Rattle.image_store.proofs.Gets.{fits_still, has_found, last_generation, last_is, none_set, set_found}
+use Rattle.image_store.proofs.Gets.{damage_found_set, fits_still, has_found, last_generation, last_is, no_damage_none, none_set, set_found}
 use Rattle.image_store.proofs.LastSets.{last_set_is}
 use Rattle.image_store.proofs.Passing.{nothing_none}
+use Rattle.image_store.proofs.SetLaws.{broken_answer}
 use Rattle.image_store.proofs.store.Store.get_set.Goals as goal
 
 pub read_set-requires : goal.read_set-requires
@@ -33,3 +34,12 @@ returns-in-Some-clause-damaged g c = λ d damaged files is.
 
 pub returns-in-Some-clause-fits : goal.returns-in-Some-clause-fits
 returns-in-Some-clause-fits g c = λ files is. fits_still c.args.self.now files c.read_set.ensures.nothing.crash (c.requires files (sym c.read_set.ensures.nothing.same ∙ is))
+
+pub returns-in-None-clause-broken : goal.returns-in-None-clause-broken
+returns-in-None-clause-broken g c = λ files is d damage. no_damage_none files d (last_is c.args.self.now files _ c.self.inside.last _ (c.requires files is) (ap (λ (k : Known). k.last) c.self.view_is) c.in-None.is) damage
+
+pub returns-in-Some-clause-broken : goal.returns-in-Some-clause-broken
+returns-in-Some-clause-broken g c = λ files is d damage.
+    let counts = last_is c.args.self.now files _ c.self.inside.last _ (c.requires files is) (ap (λ (k : Known). k.last) c.self.view_is) c.in-Some.is in
+    broken_answer (set_of files c.in-Some.info) c.in-Some.info.generation c.read_set.result d
+    (IfOk-weaker c.read_set.result _ _ (λ set found. found files is) c.read_set.ensures.found) (λ e damaged. c.read_set.ensures.damaged e damaged files is) c.read_set.ensures.read (damage_found_set files c.in-Some.info d counts damage)
