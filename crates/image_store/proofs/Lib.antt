@@ -1,0 +1,14 @@
+pub mod Passing
+pub mod Causes
+pub mod ManifestFronts
+pub mod LastSets
+pub mod SlotSteps
+pub mod SlotFiles
+pub mod PutImages
+pub mod PutStretches
+pub mod Openings
+pub mod Puts
+pub mod Readings
+pub mod SetReadings
+pub mod Gets
+pub mod SetLaws

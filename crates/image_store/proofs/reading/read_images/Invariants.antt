@@ -1,0 +1,20 @@
+use Rattle.std.proofs.Common.{◌≡◌, ◌++◌, length, take}
+use Rattle.std.specs.Prelude.{Some, None, map}
+use Rattle.std.specs.Option.{ForSome}
+use Rattle.image_store.specs.FoundSets.{file_at, files_from}
+use Rattle.image_store.specs.StoreCrashes.{ChangesNothing}
+use Rattle.image_store.proofs.Causes.{Counts}
+use Rattle.image_store.proofs.Readings.{damage_here, files_left}
+use Rattle.image_store.proofs.reading.read_images.Given as goal
+
+-- the files so far are read, and those that are left have their lengths
+abbrev pub invariant-loop-i : goal.invariant-loop-i
+invariant-loop-i g l =
+    let folder = g.F.Folder in
+    record {
+      found : ForSome (folder.reads l.fn.disk) (λ files. map Some l.images.items ++ files_left (file_at files l.slot) l.lengths l.i ≡ files_from (file_at files l.slot) 1 (length l.lengths));
+      whole : ForSome (folder.reads l.fn.disk) (λ files. damage_here (file_at files l.slot) l.lengths l.i ≡ None);
+      sizes : map length l.images.items ≡ take l.i l.lengths;
+      nothing : ChangesNothing folder.reads folder.moment folder.may_leave folder.left_since l.fn.disk l.disk;
+      count : Counts (folder.faults l.fn.disk) (folder.faults l.disk);
+    }

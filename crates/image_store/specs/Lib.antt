@@ -1,0 +1,10 @@
+pub mod Slots
+pub mod FaultsOf
+pub mod FoundSets
+pub mod StoreStates
+pub mod StoreCrashes
+pub mod SetDamages
+pub mod StoreCauses
+pub mod SlotWrites
+pub mod SlotImages
+pub mod StoreLaws

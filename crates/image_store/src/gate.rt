@@ -1,0 +1,46 @@
+ghost use Rattle.std.specs.Prelude.{◌≡◌, [], ◌∷◌, OnOk, option_map};
+ghost use Rattle.set_disk.specs.Files.{with_write};
+ghost use Rattle.set_disk.specs.Crash.{IsSettled, Torn};
+ghost use Rattle.set_disk.specs.Moments.{Passes};
+ghost use Rattle.image_store.specs.Slots.{manifest_name};
+ghost use Rattle.image_store.specs.SlotWrites.{closing_step, with_closed};
+ghost use Rattle.image_store.specs.StoreCrashes.{SameTold};
+ghost use Rattle.image_store.specs.StoreCauses.{HasCause};
+
+use set_disk::{DiskFault, FileName, Folder};
+
+pub const OPEN: u8 = 1;
+
+pub const CLOSED: u8 = 0;
+
+/// Writes the gate of a slot, its manifest's first byte, and makes it durable with all that was
+/// written before.
+pub fn write_gate<F: Folder>(disk: &mut F, slot: u32, gate: u8) -> Result<(), DiskFault>
+    ensures written { OnOk result
+        (F.reads disk.new ≡ option_map (λ files. with_write files (manifest_name slot) 0 (gate ∷ [])) (F.reads disk.old)) }
+    ensures durable { OnOk result (IsSettled (F.reads disk.new) (F.may_leave disk.new)) }
+    ensures told { SameTold (F.reads disk.old) (F.reads disk.new) }
+    ensures crash { Passes F.moment F.may_leave F.left_since (Torn (manifest_name slot) 0 1) disk.old disk.new }
+    ensures cause { HasCause result DiskFault.Failed (F.faults disk.old) (F.faults disk.new) }
+{
+    disk.write_at(FileName { slot, index: 0 }, 0, &[gate])?;
+    disk.sync()
+}
+
+/// Closes the gate of a slot whose manifest has this first byte, if it has one. A gate that is there
+/// and is not open stays as it is.
+pub fn close_gate<F: Folder>(disk: &mut F, slot: u32, gate: Option<u8>) -> Result<(), DiskFault>
+    requires { IsSettled (F.reads disk.old) (F.may_leave disk.old) }
+
+    ensures closed { OnOk result (F.reads disk.new ≡ option_map (with_closed slot gate) (F.reads disk.old)) }
+    ensures durable { OnOk result (IsSettled (F.reads disk.new) (F.may_leave disk.new)) }
+    ensures told { SameTold (F.reads disk.old) (F.reads disk.new) }
+    ensures crash { Passes F.moment F.may_leave F.left_since (closing_step slot gate) disk.old disk.new }
+    ensures cause { HasCause result DiskFault.Failed (F.faults disk.old) (F.faults disk.new) }
+{
+    match gate {
+        None => write_gate(disk, slot, CLOSED),
+        Some(OPEN) => write_gate(disk, slot, CLOSED),
+        Some(_) => Ok(()),
+    }
+}

@@ -1,0 +1,32 @@
+//! The store of checkpoint sets: which set of a folder counts, writing a set so that a crash at any
+//! moment leaves the set before or the new one, and reading a set back.
+//!
+//! A set lies in slot 0 or 1 of a folder, its manifest as file 0 and its images behind it. It counts
+//! where the first byte of its manifest, its gate, is 1. A [`Store`] closes the gate of the slot that
+//! does not count, writes the images and the manifest, and opens the gate, with a sync after each of
+//! the three.
+//!
+//! Proved: for every `Folder` that tells its content, a crash at any moment of `put_set` leaves the
+//! set that counted before or the new one, and after Ok the new one alone; `get_set` gives the very
+//! files of the set that counts, or the first place at which it is damaged; a fault of the disk is
+//! told only where the folder's count rose. Not proved: anything of a folder that tells no content.
+//! The format is this project's own (`docs/STORE.md`, `docs/FORMATS.md`) and restates no standard.
+#![tactic(auto)]
+
+mod gate;
+mod head;
+pub mod laws;
+mod reading;
+pub mod set_info;
+pub mod store;
+pub mod store_fault;
+mod writing;
+
+pub use image_codec::{Damage, SetBytes};
+pub use laws::store_laws;
+pub use set_info::SetInfo;
+pub use store::Store;
+pub use store_fault::StoreFault;
+
+#[cfg(test)]
+mod tests;
