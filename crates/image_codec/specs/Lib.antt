@@ -1,1 +1,2 @@
+pub mod KernelParts
 pub mod UserParts
