@@ -1,2 +1,5 @@
+pub mod KernelImages
 pub mod KernelParts
+pub mod SharedFits
+pub mod SharedTests
 pub mod UserParts

@@ -3,12 +3,14 @@
 #![tactic(auto)]
 
 pub mod damage;
+pub mod kernel_image;
 pub mod manifest;
 pub mod process_image;
 pub mod set_bytes;
 pub mod shared;
 
 pub use damage::{Damage, ReadFault};
+pub use kernel_image::shared_image;
 pub use manifest::Manifest;
 pub use process_image::{PageImage, ProcImage, ThreadImage};
 pub use set_bytes::SetBytes;
