@@ -1,0 +1,2 @@
+pub mod KernelLaws
+pub mod Rising
