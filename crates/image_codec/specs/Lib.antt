@@ -1,6 +1,9 @@
+pub mod Fields
+pub mod Files
 pub mod Format
 pub mod KernelImages
 pub mod KernelParts
+pub mod Reading
 pub mod SharedFits
 pub mod SharedTests
 pub mod Texts

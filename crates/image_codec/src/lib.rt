@@ -3,6 +3,7 @@
 #![tactic(auto)]
 
 pub mod damage;
+mod fields;
 pub mod kernel_image;
 pub mod manifest;
 pub mod process_image;

@@ -1,0 +1,40 @@
+-- A number's bytes and the number in bytes undo each other
+use Rattle.std.proofs.Common.{◌≡◌, ℕ, ◌<◌, List, [], ◌∷◌, length, get_or, refl, arith}
+use Rattle.std.proofs.lemmas.Nat.{le_bytes_2, le_bytes_4, le_bytes_8, from_le_bytes-to_le_bytes_2, from_le_bytes-to_le_bytes_4, from_le_bytes-to_le_bytes_8}
+use Rattle.image_codec.specs.Format.{Size, n8, n16, n32, n64, size_of, bytes_of, number_in, limit_of}
+
+abbrev pub AllBytes : List ℕ → Type 0
+AllBytes bytes = (i : ℕ) → get_or bytes i 0 < 256
+
+pub length-bytes_of : (size : Size) (n : ℕ) → length (bytes_of size n) ≡ size_of size
+unfolding bytes_of size_of
+length-bytes_of n8 n = refl
+length-bytes_of n16 n = refl
+length-bytes_of n32 n = refl
+length-bytes_of n64 n = refl
+
+pub number_in-bytes_of : (size : Size) (n : ℕ) → n < limit_of size → number_in size (bytes_of size n) ≡ n
+unfolding bytes_of number_in
+number_in-bytes_of n8 n h = refl
+number_in-bytes_of n16 n h = from_le_bytes-to_le_bytes_2 n h
+number_in-bytes_of n32 n h = from_le_bytes-to_le_bytes_4 n h
+number_in-bytes_of n64 n h = from_le_bytes-to_le_bytes_8 n h
+
+one_byte : (bytes : List ℕ) → length bytes ≡ 1 → get_or bytes 0 0 ∷ [] ≡ bytes
+one_byte [] h = cc
+one_byte (b ∷ []) h = refl
+one_byte (b ∷ c ∷ bytes) h = cc
+
+pub bytes_of-number_in : (size : Size) (bytes : List ℕ) → length bytes ≡ size_of size → AllBytes bytes → bytes_of size (number_in size bytes) ≡ bytes
+unfolding bytes_of number_in size_of
+bytes_of-number_in n8 bytes size h = one_byte bytes size
+bytes_of-number_in n16 bytes size h = le_bytes_2 bytes _ size h refl
+bytes_of-number_in n32 bytes size h = le_bytes_4 bytes _ size h refl
+bytes_of-number_in n64 bytes size h = le_bytes_8 bytes _ size h refl
+
+pub number_in-below : (size : Size) (bytes : List ℕ) → AllBytes bytes → number_in size bytes < limit_of size
+unfolding number_in
+number_in-below n8 bytes h = h 0
+number_in-below n16 bytes h = omega (arith, h 0, h 1)
+number_in-below n32 bytes h = omega (arith, h 0, h 1, h 2, h 3)
+number_in-below n64 bytes h = omega (arith, h 0, h 1, h 2, h 3, h 4, h 5, h 6, h 7)
