@@ -1,7 +1,7 @@
 -- The kernel part of a shared image has that image, and no other.
 --     shared_of-kernel_of      of an image that can be spelled
 --     only_image      so an image of a kernel part is what is made of its entries
-use Rattle.std.proofs.Common.{◌≡◌, ◌<◌, ℕ, Ordering, Less, Equal, Greater, Bool, true, false, cond, IsTrue, ◌&&◌, ◌||◌, ◌==◌, List, [], ◌∷◌, ◌++◌, filter, map as mapped, refl, sym, ap, subst, ◌∙◌, arith}
+use Rattle.std.proofs.Common.{◌≡◌, ◌<◌, ℕ, Ordering, Less, Equal, Greater, Bool, true, false, cond, IsTrue, ◌&&◌, ◌||◌, ◌==◌, List, [], ◌∷◌, ◌++◌, filter, map as mapped, refl, sym, ap, subst, ◌∙◌, append-nil, arith}
 use Rattle.std.specs.Prelude.{Option, Some, None, nat_lt, nat_le, option_map}
 use Rattle.std.specs.List.{AllByRecursion, flat_map}
 use Rattle.std.specs.List.Sorted.{IsStrictlySortedBy}
@@ -187,3 +187,111 @@ none_of p (e ∷ processes) h =
   where
     greater : (a b : ℕ) → nat_cmp a b ≡ Less → (b == a) ≡ false
     greater a b h = grind (arith, nat_tests)
+
+-- what is found of a process among all: its place as a maker, and its descriptors
+record IsFound (processes : List ProcessEntry) (process : ProcessEntry) : Type 0 where
+  maker : map.find vpid_cmp process.pid (mapped maker_entry processes) ≡ Some (record { host = process.host; made = process.made })
+  descriptors : filter (is_of process.pid) (flat_map descriptor_entries processes) ≡ descriptor_entries process
+
+found_first : (e : ProcessEntry) (processes : List ProcessEntry) → AllByRecursion (λ q. vpid_cmp e.pid q ≡ Less) (pids processes) → IsFound (e ∷ processes) e
+found_first e processes h = record {
+  maker = ap (λ r. cond (is_eq r) (Some (record { host = e.host; made = e.made })) (map.find vpid_cmp e.pid (mapped maker_entry processes))) (tied_itself vpid_total e.pid);
+  descriptors =
+      filter-append (is_of e.pid) (descriptor_entries e) (flat_map descriptor_entries processes)
+      ∙ (λ i. own_slots e.pid e.descriptors i ++ none_of e.pid processes h i)
+      ∙ append-nil (descriptor_entries e);
+}
+
+apart_numbers : (a b : ℕ) → nat_cmp a b ≡ Less → (is_eq (nat_cmp b a) ≡ false) × ((a == b) ≡ false)
+apart_numbers a b h = (grind (arith, nat_tests), grind (arith, nat_tests))
+
+found_later : (x e : ProcessEntry) (processes : List ProcessEntry) → vpid_cmp x.pid e.pid ≡ Less → IsFound processes e → IsFound (x ∷ processes) e
+found_later x e processes h found =
+    let (other, differs) = apart_numbers x.pid.0 e.pid.0 h in
+    record {
+      maker = ap (λ b. cond b (Some (record { host = x.host; made = x.made })) (map.find vpid_cmp e.pid (mapped maker_entry processes))) other ∙ found.maker;
+      descriptors =
+          filter-append (is_of e.pid) (descriptor_entries x) (flat_map descriptor_entries processes)
+          ∙ (λ i. no_slots e.pid x.pid x.descriptors differs i ++ found.descriptors i);
+    }
+
+all_found : (processes : List ProcessEntry) → IsStrictlySortedBy vpid_cmp (pids processes) → AllByRecursion (IsFound processes) processes
+unfolding IsStrictlySortedBy
+all_found [] h = tt
+all_found (x ∷ processes) h = (found_first x processes h.0, later processes h.0 (all_found processes h.1))
+  where
+    later : (items : List ProcessEntry) → AllByRecursion (λ q. vpid_cmp x.pid q ≡ Less) (pids items) → AllByRecursion (IsFound processes) items → AllByRecursion (IsFound (x ∷ processes)) items
+    later [] h g = tt
+    later (e ∷ items) h g = (found_later x e processes h.0 g.0, later items h.1 g.1)
+
+process_rises : (next_id : ℕ) (channels : List ChannelImage) (descriptions : List DescriptionImage) (front : List ProcessEntry) (process : ProcessEntry) → ProcessFits next_id channels descriptions front process
+    → IsAfter vpid_cmp (option_map (λ (e : ProcessEntry). e.pid) (field.last_item front)) process.pid
+process_rises next_id channels descriptions front process h = after_pid (field.last_item front) ((both_true _ _ ((both_true _ _ h.number.1).0)).0)
+  where
+    after_pid : (before : Option ProcessEntry) → IsTrue (is_above (option_map (λ (e : ProcessEntry). e.pid.0) before) process.pid.0)
+        → IsAfter vpid_cmp (option_map (λ (e : ProcessEntry). e.pid) before) process.pid
+    after_pid None h = tt
+    after_pid (Some before) h = nat_below before.pid.0 process.pid.0 h
+
+keeps_own : (next_id : ℕ) (channels : List ChannelImage) (descriptions : List DescriptionImage) (front : List ProcessEntry) (process : ProcessEntry) → ProcessFits next_id channels descriptions front process → KeepsOwn process
+keeps_own next_id channels descriptions front process h =
+    sorted_rising nat_cmp nat_cmp_total None _ (each_rising nat_cmp (λ (d : DescriptorEntry). d.number) (DescriptorFits descriptions) (number_rises descriptions) [] process.descriptors h.descriptors)
+
+descriptors_undone : (p : VPid) (descriptors : List DescriptorEntry) → mapped descriptor_image (mapped (descriptor_entry p) descriptors) ≡ descriptors
+descriptors_undone p [] = refl
+descriptors_undone p (d ∷ descriptors) = ap (λ (ds : List DescriptorEntry). d ∷ ds) (descriptors_undone p descriptors)
+
+-- a process of the kernel part has the image that it was made of
+process_back : (k : PlainKernel) (processes : List ProcessEntry) (process : ProcessEntry)
+    → k.makers ≡ map.from_entries (mapped maker_entry processes) → map.entries k.descriptors ≡ flat_map descriptor_entries processes
+    → mapped thread_image (map.entries (map.from_entries {R = nat_cmp} (mapped signals_entry process.threads))) ≡ process.threads
+    → IsFound processes process → process_image k (process_entry process) ≡ process
+process_back k processes process makers slots threads found =
+    let maker : map.get k.makers process.pid ≡ Some (record { host = process.host; made = process.made }) =
+        ap (λ m. map.get m process.pid) makers ∙ map.get-from_entries vpid_total (mapped maker_entry processes) process.pid ∙ found.maker in
+    let own : mapped descriptor_image (filter (is_of process.pid) (map.entries k.descriptors)) ≡ process.descriptors =
+        ap (λ es. mapped descriptor_image (filter (is_of process.pid) es)) slots ∙ ap (mapped descriptor_image) found.descriptors ∙ descriptors_undone process.pid process.descriptors in
+    λ i. record process { host = (maker_or (maker i)).host; made = (maker_or (maker i)).made; threads = threads i; descriptors = own i }
+
+abbrev HasThreads : ProcessEntry → Type 0
+HasThreads e = mapped thread_image (map.entries (map.from_entries {R = nat_cmp} (mapped signals_entry e.threads))) ≡ e.threads
+
+both_all : {X : Type 0} (P Q S : X → Type 0) → ((x : X) → P x → Q x → S x) → (items : List X) → AllByRecursion P items → AllByRecursion Q items → AllByRecursion S items
+both_all P Q S to [] h g = tt
+both_all P Q S to (x ∷ items) h g = (to x h.0 g.0, both_all P Q S to items h.1 g.1)
+
+processes_back : (next_id : ℕ) (channels : List ChannelImage) (descriptions : List DescriptionImage) (k : PlainKernel) (processes : List ProcessEntry)
+    → EachFrom (ProcessFits next_id channels descriptions) [] processes
+    → k.processes ≡ map.from_entries (mapped process_entry processes) → k.makers ≡ map.from_entries (mapped maker_entry processes) → k.descriptors ≡ map.from_entries (flat_map descriptor_entries processes)
+    → mapped (process_image k) (map.entries k.processes) ≡ processes
+processes_back next_id channels descriptions k processes h of_processes makers of_descriptors =
+    let rising : RisesFrom vpid_cmp None (pids processes) =
+        each_rising vpid_cmp (λ (e : ProcessEntry). e.pid) (ProcessFits next_id channels descriptions) (process_rises next_id channels descriptions) [] processes h in
+    let sorted = sorted_rising vpid_cmp vpid_total None (pids processes) rising in
+    let slots : map.entries k.descriptors ≡ flat_map descriptor_entries processes =
+        ap map.entries of_descriptors ∙ descriptors_entries processes sorted (all_from (ProcessFits next_id channels descriptions) KeepsOwn (keeps_own next_id channels descriptions) [] processes h) in
+    let threads = all_from (ProcessFits next_id channels descriptions) HasThreads (λ front e fits. threads_back next_id front e.threads fits.threads) [] processes h in
+    ap (λ m. mapped (process_image k) (map.entries m)) of_processes
+    ∙ ap (mapped (process_image k)) (entries_made vpid_total process_entry processes rising)
+    ∙ undone process_entry (process_image k) processes
+      (both_all HasThreads (IsFound processes) (λ e. process_image k (process_entry e) ≡ e) (λ e own found. process_back k processes e makers slots own found) processes threads (all_found processes sorted))
+
+pub shared_of-kernel_of : (s : Shared) → IsShared s → shared_of (kernel_of s) ≡ s
+unfolding shared_of kernel_of
+shared_of-kernel_of s h =
+    let descriptions = descriptions_back s.next_id s.descriptions h.descriptions in
+    let processes = processes_back s.next_id s.channels s.descriptions (kernel_of s) s.processes h.processes refl refl refl in
+    λ i. record s { files = sym h.files i; channels = sym h.channels i; descriptions = descriptions i; processes = processes i }
+
+pub only_image : (s : Shared) (k : PlainKernel) → IsImage s k → shared_of k ≡ s
+only_image s k h = ap shared_of (sym h.kernel) ∙ shared_of-kernel_of s h.spelled
+
+-- what is made of the entries is the image, where there is one
+pub the_image : (s : Shared) (k : PlainKernel) (made : Shared) → IsImage s k → made ≡ shared_of k → IsImage made k
+the_image s k made h is = subst (λ (t : Shared). IsImage t k) (sym (is ∙ only_image s k h)) h
+
+pub image_made : (k : PlainKernel) (made : Shared) → made.next_id ≡ k.next_id → made.next_file ≡ k.next_file → made.files ≡ [] → made.channels ≡ []
+    → made.descriptions ≡ mapped description_image (map.entries k.descriptions) → made.processes ≡ mapped (process_image k) (map.entries k.processes) → made ≡ shared_of k
+unfolding shared_of
+image_made k made next_id next_file files channels descriptions processes =
+    λ i. record { next_id = next_id i; next_file = next_file i; files = files i; channels = channels i; descriptions = descriptions i; processes = processes i }
