@@ -32,7 +32,7 @@ use Rattle.image_codec.specs.declared.shared.ProcessEntry.{ProcessEntry}
 use Rattle.image_codec.specs.declared.shared.Shared.{Shared}
 use Rattle.image_codec.specs.Texts.{EachFrom}
 use Rattle.image_codec.specs.SharedTests as field
-use Rattle.image_codec.specs.SharedFits.{IsShared, DescriptionFits, ProcessFits, ThreadFits, DescriptorFits, kind_of}
+use Rattle.image_codec.specs.SharedFits.{IsShared, SharedFits, DescriptionFits, ProcessFits, ThreadFits, DescriptorFits, kind_of}
 use Rattle.image_codec.specs.KernelParts.{kernel_of, process_entry, maker_entry, descriptor_entries, descriptor_entry, description_entry, signals_entry, object_of}
 use Rattle.image_codec.specs.KernelImages.{shared_of, IsImage, object_image, description_image, thread_image, descriptor_image, process_image, is_of, maker_or}
 use Rattle.image_codec.proofs.Rising.{RisesFrom, IsAfter, each_rising, sorted_rising, sorted_append, entries_made, undone, all_from}
@@ -66,14 +66,21 @@ threads_back next_id earlier threads h =
 pair_below : (a b c d : ℕ) → IsTrue (nat_lt a c || nat_lt b d) → IsTrue (nat_le a c) → ordering_then (nat_cmp a c) (nat_cmp b d) ≡ Less
 pair_below a b c d h g = grind (arith, nat_tests)
 
-after_pair : (before : Option DescId) (p n : ℕ) → IsTrue (field.is_maker_after before p) → IsTrue (field.is_number_after before p n) → IsAfter desc_cmp before (record { pid = record { 0 = p }; num = n })
+abbrev id_of : DescriptionImage → DescId
+id_of description = description.id
+
+abbrev pair_of : DescriptionImage → ℕ × ℕ
+pair_of description = (description.id.pid.0, description.id.num)
+
+after_pair : (before : Option DescriptionImage) (p n : ℕ) → IsTrue (field.is_maker_after (option_map pair_of before) p) → IsTrue (field.is_number_after (option_map pair_of before) p n)
+    → IsAfter desc_cmp (option_map id_of before) (record { pid = record { 0 = p }; num = n })
 after_pair None p n h g = tt
-after_pair (Some before) p n h g = pair_below before.pid.0 before.num p n g h
+after_pair (Some before) p n h g = pair_below before.id.pid.0 before.id.num p n g h
 
 description_rises : (next_id : ℕ) (front : List DescriptionImage) (description : DescriptionImage) → DescriptionFits next_id front description
     → IsAfter desc_cmp (option_map (λ (d : DescriptionImage). d.id) (field.last_item front)) description.id
 description_rises next_id front description h =
-    after_pair (field.last_description front) description.id.pid.0 description.id.num ((both_true _ _ h.maker.1).0) h.number.1
+    after_pair (field.last_item front) description.id.pid.0 description.id.num ((both_true _ _ h.maker.1).0) h.number.1
 
 console_back : (object : ObjectImage) → IsTrue (field.is_object_kind (kind_of object)) → object_image (object_of object) ≡ object
 console_back Console h = refl
@@ -276,7 +283,7 @@ processes_back next_id channels descriptions k processes h of_processes makers o
     ∙ undone process_entry (process_image k) processes
       (both_all HasThreads (IsFound processes) (λ e. process_image k (process_entry e) ≡ e) (λ e own found. process_back k processes e makers slots own found) processes threads (all_found processes sorted))
 
-pub shared_of-kernel_of : (s : Shared) → IsShared s → shared_of (kernel_of s) ≡ s
+pub shared_of-kernel_of : (s : Shared) → SharedFits s → shared_of (kernel_of s) ≡ s
 unfolding shared_of kernel_of
 shared_of-kernel_of s h =
     let descriptions = descriptions_back s.next_id s.descriptions h.descriptions in
@@ -284,7 +291,7 @@ shared_of-kernel_of s h =
     λ i. record s { files = sym h.files i; channels = sym h.channels i; descriptions = descriptions i; processes = processes i }
 
 pub only_image : (s : Shared) (k : PlainKernel) → IsImage s k → shared_of k ≡ s
-only_image s k h = ap shared_of (sym h.kernel) ∙ shared_of-kernel_of s h.spelled
+only_image s k h = ap shared_of (sym h.kernel) ∙ shared_of-kernel_of s h.spelled.fields
 
 -- what is made of the entries is the image, where there is one
 pub the_image : (s : Shared) (k : PlainKernel) (made : Shared) → IsImage s k → made ≡ shared_of k → IsImage made k

@@ -5,6 +5,8 @@ pub mod KernelImages
 pub mod KernelParts
 pub mod Reading
 pub mod SharedFits
+pub mod SharedFormat
 pub mod SharedTests
+pub mod SharedTexts
 pub mod Texts
 pub mod UserParts

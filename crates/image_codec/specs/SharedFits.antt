@@ -33,8 +33,8 @@ status_of Live = 0
 status_of (Zombie status) = status
 
 pub record DescriptionFits (next_id : ℕ) (front : List DescriptionImage) (description : DescriptionImage) : Type 0 where
-  pub maker : FitsField n32 (field.is_maker next_id front) description.id.pid.0
-  pub number : FitsField n32 (field.is_description_number front description.id.pid.0) description.id.num
+  pub maker : FitsField n32 (field.is_maker next_id (field.last_description front)) description.id.pid.0
+  pub number : FitsField n32 (field.is_number_after (field.last_description front) description.id.pid.0) description.id.num
   pub kind : FitsField n8 field.is_object_kind (kind_of description.object)
   pub flags : FitsField n32 field.is_status_flags description.flags
   pub owner : FitsField n32 any description.owner
@@ -61,7 +61,7 @@ pub record ProcessFits (next_id : ℕ) (channels : List ChannelImage) (descripti
   pub descriptor_count : FitsField n32 (field.is_descriptor_count (state_of process.life)) (length process.descriptors)
   pub descriptors : EachFrom (DescriptorFits descriptions) [] process.descriptors
 
-pub record IsShared (s : Shared) : Type 0 where
+pub record SharedFits (s : Shared) : Type 0 where
   pub next_id : FitsField n32 field.is_next_id s.next_id
   pub next_file : FitsField n32 field.is_next_file s.next_file
   pub files : s.files ≡ []
@@ -70,4 +70,7 @@ pub record IsShared (s : Shared) : Type 0 where
   pub descriptions : EachFrom (DescriptionFits s.next_id) [] s.descriptions
   pub process_count : FitsField n32 field.is_process_count (length s.processes)
   pub processes : EachFrom (ProcessFits s.next_id s.channels s.descriptions) [] s.processes
+
+pub record IsShared (s : Shared) : Type 0 where
+  pub fields : SharedFits s
   pub whole : IsTrue (field.is_whole s)

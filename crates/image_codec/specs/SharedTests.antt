@@ -2,17 +2,19 @@
 --     is_next_id .. is_flag      a field, after the fields of the item and of the items before it
 --     is_whole s      what is tested at the end of the file, over the whole value
 -- Source: docs/FORMATS.md, "Shared image".
-use Rattle.std.specs.Prelude.{◌==◌, ◌&&◌, ◌||◌, ℕ, ◌-◌, ◌^◌, nat_le, nat_lt, bit_and, Bool, true, false, not, List, [], ◌∷◌, length, slice_get, Option, Some, None, option_map, if◌then◌else◌}
+use Rattle.std.specs.Prelude.{◌==◌, ◌&&◌, ◌||◌, ℕ, ◌+◌, ◌-◌, ◌^◌, nat_le, nat_lt, bit_and, Bool, true, false, not, List, [], ◌∷◌, length, sum_by, slice_get, Option, Some, None, option_map, if◌then◌else◌}
 use Rattle.std.specs.List.{list_any, list_all}
 use Rattle.sys_abi.specs.declared.identity.DescId.{DescId}
 use Rattle.views.specs.NumberMap.{is_above}
 use Rattle.plain_machine.specs.Kernel.{lives}
+use Rattle.image_codec.specs.declared.shared.FileImage.{FileImage}
 use Rattle.image_codec.specs.declared.shared.ChannelImage.{ChannelImage}
 use Rattle.image_codec.specs.declared.shared.DescriptionImage.{DescriptionImage}
 use Rattle.image_codec.specs.declared.shared.ThreadEntry.{ThreadEntry}
 use Rattle.image_codec.specs.declared.shared.DescriptorEntry.{DescriptorEntry}
 use Rattle.image_codec.specs.declared.shared.ProcessEntry.{ProcessEntry}
 use Rattle.image_codec.specs.declared.shared.Shared.{Shared}
+use Rattle.image_codec.specs.Fields.{is_bytes, is_within}
 
 -- the last of the items so far
 abbrev pub last_item : {X : Type 0} → List X → Option X
@@ -38,23 +40,55 @@ is_channel_count n = n == 0
 abbrev pub is_process_count : ℕ → Bool
 is_process_count n = n == 1
 
+abbrev pub is_host : ℕ → Bool
+is_host n = nat_lt n 16
+
+-- files: a name holds no zero byte, and no two files have the same one
+abbrev pub is_file_number : ℕ → List FileImage → ℕ → Bool
+is_file_number next_file front n = is_above (option_map (λ file. file.number) (last_item front)) n && is_within 1 (next_file - 1) n
+
+abbrev pub has_name : List ℕ → FileImage → Bool
+has_name name file = is_bytes name file.name
+
+abbrev pub is_file_name : List FileImage → List ℕ → Bool
+is_file_name front name = list_all (λ byte. not (byte == 0)) name && ((length name == 0) || not (list_any (has_name name) front))
+
+abbrev pub is_file_size : List FileImage → ℕ → Bool
+is_file_size front size = nat_le (sum_by (λ file. length file.bytes) front + size) 67108864
+
 -- a list of pairs rises: at its maker a pair is not below the one before, and at its number it is above it
-abbrev pub is_maker_after : Option DescId → ℕ → Bool
+abbrev pub is_maker_after : Option (ℕ × ℕ) → ℕ → Bool
 is_maker_after None maker = true
-is_maker_after (Some before) maker = nat_le before.pid.0 maker
+is_maker_after (Some before) maker = nat_le before.0 maker
 
-abbrev pub is_number_after : Option DescId → ℕ → ℕ → Bool
+abbrev pub is_number_after : Option (ℕ × ℕ) → ℕ → ℕ → Bool
 is_number_after None maker n = true
-is_number_after (Some before) maker n = nat_lt before.pid.0 maker || nat_lt before.num n
+is_number_after (Some before) maker n = nat_lt before.0 maker || nat_lt before.1 n
 
-abbrev pub last_description : List DescriptionImage → Option DescId
-last_description front = option_map (λ description. description.id) (last_item front)
+abbrev pub last_channel : List ChannelImage → Option (ℕ × ℕ)
+last_channel front = option_map (λ channel. (channel.id.pid.0, channel.id.num)) (last_item front)
 
-abbrev pub is_maker : ℕ → List DescriptionImage → ℕ → Bool
-is_maker next_id front maker = is_maker_after (last_description front) maker && nat_lt maker next_id
+abbrev pub last_description : List DescriptionImage → Option (ℕ × ℕ)
+last_description front = option_map (λ description. (description.id.pid.0, description.id.num)) (last_item front)
 
-abbrev pub is_description_number : List DescriptionImage → ℕ → ℕ → Bool
-is_description_number front maker n = is_number_after (last_description front) maker n
+abbrev pub is_maker : ℕ → Option (ℕ × ℕ) → ℕ → Bool
+is_maker next_id before maker = is_maker_after before maker && nat_lt maker next_id
+
+-- channels: 0 is a pair, 1 an internet connection, 2 a pipe; side 1 of a pipe sends nothing
+abbrev pub is_channel_kind : ℕ → Bool
+is_channel_kind kind = nat_le kind 2
+
+abbrev pub is_side_flags : ℕ → Bool
+is_side_flags flags = nat_le flags 3
+
+abbrev pub is_left_count : ℕ → ℕ → ℕ → ℕ → Bool
+is_left_count kind side flags n = nat_le n 65536 && ((n == 0) || (nat_lt flags 2 && not ((kind == 2) && (side == 1))))
+
+abbrev pub is_side_host : ℕ → ℕ → Bool
+is_side_host kind n = if kind == 1 then is_host n else n == 0xFFFFFFFF
+
+abbrev pub is_side_port : ℕ → ℕ → Bool
+is_side_port kind n = if kind == 1 then nat_le n 65535 else n == 0
 
 -- the console alone has an image so far
 abbrev pub is_object_kind : ℕ → Bool
@@ -78,9 +112,6 @@ is_live_process n process = (process.pid.0 == n) && lives process.life
 -- nobody, or an earlier process that lives
 abbrev pub is_parent : List ProcessEntry → ℕ → Bool
 is_parent front n = (n == 1) || list_any (is_live_process n) front
-
-abbrev pub is_host : ℕ → Bool
-is_host n = nat_lt n 16
 
 abbrev pub is_number_below : ℕ → ℕ → ℕ → ℕ → Bool
 is_number_below pid made maker n = not (maker == pid) || nat_lt n made
