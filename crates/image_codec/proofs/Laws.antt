@@ -11,7 +11,7 @@ use Rattle.image_codec.proofs.Numerals.{AllBytes, length-bytes_of, number_in-byt
 ok_injective : {X : Type 0} (x y : X) → ◌≡◌ {A = Result X ℕ} (Ok x) (Ok y) → x ≡ y
 ok_injective x y e = cc
 
-read_if-ok : {A : Type 0} (full allowed : Bool) (a : A) (rest : List ℕ) (left : ℕ) (b : A) (tail : List ℕ) → read_if full allowed a rest left ≡ Ok (b, tail) → (full ≡ true) × (allowed ≡ true) × (b ≡ a) × (tail ≡ rest)
+pub read_if-ok : {A : Type 0} (full allowed : Bool) (a : A) (rest : List ℕ) (left : ℕ) (b : A) (tail : List ℕ) → read_if full allowed a rest left ≡ Ok (b, tail) → (full ≡ true) × (allowed ≡ true) × (b ≡ a) × (tail ≡ rest)
 unfolding read_if
 read_if-ok false allowed a rest left b tail e = cc
 read_if-ok true false a rest left b tail e = cc
@@ -25,7 +25,7 @@ read_if-err false allowed a rest left m e = inl (refl, cc)
 read_if-err true false a rest left m e = inr (refl, refl, cc)
 read_if-err true true a rest left m e = cc
 
-read_if-gives : {A : Type 0} (full allowed : Bool) (a : A) (rest : List ℕ) (left : ℕ) → full ≡ true → allowed ≡ true → read_if full allowed a rest left ≡ Ok (a, rest)
+pub read_if-gives : {A : Type 0} (full allowed : Bool) (a : A) (rest : List ℕ) (left : ℕ) → full ≡ true → allowed ≡ true → read_if full allowed a rest left ≡ Ok (a, rest)
 unfolding read_if
 read_if-gives full allowed a rest left f h = rw (f, h) refl
 
@@ -33,7 +33,7 @@ read_if-lacks : {A : Type 0} (full allowed : Bool) (a : A) (rest : List ℕ) (le
 unfolding read_if
 read_if-lacks full allowed a rest left f = rw f refl
 
-read_if-refuses : {A : Type 0} (full allowed : Bool) (a : A) (rest : List ℕ) (left : ℕ) → full ≡ true → allowed ≡ false → read_if full allowed a rest left ≡ Err left
+pub read_if-refuses : {A : Type 0} (full allowed : Bool) (a : A) (rest : List ℕ) (left : ℕ) → full ≡ true → allowed ≡ false → read_if full allowed a rest left ≡ Err left
 unfolding read_if
 read_if-refuses full allowed a rest left f h = rw (f, h) refl
 

@@ -2,7 +2,9 @@ pub mod DamageLaws
 pub mod KernelLaws
 pub mod Laws
 pub mod Loop
+pub mod ManifestLaws
 pub mod Numerals
 pub mod Rising
 pub mod Texts
 pub mod WholeFiles
+pub mod Writing

@@ -1,7 +1,8 @@
 -- The items of a list, read one after the other: one more, one that breaks, and none left
-use Rattle.std.proofs.Common.{◌≡◌, ℕ, suc, ◌+◌, ◌-◌, ◌<◌, ◌≤◌, List, [], ◌∷◌, ◌++◌, Ok, Err, refl, arith}
-use Rattle.image_codec.specs.Format.{Format, each}
+use Rattle.std.proofs.Common.{◌≡◌, ℕ, suc, ◌+◌, ◌-◌, ◌<◌, ◌≤◌, Bool, true, false, List, [], ◌∷◌, ◌++◌, length, take, Ok, Err, refl, sym, ap, ◌∙◌, arith}
+use Rattle.image_codec.specs.Format.{Format, Size, unsigned, n32, any, each, counted, size_of, number_in}
 use Rattle.image_codec.specs.Reading.{read, read_next}
+use Rattle.image_codec.proofs.Laws.{read_if-ok, read_if-gives, read_if-refuses}
 
 one_less : (n i : ℕ) → i < n → n - i ≡ suc (n - (i + 1))
 one_less n i h = omega arith
@@ -17,3 +18,27 @@ ends item n i front text left h e = rw (one_less n i h, e) refl
 pub is_done : {X : Type 0} (item : List X → Format X) (n i : ℕ) (front : List X) (text : List ℕ) → n ≤ i → read (each item (n - i) front) text ≡ Ok (front, text)
 unfolding read each
 is_done item n i front text h = let none : n - i ≡ 0 = omega arith in rw none refl
+
+-- both at once
+pub one_item : {X : Type 0} (item : List X → Format X) (n i : ℕ) (front : List X) (text : List ℕ) → i < n → read (each item (n - i) front) text ≡ read_next (read (item front) text) (λ x rest. read (each item (n - (i + 1)) (front ++ x ∷ [])) rest)
+unfolding read each
+one_item item n i front text h = rw (one_less n i h) refl
+
+-- a number of which any value was read passes its test, or doesn't
+
+pub number_passes : (size : Size) (ok : ℕ → Bool) (text rest : List ℕ) (n : ℕ) → read (unsigned size any) text ≡ Ok (n, rest) → ok n ≡ true → read (unsigned size ok) text ≡ Ok (n, rest)
+unfolding read
+number_passes size ok text rest n e h =
+    let (full, allowed, value, tail) = read_if-ok _ _ _ _ _ _ _ e in
+    let passes : ok (number_in size (take (size_of size) text)) ≡ true = ap ok (sym value) ∙ h in
+    rw (value, tail) (read_if-gives _ _ _ _ _ full passes)
+
+pub number_fails : (size : Size) (ok : ℕ → Bool) (text rest : List ℕ) (n : ℕ) → read (unsigned size any) text ≡ Ok (n, rest) → ok n ≡ false → read (unsigned size ok) text ≡ Err (length text)
+unfolding read
+number_fails size ok text rest n e h =
+    let (full, allowed, value, tail) = read_if-ok _ _ _ _ _ _ _ e in
+    read_if-refuses _ _ _ _ _ full (ap ok (sym value) ∙ h)
+
+pub counts : {X : Type 0} (ok : ℕ → Bool) (item : List X → Format X) (text rest : List ℕ) (n : ℕ) → read (unsigned n32 any) text ≡ Ok (n, rest) → ok n ≡ true → read (counted ok item) text ≡ read (each item n []) rest
+unfolding read read_next counted
+counts ok item text rest n e h = rw (number_passes n32 ok text rest n e h) refl

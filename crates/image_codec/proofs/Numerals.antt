@@ -1,10 +1,14 @@
 -- A number's bytes and the number in bytes undo each other
-use Rattle.std.proofs.Common.{◌≡◌, ℕ, ◌<◌, List, [], ◌∷◌, length, get_or, refl, arith}
+use Rattle.std.proofs.Common.{Fits, w8, ◌≡◌, ℕ, ◌<◌, List, [], ◌∷◌, length, get_or, refl, arith}
 use Rattle.std.proofs.lemmas.Nat.{le_bytes_2, le_bytes_4, le_bytes_8, from_le_bytes-to_le_bytes_2, from_le_bytes-to_le_bytes_4, from_le_bytes-to_le_bytes_8}
 use Rattle.image_codec.specs.Format.{Size, n8, n16, n32, n64, size_of, bytes_of, number_in, limit_of}
 
 abbrev pub AllBytes : List ℕ → Type 0
 AllBytes bytes = (i : ℕ) → get_or bytes i 0 < 256
+
+-- as the type of a slice tells it
+pub fit_bytes : (bytes : List ℕ) → ((i : ℕ) → Fits w8 (get_or bytes i 0)) → AllBytes bytes
+fit_bytes bytes h i = omega (arith, h i)
 
 pub length-bytes_of : (size : Size) (n : ℕ) → length (bytes_of size n) ≡ size_of size
 unfolding bytes_of size_of

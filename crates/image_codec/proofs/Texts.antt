@@ -2,6 +2,8 @@
 -- The laws follow a format's shape, a field at a time.
 use Rattle.std.proofs.Common.{◌≡◌, ℕ, zero, suc, IsTrue, Bool, List, [], ◌∷◌, ◌++◌, length, refl, sym, ap, subst, ◌∙◌, append_assoc, append-nil}
 use Rattle.std.specs.List.{flat_map}
+use Rattle.std.specs.Prelude.{All}
+use Rattle.std.proofs.lemmas.List.Elements.{All-nil, All-cons, All-head, All-tail}
 use Rattle.image_codec.specs.Format.{Size, n32, Format, unsigned, raw, give, next, each, counted, bytes_of, Spells}
 use Rattle.image_codec.specs.Texts.{FitsField, EachFrom}
 
@@ -32,14 +34,14 @@ give_law value = record {
 
 -- a field whose value stands in the whole value, where get finds it
 pub next_law : {A B : Type 0} (f : Format B) (k : B → Format A) (text : B → List ℕ) (Fits : B → Type 0) (rest_text : A → List ℕ) (RestFits : B → A → Type 0) (get : A → B)
-    → Law f text Fits → ((b : B) (a : A) → RestFits b a → b ≡ get a) → ((b : B) → Law (k b) rest_text (RestFits b))
+    → Law f text Fits → ((b : B) (a : A) → Fits b → RestFits b a → b ≡ get a) → ((b : B) → Law (k b) rest_text (RestFits b))
     → Law (next f k) (λ a. text (get a) ++ rest_text a) (λ a. Fits (get a) × RestFits (get a) a)
 unfolding Spells
 next_law {A} {B} f k text Fits rest_text RestFits get law found laws = record {
   only = λ t a (b, first, rest, e, s, r).
       let (is_first, fits) = law.only first b s in
       let (is_rest, rest_fits) = (laws b).only rest a r in
-      let same = found b a rest_fits in
+      let same = found b a fits rest_fits in
       let first_is : first ≡ text (get a) = is_first ∙ ap text same in (
         e ∙ ap (λ (x : List ℕ). x ++ rest) first_is ∙ ap (λ (x : List ℕ). text (get a) ++ x) is_rest,
         (subst Fits same fits, subst (λ (x : B). RestFits x a) same rest_fits),
@@ -92,4 +94,16 @@ unfolding counted
 counted_law ok item text Fits law =
     in_words _ _ _ _ _ (λ items h. refl) (λ items h. (h.0, h.1.1)) (λ items h. (h.0, (refl, h.1)))
     (next_law (unsigned n32 ok) (λ n. each item n []) (bytes_of n32) (FitsField n32 ok) (flat_map text) (λ n items. (length items ≡ n) × EachFrom Fits [] items) length
-    (unsigned_law n32 ok) (λ n items h. sym h.0) (λ n. each_law item text Fits n law))
+    (unsigned_law n32 ok) (λ n items _ h. sym h.0) (λ n. each_law item text Fits n law))
+
+-- a fact of each item that doesn't look at those before it
+
+pub all_from_each : {X : Type 0} (P : X → Type 0) (front items : List X) → EachFrom (λ _ x. P x) front items → All P items
+unfolding EachFrom
+all_from_each P front [] h = All-nil P
+all_from_each P front (x ∷ items) h = All-cons P x items h.0 (all_from_each P (front ++ x ∷ []) items h.1)
+
+pub each_from_all : {X : Type 0} (P : X → Type 0) (front items : List X) → All P items → EachFrom (λ _ x. P x) front items
+unfolding EachFrom
+each_from_all P front [] h = tt
+each_from_all P front (x ∷ items) h = (All-head P x items h, each_from_all P (front ++ x ∷ []) items (All-tail P x items h))

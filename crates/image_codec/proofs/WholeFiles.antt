@@ -1,6 +1,7 @@
 -- A reading of a whole file: what is spelled, what is damaged, and that there is no other value
-use Rattle.std.proofs.Common.{◌≡◌, ℕ, ◌+◌, ◌-◌, ◌<◌, ◌≤◌, ◌⊎◌, inl, inr, Bool, true, false, IsTrue, List, [], ◌∷◌, ◌++◌, length, take, Result, Ok, Err, refl, sym, ap, subst, ◌∙◌, append_assoc, append-nil, length-append, arith}
-use Rattle.std.proofs.lemmas.List.{take_at}
+use Rattle.std.proofs.Common.{◌≡◌, ◌==◌, ℕ, ◌+◌, ◌-◌, ◌<◌, ◌≤◌, ◌⊎◌, inl, inr, Bool, true, false, IsTrue, List, [], ◌∷◌, ◌++◌, length, take, Result, Ok, Err, refl, sym, ap, subst, ◌∙◌, append_assoc, append-nil, length-append, arith}
+use Rattle.std.proofs.lemmas.Bool.Decides.{nat_tests}
+use Rattle.std.proofs.lemmas.List.{nil_from_length, take_at}
 use Rattle.std.proofs.lemmas.Bool.{cases_Bool}
 use Rattle.image_codec.specs.Format.{Format, Spells, Breaks, SpellsFile, Damaged}
 use Rattle.image_codec.specs.Reading.{read}
@@ -9,6 +10,13 @@ use Rattle.image_codec.proofs.Numerals.{AllBytes}
 use Rattle.image_codec.proofs.Laws.{read_spelled, spelled_read, read_broken, broken_read, place-le}
 use Rattle.image_codec.proofs.DamageLaws as damage
 use Rattle.image_codec.proofs.Texts.{Law}
+
+pub nothing : (rest : List ℕ) → (length rest == 0) ≡ true → rest ≡ []
+nothing rest h = nil_from_length rest (grind (arith, nat_tests))
+
+pub something : (rest : List ℕ) → (length rest == 0) ≡ false → 0 < length rest
+something [] h = cc
+something (b ∷ rest) h = omega arith
 
 module _ {A : Type 0} (f : Format A) (end : A → Bool) where
   reads_all : (text : List ℕ) (a : A) → Spells f text a → read f text ≡ Ok (a, [])
@@ -32,7 +40,15 @@ module _ {A : Type 0} (f : Format A) (end : A → Bool) where
   unfolding SpellsFile
   only_value text a b rest e s = (same_value text a b rest e s.0).0
 
+  pub rest-le : (text : List ℕ) (a : A) (rest : List ℕ) → AllBytes text → read f text ≡ Ok (a, rest) → length rest ≤ length text
+  rest-le text a rest bytes e =
+      let front = spelled_read f text a rest bytes e in
+      omega (arith, ap length front.whole ∙ length-append front.first rest)
+
   -- a file of which no value is read
+  pub left-le : (text : List ℕ) (left : ℕ) → AllBytes text → read f text ≡ Err left → left ≤ length text
+  left-le text left bytes e = let front = broken_read f text left bytes e in omega (arith, front.whole)
+
   pub damaged_left : (text : List ℕ) (left : ℕ) → AllBytes text → read f text ≡ Err left → Damaged f end text (length text - left)
   unfolding Damaged
   damaged_left text left bytes e =

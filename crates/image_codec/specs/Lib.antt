@@ -3,6 +3,7 @@ pub mod Files
 pub mod Format
 pub mod KernelImages
 pub mod KernelParts
+pub mod Manifests
 pub mod Reading
 pub mod SharedFits
 pub mod SharedFormat

@@ -1,4 +1,6 @@
-use std::alloc::{AllocError, AllocFailed};
+ghost use Rattle.std.specs.Prelude.{◌≡◌, ◌-◌, ◌≤◌, length};
+
+use std::alloc::AllocError;
 use thiserror::Error;
 
 /// Where a set is damaged: a file of the slot, by its index (0 the manifest, 1 the shared image, then the images of
@@ -16,4 +18,25 @@ pub enum ReadFault {
     Damaged(Damage),
     #[error("out of memory")]
     Memory,
+}
+
+impl From<AllocError> for ReadFault {
+    ghost use Rattle.image_codec.specs.declared.damage.ReadFault.TheVariants.{Memory};
+
+    ghost from_gives = { λ _ fault. fault ≡ Memory };
+
+    fn from(_error: AllocError) -> Self {
+        ReadFault::Memory
+    }
+}
+
+/// The damage of a file's field from which on so many bytes are left.
+pub(crate) fn damaged(file: u32, bytes: &[u8], left: usize) -> ReadFault
+    requires { left ≤ length bytes.now }
+    ensures { result ≡ ReadFault.Damaged (record { file = file; offset = length bytes.now - left }) }
+{
+    ReadFault::Damaged(Damage {
+        file,
+        offset: (bytes.len() - left) as u64,
+    })
 }
