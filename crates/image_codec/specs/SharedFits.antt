@@ -48,17 +48,20 @@ pub record DescriptorFits (descriptions : List DescriptionImage) (front : List D
   pub maker : FitsField n32 any descriptor.desc.pid.0
   pub described : FitsField n32 (field.is_description descriptions descriptor.desc.pid.0) descriptor.desc.num
 
+pub record LifeFits (channels : List ChannelImage) (descriptions : List DescriptionImage) (number made : ℕ) (life : Life) : Type 0 where
+  pub state : FitsField n8 (field.is_state channels descriptions number made) (state_of life)
+  pub status : FitsField n32 (field.is_exit_status (state_of life)) (status_of life)
+
 pub record ProcessFits (next_id : ℕ) (channels : List ChannelImage) (descriptions : List DescriptionImage) (front : List ProcessEntry) (process : ProcessEntry) : Type 0 where
   pub number : FitsField n32 (field.is_process_number next_id front) process.pid.0
   pub parent : FitsField n32 (field.is_parent front) process.parent
   pub host : FitsField n32 field.is_host process.host
   pub made : FitsField n32 any process.made
-  pub state : FitsField n8 (field.is_state channels descriptions process.pid.0 process.made) (state_of process.life)
-  pub status : FitsField n32 (field.is_exit_status (state_of process.life)) (status_of process.life)
-  pub pending : FitsField n32 (field.is_pending (state_of process.life)) process.pending
-  pub thread_count : FitsField n32 (field.is_thread_count (state_of process.life)) (length process.threads)
+  pub life : LifeFits channels descriptions process.pid.0 process.made process.life
+  pub pending : FitsField n32 (field.is_pending process.life) process.pending
+  pub thread_count : FitsField n32 (field.is_thread_count process.life) (length process.threads)
   pub threads : EachFrom (ThreadFits next_id front) [] process.threads
-  pub descriptor_count : FitsField n32 (field.is_descriptor_count (state_of process.life)) (length process.descriptors)
+  pub descriptor_count : FitsField n32 (field.is_descriptor_count process.life) (length process.descriptors)
   pub descriptors : EachFrom (DescriptorFits descriptions) [] process.descriptors
 
 pub record SharedFits (s : Shared) : Type 0 where

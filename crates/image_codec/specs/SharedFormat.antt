@@ -95,23 +95,28 @@ descriptor descriptions front = do
 abbrev pub life_of : ℕ → ℕ → Life
 life_of state status = if state == 0 then Live else Zombie status
 
+unfoldable pub life : List ChannelImage → List DescriptionImage → ℕ → ℕ → Format Life
+life channels descriptions number made = do
+  state ← unsigned n8 (field.is_state channels descriptions number made)
+  status ← unsigned n32 (field.is_exit_status state)
+  give (life_of state status)
+
 unfoldable pub process : ℕ → List ChannelImage → List DescriptionImage → List ProcessEntry → Format ProcessEntry
 process next_id channels descriptions front = do
   number ← unsigned n32 (field.is_process_number next_id front)
   parent ← unsigned n32 (field.is_parent front)
   host ← unsigned n32 field.is_host
   made ← unsigned n32 any
-  state ← unsigned n8 (field.is_state channels descriptions number made)
-  status ← unsigned n32 (field.is_exit_status state)
-  pending ← unsigned n32 (field.is_pending state)
-  threads ← counted (field.is_thread_count state) (thread next_id front)
-  descriptors ← counted (field.is_descriptor_count state) (descriptor descriptions)
+  alive ← life channels descriptions number made
+  pending ← unsigned n32 (field.is_pending alive)
+  threads ← counted (field.is_thread_count alive) (thread next_id front)
+  descriptors ← counted (field.is_descriptor_count alive) (descriptor descriptions)
   give (record {
     pid = pid number;
     parent = parent;
     host = host;
     made = made;
-    life = life_of state status;
+    life = alive;
     pending = pending;
     threads = threads;
     descriptors = descriptors;

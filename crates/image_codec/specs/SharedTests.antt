@@ -6,6 +6,7 @@ use Rattle.std.specs.Prelude.{◌==◌, ◌&&◌, ◌||◌, ℕ, ◌+◌, ◌-�
 use Rattle.std.specs.List.{list_any, list_all}
 use Rattle.sys_abi.specs.declared.identity.DescId.{DescId}
 use Rattle.views.specs.NumberMap.{is_above}
+use Rattle.plain_machine.specs.declared.process.Life.{Life}
 use Rattle.plain_machine.specs.Kernel.{lives}
 use Rattle.image_codec.specs.declared.shared.FileImage.{FileImage}
 use Rattle.image_codec.specs.declared.shared.ChannelImage.{ChannelImage}
@@ -133,12 +134,12 @@ is_exit_status state n = not (state == 0) || (n == 0)
 abbrev pub is_signals : ℕ → Bool
 is_signals n = nat_lt n (2 ^ 31)
 
-abbrev pub is_pending : ℕ → ℕ → Bool
-is_pending state n = is_signals n && ((state == 0) || (n == 0))
+abbrev pub is_pending : Life → ℕ → Bool
+is_pending life n = is_signals n && (lives life || (n == 0))
 
 -- one thread has an image so far
-abbrev pub is_thread_count : ℕ → ℕ → Bool
-is_thread_count state n = if state == 0 then n == 1 else n == 0
+abbrev pub is_thread_count : Life → ℕ → Bool
+is_thread_count life n = if lives life then n == 1 else n == 0
 
 abbrev pub is_number_of : ℕ → ProcessEntry → Bool
 is_number_of n process = (process.pid.0 == n) || has_thread n process
@@ -147,8 +148,8 @@ abbrev pub is_thread_number : ℕ → List ProcessEntry → List ThreadEntry →
 is_thread_number next_id earlier front n =
     is_above (option_map (λ thread. thread.tid) (last_item front)) n && is_given_out next_id n && not (list_any (is_number_of n) earlier)
 
-abbrev pub is_descriptor_count : ℕ → ℕ → Bool
-is_descriptor_count state n = nat_le n 256 && ((state == 0) || (n == 0))
+abbrev pub is_descriptor_count : Life → ℕ → Bool
+is_descriptor_count life n = nat_le n 256 && (lives life || (n == 0))
 
 abbrev pub is_descriptor_number : List DescriptorEntry → ℕ → Bool
 is_descriptor_number front n = is_above (option_map (λ descriptor. descriptor.number) (last_item front)) n && nat_lt n 256

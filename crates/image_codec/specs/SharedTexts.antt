@@ -3,6 +3,7 @@
 use Rattle.std.specs.Prelude.{ℕ, ◌+◌, ◌*◌, Bool, List, ◌++◌, length, codes, Option, Some, None, if◌then◌else◌}
 use Rattle.std.specs.List.{flat_map}
 use Rattle.sys_abi.specs.declared.identity.VirtAddr.{VirtAddr}
+use Rattle.plain_machine.specs.declared.process.Life.{Life}
 use Rattle.plain_machine.specs.declared.channel.ChannelKind.{ChannelKind}
 use Rattle.plain_machine.specs.declared.channel.ChannelKind.TheVariants.{Pair, Internet, Pipe}
 use Rattle.image_codec.specs.declared.shared.FileImage.{FileImage}
@@ -55,10 +56,13 @@ thread_text t = bytes_of n32 t.tid ++ bytes_of n32 t.pending
 unfoldable pub descriptor_text : DescriptorEntry → List ℕ
 descriptor_text d = bytes_of n32 d.number ++ bytes_of n32 d.desc.pid.0 ++ bytes_of n32 d.desc.num ++ bytes_of n8 (flag d.cloexec)
 
+unfoldable pub life_text : Life → List ℕ
+life_text life = bytes_of n8 (state_of life) ++ bytes_of n32 (status_of life)
+
 unfoldable pub process_text : ProcessEntry → List ℕ
 process_text p =
     bytes_of n32 p.pid.0 ++ bytes_of n32 p.parent ++ bytes_of n32 p.host ++ bytes_of n32 p.made
-    ++ bytes_of n8 (state_of p.life) ++ bytes_of n32 (status_of p.life) ++ bytes_of n32 p.pending
+    ++ life_text p.life ++ bytes_of n32 p.pending
     ++ list_text thread_text p.threads ++ list_text descriptor_text p.descriptors
 
 unfoldable pub shared_text : Shared → List ℕ

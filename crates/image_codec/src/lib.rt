@@ -9,6 +9,7 @@ pub mod manifest;
 pub mod process_image;
 pub mod set_bytes;
 pub mod shared;
+mod shared_reader;
 mod shared_tests;
 
 pub use damage::{Damage, ReadFault};

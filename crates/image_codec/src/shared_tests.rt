@@ -55,10 +55,10 @@ fn has_thread(process: &ProcessEntry, n: u32) -> bool
     process.threads.iter().any(|thread| thread.tid == n)
 }
 
-fn lives(process: &ProcessEntry) -> bool
-    ensures { result ≡ kernel.lives process.now.life }
+fn is_live(life: Life) -> bool
+    ensures { result ≡ kernel.lives life }
 {
-    match process.life {
+    match life {
         Life::Live => true,
         Life::Zombie(_) => false,
     }
@@ -88,10 +88,28 @@ pub fn is_process_number(next_id: u32, front: &[ProcessEntry], n: u32) -> bool
     is_above && is_given_out(next_id, n) && !is_thread_of_some(front, n)
 }
 
+pub fn is_pending(life: Life, n: u32) -> bool
+    ensures { result ≡ field.is_pending life n }
+{
+    n < 1 << 31 && (is_live(life) || n == 0)
+}
+
+pub fn is_thread_count(life: Life, n: u32) -> bool
+    ensures { result ≡ field.is_thread_count life n }
+{
+    if is_live(life) { n == 1 } else { n == 0 }
+}
+
+pub fn is_descriptor_count(life: Life, n: u32) -> bool
+    ensures { result ≡ field.is_descriptor_count life n }
+{
+    n <= 256 && (is_live(life) || n == 0)
+}
+
 fn is_live_process(process: &ProcessEntry, n: u32) -> bool
     ensures { result ≡ field.is_live_process n process.now }
 {
-    process.pid.0 == n && lives(process)
+    process.pid.0 == n && is_live(process.life)
 }
 
 fn is_alive(processes: &[ProcessEntry], n: u32) -> bool
