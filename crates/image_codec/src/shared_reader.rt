@@ -236,3 +236,127 @@ fn life_at<'a>(
     }
     Ok((Life::Live, rest))
 }
+
+#[tactic(auto, unfolding(crate::specs::SharedFormat::process, crate::specs::Reading::read, crate::specs::Reading::read_next, crate::specs::Reading::read_if))]
+fn process_at<'a>(
+    alloc: Global,
+    next_id: u32,
+    channels: &[ChannelImage],
+    descriptions: &[DescriptionImage],
+    front: &[ProcessEntry],
+    text: &'a [u8],
+) -> Result<(ProcessEntry, &'a [u8]), Fault>
+    ensures { Gives (λ x. (x.0, x.1.now)) result (read (format.process next_id channels.now descriptions.now front.now) text.now) }
+{
+    let (pid, after_pid) = u32_at(text)?;
+    if !is_process_number(next_id, front, pid) {
+        return Err(Fault::Left(text.len()));
+    }
+    let (parent, after_parent) = u32_at(after_pid)?;
+    if !is_parent(front, parent) {
+        return Err(Fault::Left(after_pid.len()));
+    }
+    let (host, after_host) = u32_at(after_parent)?;
+    if host >= 16 {
+        return Err(Fault::Left(after_parent.len()));
+    }
+    let (made, after_made) = u32_at(after_host)?;
+    let (life, after_life) = life_at(channels, descriptions, pid, made, after_made)?;
+    let (pending, after_pending) = u32_at(after_life)?;
+    if !is_pending(life, pending) {
+        return Err(Fault::Left(after_life.len()));
+    }
+    let (threads, after_threads) = threads_at(alloc, next_id, front, life, after_pending)?;
+    let (descriptors, rest) = descriptors_at(alloc, descriptions, life, after_threads)?;
+    let process = ProcessEntry {
+        pid: VPid(pid),
+        parent,
+        host,
+        made,
+        life,
+        pending,
+        threads,
+        descriptors,
+    };
+    Ok((process, rest))
+}
+
+/// One process has an image so far.
+#[tactic(auto, unfolding(crate::specs::Format::counted, crate::specs::Reading::read, crate::specs::Reading::read_next, crate::specs::Reading::read_if), using(crate::proofs::Loop::goes_on, crate::proofs::Loop::one_item, crate::proofs::Loop::is_done))]
+fn processes_at<'a>(
+    alloc: Global,
+    next_id: u32,
+    channels: &[ChannelImage],
+    descriptions: &[DescriptionImage],
+    text: &'a [u8],
+) -> Result<(ListOf<ProcessEntry>, &'a [u8]), Fault>
+    ensures { Gives (λ x. (x.0, x.1.now)) result
+        (read (counted field.is_process_count (format.process next_id channels.now descriptions.now)) text.now) }
+{
+    let (count, items) = u32_at(text)?;
+    if count != 1 {
+        return Err(Fault::Left(text.len()));
+    }
+    let mut processes = ListOf::new(alloc);
+    let mut rest = items;
+    for _item in 0..count {
+        let front = processes.as_slice();
+        let (process, more) = process_at(alloc, next_id, channels, descriptions, front, rest)?;
+        processes.push(process)?;
+        rest = more;
+    }
+    Ok((processes, rest))
+}
+
+#[tactic(auto, unfolding(crate::specs::SharedFormat::shared, crate::specs::Reading::read, crate::specs::Reading::read_next, crate::specs::Reading::read_if))]
+fn shared_at(alloc: Global, text: &[u8]) -> Result<(Shared, &[u8]), Fault>
+    ensures { Gives (λ x. (x.0, x.1.now)) result (read format.shared text.now) }
+{
+    let after_magic = after_magic(text, b"DMTSHR01")?;
+    let (next_id, after_next_id) = u32_at(after_magic)?;
+    if !is_next_id(next_id) {
+        return Err(Fault::Left(after_magic.len()));
+    }
+    let (next_file, after_next_file) = u32_at(after_next_id)?;
+    if next_file == 0 {
+        return Err(Fault::Left(after_next_id.len()));
+    }
+    let (files, rest) = files_at(alloc, next_file, after_next_file)?;
+    let (channels, rest) = channels_at(alloc, next_id, rest)?;
+    let (descriptions, rest) = descriptions_at(alloc, next_id, rest)?;
+    let (processes, rest) = processes_at(
+        alloc,
+        next_id,
+        channels.as_slice(),
+        descriptions.as_slice(),
+        rest,
+    )?;
+    let shared = Shared {
+        next_id,
+        next_file,
+        files,
+        channels,
+        descriptions,
+        processes,
+    };
+    Ok((shared, rest))
+}
+
+/// The shared image that the file spells. The damage is of file 1.
+pub fn read_shared(alloc: Global, bytes: &[u8]) -> Result<Shared, ReadFault>
+    ensures found { IfOk result (λ s. SpellsShared bytes.now s) }
+    ensures only { (s : Shared) → SpellsShared bytes.now s → IsRead result s }
+    ensures exact { IsDamagedAt 1 (DamagedShared bytes.now) result }
+{
+    match shared_at(alloc, bytes) {
+        Ok((s, rest)) => {
+            if rest.is_empty() && is_whole(&s) {
+                Ok(s)
+            } else {
+                Err(damaged(1, bytes, rest.len()))
+            }
+        }
+        Err(Fault::Left(left)) => Err(damaged(1, bytes, left)),
+        Err(Fault::Memory) => Err(ReadFault::Memory),
+    }
+}
