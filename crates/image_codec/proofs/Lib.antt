@@ -5,6 +5,7 @@ pub mod Loop
 pub mod ManifestLaws
 pub mod Numerals
 pub mod Rising
+pub mod SharedLaws
 pub mod Texts
 pub mod WholeFiles
 pub mod Writing

@@ -107,16 +107,16 @@ process next_id channels descriptions front = do
   parent ← unsigned n32 (field.is_parent front)
   host ← unsigned n32 field.is_host
   made ← unsigned n32 any
-  alive ← life channels descriptions number made
-  pending ← unsigned n32 (field.is_pending alive)
-  threads ← counted (field.is_thread_count alive) (thread next_id front)
-  descriptors ← counted (field.is_descriptor_count alive) (descriptor descriptions)
+  fate ← life channels descriptions number made
+  pending ← unsigned n32 (field.is_pending fate)
+  threads ← counted (field.is_thread_count fate) (thread next_id front)
+  descriptors ← counted (field.is_descriptor_count fate) (descriptor descriptions)
   give (record {
     pid = pid number;
     parent = parent;
     host = host;
     made = made;
-    life = alive;
+    life = fate;
     pending = pending;
     threads = threads;
     descriptors = descriptors;

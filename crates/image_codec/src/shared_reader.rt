@@ -350,11 +350,13 @@ pub fn read_shared(alloc: Global, bytes: &[u8]) -> Result<Shared, ReadFault>
 {
     match shared_at(alloc, bytes) {
         Ok((s, rest)) => {
-            if rest.is_empty() && is_whole(&s) {
-                Ok(s)
-            } else {
-                Err(damaged(1, bytes, rest.len()))
+            if !rest.is_empty() {
+                return Err(damaged(1, bytes, rest.len()));
             }
+            if !is_whole(&s) {
+                return Err(damaged(1, bytes, 0));
+            }
+            Ok(s)
         }
         Err(Fault::Left(left)) => Err(damaged(1, bytes, left)),
         Err(Fault::Memory) => Err(ReadFault::Memory),
