@@ -1,9 +1,10 @@
 -- The kernel part of a shared image has that image, and no other.
 --     shared_of-kernel_of      of an image that can be spelled
 --     only_image      so an image of a kernel part is what is made of its entries
+--     kernel_made     the kernel part of an image, map by map
 use Rattle.std.proofs.Common.{◌≡◌, ◌<◌, ℕ, Ordering, Less, Equal, Greater, Bool, true, false, cond, IsTrue, ◌&&◌, ◌||◌, ◌==◌, List, [], ◌∷◌, ◌++◌, filter, map as mapped, refl, sym, ap, subst, ◌∙◌, append-nil, arith}
 use Rattle.std.specs.Prelude.{Option, Some, None, nat_lt, nat_le, option_map}
-use Rattle.std.specs.List.{AllByRecursion, flat_map}
+use Rattle.std.specs.List.{AllByRecursion, flat_map, filter_map}
 use Rattle.std.specs.List.Sorted.{IsStrictlySortedBy}
 use Rattle.std.specs.Ordering.{nat_cmp, is_eq, eq_by_cmp, ordering_then}
 use Rattle.std.specs.Cmp.{nat_cmp_total, tied_itself}
@@ -24,6 +25,7 @@ use Rattle.plain_machine.specs.declared.kernel.PlainKernel.{PlainKernel}
 use Rattle.plain_machine.specs.Kernel.{is_slot_of}
 use Rattle.image_codec.specs.declared.shared.ObjectImage.{ObjectImage}
 use Rattle.image_codec.specs.declared.shared.ObjectImage.TheVariants.{Console, File, Stream, Socket, Listener}
+use Rattle.image_codec.specs.declared.shared.FileImage.{FileImage}
 use Rattle.image_codec.specs.declared.shared.ChannelImage.{ChannelImage}
 use Rattle.image_codec.specs.declared.shared.DescriptionImage.{DescriptionImage}
 use Rattle.image_codec.specs.declared.shared.ThreadEntry.{ThreadEntry}
@@ -33,7 +35,7 @@ use Rattle.image_codec.specs.declared.shared.Shared.{Shared}
 use Rattle.image_codec.specs.Texts.{EachFrom}
 use Rattle.image_codec.specs.SharedTests as field
 use Rattle.image_codec.specs.SharedFits.{IsShared, SharedFits, DescriptionFits, ProcessFits, ThreadFits, DescriptorFits, kind_of}
-use Rattle.image_codec.specs.KernelParts.{kernel_of, process_entry, maker_entry, descriptor_entries, descriptor_entry, description_entry, signals_entry, object_of}
+use Rattle.image_codec.specs.KernelParts.{kernel_of, process_entry, maker_entry, descriptor_entries, descriptor_entry, description_entry, signals_entry, object_of, listening_of, name_entry, file_entry, channel_entry, direction_entries}
 use Rattle.image_codec.specs.KernelImages.{shared_of, IsImage, object_image, description_image, thread_image, descriptor_image, process_image, is_of, maker_or}
 use Rattle.image_codec.proofs.Rising.{RisesFrom, IsAfter, each_rising, sorted_rising, sorted_append, entries_made, undone, all_from}
 
@@ -302,3 +304,35 @@ pub image_made : (k : PlainKernel) (made : Shared) → made.next_id ≡ k.next_i
 unfolding shared_of
 image_made k made next_id next_file files channels descriptions processes =
     λ i. record { next_id = next_id i; next_file = next_file i; files = files i; channels = channels i; descriptions = descriptions i; processes = processes i }
+
+-- back from the image: what has no image so far is empty in the kernel part
+no_listener : (descriptions : List DescriptionImage) → AllByRecursion (λ d. IsTrue (field.is_object_kind (kind_of d.object))) descriptions
+    → filter_map (λ (d : DescriptionImage). listening_of d.object) descriptions ≡ []
+no_listener [] h = refl
+no_listener (d ∷ descriptions) h = ap (λ (o : ObjectImage). filter_map (λ (e : DescriptionImage). listening_of e.object) (record d { object = o } ∷ descriptions)) (is_console d.object h.0) ∙ no_listener descriptions h.1
+  where
+    is_console : (object : ObjectImage) → IsTrue (field.is_object_kind (kind_of object)) → object ≡ Console
+    is_console Console h = refl
+    is_console (File number offset) h = cc
+    is_console (Stream conn side) h = cc
+    is_console (Socket address) h = cc
+    is_console (Listener address backlog pending) h = cc
+
+pub kernel_made : (s : Shared) (k : PlainKernel) → SharedFits s
+    → k.processes ≡ map.from_entries (mapped process_entry s.processes) → k.makers ≡ map.from_entries (mapped maker_entry s.processes)
+    → k.descriptors ≡ map.from_entries (flat_map descriptor_entries s.processes) → k.descriptions ≡ map.from_entries (mapped description_entry s.descriptions)
+    → k.names ≡ map.empty → k.files ≡ map.empty → k.next_file ≡ s.next_file → k.channels ≡ map.empty → k.directions ≡ map.empty → k.listeners ≡ map.empty → k.inboxes ≡ map.empty → k.next_id ≡ s.next_id
+    → k ≡ kernel_of s
+unfolding kernel_of
+kernel_made s k h processes makers descriptors descriptions names files next_file channels directions listeners inboxes next_id =
+    let silent = no_listener s.descriptions (all_from (DescriptionFits s.next_id) (λ d. IsTrue (field.is_object_kind (kind_of d.object))) (λ front d fits. fits.kind.1) [] s.descriptions h.descriptions) in
+    let of_names : k.names ≡ map.from_entries (filter_map name_entry s.files) = names ∙ ap (λ (fs : List FileImage). map.from_entries (filter_map name_entry fs)) (sym h.files) in
+    let of_files : k.files ≡ map.from_entries (mapped file_entry s.files) = files ∙ ap (λ (fs : List FileImage). map.from_entries (mapped file_entry fs)) (sym h.files) in
+    let of_channels : k.channels ≡ map.from_entries (mapped (channel_entry s.descriptions) s.channels) = channels ∙ ap (λ (cs : List ChannelImage). map.from_entries (mapped (channel_entry s.descriptions) cs)) (sym h.channels) in
+    let of_directions : k.directions ≡ map.from_entries (flat_map direction_entries s.channels) = directions ∙ ap (λ (cs : List ChannelImage). map.from_entries (flat_map direction_entries cs)) (sym h.channels) in
+    let of_listeners : k.listeners ≡ map.from_entries (filter_map (λ (d : DescriptionImage). listening_of d.object) s.descriptions) = listeners ∙ ap map.from_entries (sym silent) in
+    λ i. record {
+      processes = processes i; makers = makers i; descriptors = descriptors i; descriptions = descriptions i;
+      names = of_names i; files = of_files i; next_file = next_file i; channels = of_channels i; directions = of_directions i;
+      listeners = of_listeners i; inboxes = inboxes i; next_id = next_id i;
+    }

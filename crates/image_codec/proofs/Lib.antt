@@ -1,4 +1,5 @@
 pub mod DamageLaws
+pub mod Inserted
 pub mod KernelLaws
 pub mod Laws
 pub mod Loop

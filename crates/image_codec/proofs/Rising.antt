@@ -2,7 +2,8 @@
 --     each_rising      each item of a list that meets a fact with those before it is above the one before
 --     sorted_rising      and so the list is sorted
 use Rattle.std.proofs.Common.{◌≡◌, ℕ, ◌+◌, ◌-◌, Ordering, Less, Equal, Greater, Bool, true, false, List, [], ◌∷◌, ◌++◌, length, map as mapped, refl, sym, ap, subst, ◌∙◌, length-append, arith}
-use Rattle.std.specs.Prelude.{Option, Some, None, slice_get, option_map}
+use Rattle.std.specs.Prelude.{Option, Some, None, slice_get, option_map, All}
+use Rattle.std.proofs.lemmas.List.Elements.{All-nil, All-cons}
 use Rattle.std.specs.Cmp.{IsTotalOrder}
 use Rattle.std.specs.List.{AllByRecursion}
 use Rattle.std.specs.List.Sorted.{IsStrictlySortedBy}
@@ -79,3 +80,8 @@ pub all_from : {X : Type 0} (P : List X → X → Type 0) (Q : X → Type 0) →
 unfolding EachFrom
 all_from P Q to front [] h = tt
 all_from P Q to front (x ∷ items) h = (to front x h.0, all_from P Q to (front ++ x ∷ []) items h.1)
+
+pub all_items : {X : Type 0} (P : List X → X → Type 0) (Q : X → Type 0) → ((front : List X) (x : X) → P front x → Q x) → (front items : List X) → EachFrom P front items → All Q items
+unfolding EachFrom
+all_items P Q to front [] h = All-nil Q
+all_items P Q to front (x ∷ items) h = All-cons Q x items (to front x h.0) (all_items P Q to (front ++ x ∷ []) items h.1)

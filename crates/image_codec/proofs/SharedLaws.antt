@@ -1,5 +1,6 @@
 -- The format of the shared image and its text say the same, and what a reading of it tells
 use Rattle.std.proofs.Common.{◌≡◌, ◌==◌, ◌&&◌, ℕ, ◌<◌, ◌≤◌, ◌^◌, ◌⊎◌, inl, inr, Bool, true, false, cond, IsTrue, List, [], ◌∷◌, ◌++◌, length, Ok, Err, refl, sym, ap, subst, ◌∙◌, append_assoc, append-nil, arith, lit<}
+use Rattle.std.specs.Prelude.{All}
 use Rattle.std.specs.List.{flat_map}
 use Rattle.std.proofs.lemmas.Bool.Decides.{nat_tests}
 use Rattle.std.proofs.lemmas.Slice.Eq.{bytes_eq-Decides}
@@ -22,10 +23,11 @@ use Rattle.image_codec.specs.Reading.{read}
 use Rattle.image_codec.specs.Texts.{FitsField, EachFrom}
 use Rattle.image_codec.specs.SharedTests as field
 use Rattle.image_codec.specs.SharedFits.{IsShared, SharedFits, DescriptionFits, ThreadFits, DescriptorFits, LifeFits, ProcessFits, kind_of, state_of, status_of}
-use Rattle.image_codec.specs.SharedTexts.{SHARED_MAGIC, list_text, flag, file_text, channel_text, description_text, thread_text, descriptor_text, life_text, process_text, shared_text}
+use Rattle.image_codec.specs.SharedTexts.{SHARED_MAGIC, HasCounts, list_text, flag, file_text, channel_text, description_text, thread_text, descriptor_text, life_text, process_text, shared_text}
 use Rattle.image_codec.specs.SharedFormat as format
 use Rattle.image_codec.specs.SharedFormat.{SpellsShared, DamagedShared}
 use Rattle.image_codec.proofs.Numerals.{AllBytes}
+use Rattle.image_codec.proofs.Rising.{all_items}
 use Rattle.image_codec.proofs.Texts.{Law, in_words, next_law, unsigned_law, raw_law, counted_law, give_law}
 use Rattle.image_codec.proofs.WholeFiles.{spells_whole, only_value, no_value, no_value_after, laws_of, laws_in_words}
 
@@ -236,3 +238,9 @@ none_left text left e k h = no_value format.shared field.is_whole text left k e 
 
 pub none_after : (text : List ℕ) (s : Shared) (rest : List ℕ) → read format.shared text ≡ Ok (s, rest) → (0 < length rest) ⊎ (field.is_whole s ≡ false) → (k : Shared) → SpellsShared text k → ⊥
 none_after text s rest e why k h = no_value_after format.shared field.is_whole text s rest k e why (of_spells text k h)
+
+-- the lists of processes have counts that are written
+
+pub counts : (s : Shared) → IsShared s → All HasCounts s.processes
+counts s h =
+    all_items (ProcessFits s.next_id s.channels s.descriptions) HasCounts (λ front p fits. record { threads = fits.thread_count.0; descriptors = fits.descriptor_count.0 }) [] s.processes h.fields.processes

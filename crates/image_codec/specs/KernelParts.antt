@@ -4,6 +4,7 @@
 -- Source: docs/FORMATS.md, "Shared image".
 use Rattle.std.specs.Prelude.{◌==◌, ◌&&◌, ◌||◌, ℕ, Bool, true, false, List, [], ◌∷◌, length, Option, Some, None, if◌then◌else◌, map as each}
 use Rattle.std.specs.List.{flat_map, filter_map, list_any}
+use Rattle.std.specs.declared.cmp.Ordering.{Ordering}
 use Rattle.std.specs.Ordering.{eq_by_cmp}
 use Rattle.std.specs.FinMap as map
 use Rattle.sys_abi.specs.declared.identity.VPid.{VPid}
@@ -114,6 +115,11 @@ direction_entry conn side image = (record { conn = conn; side = side }, record {
 
 abbrev pub direction_entries : ChannelImage → List (Dir × Direction)
 direction_entries image = direction_entry image.id 0 image.first ∷ direction_entry image.id 1 image.second ∷ []
+
+-- a map with the entries of a list put in from its end, so that at a key that stands twice the first one counts
+abbrev pub inserted : {K X : Type 0} {R : K → K → Ordering} → List (K × X) → map.FinMap R X → map.FinMap R X
+inserted [] m = m
+inserted (e ∷ es) m = map.insert (inserted es m) e.0 e.1
 
 unfoldable pub kernel_of : Shared → PlainKernel
 kernel_of s = record {

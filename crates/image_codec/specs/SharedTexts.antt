@@ -1,6 +1,6 @@
 -- The bytes of a shared image, and of each item of its lists.
 -- Source: docs/FORMATS.md, "Shared image".
-use Rattle.std.specs.Prelude.{ℕ, ◌+◌, ◌*◌, Bool, List, ◌++◌, length, codes, Option, Some, None, if◌then◌else◌}
+use Rattle.std.specs.Prelude.{ℕ, ◌+◌, ◌*◌, ◌^◌, ◌<◌, Bool, List, ◌++◌, length, codes, Option, Some, None, if◌then◌else◌}
 use Rattle.std.specs.List.{flat_map}
 use Rattle.sys_abi.specs.declared.identity.VirtAddr.{VirtAddr}
 use Rattle.plain_machine.specs.declared.process.Life.{Life}
@@ -70,3 +70,8 @@ shared_text s =
     SHARED_MAGIC ++ bytes_of n32 s.next_id ++ bytes_of n32 s.next_file
     ++ list_text file_text s.files ++ list_text channel_text s.channels
     ++ list_text description_text s.descriptions ++ list_text process_text s.processes
+
+-- the lists of a process have a count
+pub record HasCounts (process : ProcessEntry) : Type 0 where
+  pub threads : length process.threads < 2 ^ 32
+  pub descriptors : length process.descriptors < 2 ^ 32

@@ -5,15 +5,18 @@
 pub mod damage;
 mod fields;
 pub mod kernel_image;
+pub mod kernel_of_image;
 pub mod manifest;
 pub mod process_image;
 pub mod set_bytes;
 pub mod shared;
 mod shared_reader;
 mod shared_tests;
+mod shared_writer;
 
 pub use damage::{Damage, ReadFault};
 pub use kernel_image::shared_image;
+pub use kernel_of_image::restored_kernel;
 pub use manifest::Manifest;
 pub use process_image::{PageImage, ProcImage, ThreadImage};
 pub use set_bytes::SetBytes;
