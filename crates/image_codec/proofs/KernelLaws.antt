@@ -257,9 +257,9 @@ process_back : (k : PlainKernel) (processes : List ProcessEntry) (process : Proc
     → IsFound processes process → process_image k (process_entry process) ≡ process
 process_back k processes process makers slots threads found =
     let maker : map.get k.makers process.pid ≡ Some (record { host = process.host; made = process.made }) =
-        ap (λ m. map.get m process.pid) makers ∙ map.get-from_entries vpid_total (mapped maker_entry processes) process.pid ∙ found.maker in
+    ap (λ m. map.get m process.pid) makers ∙ map.get-from_entries vpid_total (mapped maker_entry processes) process.pid ∙ found.maker in
     let own : mapped descriptor_image (filter (is_of process.pid) (map.entries k.descriptors)) ≡ process.descriptors =
-        ap (λ es. mapped descriptor_image (filter (is_of process.pid) es)) slots ∙ ap (mapped descriptor_image) found.descriptors ∙ descriptors_undone process.pid process.descriptors in
+    ap (λ es. mapped descriptor_image (filter (is_of process.pid) es)) slots ∙ ap (mapped descriptor_image) found.descriptors ∙ descriptors_undone process.pid process.descriptors in
     λ i. record process { host = (maker_or (maker i)).host; made = (maker_or (maker i)).made; threads = threads i; descriptors = own i }
 
 abbrev HasThreads : ProcessEntry → Type 0
@@ -275,15 +275,15 @@ processes_back : (next_id : ℕ) (channels : List ChannelImage) (descriptions : 
     → mapped (process_image k) (map.entries k.processes) ≡ processes
 processes_back next_id channels descriptions k processes h of_processes makers of_descriptors =
     let rising : RisesFrom vpid_cmp None (pids processes) =
-        each_rising vpid_cmp (λ (e : ProcessEntry). e.pid) (ProcessFits next_id channels descriptions) (process_rises next_id channels descriptions) [] processes h in
+    each_rising vpid_cmp (λ (e : ProcessEntry). e.pid) (ProcessFits next_id channels descriptions) (process_rises next_id channels descriptions) [] processes h in
     let sorted = sorted_rising vpid_cmp vpid_total None (pids processes) rising in
     let slots : map.entries k.descriptors ≡ flat_map descriptor_entries processes =
-        ap map.entries of_descriptors ∙ descriptors_entries processes sorted (all_from (ProcessFits next_id channels descriptions) KeepsOwn (keeps_own next_id channels descriptions) [] processes h) in
+    ap map.entries of_descriptors ∙ descriptors_entries processes sorted (all_from (ProcessFits next_id channels descriptions) KeepsOwn (keeps_own next_id channels descriptions) [] processes h) in
     let threads = all_from (ProcessFits next_id channels descriptions) HasThreads (λ front e fits. threads_back next_id front e.threads fits.threads) [] processes h in
     ap (λ m. mapped (process_image k) (map.entries m)) of_processes
     ∙ ap (mapped (process_image k)) (entries_made vpid_total process_entry processes rising)
     ∙ undone process_entry (process_image k) processes
-      (both_all HasThreads (IsFound processes) (λ e. process_image k (process_entry e) ≡ e) (λ e own found. process_back k processes e makers slots own found) processes threads (all_found processes sorted))
+    (both_all HasThreads (IsFound processes) (λ e. process_image k (process_entry e) ≡ e) (λ e own found. process_back k processes e makers slots own found) processes threads (all_found processes sorted))
 
 pub shared_of-kernel_of : (s : Shared) → SharedFits s → shared_of (kernel_of s) ≡ s
 unfolding shared_of kernel_of
@@ -332,7 +332,16 @@ kernel_made s k h processes makers descriptors descriptions names files next_fil
     let of_directions : k.directions ≡ map.from_entries (flat_map direction_entries s.channels) = directions ∙ ap (λ (cs : List ChannelImage). map.from_entries (flat_map direction_entries cs)) (sym h.channels) in
     let of_listeners : k.listeners ≡ map.from_entries (filter_map (λ (d : DescriptionImage). listening_of d.object) s.descriptions) = listeners ∙ ap map.from_entries (sym silent) in
     λ i. record {
-      processes = processes i; makers = makers i; descriptors = descriptors i; descriptions = descriptions i;
-      names = of_names i; files = of_files i; next_file = next_file i; channels = of_channels i; directions = of_directions i;
-      listeners = of_listeners i; inboxes = inboxes i; next_id = next_id i;
+      processes = processes i;
+      makers = makers i;
+      descriptors = descriptors i;
+      descriptions = descriptions i;
+      names = of_names i;
+      files = of_files i;
+      next_file = next_file i;
+      channels = of_channels i;
+      directions = of_directions i;
+      listeners = of_listeners i;
+      inboxes = inboxes i;
+      next_id = next_id i;
     }

@@ -152,8 +152,16 @@ process_law next_id channels descriptions front =
     (λ p h.
     let (number, (parent, (host, (made, (fate, (pending, (threads, (descriptors, is)))))))) = h in
     record {
-      number = number; parent = parent; host = host; made = made; life = fate; pending = pending;
-      thread_count = threads.0; threads = threads.1; descriptor_count = descriptors.0; descriptors = descriptors.1;
+      number = number;
+      parent = parent;
+      host = host;
+      made = made;
+      life = fate;
+      pending = pending;
+      thread_count = threads.0;
+      threads = threads.1;
+      descriptor_count = descriptors.0;
+      descriptors = descriptors.1;
     })
     (λ p h. (h.number, (h.parent, (h.host, (h.made, (h.life, (h.pending, ((h.thread_count, h.threads), ((h.descriptor_count, h.descriptors), refl)))))))))
     (next_law _ _ _ _ _ _ (λ (p : ProcessEntry). p.pid.0) (unsigned_law n32 _) (λ b p h o. let (parent, (host, (made, (fate, (pending, (threads, (descriptors, is))))))) = o in sym (ap (λ (p : ProcessEntry). p.pid.0) is)) (λ number.
@@ -194,13 +202,19 @@ shared_law =
     in_words _ _ _ _ _
     (λ s h.
     regrouped SHARED_MAGIC (bytes_of n32 s.next_id) (bytes_of n32 s.next_file)
-        (bytes_of n32 (length s.files)) (flat_map file_text s.files) (bytes_of n32 (length s.channels)) (flat_map channel_text s.channels)
-        (bytes_of n32 (length s.descriptions)) (flat_map description_text s.descriptions) (bytes_of n32 (length s.processes)) (flat_map process_text s.processes))
+    (bytes_of n32 (length s.files)) (flat_map file_text s.files) (bytes_of n32 (length s.channels)) (flat_map channel_text s.channels)
+    (bytes_of n32 (length s.descriptions)) (flat_map description_text s.descriptions) (bytes_of n32 (length s.processes)) (flat_map process_text s.processes))
     (λ s h.
     let (magic, (next_id, (next_file, (files, (channels, (descriptions, (processes, is))))))) = h in
     record {
-      next_id = next_id; next_file = next_file; files = files; channels = channels;
-      description_count = descriptions.0; descriptions = descriptions.1; process_count = processes.0; processes = processes.1;
+      next_id = next_id;
+      next_file = next_file;
+      files = files;
+      channels = channels;
+      description_count = descriptions.0;
+      descriptions = descriptions.1;
+      process_count = processes.0;
+      processes = processes.1;
     })
     (λ s h. ((refl, refl), (h.next_id, (h.next_file, (h.files, (h.channels, ((h.description_count, h.descriptions), ((h.process_count, h.processes), refl))))))))
     (next_law _ _ _ _ _ _ (λ (s : Shared). SHARED_MAGIC) (raw_law 8 (is_bytes SHARED_MAGIC)) (λ b s h o. is-magic b _ h.1) (λ _.

@@ -41,12 +41,15 @@ abbrev pub signals_entry : ThreadEntry → ℕ × ℕ
 signals_entry thread = (thread.tid, thread.pending)
 
 abbrev pub process_entry : ProcessEntry → VPid × Process
-process_entry image = (image.pid, record {
-  parent = image.parent;
-  life = image.life;
-  pending = image.pending;
-  threads = map.from_entries (each signals_entry image.threads);
-})
+process_entry image = (
+  image.pid,
+  record {
+    parent = image.parent;
+    life = image.life;
+    pending = image.pending;
+    threads = map.from_entries (each signals_entry image.threads);
+  },
+)
 
 abbrev pub maker_entry : ProcessEntry → VPid × Maker
 maker_entry image = (image.pid, record { host = image.host; made = image.made })
@@ -99,19 +102,25 @@ abbrev pub channel_end : List DescriptionImage → ConnId → ℕ → SideImage 
 channel_end descriptions conn side image = record { address = image.address; is_open = is_named descriptions conn side }
 
 abbrev pub channel_entry : List DescriptionImage → ChannelImage → ConnId × Channel
-channel_entry descriptions image = (image.id, record {
-  kind = image.kind;
-  first = channel_end descriptions image.id 0 image.first;
-  second = channel_end descriptions image.id 1 image.second;
-})
+channel_entry descriptions image = (
+  image.id,
+  record {
+    kind = image.kind;
+    first = channel_end descriptions image.id 0 image.first;
+    second = channel_end descriptions image.id 1 image.second;
+  },
+)
 
 abbrev pub direction_entry : ConnId → ℕ → SideImage → Dir × Direction
-direction_entry conn side image = (record { conn = conn; side = side }, record {
-  left = image.left;
-  arrived = length image.left;
-  ended = image.ended;
-  unread = image.unread;
-})
+direction_entry conn side image = (
+  record { conn = conn; side = side },
+  record {
+    left = image.left;
+    arrived = length image.left;
+    ended = image.ended;
+    unread = image.unread;
+  },
+)
 
 abbrev pub direction_entries : ChannelImage → List (Dir × Direction)
 direction_entries image = direction_entry image.id 0 image.first ∷ direction_entry image.id 1 image.second ∷ []

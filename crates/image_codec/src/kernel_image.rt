@@ -101,10 +101,7 @@ fn maker_of(k: &PlainKernel, pid: VPid) -> Maker
     }
 }
 
-fn thread_images(
-    alloc: Global,
-    threads: &NumberMap<u32>,
-) -> Result<ListOf<ThreadEntry>, AllocError>
+fn thread_images(alloc: Global, threads: &NumberMap<u32>) -> Result<ListOf<ThreadEntry>, AllocError>
     ensures { IfOk result (λ images. images ≡ each thread_image (map.entries threads.now)) }
 {
     let mut images = ListOf::new(alloc);

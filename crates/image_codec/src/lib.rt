@@ -10,9 +10,9 @@ pub mod manifest;
 pub mod process_image;
 pub mod set_bytes;
 pub mod shared;
-mod shared_reader;
-mod shared_tests;
-mod shared_writer;
+mod shared_fields;
+pub mod shared_reader;
+pub mod shared_writer;
 
 pub use damage::{Damage, ReadFault};
 pub use kernel_image::shared_image;
@@ -24,3 +24,8 @@ pub use shared::{
     ChannelImage, DescriptionImage, DescriptorEntry, FileImage, ObjectImage, ProcessEntry, Shared,
     SideImage, ThreadEntry,
 };
+pub use shared_reader::read_shared;
+pub use shared_writer::write_shared;
+
+#[cfg(test)]
+mod tests_of_shared;

@@ -12,7 +12,7 @@ use crate::shared::{
     ChannelImage, DescriptionImage, DescriptorEntry, FileImage, ObjectImage, ProcessEntry, Shared,
     ThreadEntry,
 };
-use crate::shared_tests::{
+use crate::shared_fields::{
     is_description, is_description_maker, is_description_number, is_descriptor_count,
     is_descriptor_number, is_made, is_next_id, is_parent, is_pending, is_process_number,
     is_status_flags, is_thread_count, is_thread_number, is_whole,

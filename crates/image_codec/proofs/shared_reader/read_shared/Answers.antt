@@ -38,7 +38,7 @@ returns-then-not-is_whole-clause-exact c =
       refl,
       subst (λ (r : List ℕ). DamagedShared c.args.bytes.now (length c.args.bytes.now - length r)) none
           (whole.damaged_after shared is_whole c.args.bytes.now c.in-Ok.s c.in-Ok.rest.now (fit_bytes _ c.type_inv.bytes) c.in-Ok.ensures
-           (inr (sym c.is_whole.ensures ∙ c.if-not-is_whole.true))),
+          (inr (sym c.is_whole.ensures ∙ c.if-not-is_whole.true))),
     )
 
 pub returns-else-not-is_whole-clause-found : goal.returns-else-not-is_whole-clause-found

@@ -135,9 +135,7 @@ fn is_above_channels(channels: &[ChannelImage], pid: u32, made: u32) -> bool
 fn is_above_descriptions(descriptions: &[DescriptionImage], pid: u32, made: u32) -> bool
     ensures { result ≡ list_all (λ description. field.is_number_below pid made description.id.pid.0 description.id.num) descriptions.now }
 {
-    descriptions
-        .iter()
-        .all(|description| description.id.pid.0 != pid || description.id.num < made)
+    descriptions.iter().all(|description| description.id.pid.0 != pid || description.id.num < made)
 }
 
 pub fn is_made(
@@ -163,9 +161,7 @@ pub fn is_thread_number(
         None => true,
         Some(before) => before.tid < n,
     };
-    is_above
-        && is_given_out(next_id, n)
-        && !is_number_of_some(earlier, n)
+    is_above && is_given_out(next_id, n) && !is_number_of_some(earlier, n)
 }
 
 pub fn is_descriptor_number(front: &[DescriptorEntry], n: u32) -> bool
@@ -180,18 +176,14 @@ pub fn is_descriptor_number(front: &[DescriptorEntry], n: u32) -> bool
 pub fn is_description(descriptions: &[DescriptionImage], maker: u32, n: u32) -> bool
     ensures { result ≡ field.is_description descriptions.now maker n }
 {
-    descriptions
-        .iter()
-        .any(|description| description.id.pid.0 == maker && description.id.num == n)
+    descriptions.iter().any(|description| description.id.pid.0 == maker && description.id.num == n)
 }
 
 fn holds(process: &ProcessEntry, id: DescId) -> bool
     ensures { result ≡ field.holds id process.now }
 {
-    process
-        .descriptors
-        .iter()
-        .any(|descriptor| descriptor.desc.pid.0 == id.pid.0 && descriptor.desc.num == id.num)
+    process.descriptors.iter().any(|descriptor| descriptor.desc.pid.0 == id.pid.0
+        && descriptor.desc.num == id.num)
 }
 
 fn is_held(processes: &[ProcessEntry], id: DescId) -> bool
@@ -245,9 +237,7 @@ fn is_rightly_held_by(
 fn is_rightly_held_by_all(processes: &[ProcessEntry], description: &DescriptionImage) -> bool
     ensures { result ≡ list_all (field.is_rightly_held_by processes.now description.now) processes.now }
 {
-    processes
-        .iter()
-        .all(|process| is_rightly_held_by(processes, description, process))
+    processes.iter().all(|process| is_rightly_held_by(processes, description, process))
 }
 
 fn is_rightly_held(processes: &[ProcessEntry], description: &DescriptionImage) -> bool
@@ -259,9 +249,7 @@ fn is_rightly_held(processes: &[ProcessEntry], description: &DescriptionImage) -
 fn is_near_parent(processes: &[ProcessEntry], child: &ProcessEntry) -> bool
     ensures { result ≡ field.is_near_parent processes.now child.now }
 {
-    processes
-        .iter()
-        .all(|parent| child.parent != parent.pid.0 || child.host == parent.host)
+    processes.iter().all(|parent| child.parent != parent.pid.0 || child.host == parent.host)
 }
 
 fn are_rightly_held(processes: &[ProcessEntry], descriptions: &[DescriptionImage]) -> bool
