@@ -1,10 +1,13 @@
 pub mod DamageLaws
+pub mod HeapWalk
 pub mod Inserted
 pub mod KernelLaws
 pub mod Laws
 pub mod Loop
 pub mod ManifestLaws
 pub mod Numerals
+pub mod ProcessLaws
+pub mod ReturnContent
 pub mod Rising
 pub mod SharedLaws
 pub mod Texts

@@ -1,5 +1,7 @@
 -- The items of a list, read one after the other: one more, one that breaks, and none left
-use Rattle.std.proofs.Common.{◌≡◌, ℕ, suc, ◌+◌, ◌-◌, ◌<◌, ◌≤◌, Bool, true, false, List, [], ◌∷◌, ◌++◌, length, take, Ok, Err, refl, sym, ap, ◌∙◌, arith}
+use Rattle.std.proofs.Common.{◌≡◌, ℕ, suc, ◌+◌, ◌-◌, ◌<◌, ◌≤◌, Bool, true, false, List, [], ◌∷◌, ◌++◌, length, take, Result, Ok, Err, refl, sym, ap, ◌∙◌, arith}
+use Rattle.std.proofs.Math.ListN.{set}
+use Rattle.std.proofs.lemmas.List.{take_more_set, take_all}
 use Rattle.image_codec.specs.Format.{Format, Size, unsigned, n32, any, each, counted, size_of, number_in}
 use Rattle.image_codec.specs.Reading.{read, read_next}
 use Rattle.image_codec.proofs.Laws.{read_if-ok, read_if-gives, read_if-refuses}
@@ -42,3 +44,17 @@ number_fails size ok text rest n e h =
 pub counts : {X : Type 0} (ok : ℕ → Bool) (item : List X → Format X) (text rest : List ℕ) (n : ℕ) → read (unsigned n32 any) text ≡ Ok (n, rest) → ok n ≡ true → read (counted ok item) text ≡ read (each item n []) rest
 unfolding read read_next counted
 counts ok item text rest n e h = rw (number_passes n32 ok text rest n e h) refl
+
+-- words that are written into a list of their number
+
+pub words_more : {X : Type 0} (item : List X → Format X) (n i : ℕ) (words : List X) (w : X) (text rest : List ℕ) (whole : Result (List X × List ℕ) ℕ) → i < n → length words ≡ n
+    → read (each item (n - i) (take i words)) text ≡ whole → read (item (take i words)) text ≡ Ok (w, rest) → read (each item (n - (i + 1)) (take (i + 1) (set words i w))) rest ≡ whole
+words_more item n i words w text rest whole inside size same e =
+    ap (λ (front : List _). read (each item (n - (i + 1)) front) rest) (take_more_set words i w (rw size inside)) ∙ sym (goes_on item n i (take i words) w text rest inside e) ∙ same
+
+pub words_end : {X : Type 0} (item : List X → Format X) (n i : ℕ) (words : List X) (text : List ℕ) → i < n
+    → read (each item (n - i) (take i words)) text ≡ read_next (read (item (take i words)) text) (λ x rest. read (each item (n - (i + 1)) (take i words ++ x ∷ [])) rest)
+words_end item n i words text h = one_item item n i (take i words) text h
+
+pub words_done : {X : Type 0} (item : List X → Format X) (n i : ℕ) (words : List X) (text : List ℕ) → n ≤ i → length words ≡ n → read (each item (n - i) (take i words)) text ≡ Ok (words, text)
+words_done item n i words text h size = is_done item n i (take i words) text h ∙ ap (λ (all : List _). Ok (all, text)) (take_all i words (rw size h))

@@ -10,7 +10,7 @@ use Rattle.image_codec.specs.Files.{FileLaws}
 use Rattle.image_codec.specs.Format.{n8, n64, any, bytes_of, Spells, SpellsFile}
 use Rattle.image_codec.specs.Reading.{read}
 use Rattle.image_codec.specs.Texts.{FitsField}
-use Rattle.image_codec.specs.Manifests.{COMPLETE, MANIFEST_MAGIC, manifest, file_length, is_complete, is_file_count, manifest_text, IsManifest, SpellsManifest, DamagedManifest}
+use Rattle.image_codec.specs.Manifests.{COMPLETE, MANIFEST_MAGIC, manifest_format, length_format, is_complete, is_file_count, manifest_text, IsManifest, SpellsManifest, DamagedManifest}
 use Rattle.image_codec.proofs.Numerals.{AllBytes}
 use Rattle.image_codec.proofs.Texts.{Law, in_words, next_law, unsigned_law, raw_law, counted_law, give_law, all_from_each, each_from_all}
 use Rattle.image_codec.proofs.WholeFiles.{spells_whole, only_value, no_value, no_value_after, laws_of, laws_in_words}
@@ -20,9 +20,9 @@ pub record Facts (m : Manifest) : Type 0 where
   pub generation : m.generation < 2 ^ 64
   pub lengths : All (λ size. size < 2 ^ 64) m.lengths
 
-file_length_law : Law file_length (bytes_of n64) (FitsField n64 any)
-unfolding file_length
-file_length_law = unsigned_law n64 any
+length_law : Law length_format (bytes_of n64) (FitsField n64 any)
+unfolding length_format
+length_law = unsigned_law n64 any
 
 count-below : (n : ℕ) → IsTrue (is_file_count n) → n < 2 ^ 32
 count-below n h = grind (arith, nat_tests)
@@ -33,8 +33,8 @@ is-complete gate h = grind (arith, nat_tests)
 is-magic : (bytes wanted : List ℕ) → IsTrue (is_bytes wanted bytes) → bytes ≡ wanted
 is-magic bytes wanted h = (bytes_eq-Decides bytes wanted).0 h
 
-pub manifest_law : Law manifest manifest_text Facts
-unfolding manifest manifest_text
+pub manifest_law : Law manifest_format manifest_text Facts
+unfolding manifest_format manifest_text
 manifest_law =
     in_words _ _ _ _ _
     (λ m h. simp (append_assoc, append-nil))
@@ -45,34 +45,34 @@ manifest_law =
     (next_law _ _ _ _ _ _ (λ (m : Manifest). COMPLETE) (unsigned_law n8 is_complete) (λ b m h o. is-complete b h.1) (λ _.
     next_law _ _ _ _ _ _ (λ (m : Manifest). MANIFEST_MAGIC) (raw_law 7 (is_bytes MANIFEST_MAGIC)) (λ b m h o. is-magic b _ h.1) (λ _.
     next_law _ _ _ _ _ _ (λ (m : Manifest). m.generation) (unsigned_law n64 any) (λ b m h o. sym (ap (λ (m : Manifest). m.generation) o.1)) (λ _.
-    next_law _ _ _ _ _ _ (λ (m : Manifest). m.lengths) (counted_law is_file_count (λ _. file_length) (bytes_of n64) (λ _. FitsField n64 any) (λ _. file_length_law)) (λ b m h o. sym (ap (λ (m : Manifest). m.lengths) o)) (λ _.
+    next_law _ _ _ _ _ _ (λ (m : Manifest). m.lengths) (counted_law is_file_count (λ _. length_format) (bytes_of n64) (λ _. FitsField n64 any) (λ _. length_law)) (λ b m h o. sym (ap (λ (m : Manifest). m.lengths) o)) (λ _.
     give_law _)))))
 
 -- in the words of the contracts
 
-pub spells : (text : List ℕ) (m : Manifest) → SpellsFile manifest any text m → SpellsManifest text m
+pub spells : (text : List ℕ) (m : Manifest) → SpellsFile manifest_format any text m → SpellsManifest text m
 unfolding SpellsFile
 spells text m s =
     let (text_is, facts) = manifest_law.only text m s.0 in
     record { keeps = facts.keeps; generation = facts.generation; lengths = facts.lengths; text_is = text_is }
 
-pub of_spells : (text : List ℕ) (m : Manifest) → SpellsManifest text m → SpellsFile manifest any text m
+pub of_spells : (text : List ℕ) (m : Manifest) → SpellsManifest text m → SpellsFile manifest_format any text m
 unfolding SpellsFile
 of_spells text m s =
     let facts : Facts m = record { keeps = s.keeps; generation = s.generation; lengths = s.lengths } in
-    (subst (λ (t : List ℕ). Spells manifest t m) (sym s.text_is) (manifest_law.again m facts), refl)
+    (subst (λ (t : List ℕ). Spells manifest_format t m) (sym s.text_is) (manifest_law.again m facts), refl)
 
 pub laws : FileLaws SpellsManifest DamagedManifest
-laws = laws_in_words (SpellsFile manifest any) SpellsManifest DamagedManifest spells of_spells (laws_of manifest any manifest_text Facts manifest_law)
+laws = laws_in_words (SpellsFile manifest_format any) SpellsManifest DamagedManifest spells of_spells (laws_of manifest_format any manifest_text Facts manifest_law)
 
-pub found : (text : List ℕ) (m : Manifest) (rest : List ℕ) → AllBytes text → read manifest text ≡ Ok (m, rest) → rest ≡ [] → SpellsManifest text m
-found text m rest bytes e none = spells text m (spells_whole manifest any text m rest bytes e none refl)
+pub found : (text : List ℕ) (m : Manifest) (rest : List ℕ) → AllBytes text → read manifest_format text ≡ Ok (m, rest) → rest ≡ [] → SpellsManifest text m
+found text m rest bytes e none = spells text m (spells_whole manifest_format any text m rest bytes e none refl)
 
-pub only : (text : List ℕ) (m : Manifest) (rest : List ℕ) → read manifest text ≡ Ok (m, rest) → (k : Manifest) → SpellsManifest text k → m ≡ k
-only text m rest e k s = only_value manifest any text m k rest e (of_spells text k s)
+pub only : (text : List ℕ) (m : Manifest) (rest : List ℕ) → read manifest_format text ≡ Ok (m, rest) → (k : Manifest) → SpellsManifest text k → m ≡ k
+only text m rest e k s = only_value manifest_format any text m k rest e (of_spells text k s)
 
-pub none_left : (text : List ℕ) (left : ℕ) → read manifest text ≡ Err left → (k : Manifest) → SpellsManifest text k → ⊥
-none_left text left e k s = no_value manifest any text left k e (of_spells text k s)
+pub none_left : (text : List ℕ) (left : ℕ) → read manifest_format text ≡ Err left → (k : Manifest) → SpellsManifest text k → ⊥
+none_left text left e k s = no_value manifest_format any text left k e (of_spells text k s)
 
-pub none_after : (text : List ℕ) (m : Manifest) (rest : List ℕ) → read manifest text ≡ Ok (m, rest) → 0 < length rest → (k : Manifest) → SpellsManifest text k → ⊥
-none_after text m rest e more k s = no_value_after manifest any text m rest k e (inl more) (of_spells text k s)
+pub none_after : (text : List ℕ) (m : Manifest) (rest : List ℕ) → read manifest_format text ≡ Ok (m, rest) → 0 < length rest → (k : Manifest) → SpellsManifest text k → ⊥
+none_after text m rest e more k s = no_value_after manifest_format any text m rest k e (inl more) (of_spells text k s)

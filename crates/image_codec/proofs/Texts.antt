@@ -107,3 +107,17 @@ pub each_from_all : {X : Type 0} (P : X → Type 0) (front items : List X) → A
 unfolding EachFrom
 each_from_all P front [] h = tt
 each_from_all P front (x ∷ items) h = (All-head P x items h, each_from_all P (front ++ x ∷ []) items (All-tail P x items h))
+
+-- two facts of each item, of which one looks at those before it
+
+pub both_from_each : {X : Type 0} (P : List X → X → Type 0) (Q : X → Type 0) (front items : List X) → EachFrom (λ before x. P before x × Q x) front items → EachFrom P front items × All Q items
+unfolding EachFrom
+both_from_each P Q front [] h = (tt, All-nil Q)
+both_from_each P Q front (x ∷ items) h =
+    let rest = both_from_each P Q (front ++ x ∷ []) items h.1 in
+    ((h.0.0, rest.0), All-cons Q x items h.0.1 rest.1)
+
+pub each_from_both : {X : Type 0} (P : List X → X → Type 0) (Q : X → Type 0) (front items : List X) → EachFrom P front items → All Q items → EachFrom (λ before x. P before x × Q x) front items
+unfolding EachFrom
+each_from_both P Q front [] p q = tt
+each_from_both P Q front (x ∷ items) p q = ((p.0, All-head Q x items q), each_from_both P Q (front ++ x ∷ []) items p.1 (All-tail Q x items q))

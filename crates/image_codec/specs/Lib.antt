@@ -4,6 +4,8 @@ pub mod Format
 pub mod KernelImages
 pub mod KernelParts
 pub mod Manifests
+pub mod ProcessImages
+pub mod ProcessTests
 pub mod Reading
 pub mod SharedFits
 pub mod SharedFormat

@@ -21,15 +21,15 @@ is_complete gate = gate == COMPLETE
 abbrev pub is_file_count : ℕ → Bool
 is_file_count count = is_within 1 129 count
 
-unfoldable pub file_length : Format ℕ
-file_length = unsigned n64 any
+unfoldable pub length_format : Format ℕ
+length_format = unsigned n64 any
 
-unfoldable pub manifest : Format Manifest
-manifest = do
+unfoldable pub manifest_format : Format Manifest
+manifest_format = do
   gate ← unsigned n8 is_complete
   magic ← raw 7 (is_bytes MANIFEST_MAGIC)
   generation ← unsigned n64 any
-  lengths ← counted is_file_count (λ _. file_length)
+  lengths ← counted is_file_count (λ _. length_format)
   give (record { generation = generation; lengths = lengths })
 
 -- what a manifest keeps that has a file
@@ -48,4 +48,4 @@ pub record SpellsManifest (text : List ℕ) (m : Manifest) : Type 0 where
   pub text_is : text ≡ manifest_text m
 
 abbrev pub DamagedManifest : List ℕ → ℕ → Type 0
-DamagedManifest text n = Damaged manifest any text n
+DamagedManifest text n = Damaged manifest_format any text n

@@ -4,8 +4,8 @@ use Rattle.std.specs.FinMap as map
 use Rattle.plain_machine.specs.declared.memory.Frame.{Frame}
 use Rattle.plain_machine.specs.declared.user_part.UserPart.{UserPart}
 use Rattle.plain_machine.specs.declared.user_part.ThreadPart.{ThreadPart}
-use Rattle.image_codec.specs.declared.process_image.PageImage.{PageImage}
-use Rattle.image_codec.specs.declared.process_image.ThreadImage.{ThreadImage}
+use Rattle.image_codec.specs.declared.page_image.PageImage.{PageImage}
+use Rattle.image_codec.specs.declared.thread_image.ThreadImage.{ThreadImage}
 use Rattle.image_codec.specs.declared.process_image.ProcImage.{ProcImage}
 
 abbrev pub page_entry : PageImage → ℕ × Frame

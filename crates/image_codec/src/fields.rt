@@ -1,6 +1,6 @@
 // Single fields at the front of the bytes that are left. A reader answers the field and what follows it; a writer puts the
 // field at the end. A number has its least significant byte first.
-ghost use Rattle.std.specs.Prelude.{◌≡◌, ◌++◌, length, OnOk};
+ghost use Rattle.std.specs.Prelude.{◌≡◌, ◌++◌, length, IfOk, OnOk};
 ghost use Rattle.image_codec.specs.Fields.{is_bytes};
 ghost use Rattle.image_codec.specs.Format.{any, raw, unsigned, n8, n16, n32, n64, bytes_of};
 ghost use Rattle.image_codec.specs.Reading.{Gives, read};
@@ -68,7 +68,8 @@ pub fn u64_at(text: &[u8]) -> Result<(u64, &[u8]), Fault>
 /// The next so many bytes.
 #[tactic(auto, unfolding(crate::specs::Reading::read_if, crate::specs::Reading::read))]
 pub fn bytes_at(text: &[u8], size: usize) -> Result<(&[u8], &[u8]), Fault>
-    ensures { Gives (λ x. (x.0.now, x.1.now)) result (read (raw size any) text.now) }
+    ensures read { Gives (λ x. (x.0.now, x.1.now)) result (read (raw size any) text.now) }
+    ensures size { IfOk result (λ x. length x.0.now ≡ size) }
 {
     match text.split_at_checked(size) {
         Some((bytes, rest)) => Ok((bytes, rest)),

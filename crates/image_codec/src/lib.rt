@@ -2,23 +2,28 @@
 //! process, and where other bytes are damaged.
 #![tactic(auto)]
 
+mod actions;
 pub mod damage;
 mod fields;
 pub mod kernel_image;
 pub mod kernel_of_image;
 pub mod manifest;
+pub mod page_image;
 pub mod process_image;
 pub mod set_bytes;
 pub mod shared;
 mod shared_fields;
 pub mod shared_reader;
 pub mod shared_writer;
+pub mod thread_image;
+mod waiters;
 
 pub use damage::{Damage, ReadFault};
 pub use kernel_image::shared_image;
 pub use kernel_of_image::restored_kernel;
 pub use manifest::Manifest;
-pub use process_image::{PageImage, ProcImage, ThreadImage};
+pub use page_image::PageImage;
+pub use process_image::ProcImage;
 pub use set_bytes::SetBytes;
 pub use shared::{
     ChannelImage, DescriptionImage, DescriptorEntry, FileImage, ObjectImage, ProcessEntry, Shared,
@@ -26,6 +31,7 @@ pub use shared::{
 };
 pub use shared_reader::read_shared;
 pub use shared_writer::write_shared;
+pub use thread_image::ThreadImage;
 
 #[cfg(test)]
 mod tests_of_shared;

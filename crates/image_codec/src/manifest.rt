@@ -2,7 +2,7 @@ ghost use Rattle.std.specs.Prelude.{◌≡◌, ℕ, ◌++◌, ◌^◌, ◌<◌, 
 ghost use Rattle.std.specs.List.{flat_map};
 ghost use Rattle.image_codec.specs.Files.{IsRead, IsDamagedAt};
 ghost use Rattle.image_codec.specs.Format.{bytes_of, counted, n64};
-ghost use Rattle.image_codec.specs.Manifests.{manifest, file_length, is_file_count, manifest_text, IsManifest, SpellsManifest, DamagedManifest};
+ghost use Rattle.image_codec.specs.Manifests.{manifest_format, length_format, is_file_count, manifest_text, IsManifest, SpellsManifest, DamagedManifest};
 ghost use Rattle.image_codec.specs.Reading.{Gives, read};
 
 use crate::damage::{ReadFault, damaged};
@@ -28,16 +28,16 @@ fn is_file_count(count: u32) -> bool
     1 <= count && count <= 129
 }
 
-#[tactic(auto, unfolding(crate::specs::Manifests::file_length))]
+#[tactic(auto, unfolding(crate::specs::Manifests::length_format))]
 fn length_at(text: &[u8]) -> Result<(u64, &[u8]), Fault>
-    ensures { Gives (λ x. (x.0, x.1.now)) result (read file_length text.now) }
+    ensures { Gives (λ x. (x.0, x.1.now)) result (read length_format text.now) }
 {
     u64_at(text)
 }
 
 #[tactic(auto, unfolding(crate::specs::Format::counted, crate::specs::Reading::read, crate::specs::Reading::read_next, crate::specs::Reading::read_if), using(crate::proofs::Loop::goes_on, crate::proofs::Loop::one_item, crate::proofs::Loop::is_done))]
 fn lengths_at(alloc: Global, text: &[u8]) -> Result<(ListOf<u64>, &[u8]), Fault>
-    ensures { Gives (λ x. (x.0, x.1.now)) result (read (counted is_file_count (λ _. file_length)) text.now) }
+    ensures { Gives (λ x. (x.0, x.1.now)) result (read (counted is_file_count (λ _. length_format)) text.now) }
 {
     let (count, items) = u32_at(text)?;
     if !is_file_count(count) {
@@ -53,9 +53,9 @@ fn lengths_at(alloc: Global, text: &[u8]) -> Result<(ListOf<u64>, &[u8]), Fault>
     Ok((lengths, rest))
 }
 
-#[tactic(auto, unfolding(crate::specs::Manifests::manifest, crate::specs::Reading::read, crate::specs::Reading::read_next, crate::specs::Reading::read_if))]
+#[tactic(auto, unfolding(crate::specs::Manifests::manifest_format, crate::specs::Reading::read, crate::specs::Reading::read_next, crate::specs::Reading::read_if))]
 fn manifest_at(alloc: Global, text: &[u8]) -> Result<(Manifest, &[u8]), Fault>
-    ensures { Gives (λ x. (x.0, x.1.now)) result (read manifest text.now) }
+    ensures { Gives (λ x. (x.0, x.1.now)) result (read manifest_format text.now) }
 {
     let (gate, rest) = u8_at(text)?;
     if gate != COMPLETE {

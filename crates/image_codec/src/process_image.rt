@@ -1,20 +1,8 @@
-use plain_machine::{Frame, SignalAction, ThreadPart, Waiter};
+use crate::page_image::PageImage;
+use crate::thread_image::ThreadImage;
+use plain_machine::{SignalAction, Waiter};
 use sys_abi::VPid;
 use views::list_of::ListOf;
-
-/// A page of a process, by its number.
-#[derive(Debug, Drop)]
-pub struct PageImage {
-    pub number: u32,
-    pub frame: Frame,
-}
-
-/// A thread of a process, by its number.
-#[derive(Debug, Drop)]
-pub struct ThreadImage {
-    pub tid: u32,
-    pub part: ThreadPart,
-}
 
 /// The image of one process: its own part, as lists in rising order of their numbers.
 #[derive(Drop)]

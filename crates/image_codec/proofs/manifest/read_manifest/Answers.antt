@@ -1,17 +1,17 @@
 use Rattle.std.proofs.Common.{sym, ◌∙◌, refl, inl}
 use Rattle.image_codec.specs.Format.{any}
-use Rattle.image_codec.specs.Manifests.{manifest}
+use Rattle.image_codec.specs.Manifests.{manifest_format}
 use Rattle.image_codec.proofs.ManifestLaws as law
 use Rattle.image_codec.proofs.Numerals.{fit_bytes}
 use Rattle.image_codec.proofs.WholeFiles as whole
 use Rattle.image_codec.proofs.manifest.read_manifest.Goals as goal
 
 pub damaged-requires : goal.damaged-requires
-damaged-requires c = whole.rest-le manifest any c.args.bytes.now c.in-Ok.m c.in-Ok.rest.now (fit_bytes _ c.type_inv.bytes) c.in-Ok.ensures
+damaged-requires c = whole.rest-le manifest_format any c.args.bytes.now c.in-Ok.m c.in-Ok.rest.now (fit_bytes _ c.type_inv.bytes) c.in-Ok.ensures
 
 pub damaged-requires-in-Err-Left : goal.damaged-requires-in-Err-Left
 damaged-requires-in-Err-Left c =
-    whole.left-le manifest any c.args.bytes.now c.in-Err-Left.left (fit_bytes _ c.type_inv.bytes) (rw c.in-Err-Left.field-0-is at c.in-Err-Left.ensures)
+    whole.left-le manifest_format any c.args.bytes.now c.in-Err-Left.left (fit_bytes _ c.type_inv.bytes) (rw c.in-Err-Left.field-0-is at c.in-Err-Left.ensures)
 
 pub returns-then-is_empty-clause-found : goal.returns-then-is_empty-clause-found
 returns-then-is_empty-clause-found c =
@@ -28,7 +28,7 @@ pub returns-else-is_empty-clause-exact : goal.returns-else-is_empty-clause-exact
 returns-else-is_empty-clause-exact c =
     rw c.damaged.ensures (
       refl,
-      whole.damaged_after manifest any c.args.bytes.now c.in-Ok.m c.in-Ok.rest.now (fit_bytes _ c.type_inv.bytes) c.in-Ok.ensures
+      whole.damaged_after manifest_format any c.args.bytes.now c.in-Ok.m c.in-Ok.rest.now (fit_bytes _ c.type_inv.bytes) c.in-Ok.ensures
           (inl (whole.something c.in-Ok.rest.now (sym c.is_empty.ensures ∙ c.if-is_empty.false))),
     )
 
@@ -39,4 +39,4 @@ returns-in-Err-Left-clause-only c =
 pub returns-in-Err-Left-clause-exact : goal.returns-in-Err-Left-clause-exact
 returns-in-Err-Left-clause-exact c =
     rw c.damaged-in-Err-Left.ensures
-    (refl, whole.damaged_left manifest any c.args.bytes.now c.in-Err-Left.left (fit_bytes _ c.type_inv.bytes) (rw c.in-Err-Left.field-0-is at c.in-Err-Left.ensures))
+    (refl, whole.damaged_left manifest_format any c.args.bytes.now c.in-Err-Left.left (fit_bytes _ c.type_inv.bytes) (rw c.in-Err-Left.field-0-is at c.in-Err-Left.ensures))

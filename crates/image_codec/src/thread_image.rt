@@ -1,0 +1,221 @@
+ghost use Rattle.std.specs.Prelude.{◌≡◌, ◌<◌, ◌^◌, ◌++◌, [], length, All, OnOk};
+ghost use Rattle.std.specs.List.{flat_map};
+ghost use Rattle.image_codec.specs.Format.{bytes_of, counted, each, n32};
+ghost use Rattle.image_codec.specs.ProcessImages.{tids_of, word_format, registers_format, registers_text, context_format, context_text, thread_format, thread_text, list_text, IsWord, ContextWords, ThreadWords};
+ghost use Rattle.image_codec.specs.ProcessTests.{is_context_count, is_thread_count, is_thread_at};
+ghost use Rattle.image_codec.specs.Reading.{Gives, read};
+
+use crate::fields::{Fault, put_u32, u32_at};
+use crate::shared::ThreadEntry;
+use plain_machine::{Context, Regs, ThreadPart};
+use std::alloc::{AllocError, Global};
+use views::list_of::ListOf;
+
+/// A thread of a process, by its number.
+#[derive(Debug, Drop)]
+pub struct ThreadImage {
+    pub tid: u32,
+    pub part: ThreadPart,
+}
+
+/// Saved contexts can't be spelled yet.
+fn is_context_count(count: u32) -> bool
+    ensures { result ≡ is_context_count count }
+{
+    count == 0
+}
+
+/// One thread can be spelled so far.
+fn is_thread_count(threads: &[ThreadEntry], count: u32) -> bool
+    ensures { result ≡ is_thread_count (tids_of threads.now) count }
+{
+    count == 1 && threads.len() == count as usize
+}
+
+fn is_thread_at(threads: &[ThreadEntry], place: usize, tid: u32) -> bool
+    ensures { result ≡ is_thread_at (tids_of threads.now) place tid }
+{
+    match threads.get(place) {
+        Some(thread) => thread.tid == tid,
+        None => false,
+    }
+}
+
+#[tactic(auto, unfolding(crate::specs::ProcessImages::word_format))]
+pub fn word_at(text: &[u8]) -> Result<(u32, &[u8]), Fault>
+    ensures { Gives (λ x. (x.0, x.1.now)) result (read word_format text.now) }
+{
+    u32_at(text)
+}
+
+/// Fills the slice with the next words. After a fault it has some of them.
+#[tactic(auto, using(crate::proofs::Loop::words_more, crate::proofs::Loop::words_end, crate::proofs::Loop::words_done))]
+fn fill_words<'a>(text: &'a [u8], words: &mut [u32]) -> Result<&'a [u8], Fault>
+    ensures { Gives (λ rest. (words.new, rest.now)) result (read (each (λ _. word_format) (length words.old) []) text.now) }
+{
+    let mut rest = text;
+    for i in 0..words.len() {
+        let (word, more) = word_at(rest)?;
+        words[i] = word;
+        rest = more;
+    }
+    Ok(rest)
+}
+
+/// The registers x1 to x31, with x0 before them.
+#[tactic(auto, unfolding(crate::specs::ProcessImages::registers_format, crate::specs::Reading::read, crate::specs::Reading::read_next))]
+fn registers_at(text: &[u8]) -> Result<([u32; 32], &[u8]), Fault>
+    ensures { Gives (λ x. (x.0, x.1.now)) result (read registers_format text.now) }
+{
+    let mut x = [0; 32];
+    let rest = fill_words(text, &mut x[1..])?;
+    Ok((x, rest))
+}
+
+#[tactic(auto, unfolding(crate::specs::ProcessImages::context_format, crate::specs::Reading::read, crate::specs::Reading::read_next))]
+fn context_at(text: &[u8]) -> Result<(Context, &[u8]), Fault>
+    ensures { Gives (λ x. (x.0, x.1.now)) result (read context_format text.now) }
+{
+    let (x, rest) = registers_at(text)?;
+    let (pc, rest) = word_at(rest)?;
+    let (mask, rest) = word_at(rest)?;
+    let regs = Regs { x, pc };
+    Ok((Context { regs, mask }, rest))
+}
+
+#[tactic(auto, unfolding(crate::specs::Format::counted, crate::specs::Reading::read, crate::specs::Reading::read_next, crate::specs::Reading::read_if), using(crate::proofs::Loop::goes_on, crate::proofs::Loop::one_item, crate::proofs::Loop::is_done))]
+fn contexts_at(alloc: Global, text: &[u8]) -> Result<(ListOf<Context>, &[u8]), Fault>
+    ensures { Gives (λ x. (x.0, x.1.now)) result (read (counted is_context_count (λ _. context_format)) text.now) }
+{
+    let (count, items) = u32_at(text)?;
+    if !is_context_count(count) {
+        return Err(Fault::Left(text.len()));
+    }
+    let mut contexts = ListOf::new(alloc);
+    let mut rest = items;
+    for _item in 0..count {
+        let (context, more) = context_at(rest)?;
+        contexts.push(context)?;
+        rest = more;
+    }
+    Ok((contexts, rest))
+}
+
+#[tactic(auto, unfolding(crate::specs::ProcessImages::thread_format, crate::specs::Reading::read, crate::specs::Reading::read_next, crate::specs::Reading::read_if))]
+fn thread_at<'a>(
+    alloc: Global,
+    threads: &[ThreadEntry],
+    front: &[ThreadImage],
+    text: &'a [u8],
+) -> Result<(ThreadImage, &'a [u8]), Fault>
+    ensures { Gives (λ x. (x.0, x.1.now)) result (read (thread_format (tids_of threads.now) front.now) text.now) }
+{
+    let (tid, rest) = u32_at(text)?;
+    if !is_thread_at(threads, front.len(), tid) {
+        return Err(Fault::Left(text.len()));
+    }
+    let (x, rest) = registers_at(rest)?;
+    let (pc, rest) = word_at(rest)?;
+    let (mask, rest) = word_at(rest)?;
+    let (clear_tid, rest) = word_at(rest)?;
+    let (contexts, rest) = contexts_at(alloc, rest)?;
+    let regs = Regs { x, pc };
+    let part = ThreadPart {
+        regs,
+        mask,
+        clear_tid,
+        contexts,
+    };
+    Ok((ThreadImage { tid, part }, rest))
+}
+
+#[tactic(auto, unfolding(crate::specs::Format::counted, crate::specs::Reading::read, crate::specs::Reading::read_next, crate::specs::Reading::read_if), using(crate::proofs::Loop::goes_on, crate::proofs::Loop::one_item, crate::proofs::Loop::is_done))]
+pub fn threads_at<'a>(
+    alloc: Global,
+    threads: &[ThreadEntry],
+    text: &'a [u8],
+) -> Result<(ListOf<ThreadImage>, &'a [u8]), Fault>
+    ensures { Gives (λ x. (x.0, x.1.now)) result (read (counted (is_thread_count (tids_of threads.now)) (thread_format (tids_of threads.now))) text.now) }
+{
+    let (count, items) = u32_at(text)?;
+    if !is_thread_count(threads, count) {
+        return Err(Fault::Left(text.len()));
+    }
+    let mut images = ListOf::new(alloc);
+    let mut rest = items;
+    for _item in 0..count {
+        let (image, more) = thread_at(alloc, threads, images.as_slice(), rest)?;
+        images.push(image)?;
+        rest = more;
+    }
+    Ok((images, rest))
+}
+
+#[tactic(auto, using(crate::proofs::Writing::puts_none, crate::proofs::Writing::puts_more, crate::proofs::Writing::puts_all))]
+fn put_words(bytes: &mut Vec<u8>, words: &[u32]) -> Result<(), AllocError>
+    ensures { OnOk result (bytes.new.items ≡ bytes.old.items ++ flat_map (bytes_of n32) words.now) }
+{
+    for word in words {
+        put_u32(bytes, *word)?;
+    }
+    Ok(())
+}
+
+#[tactic(auto, unfolding(crate::specs::ProcessImages::registers_text), using(crate::proofs::Writing::all_below))]
+fn put_registers(bytes: &mut Vec<u8>, x: &[u32; 32]) -> Result<(), AllocError>
+    ensures value { OnOk result (bytes.new.items ≡ bytes.old.items ++ registers_text x.now) }
+    ensures words { All IsWord x.now }
+{
+    put_words(bytes, &x[1..])
+}
+
+#[tactic(auto, unfolding(crate::specs::ProcessImages::context_text))]
+fn put_context(bytes: &mut Vec<u8>, context: &Context) -> Result<(), AllocError>
+    ensures value { OnOk result (bytes.new.items ≡ bytes.old.items ++ context_text context.now) }
+    ensures words { OnOk result (ContextWords context.now) }
+{
+    put_registers(bytes, &context.regs.x)?;
+    put_u32(bytes, context.regs.pc)?;
+    put_u32(bytes, context.mask)
+}
+
+#[tactic(auto, unfolding(crate::specs::ProcessImages::list_text), using(crate::proofs::Writing::puts_none, crate::proofs::Writing::puts_more, crate::proofs::Writing::puts_all))]
+fn put_contexts(bytes: &mut Vec<u8>, contexts: &[Context]) -> Result<(), AllocError>
+    requires { length contexts.now < 2 ^ 32 }
+    ensures value { OnOk result (bytes.new.items ≡ bytes.old.items ++ list_text context_text contexts.now) }
+    ensures words { OnOk result (All ContextWords contexts.now) }
+{
+    put_u32(bytes, contexts.len() as u32)?;
+    for context in contexts {
+        put_context(bytes, context)?;
+    }
+    Ok(())
+}
+
+#[tactic(auto, unfolding(crate::specs::ProcessImages::thread_text))]
+fn put_thread(bytes: &mut Vec<u8>, thread: &ThreadImage) -> Result<(), AllocError>
+    requires { length thread.now.part.contexts < 2 ^ 32 }
+    ensures value { OnOk result (bytes.new.items ≡ bytes.old.items ++ thread_text thread.now) }
+    ensures words { OnOk result (ThreadWords thread.now) }
+{
+    put_u32(bytes, thread.tid)?;
+    put_registers(bytes, &thread.part.regs.x)?;
+    put_u32(bytes, thread.part.regs.pc)?;
+    put_u32(bytes, thread.part.mask)?;
+    put_u32(bytes, thread.part.clear_tid)?;
+    put_contexts(bytes, thread.part.contexts.as_slice())
+}
+
+#[tactic(auto, unfolding(crate::specs::ProcessImages::list_text), using(crate::proofs::Writing::puts_none, crate::proofs::Writing::puts_more, crate::proofs::Writing::puts_all))]
+pub fn put_threads(bytes: &mut Vec<u8>, threads: &[ThreadImage]) -> Result<(), AllocError>
+    requires count { length threads.now < 2 ^ 32 }
+    requires contexts { All (λ thread. length thread.part.contexts < 2 ^ 32) threads.now }
+    ensures value { OnOk result (bytes.new.items ≡ bytes.old.items ++ list_text thread_text threads.now) }
+    ensures words { OnOk result (All ThreadWords threads.now) }
+{
+    put_u32(bytes, threads.len() as u32)?;
+    for thread in threads {
+        put_thread(bytes, thread)?;
+    }
+    Ok(())
+}

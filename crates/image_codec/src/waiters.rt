@@ -1,0 +1,100 @@
+// Who waits on a process's words, in its image.
+ghost use Rattle.std.specs.Prelude.{◌≡◌, ◌<◌, ◌^◌, ◌++◌, length, map as each_of, All, OnOk};
+ghost use Rattle.image_codec.specs.Format.{counted};
+ghost use Rattle.image_codec.specs.ProcessImages.{tids_of, waiter_format, waiter_text, list_text, WaiterWords};
+ghost use Rattle.image_codec.specs.ProcessTests.{is_among, is_waiter_count, is_waiting};
+ghost use Rattle.image_codec.specs.Reading.{Gives, read};
+
+use crate::fields::{Fault, put_u32, u32_at};
+use crate::shared::ThreadEntry;
+use crate::thread_image::word_at;
+use plain_machine::Waiter;
+use std::alloc::{AllocError, Global};
+use views::list_of::ListOf;
+
+/// Waiters can't be spelled yet.
+fn is_waiter_count(count: u32) -> bool
+    ensures { result ≡ is_waiter_count count }
+{
+    count == 0
+}
+
+#[tactic(auto, using(crate::proofs::Writing::any_of_map))]
+fn is_thread(threads: &[ThreadEntry], tid: u32) -> bool
+    ensures { result ≡ is_among (tids_of threads.now) tid }
+{
+    threads.iter().any(|thread| thread.tid == tid)
+}
+
+#[tactic(auto, using(crate::proofs::Writing::any_of_map))]
+fn is_waiter(waiters: &[Waiter], tid: u32) -> bool
+    ensures { result ≡ is_among (each_of (λ waiter. waiter.tid) waiters.now) tid }
+{
+    waiters.iter().any(|waiter| waiter.tid == tid)
+}
+
+fn is_waiting(threads: &[ThreadEntry], before: &[Waiter], tid: u32) -> bool
+    ensures { result ≡ is_waiting (tids_of threads.now) (each_of (λ waiter. waiter.tid) before.now) tid }
+{
+    is_thread(threads, tid) && !is_waiter(before, tid)
+}
+
+#[tactic(auto, unfolding(crate::specs::ProcessImages::waiter_format, crate::specs::Reading::read, crate::specs::Reading::read_next, crate::specs::Reading::read_if))]
+fn waiter_at<'a>(
+    threads: &[ThreadEntry],
+    front: &[Waiter],
+    text: &'a [u8],
+) -> Result<(Waiter, &'a [u8]), Fault>
+    ensures { Gives (λ x. (x.0, x.1.now)) result (read (waiter_format (tids_of threads.now) front.now) text.now) }
+{
+    let (tid, rest) = u32_at(text)?;
+    if !is_waiting(threads, front, tid) {
+        return Err(Fault::Left(text.len()));
+    }
+    let (address, rest) = word_at(rest)?;
+    Ok((Waiter { tid, address }, rest))
+}
+
+#[tactic(auto, unfolding(crate::specs::Format::counted, crate::specs::Reading::read, crate::specs::Reading::read_next, crate::specs::Reading::read_if), using(crate::proofs::Loop::goes_on, crate::proofs::Loop::one_item, crate::proofs::Loop::is_done))]
+pub fn waiters_at<'a>(
+    alloc: Global,
+    threads: &[ThreadEntry],
+    text: &'a [u8],
+) -> Result<(ListOf<Waiter>, &'a [u8]), Fault>
+    ensures { Gives (λ x. (x.0, x.1.now)) result (read (counted is_waiter_count (waiter_format (tids_of threads.now))) text.now) }
+{
+    let (count, items) = u32_at(text)?;
+    if !is_waiter_count(count) {
+        return Err(Fault::Left(text.len()));
+    }
+    let mut waiters = ListOf::new(alloc);
+    let mut rest = items;
+    for _item in 0..count {
+        let (waiter, more) = waiter_at(threads, waiters.as_slice(), rest)?;
+        waiters.push(waiter)?;
+        rest = more;
+    }
+    Ok((waiters, rest))
+}
+
+#[tactic(auto, unfolding(crate::specs::ProcessImages::waiter_text))]
+fn put_waiter(bytes: &mut Vec<u8>, waiter: &Waiter) -> Result<(), AllocError>
+    ensures value { OnOk result (bytes.new.items ≡ bytes.old.items ++ waiter_text waiter.now) }
+    ensures words { OnOk result (WaiterWords waiter.now) }
+{
+    put_u32(bytes, waiter.tid)?;
+    put_u32(bytes, waiter.address)
+}
+
+#[tactic(auto, unfolding(crate::specs::ProcessImages::list_text), using(crate::proofs::Writing::puts_none, crate::proofs::Writing::puts_more, crate::proofs::Writing::puts_all))]
+pub fn put_waiters(bytes: &mut Vec<u8>, waiters: &[Waiter]) -> Result<(), AllocError>
+    requires { length waiters.now < 2 ^ 32 }
+    ensures value { OnOk result (bytes.new.items ≡ bytes.old.items ++ list_text waiter_text waiters.now) }
+    ensures words { OnOk result (All WaiterWords waiters.now) }
+{
+    put_u32(bytes, waiters.len() as u32)?;
+    for waiter in waiters {
+        put_waiter(bytes, waiter)?;
+    }
+    Ok(())
+}
