@@ -9,6 +9,7 @@ pub mod Numerals
 pub mod ProcessLaws
 pub mod ReturnContent
 pub mod Rising
+pub mod SetLaws
 pub mod SharedLaws
 pub mod Texts
 pub mod WholeFiles

@@ -7,6 +7,7 @@ pub mod Manifests
 pub mod ProcessImages
 pub mod ProcessTests
 pub mod Reading
+pub mod Sets
 pub mod SharedFits
 pub mod SharedFormat
 pub mod SharedTests
