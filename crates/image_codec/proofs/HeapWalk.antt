@@ -1,9 +1,8 @@
 -- A walk over pages in rising order that counts up finds whether all pages of a range are there
-use Rattle.std.proofs.Common.{◌≡◌, ℕ, zero, suc, ◌+◌, ◌-◌, ◌<◌, ◌≤◌, ◌==◌, ◌&&◌, ◌||◌, ◌⊎◌, inl, inr, nat_lt, Bool, true, false, IsTrue, cond, List, [], ◌∷◌, ◌++◌, length, drop, get_or, Option, Some, None, refl, sym, ap, subst, ◌∙◌, ◌/◌, arith, length-append, add-zero}
+use Rattle.std.proofs.Common.{◌≡◌, ℕ, zero, suc, ◌+◌, ◌-◌, ◌<◌, ◌≤◌, ◌==◌, ◌&&◌, ◌⊎◌, inl, inr, nat_lt, Bool, true, false, List, [], ◌∷◌, ◌++◌, length, drop, get_or, Option, Some, None, refl, sym, ap, subst, ◌∙◌, ◌/◌, arith, length-append, add-zero}
 use Rattle.std.specs.Prelude.{slice_get, if◌then◌else◌}
-use Rattle.std.specs.List.{list_any}
 use Rattle.std.proofs.lemmas.List.{at_drop_more, at_drop_all}
-use Rattle.std.proofs.lemmas.Bool.{cases_lt, cases_eq, cases_Bool}
+use Rattle.std.proofs.lemmas.Bool.{cases_lt, cases_eq}
 use Rattle.std.proofs.lemmas.Bool.Decides.{nat_tests}
 use Rattle.image_codec.specs.declared.page_image.PageImage.{PageImage}
 use Rattle.image_codec.specs.ProcessTests.{is_above_page, is_page_number, has_page, has_pages, has_heap, heap_pages}
@@ -95,9 +94,9 @@ stays : (limit next : ℕ) (p : PageImage) → (nat_lt next limit ≡ false) ⊎
 stays limit next p (inl h) = rw h refl
 stays limit next p (inr h) = other (nat_lt next limit) (p.number == next) h
   where
-  other : (a b : Bool) → b ≡ false → (if a && b then next + 1 else next) ≡ next
-  other true b e = rw e refl
-  other false b e = refl
+    other : (a b : Bool) → b ≡ false → (if a && b then next + 1 else next) ≡ next
+    other true b e = rw e refl
+    other false b e = refl
 
 counts_up : (limit next : ℕ) (p : PageImage) → nat_lt next limit ≡ true → (p.number == next) ≡ true → step limit next p ≡ next + 1
 counts_up limit next p h e = rw (h, e) refl
@@ -106,45 +105,45 @@ pub walk_finds : (limit : ℕ) (pages : List PageImage) (low next : ℕ) → Ris
 unfolding walk Rising
 walk_finds limit [] low next r h =
     elim (cases_lt next limit) [
-      inl less ↦
-        let other : (next == limit) ≡ false = grind (arith, nat_tests) in
-        other ∙ sym (none_there next (limit - next) (omega arith))
-    | inr end ↦
-        let same : (next == limit) ≡ true = grind (arith, nat_tests) in
-        let none : limit - next ≡ 0 = omega arith in
-        same ∙ sym (ap (has_pages [] next) none ∙ all_there [] next)
+      | inl less ↦
+          let other : (next == limit) ≡ false = grind (arith, nat_tests) in
+          other ∙ sym (none_there next (limit - next) (omega arith))
+      | inr end ↦
+          let same : (next == limit) ≡ true = grind (arith, nat_tests) in
+          let none : limit - next ≡ 0 = omega arith in
+          same ∙ sym (ap (has_pages [] next) none ∙ all_there [] next)
     ]
 walk_finds limit (p ∷ pages) low next r h =
     elim (cases_lt next limit) [
-      inr end ↦
-        let none : limit - next ≡ 0 = omega arith in
-        let stay : step limit next p ≡ next = stays limit next p (inl (grind (arith, nat_tests))) in
-        ap (λ (n : ℕ). walk limit n pages == limit) stay ∙ walk_finds limit pages (p.number + 1) next r.1 h
-        ∙ ap (has_pages pages next) none ∙ all_there pages next ∙ sym (ap (has_pages (p ∷ pages) next) none ∙ all_there (p ∷ pages) next)
-    | inl less ↦
-        elim (cases_eq p.number next) [
-          inl same ↦
-            let up : step limit next p ≡ next + 1 = counts_up limit next p (grind (arith, nat_tests)) (grind (arith, nat_tests)) in
-            let one_more : limit - next ≡ suc (limit - (next + 1)) = omega arith in
-            let front : has_pages (p ∷ pages) next (suc (limit - (next + 1))) ≡ has_pages pages (next + 1) (limit - (next + 1)) =
-              subst (λ (n : ℕ). has_pages (p ∷ pages) n (suc (limit - (next + 1))) ≡ has_pages pages (n + 1) (limit - (next + 1))) same (taken p pages (limit - (next + 1))) in
-            ap (λ (n : ℕ). walk limit n pages == limit) up ∙ walk_finds limit pages (p.number + 1) (next + 1) r.1 (omega arith)
-            ∙ sym front ∙ sym (ap (has_pages (p ∷ pages) next) one_more)
-        | inr differs ↦
-            let stay : step limit next p ≡ next = stays limit next p (inr (grind (arith, nat_tests))) in
-            ap (λ (n : ℕ). walk limit n pages == limit) stay ∙ walk_finds limit pages (p.number + 1) next r.1 h
-            ∙ elim (cases_lt p.number next) as (λ _. has_pages pages next (limit - next) ≡ has_pages (p ∷ pages) next (limit - next)) [
-                inl below ↦ sym (passed p pages next (limit - next) below)
-              | inr above ↦
-                  let one_more : limit - next ≡ suc (limit - (next + 1)) = omega arith in
-                  let apart : next < p.number + 1 = omega arith in
-                  let lacks : has_page pages next ≡ false = missing pages (p.number + 1) next r.1 apart in
-                  let other : (p.number == next) ≡ false = grind (arith, nat_tests) in
-                  let lacks_both : has_page (p ∷ pages) next ≡ false = rw (other, lacks) refl in
-                  ap (has_pages pages next) one_more ∙ no_first pages next (limit - (next + 1)) lacks
-                  ∙ sym (ap (has_pages (p ∷ pages) next) one_more ∙ no_first (p ∷ pages) next (limit - (next + 1)) lacks_both)
-              ]
-        ]
+      | inr end ↦
+          let none : limit - next ≡ 0 = omega arith in
+          let stay : step limit next p ≡ next = stays limit next p (inl (grind (arith, nat_tests))) in
+          ap (λ (n : ℕ). walk limit n pages == limit) stay ∙ walk_finds limit pages (p.number + 1) next r.1 h
+          ∙ ap (has_pages pages next) none ∙ all_there pages next ∙ sym (ap (has_pages (p ∷ pages) next) none ∙ all_there (p ∷ pages) next)
+      | inl less ↦
+          elim (cases_eq p.number next) [
+            | inl same ↦
+                let up : step limit next p ≡ next + 1 = counts_up limit next p (grind (arith, nat_tests)) (grind (arith, nat_tests)) in
+                let one_more : limit - next ≡ suc (limit - (next + 1)) = omega arith in
+                let front : has_pages (p ∷ pages) next (suc (limit - (next + 1))) ≡ has_pages pages (next + 1) (limit - (next + 1)) =
+                subst (λ (n : ℕ). has_pages (p ∷ pages) n (suc (limit - (next + 1))) ≡ has_pages pages (n + 1) (limit - (next + 1))) same (taken p pages (limit - (next + 1))) in
+                ap (λ (n : ℕ). walk limit n pages == limit) up ∙ walk_finds limit pages (p.number + 1) (next + 1) r.1 (omega arith)
+                ∙ sym front ∙ sym (ap (has_pages (p ∷ pages) next) one_more)
+            | inr differs ↦
+                let stay : step limit next p ≡ next = stays limit next p (inr (grind (arith, nat_tests))) in
+                ap (λ (n : ℕ). walk limit n pages == limit) stay ∙ walk_finds limit pages (p.number + 1) next r.1 h
+                ∙ elim (cases_lt p.number next) as (λ _. has_pages pages next (limit - next) ≡ has_pages (p ∷ pages) next (limit - next)) [
+                  | inl below ↦ sym (passed p pages next (limit - next) below)
+                  | inr above ↦
+                      let one_more : limit - next ≡ suc (limit - (next + 1)) = omega arith in
+                      let apart : next < p.number + 1 = omega arith in
+                      let lacks : has_page pages next ≡ false = missing pages (p.number + 1) next r.1 apart in
+                      let other : (p.number == next) ≡ false = grind (arith, nat_tests) in
+                      let lacks_both : has_page (p ∷ pages) next ≡ false = rw (other, lacks) refl in
+                      ap (has_pages pages next) one_more ∙ no_first pages next (limit - (next + 1)) lacks
+                      ∙ sym (ap (has_pages (p ∷ pages) next) one_more ∙ no_first (p ∷ pages) next (limit - (next + 1)) lacks_both)
+                ]
+          ]
     ]
 
 pub walk_more : (limit next : ℕ) (pages : List PageImage) (i : ℕ) (d : PageImage) → i < length pages → walk limit (step limit next (get_or pages i d)) (drop (i + 1) pages) ≡ walk limit next (drop i pages)

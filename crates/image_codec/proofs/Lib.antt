@@ -3,14 +3,17 @@ pub mod HeapWalk
 pub mod Inserted
 pub mod KernelLaws
 pub mod Laws
+pub mod LiveProcesses
 pub mod Loop
 pub mod ManifestLaws
 pub mod Numerals
+pub mod ProcessFiles
 pub mod ProcessLaws
 pub mod ReturnContent
 pub mod Rising
 pub mod SetLaws
 pub mod SharedLaws
 pub mod Texts
+pub mod Waiting
 pub mod WholeFiles
 pub mod Writing

@@ -1,9 +1,13 @@
 -- The items of a list, read one after the other: one more, one that breaks, and none left
-use Rattle.std.proofs.Common.{◌≡◌, ℕ, suc, ◌+◌, ◌-◌, ◌<◌, ◌≤◌, Bool, true, false, List, [], ◌∷◌, ◌++◌, length, take, Result, Ok, Err, refl, sym, ap, ◌∙◌, arith}
+use Rattle.std.proofs.Common.{◌≡◌, ℕ, suc, ◌+◌, ◌-◌, ◌<◌, ◌≤◌, Bool, true, false, List, [], ◌∷◌, ◌++◌, length, take, Result, Ok, Err, refl, sym, ap, subst, ◌∙◌, arith}
+use Rattle.std.specs.Prelude.{IsErr, IsErrAnd}
+use Rattle.std.proofs.lemmas.Bool.{true≢false}
 use Rattle.std.proofs.Math.ListN.{set}
 use Rattle.std.proofs.lemmas.List.{take_more_set, take_all}
 use Rattle.image_codec.specs.Format.{Format, Size, unsigned, n32, any, each, counted, size_of, number_in}
-use Rattle.image_codec.specs.Reading.{read, read_next}
+use Rattle.image_codec.specs.declared.fields.Fault.{Fault}
+use Rattle.image_codec.specs.declared.fields.Fault.TheVariants.{Left, Memory}
+use Rattle.image_codec.specs.Reading.{Gives, read, read_next}
 use Rattle.image_codec.proofs.Laws.{read_if-ok, read_if-gives, read_if-refuses}
 
 one_less : (n i : ℕ) → i < n → n - i ≡ suc (n - (i + 1))
@@ -58,3 +62,10 @@ words_end item n i words text h = one_item item n i (take i words) text h
 
 pub words_done : {X : Type 0} (item : List X → Format X) (n i : ℕ) (words : List X) (text : List ℕ) → n ≤ i → length words ≡ n → read (each item (n - i) (take i words)) text ≡ Ok (words, text)
 words_done item n i words text h size = is_done item n i (take i words) text h ∙ ap (λ (all : List _). Ok (all, text)) (take_all i words (rw size h))
+
+-- a reader that hands on a fault of its callee
+pub gives_fault : {R S A B : Type 0} (view : R → A × List ℕ) (seen : S → B × List ℕ) (fault : Fault) (result : Result R Fault) (answer : Result (A × List ℕ) ℕ) (part : Result (B × List ℕ) ℕ)
+    → IsErr result × IsErrAnd result (λ e. e ≡ fault) → Gives seen (Err fault) part → ((left : ℕ) → part ≡ Err left → answer ≡ Err left) → Gives view result answer
+gives_fault view seen fault (Ok r) answer part is gives same = absurd (true≢false (sym is.0))
+gives_fault view seen fault (Err (Left left)) answer part is gives same = same left (subst (λ (e : Fault). Gives seen (Err e) part) (sym is.1) gives)
+gives_fault view seen fault (Err Memory) answer part is gives same = tt

@@ -1,17 +1,16 @@
 -- The format of a process's image and its text say the same: its items
-use Rattle.std.proofs.Common.{◌≡◌, ℕ, suc, ◌+◌, ◌<◌, ◌≤◌, ◌^◌, ◌==◌, ◌&&◌, nat_le, nat_lt, true, false, Bool, IsTrue, List, [], ◌∷◌, ◌++◌, length, drop, get_or, map, refl, sym, ap, subst, ◌∙◌, append_assoc, append-nil, length-drop, arith, lit<}
+use Rattle.std.proofs.Common.{◌≡◌, ℕ, suc, ◌<◌, ◌^◌, ◌==◌, ◌&&◌, nat_le, nat_lt, true, false, Bool, IsTrue, List, [], ◌∷◌, length, drop, map, refl, sym, ap, subst, ◌∙◌, append_assoc, append-nil, length-drop, arith, lit<}
 use Rattle.std.specs.Prelude.{All, slice_index, if◌then◌else◌}
-use Rattle.std.specs.List.{flat_map}
 use Rattle.std.proofs.lemmas.Bool.Decides.{nat_tests}
-use Rattle.std.proofs.lemmas.List.Elements.{All-weaker, All-cons, All-head, All-tail}
+use Rattle.std.proofs.lemmas.List.Elements.{All-weaker, All-cons, All-tail}
 use Rattle.plain_machine.specs.declared.user_part.Context.{Context}
 use Rattle.plain_machine.specs.declared.user_part.SignalAction.{SignalAction}
 use Rattle.plain_machine.specs.declared.user_part.Waiter.{Waiter}
 use Rattle.image_codec.specs.declared.page_image.PageImage.{PageImage}
 use Rattle.image_codec.specs.declared.thread_image.ThreadImage.{ThreadImage}
-use Rattle.image_codec.specs.Format.{n8, n32, any, each, bytes_of}
-use Rattle.image_codec.specs.Texts.{FitsField, EachFrom}
-use Rattle.image_codec.specs.ProcessTests.{is_page_number, is_page_rights, is_page_content, is_waiting, is_context_count, is_thread_at, is_free_of_break}
+use Rattle.image_codec.specs.Format.{n8, n32, any, bytes_of}
+use Rattle.image_codec.specs.Texts.{FitsField}
+use Rattle.image_codec.specs.ProcessTests.{is_page_number, is_page_rights, is_page_content, is_waiting, is_context_count, is_thread_at}
 use Rattle.image_codec.specs.ProcessImages.{word_format, page_format, action_format, waiter_format, registers_format, context_format, thread_format, page_text, action_text, waiter_text, registers_text, context_text, thread_text, list_text, IsPage, IsWaiter, IsRegisters, IsThreadImage, IsWord, ActionWords, ContextWords, WaiterWords, ThreadWords}
 use Rattle.image_codec.proofs.Texts.{Law, in_words, next_law, unsigned_law, raw_law, counted_law, each_law, give_law, all_from_each, each_from_all, both_from_each, each_from_both}
 
@@ -48,9 +47,9 @@ page_law start end front =
     (λ p h. let (number, (rights, (bytes, is))) = h in record { number = number.1; rights = rights.1; size = bytes.0; content = bytes.1 })
     (λ p h. ((number-below start end front _ h.number, h.number), ((rights-below _ _ h.rights, h.rights), ((h.size, h.content), refl))))
     (next_law _ _ _ _ _ _ (λ (p : PageImage). p.number) (unsigned_law n32 (is_page_number start end front)) (λ b p h o. sym (ap (λ (p : PageImage). p.number) o.1.1)) (λ number.
-     next_law _ _ _ _ _ _ (λ (p : PageImage). p.frame.rights) (unsigned_law n8 (is_page_rights number)) (λ b p h o. sym (ap (λ (p : PageImage). p.frame.rights) o.1)) (λ rights.
-     next_law _ _ _ _ _ _ (λ (p : PageImage). p.frame.page) (raw_law 4096 (is_page_content number)) (λ b p h o. sym (ap (λ (p : PageImage). p.frame.page) o)) (λ bytes.
-     give_law _))))
+    next_law _ _ _ _ _ _ (λ (p : PageImage). p.frame.rights) (unsigned_law n8 (is_page_rights number)) (λ b p h o. sym (ap (λ (p : PageImage). p.frame.rights) o.1)) (λ rights.
+    next_law _ _ _ _ _ _ (λ (p : PageImage). p.frame.page) (raw_law 4096 (is_page_content number)) (λ b p h o. sym (ap (λ (p : PageImage). p.frame.page) o)) (λ bytes.
+    give_law _))))
 
 -- rows of signals
 
@@ -62,9 +61,9 @@ action_law =
     (λ a h. let (handler, (flags, (mask, is))) = h in record { handler = handler.0; flags = flags.0; mask = mask.0 })
     (λ a h. ((h.handler, refl), ((h.flags, refl), ((h.mask, refl), refl))))
     (next_law _ _ _ _ _ _ (λ (a : SignalAction). a.handler) word_law (λ b a h o. sym (ap (λ (a : SignalAction). a.handler) o.1.1)) (λ _.
-     next_law _ _ _ _ _ _ (λ (a : SignalAction). a.flags) word_law (λ b a h o. sym (ap (λ (a : SignalAction). a.flags) o.1)) (λ _.
-     next_law _ _ _ _ _ _ (λ (a : SignalAction). a.mask) word_law (λ b a h o. sym (ap (λ (a : SignalAction). a.mask) o)) (λ _.
-     give_law _))))
+    next_law _ _ _ _ _ _ (λ (a : SignalAction). a.flags) word_law (λ b a h o. sym (ap (λ (a : SignalAction). a.flags) o.1)) (λ _.
+    next_law _ _ _ _ _ _ (λ (a : SignalAction). a.mask) word_law (λ b a h o. sym (ap (λ (a : SignalAction). a.mask) o)) (λ _.
+    give_law _))))
 
 -- waiters
 
@@ -72,12 +71,12 @@ pub waiter_law : (tids : List ℕ) (front : List Waiter) → Law (waiter_format 
 unfolding waiter_format waiter_text
 waiter_law tids front =
     in_words _ _ _ _ _
-    (λ w h. simp (append_assoc, append-nil))
+    (λ w h. simp append-nil)
     (λ w h. let (tid, (address, is)) = h in (tid.1, record { tid = tid.0; address = address.0 }))
     (λ w h. ((h.1.tid, h.0), ((h.1.address, refl), refl)))
     (next_law _ _ _ _ _ _ (λ (w : Waiter). w.tid) (unsigned_law n32 (is_waiting tids (map (λ before. before.tid) front))) (λ b w h o. sym (ap (λ (w : Waiter). w.tid) o.1)) (λ _.
-     next_law _ _ _ _ _ _ (λ (w : Waiter). w.address) word_law (λ b w h o. sym (ap (λ (w : Waiter). w.address) o)) (λ _.
-     give_law _)))
+    next_law _ _ _ _ _ _ (λ (w : Waiter). w.address) word_law (λ b w h o. sym (ap (λ (w : Waiter). w.address) o)) (λ _.
+    give_law _)))
 
 -- registers
 
@@ -91,17 +90,17 @@ registers_law =
     in_words _ _ _ _ _
     (λ x h. append-nil _)
     (λ x h.
-      let ((size, words), is) = h in
-      let whole : length x ≡ 32 = ap length is ∙ ap suc size in
-      let words_fit : All IsWord (drop 1 x) = All-weaker IsAnyWord IsWord (λ n fits. fits.0) (drop 1 x) (all_from_each IsAnyWord [] (drop 1 x) words) in
-      (record { size = whole; zero = ap (λ (y : List ℕ). slice_index y 0) is }, subst (All IsWord) (sym is) (All-cons IsWord 0 (drop 1 x) (lit< tt) words_fit)))
+    let ((size, words), is) = h in
+    let whole : length x ≡ 32 = ap length is ∙ ap suc size in
+    let words_fit : All IsWord (drop 1 x) = All-weaker IsAnyWord IsWord (λ n fits. fits.0) (drop 1 x) (all_from_each IsAnyWord [] (drop 1 x) words) in
+    (record { size = whole; zero = ap (λ (y : List ℕ). slice_index y 0) is }, subst (All IsWord) (sym is) (All-cons IsWord 0 (drop 1 x) (lit< tt) words_fit)))
     (λ x h.
-      let is = split_zero x 31 h.0.size h.0.zero in
-      let size : length (drop 1 x) ≡ 31 = omega (arith, length-drop 1 x, h.0.size) in
-      let words_fit : All IsWord (drop 1 x) = All-tail IsWord 0 (drop 1 x) (subst (All IsWord) is h.1) in
-      ((size, each_from_all IsAnyWord [] (drop 1 x) (All-weaker IsWord IsAnyWord any_word (drop 1 x) words_fit)), is))
+    let is = split_zero x 31 h.0.size h.0.zero in
+    let size : length (drop 1 x) ≡ 31 = omega (arith, length-drop 1 x, h.0.size) in
+    let words_fit : All IsWord (drop 1 x) = All-tail IsWord 0 (drop 1 x) (subst (All IsWord) is h.1) in
+    ((size, each_from_all IsAnyWord [] (drop 1 x) (All-weaker IsWord IsAnyWord any_word (drop 1 x) words_fit)), is))
     (next_law _ _ _ _ _ _ (λ (x : List ℕ). drop 1 x) (each_law (λ _. word_format) (bytes_of n32) (λ _. IsAnyWord) 31 (λ _. word_law)) (λ b x h o. sym (ap (λ (y : List ℕ). drop 1 y) o)) (λ _.
-     give_law _))
+    give_law _))
 
 -- contexts
 
@@ -113,9 +112,9 @@ context_law =
     (λ c h. let (x, (pc, (mask, is))) = h in (x.0, record { x = x.1; pc = pc.0; mask = mask.0 }))
     (λ c h. ((h.0, h.1.x), ((h.1.pc, refl), ((h.1.mask, refl), refl))))
     (next_law _ _ _ _ _ _ (λ (c : Context). c.regs.x) registers_law (λ b c h o. sym (ap (λ (c : Context). c.regs.x) o.1.1)) (λ _.
-     next_law _ _ _ _ _ _ (λ (c : Context). c.regs.pc) word_law (λ b c h o. sym (ap (λ (c : Context). c.regs.pc) o.1)) (λ _.
-     next_law _ _ _ _ _ _ (λ (c : Context). c.mask) word_law (λ b c h o. sym (ap (λ (c : Context). c.mask) o)) (λ _.
-     give_law _))))
+    next_law _ _ _ _ _ _ (λ (c : Context). c.regs.pc) word_law (λ b c h o. sym (ap (λ (c : Context). c.regs.pc) o.1)) (λ _.
+    next_law _ _ _ _ _ _ (λ (c : Context). c.mask) word_law (λ b c h o. sym (ap (λ (c : Context). c.mask) o)) (λ _.
+    give_law _))))
 
 -- threads
 
@@ -131,18 +130,19 @@ thread_law tids front =
     in_words _ _ _ _ _
     (λ t h. simp (append_assoc, append-nil))
     (λ t h.
-      let (tid, (x, (pc, (mask, (clear_tid, (contexts, is)))))) = h in
-      let (kept, words) = both_from_each (λ _ c. IsRegisters c.regs.x) ContextWords [] t.part.contexts contexts.1 in
-      (record { tid = tid.1; registers = x.0; context_count = contexts.0.1; contexts = all_from_each (λ c. IsRegisters c.regs.x) [] t.part.contexts kept },
-       record { tid = tid.0; x = x.1; pc = pc.0; mask = mask.0; clear_tid = clear_tid.0; contexts = words }))
+    let (tid, (x, (pc, (mask, (clear_tid, (contexts, is)))))) = h in
+    let (kept, words) = both_from_each (λ _ c. IsRegisters c.regs.x) ContextWords [] t.part.contexts contexts.1 in (
+      record { tid = tid.1; registers = x.0; context_count = contexts.0.1; contexts = all_from_each (λ c. IsRegisters c.regs.x) [] t.part.contexts kept },
+      record { tid = tid.0; x = x.1; pc = pc.0; mask = mask.0; clear_tid = clear_tid.0; contexts = words },
+    ))
     (λ t h.
-      let contexts = each_from_both (λ _ c. IsRegisters c.regs.x) ContextWords [] t.part.contexts (each_from_all (λ c. IsRegisters c.regs.x) [] t.part.contexts h.0.contexts) h.1.contexts in
-      ((h.1.tid, h.0.tid), ((h.0.registers, h.1.x), ((h.1.pc, refl), ((h.1.mask, refl), ((h.1.clear_tid, refl), (((context_count-below _ h.0.context_count, h.0.context_count), contexts), refl)))))))
+    let contexts = each_from_both (λ _ c. IsRegisters c.regs.x) ContextWords [] t.part.contexts (each_from_all (λ c. IsRegisters c.regs.x) [] t.part.contexts h.0.contexts) h.1.contexts in
+    ((h.1.tid, h.0.tid), ((h.0.registers, h.1.x), ((h.1.pc, refl), ((h.1.mask, refl), ((h.1.clear_tid, refl), (((context_count-below _ h.0.context_count, h.0.context_count), contexts), refl)))))))
     (next_law _ _ _ _ _ _ (λ (t : ThreadImage). t.tid) (unsigned_law n32 (is_thread_at tids (length front))) (λ b t h o. sym (ap (λ (t : ThreadImage). t.tid) o.1.1.1.1.1)) (λ _.
-     next_law _ _ _ _ _ _ (λ (t : ThreadImage). t.part.regs.x) registers_law (λ b t h o. sym (ap (λ (t : ThreadImage). t.part.regs.x) o.1.1.1.1)) (λ _.
-     next_law _ _ _ _ _ _ (λ (t : ThreadImage). t.part.regs.pc) word_law (λ b t h o. sym (ap (λ (t : ThreadImage). t.part.regs.pc) o.1.1.1)) (λ _.
-     next_law _ _ _ _ _ _ (λ (t : ThreadImage). t.part.mask) word_law (λ b t h o. sym (ap (λ (t : ThreadImage). t.part.mask) o.1.1)) (λ _.
-     next_law _ _ _ _ _ _ (λ (t : ThreadImage). t.part.clear_tid) word_law (λ b t h o. sym (ap (λ (t : ThreadImage). t.part.clear_tid) o.1)) (λ _.
-     next_law _ _ _ _ _ _ (λ (t : ThreadImage). t.part.contexts) (counted_law is_context_count (λ _. context_format) context_text ContextFacts (λ _. context_law))
-     (λ b t h o. sym (ap (λ (t : ThreadImage). t.part.contexts) o)) (λ _.
-     give_law _)))))))
+    next_law _ _ _ _ _ _ (λ (t : ThreadImage). t.part.regs.x) registers_law (λ b t h o. sym (ap (λ (t : ThreadImage). t.part.regs.x) o.1.1.1.1)) (λ _.
+    next_law _ _ _ _ _ _ (λ (t : ThreadImage). t.part.regs.pc) word_law (λ b t h o. sym (ap (λ (t : ThreadImage). t.part.regs.pc) o.1.1.1)) (λ _.
+    next_law _ _ _ _ _ _ (λ (t : ThreadImage). t.part.mask) word_law (λ b t h o. sym (ap (λ (t : ThreadImage). t.part.mask) o.1.1)) (λ _.
+    next_law _ _ _ _ _ _ (λ (t : ThreadImage). t.part.clear_tid) word_law (λ b t h o. sym (ap (λ (t : ThreadImage). t.part.clear_tid) o.1)) (λ _.
+    next_law _ _ _ _ _ _ (λ (t : ThreadImage). t.part.contexts) (counted_law is_context_count (λ _. context_format) context_text ContextFacts (λ _. context_law))
+    (λ b t h o. sym (ap (λ (t : ThreadImage). t.part.contexts) o)) (λ _.
+    give_law _)))))))

@@ -1,10 +1,9 @@
 -- The content of the page to which a signal handler returns: its code, and zeros
-use Rattle.std.proofs.Common.{◌≡◌, ℕ, zero, suc, ◌+◌, ◌-◌, ◌<◌, ◌≤◌, ◌==◌, ◌&&◌, Bool, true, false, IsTrue, List, [], ◌∷◌, ◌++◌, length, take, drop, replicate, refl, sym, ap, ◌∙◌, arith, length-append}
+use Rattle.std.proofs.Common.{◌≡◌, ℕ, zero, suc, ◌+◌, ◌==◌, ◌&&◌, Bool, true, false, List, [], ◌∷◌, ◌++◌, length, take, drop, replicate, refl, sym, ap, ◌∙◌, arith}
 use Rattle.std.specs.List.{list_all}
 use Rattle.std.specs.Str.{bytes_eq}
 use Rattle.std.proofs.Math.Seq.{take-append-add}
-use Rattle.std.proofs.lemmas.List.{take-replicate, take-append-drop, take_at, drop_at, length-replicate, length-drop}
-use Rattle.std.proofs.lemmas.Bool.{cases_Bool}
+use Rattle.std.proofs.lemmas.List.{take-replicate, take-append-drop, take_at, drop_at, length-drop}
 use Rattle.std.proofs.lemmas.Bool.Decides.{nat_tests}
 use Rattle.std.proofs.lemmas.Slice.Eq.{bytes_eq-Decides}
 use Rattle.plain_machine.specs.Start.{return_code}
@@ -48,15 +47,15 @@ content_by code content bytes k n size is_code parts is_content is_size =
     let whole : content ≡ code ++ replicate n 0 = is_content ∙ filled code n size (ap (λ (m : ℕ). m + n) is_code ∙ parts) in
     same_tests _ _
     (λ h.
-      let front : take k bytes ≡ code = (bytes_eq-Decides (take k bytes) code).0 (and_left _ _ h) in
-      let left : length (drop k bytes) ≡ n = omega (arith, length-drop k bytes) in
-      let back : drop k bytes ≡ replicate n 0 = zeros (drop k bytes) (and_right _ _ h) ∙ ap (λ (m : ℕ). replicate m 0) left in
-      (bytes_eq-Decides bytes content).1 (sym (take-append-drop k bytes) ∙ ap (λ (r : List ℕ). r ++ drop k bytes) front ∙ ap (λ (r : List ℕ). code ++ r) back ∙ sym whole))
+    let front : take k bytes ≡ code = (bytes_eq-Decides (take k bytes) code).0 (and_left _ _ h) in
+    let left : length (drop k bytes) ≡ n = omega (arith, length-drop k bytes) in
+    let back : drop k bytes ≡ replicate n 0 = zeros (drop k bytes) (and_right _ _ h) ∙ ap (λ (m : ℕ). replicate m 0) left in
+    (bytes_eq-Decides bytes content).1 (sym (take-append-drop k bytes) ∙ ap (λ (r : List ℕ). r ++ drop k bytes) front ∙ ap (λ (r : List ℕ). code ++ r) back ∙ sym whole))
     (λ h.
-      let same : bytes ≡ code ++ replicate n 0 = (bytes_eq-Decides bytes content).0 h ∙ whole in
-      let front : take k bytes ≡ code = ap (take k) same ∙ take_at code (replicate n 0) k is_code in
-      let back : drop k bytes ≡ replicate n 0 = ap (drop k) same ∙ drop_at code (replicate n 0) k is_code in
-      both _ _ ((bytes_eq-Decides (take k bytes) code).1 front) (ap (list_all (λ byte. byte == 0)) back ∙ all_zero n))
+    let same : bytes ≡ code ++ replicate n 0 = (bytes_eq-Decides bytes content).0 h ∙ whole in
+    let front : take k bytes ≡ code = ap (take k) same ∙ take_at code (replicate n 0) k is_code in
+    let back : drop k bytes ≡ replicate n 0 = ap (drop k) same ∙ drop_at code (replicate n 0) k is_code in
+    both _ _ ((bytes_eq-Decides (take k bytes) code).1 front) (ap (list_all (λ byte. byte == 0)) back ∙ all_zero n))
 
 content_is : (code bytes front back : List ℕ) (starts rest_is : Bool) → code ≡ return_code → length bytes ≡ 4096 → front ≡ take 8 bytes → back ≡ drop 8 bytes
     → starts ≡ bytes_eq front code → rest_is ≡ list_all (λ byte. byte == 0) back → (starts && rest_is) ≡ bytes_eq bytes return_content

@@ -12,7 +12,7 @@ use Rattle.image_codec.specs.SharedFormat.{SpellsShared}
 use Rattle.image_codec.specs.Sets.{SpellsImages, SpellsFiles, SpellsSet, IsStateOf, OneStateOfSet, user_entry}
 use Rattle.image_codec.proofs.ManifestLaws as manifest
 use Rattle.image_codec.proofs.SharedLaws as shared_image
-use Rattle.image_codec.proofs.ProcessLaws as process_image
+use Rattle.image_codec.proofs.ProcessFiles as process_image
 
 one_of_images : (shared : Shared) (file : ℕ) (texts : List (List ℕ)) (images others : List ProcImage) → SpellsImages shared file texts images → SpellsImages shared file texts others → images ≡ others
 unfolding SpellsImages

@@ -70,6 +70,10 @@ module _ {A : Type 0} (f : Format A) (end : A → Bool) where
       let size : length text ≡ length front.first + length rest = ap length front.whole ∙ length-append front.first rest in
       inr (a, front.first, rest, front.whole, front.spells, why, omega arith)
 
+  pub damaged_end : (text : List ℕ) (a : A) (rest : List ℕ) → AllBytes text → read f text ≡ Ok (a, rest) → rest ≡ [] → end a ≡ false → Damaged f end text (length text - 0)
+  damaged_end text a rest bytes e none fails =
+      subst (λ (r : List ℕ). Damaged f end text (length text - length r)) none (damaged_after text a rest bytes e (inr fails))
+
   pub no_value_after : (text : List ℕ) (a : A) (rest : List ℕ) (b : A) → read f text ≡ Ok (a, rest) → (0 < length rest) ⊎ (end a ≡ false) → SpellsFile f end text b → ⊥
   unfolding SpellsFile
   no_value_after text a rest b e (inl more) s =

@@ -1,6 +1,6 @@
 -- The texts of a list's items, put one after the other
-use Rattle.std.proofs.Common.{Fits, w32, w64, arith, ◌≡◌, ℕ, ◌+◌, ◌<◌, ◌≤◌, ◌^◌, Bool, ◌||◌, List, [], ◌∷◌, ◌++◌, map, refl, length, take, drop, get_or, length-drop, sym, ap, ◌∙◌, append-nil}
-use Rattle.std.specs.List.{flat_map, list_any}
+use Rattle.std.proofs.Common.{Fits, w64, arith, ◌≡◌, ℕ, ◌+◌, ◌<◌, ◌≤◌, ◌^◌, List, ◌++◌, length, take, drop, get_or, length-drop, sym, ap, ◌∙◌, append-nil}
+use Rattle.std.specs.List.{flat_map}
 use Rattle.std.specs.Prelude.{All}
 use Rattle.std.proofs.lemmas.List.{flat_map_more, take_more, take_all, get_or_default}
 
@@ -24,8 +24,3 @@ all_below limit xs h k d inside = rw (get_or_default xs k d 0 inside) (h k)
 -- a slice from its second item on
 pub tail_of : (xs : List ℕ) (n : ℕ) → length xs ≡ n + 1 → take n (drop 1 xs) ≡ drop 1 xs
 tail_of xs n h = take_all n (drop 1 xs) (omega (arith, length-drop 1 xs))
-
--- a test of what a function makes of the items
-pub any_of_map : {X Y : Type 0} (test : Y → Bool) (f : X → Y) (xs : List X) → list_any test (map f xs) ≡ list_any (λ x. test (f x)) xs
-any_of_map test f [] = refl
-any_of_map test f (x ∷ xs) = ap (λ (b : Bool). test (f x) || b) (any_of_map test f xs)

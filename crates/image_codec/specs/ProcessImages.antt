@@ -8,7 +8,6 @@
 use Rattle.std.specs.Prelude.{◌≡◌, ℕ, ◌-◌, ◌&&◌, ◌^◌, ◌<◌, nat_lt, Bool, true, false, IsTrue, List, [], ◌∷◌, ◌++◌, length, map as each_of, filter, drop, slice_get, slice_index, codes, All, Option, Some, None, if◌then◌else◌}
 use Rattle.std.specs.List.{flat_map}
 use Rattle.std.specs.Option.{option_map, option_map_or}
-use Rattle.sys_abi.specs.declared.identity.VPid.{VPid}
 use Rattle.plain_machine.specs.declared.process.Life.{Life}
 use Rattle.plain_machine.specs.declared.process.Life.TheVariants.{Live, Zombie}
 use Rattle.plain_machine.specs.declared.user_part.Context.{Context}

@@ -5,7 +5,7 @@
 --     is_page_rights, is_page_content page      what a page may be; the page to which a signal handler returns is given
 --     has_heap, has_return_page      no page lacks
 -- Source: docs/FORMATS.md, "Process image", and docs/MACHINE.md for the pages.
-use Rattle.std.specs.Prelude.{ℕ, zero, suc, ◌+◌, ◌-◌, ◌*◌, ◌/◌, ◌%◌, ◌^◌, ◌==◌, ◌&&◌, ◌||◌, not, nat_le, nat_lt, Bool, true, false, List, [], ◌∷◌, length, map as each_of, slice_get, Option, Some, None, if◌then◌else◌}
+use Rattle.std.specs.Prelude.{ℕ, zero, suc, ◌+◌, ◌-◌, ◌*◌, ◌/◌, ◌%◌, ◌^◌, ◌==◌, ◌&&◌, ◌||◌, not, nat_le, nat_lt, Bool, true, false, List, length, slice_get, Option, Some, None, if◌then◌else◌}
 use Rattle.std.specs.List.{list_any}
 use Rattle.plain_machine.specs.Start.{RETURN_PAGE, return_code, page_of}
 use Rattle.image_codec.specs.declared.page_image.PageImage.{PageImage}

@@ -5,6 +5,7 @@
 mod actions;
 pub mod damage;
 mod fields;
+pub mod file_laws;
 pub mod kernel_image;
 pub mod kernel_of_image;
 pub mod manifest;
@@ -19,11 +20,12 @@ pub mod thread_image;
 mod waiters;
 
 pub use damage::{Damage, ReadFault};
+pub use file_laws::image_laws;
 pub use kernel_image::shared_image;
 pub use kernel_of_image::restored_kernel;
-pub use manifest::Manifest;
+pub use manifest::{Manifest, read_manifest, write_manifest};
 pub use page_image::PageImage;
-pub use process_image::ProcImage;
+pub use process_image::{ProcImage, read_process, write_process};
 pub use set_bytes::SetBytes;
 pub use shared::{
     ChannelImage, DescriptionImage, DescriptorEntry, FileImage, ObjectImage, ProcessEntry, Shared,

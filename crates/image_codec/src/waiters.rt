@@ -1,8 +1,9 @@
 // Who waits on a process's words, in its image.
-ghost use Rattle.std.specs.Prelude.{◌≡◌, ◌<◌, ◌^◌, ◌++◌, length, map as each_of, All, OnOk};
+ghost use Rattle.std.specs.Prelude.{◌≡◌, ◌==◌, ◌<◌, ◌^◌, ◌++◌, length, map as each_of, All, OnOk};
+ghost use Rattle.std.specs.List.{list_any};
 ghost use Rattle.image_codec.specs.Format.{counted};
 ghost use Rattle.image_codec.specs.ProcessImages.{tids_of, waiter_format, waiter_text, list_text, WaiterWords};
-ghost use Rattle.image_codec.specs.ProcessTests.{is_among, is_waiter_count, is_waiting};
+ghost use Rattle.image_codec.specs.ProcessTests.{is_waiter_count, is_waiting};
 ghost use Rattle.image_codec.specs.Reading.{Gives, read};
 
 use crate::fields::{Fault, put_u32, u32_at};
@@ -19,16 +20,14 @@ fn is_waiter_count(count: u32) -> bool
     count == 0
 }
 
-#[tactic(auto, using(crate::proofs::Writing::any_of_map))]
-fn is_thread(threads: &[ThreadEntry], tid: u32) -> bool
-    ensures { result ≡ is_among (tids_of threads.now) tid }
+fn has_thread(threads: &[ThreadEntry], tid: u32) -> bool
+    ensures { result ≡ list_any (λ thread. thread.tid == tid) threads.now }
 {
     threads.iter().any(|thread| thread.tid == tid)
 }
 
-#[tactic(auto, using(crate::proofs::Writing::any_of_map))]
-fn is_waiter(waiters: &[Waiter], tid: u32) -> bool
-    ensures { result ≡ is_among (each_of (λ waiter. waiter.tid) waiters.now) tid }
+fn has_waiter(waiters: &[Waiter], tid: u32) -> bool
+    ensures { result ≡ list_any (λ waiter. waiter.tid == tid) waiters.now }
 {
     waiters.iter().any(|waiter| waiter.tid == tid)
 }
@@ -36,7 +35,7 @@ fn is_waiter(waiters: &[Waiter], tid: u32) -> bool
 fn is_waiting(threads: &[ThreadEntry], before: &[Waiter], tid: u32) -> bool
     ensures { result ≡ is_waiting (tids_of threads.now) (each_of (λ waiter. waiter.tid) before.now) tid }
 {
-    is_thread(threads, tid) && !is_waiter(before, tid)
+    has_thread(threads, tid) && !has_waiter(before, tid)
 }
 
 #[tactic(auto, unfolding(crate::specs::ProcessImages::waiter_format, crate::specs::Reading::read, crate::specs::Reading::read_next, crate::specs::Reading::read_if))]

@@ -6,7 +6,7 @@ use Rattle.image_codec.proofs.thread_image.put_contexts.Goals as goal
 pub loop-context-preserved : goal.loop-context-preserved
 loop-context-preserved c = record {
   value =
-    puts_more context_text c.put_u32.new.bytes.items c.loop-context.bytes.items _ c.args.contexts.now c.loop-context.context-index _ c.loop-context-test.true c.loop-context.invariant.value
-    c.in_ok-put_context.ensures.value;
+      puts_more context_text c.put_u32.new.bytes.items c.loop-context.bytes.items _ c.args.contexts.now c.loop-context.context-index _ c.loop-context-test.true c.loop-context.invariant.value
+      c.in_ok-put_context.ensures.value;
   words = All-more ContextWords c.args.contexts.now c.loop-context.context-index _ c.loop-context-test.true c.loop-context.invariant.words c.in_ok-put_context.ensures.words;
 }

@@ -1,4 +1,4 @@
-use Rattle.std.proofs.Common.{subst, ap, ◌∙◌, ◌++◌, List, ℕ}
+use Rattle.std.proofs.Common.{subst, ap, ◌∙◌, ◌++◌}
 use Rattle.std.proofs.lemmas.List.Elements.{All-more}
 use Rattle.image_codec.specs.declared.thread_image.ThreadImage.{ThreadImage}
 use Rattle.image_codec.specs.ProcessImages.{thread_text, ThreadWords}
@@ -8,9 +8,9 @@ use Rattle.image_codec.proofs.thread_image.put_threads.Goals as goal
 pub loop-thread-preserved : goal.loop-thread-preserved
 loop-thread-preserved c = record {
   value =
-    puts_more thread_text c.put_u32.new.bytes.items c.loop-thread.bytes.items _ c.args.threads.now c.loop-thread.thread-index c.thread-item.result c.loop-thread-test.true c.loop-thread.invariant.value
-    (c.in_ok-put_thread.ensures.value ∙ ap (λ (t : ThreadImage). c.loop-thread.bytes.items ++ thread_text t) c.thread-item.is);
+      puts_more thread_text c.put_u32.new.bytes.items c.loop-thread.bytes.items _ c.args.threads.now c.loop-thread.thread-index c.thread-item.result c.loop-thread-test.true c.loop-thread.invariant.value
+      (c.in_ok-put_thread.ensures.value ∙ ap (λ (t : ThreadImage). c.loop-thread.bytes.items ++ thread_text t) c.thread-item.is);
   words =
-    All-more ThreadWords c.args.threads.now c.loop-thread.thread-index c.thread-item.result c.loop-thread-test.true c.loop-thread.invariant.words
-    (subst ThreadWords c.thread-item.is c.in_ok-put_thread.ensures.words);
+      All-more ThreadWords c.args.threads.now c.loop-thread.thread-index c.thread-item.result c.loop-thread-test.true c.loop-thread.invariant.words
+      (subst ThreadWords c.thread-item.is c.in_ok-put_thread.ensures.words);
 }
