@@ -1,6 +1,7 @@
 -- A walk over the files of processes: what is left to be read decides what all of them spell, and where they are damaged
-use Rattle.std.proofs.Common.{◌≡◌, ℕ, ◌+◌, ◌<◌, ◌≤◌, ◌⊎◌, inl, inr, List, [], ◌∷◌, ◌++◌, length, drop, get_or, refl, sym, ap, subst, ◌∙◌, append_assoc, append-nil, arith}
+use Rattle.std.proofs.Common.{◌≡◌, ℕ, ◌+◌, ◌<◌, ◌≤◌, ◌⊎◌, inl, inr, List, [], ◌∷◌, ◌++◌, length, drop, get_or, refl, sym, ap, subst, ◌∙◌, append_assoc, append-nil, add-one, suc, arith}
 use Rattle.std.proofs.Math.Seq.{drop-cons}
+use Rattle.std.proofs.lemmas.List.{drop_all}
 use Rattle.image_codec.specs.declared.process_image.ProcImage.{ProcImage}
 use Rattle.image_codec.specs.declared.shared.Shared.{Shared}
 use Rattle.image_codec.specs.ProcessImages.{SpellsProcess, DamagedProcess, pid_at, tids_at}
@@ -77,5 +78,8 @@ none_spelled shared all images file text left none walk others h =
     none image first
 
 -- the files from a place on
-pub left_at : (files : List (List ℕ)) (i : ℕ) (d : List ℕ) → i < length files → drop i files ≡ get_or files i d ∷ drop (i + 1) files
-left_at files i d h = ?
+pub left_at : (files : List (List ℕ)) (i : ℕ) (text : List ℕ) → i < length files → text ≡ get_or files i text → drop i files ≡ text ∷ drop (i + 1) files
+left_at files i text h is = rw add-one (drop-cons files i text h ∙ ap (λ (t : List ℕ). t ∷ drop (suc i) files) (sym is))
+
+pub none_at : (files : List (List ℕ)) (i : ℕ) → length files ≤ i → drop i files ≡ []
+none_at files i h = drop_all i files h
