@@ -30,13 +30,18 @@ pub fn decode_set(alloc: Global, set: &SetBytes) -> Result<Decoded, ReadFault>
     let Some((first, images)) = set.files.as_slice().split_first() else {
         return Err(ReadFault::Damaged(Damage { file: 1, offset: 0 }));
     };
-    let shared = read_shared(alloc, first.as_slice())?;
+    let shared = match read_shared(alloc, first.as_slice()) {
+        Ok(shared) => shared,
+        Err(fault) => return Err(fault),
+    };
     if images.len() != live_count(&shared) {
         let offset = first.len() as u64;
         return Err(ReadFault::Damaged(Damage { file: 1, offset }));
     }
-    let procs = images_at(alloc, &shared, images)?;
-    Ok(Decoded { shared, procs })
+    match images_at(alloc, &shared, images) {
+        Ok(procs) => Ok(Decoded { shared, procs }),
+        Err(fault) => Err(fault),
+    }
 }
 
 fn lives(process: &ProcessEntry) -> bool
@@ -73,8 +78,10 @@ fn images_at(
     let mut images = ListOf::new(alloc);
     let mut file = 2;
     for bytes in files {
-        let image = read_process(alloc, file, bytes.as_slice(), shared)?;
-        images.push(image)?;
+        match read_process(alloc, file, bytes.as_slice(), shared) {
+            Ok(image) => images.push(image)?,
+            Err(fault) => return Err(fault),
+        }
         file += 1;
     }
     Ok(images)

@@ -12,3 +12,6 @@
 pub mod decode;
 
 pub use decode::{Decoded, decode_set};
+
+#[cfg(test)]
+mod tests;
