@@ -7,6 +7,7 @@ pub mod LiveProcesses
 pub mod Loop
 pub mod ManifestLaws
 pub mod Numerals
+pub mod Owners
 pub mod ProcessFiles
 pub mod ProcessLaws
 pub mod ReturnContent

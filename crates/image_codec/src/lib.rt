@@ -1,5 +1,18 @@
 //! The files of a checkpoint set: what bytes spell a manifest, the image that processes share and the image of one
 //! process, and where other bytes are damaged.
+//!
+//! To a caller there is a writer and a reader for each kind of file. The writer gives the one spelling of a value, and asks
+//! that there is one. The reader gives the value that the bytes spell, or names the file and the first byte of the first
+//! field whose value is not allowed after the fields before it; where the file ends too early, or lacks something as a
+//! whole, that is its length.
+//!
+//! The shared image stands for a kernel part: [`shared_image`] makes the one of a kernel part, [`restored_kernel`] the
+//! kernel part of one. `specs/Sets.antt` says which plain state a whole set spells.
+//!
+//! Proved: all of that, for every value and all bytes, and [`image_laws`]. A reader takes no more memory than the bytes
+//! that are there account for. Not proved here: that an image is that of a running process. The formats are this
+//! project's own (`docs/FORMATS.md`) and restate no standard. So far there is one process, with one thread and no waiters
+//! and saved contexts, and the console is the only thing that is open.
 #![tactic(auto)]
 
 mod actions;
@@ -35,5 +48,7 @@ pub use shared_reader::read_shared;
 pub use shared_writer::write_shared;
 pub use thread_image::ThreadImage;
 
+#[cfg(test)]
+mod tests;
 #[cfg(test)]
 mod tests_of_shared;

@@ -139,6 +139,7 @@ fn read_image(
     ensures found { IfOk result (λ p. SpellsProcess pid (tids_of threads.now) bytes.now p) }
     ensures only { (p : ProcImage) → SpellsProcess pid (tids_of threads.now) bytes.now p → IsRead result p }
     ensures exact { IsDamagedAt file (DamagedProcess pid (tids_of threads.now) bytes.now) result }
+    ensures again { IfOk result HasImage }
 {
     match process_of(alloc, pid, threads, bytes) {
         Ok((p, rest)) => {
@@ -167,6 +168,7 @@ pub fn read_process(
     ensures found { IfOk result (λ p. SpellsProcess (pid_at shared.now file) (tids_at shared.now file) bytes.now p) }
     ensures only { (p : ProcImage) → SpellsProcess (pid_at shared.now file) (tids_at shared.now file) bytes.now p → IsRead result p }
     ensures exact { IsDamagedAt file (DamagedProcess (pid_at shared.now file) (tids_at shared.now file) bytes.now) result }
+    ensures again { IfOk result HasImage }
 {
     match process_at(shared, file) {
         Some(process) => {

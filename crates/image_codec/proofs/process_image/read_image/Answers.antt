@@ -2,6 +2,7 @@ use Rattle.std.proofs.Common.{sym, ◌∙◌, refl, inl, inr}
 use Rattle.image_codec.specs.ProcessImages.{process_format, tids_of, is_whole}
 use Rattle.image_codec.proofs.Numerals.{fit_bytes}
 use Rattle.image_codec.proofs.ProcessFiles as law
+use Rattle.image_codec.proofs.Owners.{owns}
 use Rattle.image_codec.proofs.WholeFiles as whole
 use Rattle.image_codec.proofs.process_image.read_image.Goals as goal
 
@@ -68,3 +69,10 @@ returns-else-is_whole-clause-exact c =
       whole.damaged_end (process_format c.args.pid (tids_of c.args.threads.now)) is_whole c.args.bytes.now c.in-Ok.p c.in-Ok.rest.now (fit_bytes _ c.type_inv.bytes) c.in-Ok.ensures
           (whole.nothing c.in-Ok.rest.now (sym c.is_empty.ensures ∙ c.if-not-is_empty.false)) (sym c.is_whole.ensures ∙ c.if-is_whole.false),
     )
+
+pub returns-then-is_whole-clause-again : goal.returns-then-is_whole-clause-again
+returns-then-is_whole-clause-again c =
+    let spelled =
+    law.found c.args.pid (tids_of c.args.threads.now) c.args.bytes.now c.in-Ok.p c.in-Ok.rest.now c.in-Ok.ensures (fit_bytes _ c.type_inv.bytes)
+    (whole.nothing c.in-Ok.rest.now (sym c.is_empty.ensures ∙ c.if-not-is_empty.false)) (sym c.is_whole.ensures ∙ c.if-is_whole.true) in
+    owns c.args.pid (tids_of c.args.threads.now) c.in-Ok.p spelled.keeps
