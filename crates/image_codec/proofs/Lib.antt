@@ -1,5 +1,7 @@
 pub mod DamageLaws
 pub mod HeapWalk
+pub mod Inserted
+pub mod KernelLaws
 pub mod Laws
 pub mod LiveProcesses
 pub mod Loop
@@ -9,6 +11,9 @@ pub mod Owners
 pub mod ProcessFiles
 pub mod ProcessLaws
 pub mod ReturnContent
+pub mod Rising
+pub mod SetLaws
+pub mod SharedLaws
 pub mod Texts
 pub mod Waiting
 pub mod WholeFiles

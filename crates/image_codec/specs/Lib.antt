@@ -1,9 +1,16 @@
 pub mod Fields
 pub mod Files
 pub mod Format
+pub mod KernelImages
+pub mod KernelParts
 pub mod Manifests
 pub mod ProcessImages
 pub mod ProcessTests
 pub mod Reading
+pub mod Sets
+pub mod SharedFits
+pub mod SharedFormat
+pub mod SharedTests
+pub mod SharedTexts
 pub mod Texts
 pub mod UserParts

@@ -6,26 +6,36 @@
 //! field whose value is not allowed after the fields before it; where the file ends too early, or lacks something as a
 //! whole, that is its length.
 //!
+//! The shared image stands for a kernel part: [`shared_image`] makes the one of a kernel part, [`restored_kernel`] the
+//! kernel part of one. `specs/Sets.antt` says which plain state a whole set spells.
+//!
 //! Proved: all of that, for every value and all bytes, and [`image_laws`]. A reader takes no more memory than the bytes
-//! that are there account for. Not proved here: that an image is that of a running process, or that a set fits together.
-//! The formats are this project's own (`docs/FORMATS.md`) and restate no standard. So far a process has one thread, and
-//! no waiters and saved contexts.
+//! that are there account for. Not proved here: that an image is that of a running process. The formats are this
+//! project's own (`docs/FORMATS.md`) and restate no standard. So far there is one process, with one thread and no waiters
+//! and saved contexts, and the console is the only thing that is open.
 #![tactic(auto)]
 
 mod actions;
 pub mod damage;
 mod fields;
 pub mod file_laws;
+pub mod kernel_image;
+pub mod kernel_of_image;
 pub mod manifest;
 pub mod page_image;
 pub mod process_image;
 pub mod set_bytes;
 pub mod shared;
+mod shared_fields;
+pub mod shared_reader;
+pub mod shared_writer;
 pub mod thread_image;
 mod waiters;
 
 pub use damage::{Damage, ReadFault};
 pub use file_laws::image_laws;
+pub use kernel_image::shared_image;
+pub use kernel_of_image::restored_kernel;
 pub use manifest::{Manifest, read_manifest, write_manifest};
 pub use page_image::PageImage;
 pub use process_image::{ProcImage, read_process, write_process};
@@ -34,7 +44,11 @@ pub use shared::{
     ChannelImage, DescriptionImage, DescriptorEntry, FileImage, ObjectImage, ProcessEntry, Shared,
     SideImage, ThreadEntry,
 };
+pub use shared_reader::read_shared;
+pub use shared_writer::write_shared;
 pub use thread_image::ThreadImage;
 
 #[cfg(test)]
 mod tests;
+#[cfg(test)]
+mod tests_of_shared;

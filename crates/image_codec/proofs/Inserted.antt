@@ -1,0 +1,36 @@
+-- Maps made of the entries of a list, put in from its end
+use Rattle.std.proofs.Common.{◌≡◌, Ordering, List, [], ◌∷◌, ◌++◌, map as mapped, refl, sym, ap, ◌∙◌, append_assoc, append-nil}
+use Rattle.std.specs.List.{flat_map}
+use Rattle.std.specs.FinMap as map
+use Rattle.image_codec.specs.KernelParts.{inserted}
+
+mapped-append : {X Y : Type 0} (f : X → Y) (xs ys : List X) → mapped f (xs ++ ys) ≡ mapped f xs ++ mapped f ys
+mapped-append f [] ys = refl
+mapped-append f (x ∷ xs) ys = ap (λ zs. f x ∷ zs) (mapped-append f xs ys)
+
+flat_map-append : {X Y : Type 0} (f : X → List Y) (xs ys : List X) → flat_map f (xs ++ ys) ≡ flat_map f xs ++ flat_map f ys
+flat_map-append f [] ys = refl
+flat_map-append f (x ∷ xs) ys = ap (λ zs. f x ++ zs) (flat_map-append f xs ys) ∙ sym (append_assoc (f x) (flat_map f xs) (flat_map f ys))
+
+module _ {K V : Type 0} {R : K → K → Ordering} where
+  -- all that is left, and nothing put in yet
+  pub inserted_none : (es : List (K × V)) → inserted es (map.empty {R = R}) ≡ map.from_entries es
+  inserted_none [] = refl
+  inserted_none (e ∷ es) = ap (λ m. map.insert m e.0 e.1) (inserted_none es)
+
+  pub inserted-append : (es fs : List (K × V)) (m : map.FinMap R V) → inserted (es ++ fs) m ≡ inserted es (inserted fs m)
+  inserted-append [] fs m = refl
+  inserted-append (e ∷ es) fs m = ap (λ n. map.insert n e.0 e.1) (inserted-append es fs m)
+
+  -- one turn: of what is left, the last item is put in
+  pub inserted_one : {X : Type 0} (f : X → K × V) (before after : List X) (x : X) (m n : map.FinMap R V) → before ≡ after ++ x ∷ [] → n ≡ map.insert m (f x).0 (f x).1
+      → inserted (mapped f after) n ≡ inserted (mapped f before) m
+  inserted_one f before after x m n last put =
+      ap (inserted (mapped f after)) put ∙ sym (inserted-append (mapped f after) (f x ∷ []) m) ∙ ap (λ es. inserted es m) (sym (ap (mapped f) last ∙ mapped-append f after (x ∷ [])))
+
+  -- the same where an item gives several entries
+  pub inserted_group : {X : Type 0} (f : X → List (K × V)) (before after : List X) (x : X) (m n : map.FinMap R V) → before ≡ after ++ x ∷ [] → n ≡ inserted (f x) m
+      → inserted (flat_map f after) n ≡ inserted (flat_map f before) m
+  inserted_group f before after x m n last put =
+      ap (inserted (flat_map f after)) put ∙ sym (inserted-append (flat_map f after) (f x) m)
+      ∙ ap (λ es. inserted es m) (sym (ap (flat_map f) last ∙ flat_map-append f after (x ∷ []) ∙ ap (λ es. flat_map f after ++ es) (append-nil (f x))))

@@ -1,0 +1,347 @@
+-- The kernel part of a shared image has that image, and no other.
+--     shared_of-kernel_of      of an image that can be spelled
+--     only_image      so an image of a kernel part is what is made of its entries
+--     kernel_made     the kernel part of an image, map by map
+use Rattle.std.proofs.Common.{◌≡◌, ◌<◌, ℕ, Ordering, Less, Equal, Greater, Bool, true, false, cond, IsTrue, ◌&&◌, ◌||◌, ◌==◌, List, [], ◌∷◌, ◌++◌, filter, map as mapped, refl, sym, ap, subst, ◌∙◌, append-nil, arith}
+use Rattle.std.specs.Prelude.{Option, Some, None, nat_lt, nat_le, option_map}
+use Rattle.std.specs.List.{AllByRecursion, flat_map, filter_map}
+use Rattle.std.specs.List.Sorted.{IsStrictlySortedBy}
+use Rattle.std.specs.Ordering.{nat_cmp, is_eq, eq_by_cmp, ordering_then}
+use Rattle.std.specs.Cmp.{nat_cmp_total, tied_itself}
+use Rattle.std.specs.Map.{keys_of}
+use Rattle.std.specs.FinMap as map
+use Rattle.std.proofs.lemmas.Bool.Decides.{nat_tests}
+use Rattle.std.proofs.lemmas.List.Elements.{filter-append}
+use Rattle.views.proofs.TreeMaps.{entries-from_entries}
+use Rattle.views.specs.NumberMap.{is_above}
+use Rattle.sys_abi.specs.declared.identity.VPid.{VPid}
+use Rattle.sys_abi.specs.declared.identity.Slot.{Slot}
+use Rattle.sys_abi.specs.declared.identity.DescId.{DescId}
+use Rattle.sys_abi.specs.Orders.{vpid_cmp, slot_cmp, desc_cmp}
+use Rattle.sys_abi.proofs.OrderLaws.{vpid_total, slot_total, desc_total}
+use Rattle.plain_machine.specs.declared.process.Maker.{Maker}
+use Rattle.plain_machine.specs.declared.description.Descriptor.{Descriptor}
+use Rattle.plain_machine.specs.declared.kernel.PlainKernel.{PlainKernel}
+use Rattle.plain_machine.specs.Kernel.{is_slot_of}
+use Rattle.image_codec.specs.declared.shared.ObjectImage.{ObjectImage}
+use Rattle.image_codec.specs.declared.shared.ObjectImage.TheVariants.{Console, File, Stream, Socket, Listener}
+use Rattle.image_codec.specs.declared.shared.FileImage.{FileImage}
+use Rattle.image_codec.specs.declared.shared.ChannelImage.{ChannelImage}
+use Rattle.image_codec.specs.declared.shared.DescriptionImage.{DescriptionImage}
+use Rattle.image_codec.specs.declared.shared.ThreadEntry.{ThreadEntry}
+use Rattle.image_codec.specs.declared.shared.DescriptorEntry.{DescriptorEntry}
+use Rattle.image_codec.specs.declared.shared.ProcessEntry.{ProcessEntry}
+use Rattle.image_codec.specs.declared.shared.Shared.{Shared}
+use Rattle.image_codec.specs.Texts.{EachFrom}
+use Rattle.image_codec.specs.SharedTests as field
+use Rattle.image_codec.specs.SharedFits.{IsShared, SharedFits, DescriptionFits, ProcessFits, ThreadFits, DescriptorFits, kind_of}
+use Rattle.image_codec.specs.KernelParts.{kernel_of, process_entry, maker_entry, descriptor_entries, descriptor_entry, description_entry, signals_entry, object_of, listening_of, name_entry, file_entry, channel_entry, direction_entries}
+use Rattle.image_codec.specs.KernelImages.{shared_of, IsImage, object_image, description_image, thread_image, descriptor_image, process_image, is_of, maker_or}
+use Rattle.image_codec.proofs.Rising.{RisesFrom, IsAfter, each_rising, sorted_rising, sorted_append, entries_made, undone, all_from}
+
+both_true : (a b : Bool) → IsTrue (a && b) → IsTrue a × IsTrue b
+both_true true true h = (refl, refl)
+both_true true false h = cc
+both_true false b h = cc
+
+nat_below : (a b : ℕ) → IsTrue (nat_lt a b) → nat_cmp a b ≡ Less
+nat_below a b h = grind (arith, nat_tests)
+
+-- a number above the one before
+after_number : (before : Option ℕ) (n : ℕ) → IsTrue (is_above before n) → IsAfter nat_cmp before n
+after_number None n h = tt
+after_number (Some before) n h = nat_below before n h
+
+-- threads
+thread_rises : (next_id : ℕ) (earlier : List ProcessEntry) (front : List ThreadEntry) (thread : ThreadEntry) → ThreadFits next_id earlier front thread
+    → IsAfter nat_cmp (option_map (λ (t : ThreadEntry). t.tid) (field.last_item front)) thread.tid
+thread_rises next_id earlier front thread h =
+    after_number _ _ ((both_true _ _ ((both_true _ _ h.number.1).0)).0)
+
+threads_back : (next_id : ℕ) (earlier : List ProcessEntry) (threads : List ThreadEntry) → EachFrom (ThreadFits next_id earlier) [] threads
+    → mapped thread_image (map.entries (map.from_entries {R = nat_cmp} (mapped signals_entry threads))) ≡ threads
+threads_back next_id earlier threads h =
+    ap (mapped thread_image) (entries_made nat_cmp_total signals_entry threads (each_rising nat_cmp (λ (t : ThreadEntry). t.tid) (ThreadFits next_id earlier) (thread_rises next_id earlier) [] threads h))
+    ∙ undone signals_entry thread_image threads (all_from (ThreadFits next_id earlier) _ (λ front t fits. refl) [] threads h)
+
+-- descriptions
+pair_below : (a b c d : ℕ) → IsTrue (nat_lt a c || nat_lt b d) → IsTrue (nat_le a c) → ordering_then (nat_cmp a c) (nat_cmp b d) ≡ Less
+pair_below a b c d h g = grind (arith, nat_tests)
+
+abbrev id_of : DescriptionImage → DescId
+id_of description = description.id
+
+abbrev pair_of : DescriptionImage → ℕ × ℕ
+pair_of description = (description.id.pid.0, description.id.num)
+
+after_pair : (before : Option DescriptionImage) (p n : ℕ) → IsTrue (field.is_maker_after (option_map pair_of before) p) → IsTrue (field.is_number_after (option_map pair_of before) p n)
+    → IsAfter desc_cmp (option_map id_of before) (record { pid = record { 0 = p }; num = n })
+after_pair None p n h g = tt
+after_pair (Some before) p n h g = pair_below before.id.pid.0 before.id.num p n g h
+
+description_rises : (next_id : ℕ) (front : List DescriptionImage) (description : DescriptionImage) → DescriptionFits next_id front description
+    → IsAfter desc_cmp (option_map (λ (d : DescriptionImage). d.id) (field.last_item front)) description.id
+description_rises next_id front description h =
+    after_pair (field.last_item front) description.id.pid.0 description.id.num ((both_true _ _ h.maker.1).0) h.number.1
+
+console_back : (object : ObjectImage) → IsTrue (field.is_object_kind (kind_of object)) → object_image (object_of object) ≡ object
+console_back Console h = refl
+console_back (File number offset) h = cc
+console_back (Stream conn side) h = cc
+console_back (Socket address) h = cc
+console_back (Listener address backlog pending) h = cc
+
+description_back : (description : DescriptionImage) → IsTrue (field.is_object_kind (kind_of description.object)) → description_image (description_entry description) ≡ description
+description_back description h = λ i. record description { object = console_back description.object h i }
+
+descriptions_back : (next_id : ℕ) (descriptions : List DescriptionImage) → EachFrom (DescriptionFits next_id) [] descriptions
+    → mapped description_image (map.entries (map.from_entries {R = desc_cmp} (mapped description_entry descriptions))) ≡ descriptions
+descriptions_back next_id descriptions h =
+    ap (mapped description_image) (entries_made desc_total description_entry descriptions (each_rising desc_cmp (λ (d : DescriptionImage). d.id) (DescriptionFits next_id) (description_rises next_id) [] descriptions h))
+    ∙ undone description_entry description_image descriptions (all_from (DescriptionFits next_id) _ (λ front d fits. description_back d fits.kind.1) [] descriptions h)
+
+-- descriptors, all in one list
+abbrev slots_of : VPid → List DescriptorEntry → List Slot
+slots_of p descriptors = mapped (λ (d : DescriptorEntry). record { pid = p; fd = d.number }) descriptors
+
+number_rises : (descriptions : List DescriptionImage) (front : List DescriptorEntry) (descriptor : DescriptorEntry) → DescriptorFits descriptions front descriptor
+    → IsAfter nat_cmp (option_map (λ (d : DescriptorEntry). d.number) (field.last_item front)) descriptor.number
+number_rises descriptions front descriptor h = after_number _ _ ((both_true _ _ h.number.1).0)
+
+same_pid : (a b c : ℕ) → nat_cmp b c ≡ Less → ordering_then (nat_cmp a a) (nat_cmp b c) ≡ Less
+same_pid a b c h = grind (arith, nat_tests)
+
+other_pid : (a b c d : ℕ) → nat_cmp a c ≡ Less → ordering_then (nat_cmp a c) (nat_cmp b d) ≡ Less
+other_pid a b c d h = rw h refl
+
+slots_sorted : (p : VPid) (numbers : List DescriptorEntry) → IsStrictlySortedBy nat_cmp (mapped (λ (d : DescriptorEntry). d.number) numbers) → IsStrictlySortedBy slot_cmp (slots_of p numbers)
+unfolding IsStrictlySortedBy
+slots_sorted p [] h = tt
+slots_sorted p (d ∷ numbers) h = (above numbers h.0, slots_sorted p numbers h.1)
+  where
+    above : (rest : List DescriptorEntry) → AllByRecursion (λ n. nat_cmp d.number n ≡ Less) (mapped (λ (d : DescriptorEntry). d.number) rest)
+        → AllByRecursion (λ s. slot_cmp (record { pid = p; fd = d.number }) s ≡ Less) (slots_of p rest)
+    above [] h = tt
+    above (q ∷ rest) h = (same_pid p.0 d.number q.number h.0, above rest h.1)
+
+-- the slots of processes, one after the other
+abbrev all_slots : List ProcessEntry → List Slot
+all_slots processes = flat_map (λ (e : ProcessEntry). slots_of e.pid e.descriptors) processes
+
+abbrev pids : List ProcessEntry → List VPid
+pids processes = mapped (λ (e : ProcessEntry). e.pid) processes
+
+all_of_append : {X : Type 0} (P : X → Type 0) (xs ys : List X) → AllByRecursion P xs → AllByRecursion P ys → AllByRecursion P (xs ++ ys)
+all_of_append P [] ys h g = g
+all_of_append P (x ∷ xs) ys h g = (h.0, all_of_append P xs ys h.1 g)
+
+slots_above : (s : Slot) (q : VPid) (descriptors : List DescriptorEntry) → vpid_cmp s.pid q ≡ Less → AllByRecursion (λ t. slot_cmp s t ≡ Less) (slots_of q descriptors)
+slots_above s q [] h = tt
+slots_above s q (d ∷ descriptors) h = (other_pid s.pid.0 s.fd q.0 d.number h, slots_above s q descriptors h)
+
+all_slots_above : (s : Slot) (processes : List ProcessEntry) → AllByRecursion (λ q. vpid_cmp s.pid q ≡ Less) (pids processes) → AllByRecursion (λ t. slot_cmp s t ≡ Less) (all_slots processes)
+all_slots_above s [] h = tt
+all_slots_above s (e ∷ processes) h = all_of_append (λ t. slot_cmp s t ≡ Less) (slots_of e.pid e.descriptors) (all_slots processes) (slots_above s e.pid e.descriptors h.0) (all_slots_above s processes h.1)
+
+each_slot_above : (p : VPid) (descriptors : List DescriptorEntry) (processes : List ProcessEntry) → AllByRecursion (λ q. vpid_cmp p q ≡ Less) (pids processes)
+    → AllByRecursion (λ s. AllByRecursion (λ t. slot_cmp s t ≡ Less) (all_slots processes)) (slots_of p descriptors)
+each_slot_above p [] processes h = tt
+each_slot_above p (d ∷ descriptors) processes h = (all_slots_above (record { pid = p; fd = d.number }) processes h, each_slot_above p descriptors processes h)
+
+-- what an item of the list keeps of its own, whatever stands before it
+abbrev KeepsOwn : ProcessEntry → Type 0
+KeepsOwn process = IsStrictlySortedBy nat_cmp (mapped (λ (d : DescriptorEntry). d.number) process.descriptors)
+
+all_slots_sorted : (processes : List ProcessEntry) → IsStrictlySortedBy vpid_cmp (pids processes) → AllByRecursion KeepsOwn processes → IsStrictlySortedBy slot_cmp (all_slots processes)
+unfolding IsStrictlySortedBy
+all_slots_sorted [] h own = tt
+all_slots_sorted (e ∷ processes) h own =
+    sorted_append slot_cmp (slots_of e.pid e.descriptors) (all_slots processes) (slots_sorted e.pid e.descriptors own.0) (all_slots_sorted processes h.1 own.1) (each_slot_above e.pid e.descriptors processes h.0)
+
+keys-append : {K V : Type 0} (es fs : List (K × V)) → keys_of (es ++ fs) ≡ keys_of es ++ keys_of fs
+keys-append [] fs = refl
+keys-append (e ∷ es) fs = ap (λ ks. e.0 ∷ ks) (keys-append es fs)
+
+keys-slots : (p : VPid) (descriptors : List DescriptorEntry) → keys_of (mapped (descriptor_entry p) descriptors) ≡ slots_of p descriptors
+keys-slots p [] = refl
+keys-slots p (d ∷ descriptors) = ap (λ (ks : List Slot). record { pid = p; fd = d.number } ∷ ks) (keys-slots p descriptors)
+
+keys-all_slots : (processes : List ProcessEntry) → keys_of (flat_map descriptor_entries processes) ≡ all_slots processes
+keys-all_slots [] = refl
+keys-all_slots (e ∷ processes) =
+    keys-append (descriptor_entries e) (flat_map descriptor_entries processes) ∙ (λ i. keys-slots e.pid e.descriptors i ++ keys-all_slots processes i)
+
+descriptors_entries : (processes : List ProcessEntry) → IsStrictlySortedBy vpid_cmp (pids processes) → AllByRecursion KeepsOwn processes
+    → map.entries (map.from_entries {R = slot_cmp} (flat_map descriptor_entries processes)) ≡ flat_map descriptor_entries processes
+descriptors_entries processes h own =
+    entries-from_entries slot_total _ (subst (IsStrictlySortedBy slot_cmp) (sym (keys-all_slots processes)) (all_slots_sorted processes h own))
+
+-- the descriptors of one process among those of all
+own_slots : (p : VPid) (descriptors : List DescriptorEntry) → filter (is_of p) (mapped (descriptor_entry p) descriptors) ≡ mapped (descriptor_entry p) descriptors
+own_slots p [] = refl
+own_slots p (d ∷ descriptors) = rw (same_number p.0) (ap (λ es. descriptor_entry p d ∷ es) (own_slots p descriptors))
+  where
+    same_number : (n : ℕ) → (n == n) ≡ true
+    same_number n = grind (arith, nat_tests)
+
+no_slots : (p q : VPid) (descriptors : List DescriptorEntry) → (q.0 == p.0) ≡ false → filter (is_of p) (mapped (descriptor_entry q) descriptors) ≡ []
+no_slots p q [] h = refl
+no_slots p q (d ∷ descriptors) h = rw h (no_slots p q descriptors h)
+
+none_of : (p : VPid) (processes : List ProcessEntry) → AllByRecursion (λ q. vpid_cmp p q ≡ Less) (pids processes) → filter (is_of p) (flat_map descriptor_entries processes) ≡ []
+none_of p [] h = refl
+none_of p (e ∷ processes) h =
+    filter-append (is_of p) (descriptor_entries e) (flat_map descriptor_entries processes)
+    ∙ (λ i. no_slots p e.pid e.descriptors (greater p.0 e.pid.0 h.0) i ++ none_of p processes h.1 i)
+  where
+    greater : (a b : ℕ) → nat_cmp a b ≡ Less → (b == a) ≡ false
+    greater a b h = grind (arith, nat_tests)
+
+-- what is found of a process among all: its place as a maker, and its descriptors
+record IsFound (processes : List ProcessEntry) (process : ProcessEntry) : Type 0 where
+  maker : map.find vpid_cmp process.pid (mapped maker_entry processes) ≡ Some (record { host = process.host; made = process.made })
+  descriptors : filter (is_of process.pid) (flat_map descriptor_entries processes) ≡ descriptor_entries process
+
+found_first : (e : ProcessEntry) (processes : List ProcessEntry) → AllByRecursion (λ q. vpid_cmp e.pid q ≡ Less) (pids processes) → IsFound (e ∷ processes) e
+found_first e processes h = record {
+  maker = ap (λ r. cond (is_eq r) (Some (record { host = e.host; made = e.made })) (map.find vpid_cmp e.pid (mapped maker_entry processes))) (tied_itself vpid_total e.pid);
+  descriptors =
+      filter-append (is_of e.pid) (descriptor_entries e) (flat_map descriptor_entries processes)
+      ∙ (λ i. own_slots e.pid e.descriptors i ++ none_of e.pid processes h i)
+      ∙ append-nil (descriptor_entries e);
+}
+
+apart_numbers : (a b : ℕ) → nat_cmp a b ≡ Less → (is_eq (nat_cmp b a) ≡ false) × ((a == b) ≡ false)
+apart_numbers a b h = (grind (arith, nat_tests), grind (arith, nat_tests))
+
+found_later : (x e : ProcessEntry) (processes : List ProcessEntry) → vpid_cmp x.pid e.pid ≡ Less → IsFound processes e → IsFound (x ∷ processes) e
+found_later x e processes h found =
+    let (other, differs) = apart_numbers x.pid.0 e.pid.0 h in
+    record {
+      maker = ap (λ b. cond b (Some (record { host = x.host; made = x.made })) (map.find vpid_cmp e.pid (mapped maker_entry processes))) other ∙ found.maker;
+      descriptors =
+          filter-append (is_of e.pid) (descriptor_entries x) (flat_map descriptor_entries processes)
+          ∙ (λ i. no_slots e.pid x.pid x.descriptors differs i ++ found.descriptors i);
+    }
+
+all_found : (processes : List ProcessEntry) → IsStrictlySortedBy vpid_cmp (pids processes) → AllByRecursion (IsFound processes) processes
+unfolding IsStrictlySortedBy
+all_found [] h = tt
+all_found (x ∷ processes) h = (found_first x processes h.0, later processes h.0 (all_found processes h.1))
+  where
+    later : (items : List ProcessEntry) → AllByRecursion (λ q. vpid_cmp x.pid q ≡ Less) (pids items) → AllByRecursion (IsFound processes) items → AllByRecursion (IsFound (x ∷ processes)) items
+    later [] h g = tt
+    later (e ∷ items) h g = (found_later x e processes h.0 g.0, later items h.1 g.1)
+
+process_rises : (next_id : ℕ) (channels : List ChannelImage) (descriptions : List DescriptionImage) (front : List ProcessEntry) (process : ProcessEntry) → ProcessFits next_id channels descriptions front process
+    → IsAfter vpid_cmp (option_map (λ (e : ProcessEntry). e.pid) (field.last_item front)) process.pid
+process_rises next_id channels descriptions front process h = after_pid (field.last_item front) ((both_true _ _ ((both_true _ _ h.number.1).0)).0)
+  where
+    after_pid : (before : Option ProcessEntry) → IsTrue (is_above (option_map (λ (e : ProcessEntry). e.pid.0) before) process.pid.0)
+        → IsAfter vpid_cmp (option_map (λ (e : ProcessEntry). e.pid) before) process.pid
+    after_pid None h = tt
+    after_pid (Some before) h = nat_below before.pid.0 process.pid.0 h
+
+keeps_own : (next_id : ℕ) (channels : List ChannelImage) (descriptions : List DescriptionImage) (front : List ProcessEntry) (process : ProcessEntry) → ProcessFits next_id channels descriptions front process → KeepsOwn process
+keeps_own next_id channels descriptions front process h =
+    sorted_rising nat_cmp nat_cmp_total None _ (each_rising nat_cmp (λ (d : DescriptorEntry). d.number) (DescriptorFits descriptions) (number_rises descriptions) [] process.descriptors h.descriptors)
+
+descriptors_undone : (p : VPid) (descriptors : List DescriptorEntry) → mapped descriptor_image (mapped (descriptor_entry p) descriptors) ≡ descriptors
+descriptors_undone p [] = refl
+descriptors_undone p (d ∷ descriptors) = ap (λ (ds : List DescriptorEntry). d ∷ ds) (descriptors_undone p descriptors)
+
+-- a process of the kernel part has the image that it was made of
+process_back : (k : PlainKernel) (processes : List ProcessEntry) (process : ProcessEntry)
+    → k.makers ≡ map.from_entries (mapped maker_entry processes) → map.entries k.descriptors ≡ flat_map descriptor_entries processes
+    → mapped thread_image (map.entries (map.from_entries {R = nat_cmp} (mapped signals_entry process.threads))) ≡ process.threads
+    → IsFound processes process → process_image k (process_entry process) ≡ process
+process_back k processes process makers slots threads found =
+    let maker : map.get k.makers process.pid ≡ Some (record { host = process.host; made = process.made }) =
+    ap (λ m. map.get m process.pid) makers ∙ map.get-from_entries vpid_total (mapped maker_entry processes) process.pid ∙ found.maker in
+    let own : mapped descriptor_image (filter (is_of process.pid) (map.entries k.descriptors)) ≡ process.descriptors =
+    ap (λ es. mapped descriptor_image (filter (is_of process.pid) es)) slots ∙ ap (mapped descriptor_image) found.descriptors ∙ descriptors_undone process.pid process.descriptors in
+    λ i. record process { host = (maker_or (maker i)).host; made = (maker_or (maker i)).made; threads = threads i; descriptors = own i }
+
+abbrev HasThreads : ProcessEntry → Type 0
+HasThreads e = mapped thread_image (map.entries (map.from_entries {R = nat_cmp} (mapped signals_entry e.threads))) ≡ e.threads
+
+both_all : {X : Type 0} (P Q S : X → Type 0) → ((x : X) → P x → Q x → S x) → (items : List X) → AllByRecursion P items → AllByRecursion Q items → AllByRecursion S items
+both_all P Q S to [] h g = tt
+both_all P Q S to (x ∷ items) h g = (to x h.0 g.0, both_all P Q S to items h.1 g.1)
+
+processes_back : (next_id : ℕ) (channels : List ChannelImage) (descriptions : List DescriptionImage) (k : PlainKernel) (processes : List ProcessEntry)
+    → EachFrom (ProcessFits next_id channels descriptions) [] processes
+    → k.processes ≡ map.from_entries (mapped process_entry processes) → k.makers ≡ map.from_entries (mapped maker_entry processes) → k.descriptors ≡ map.from_entries (flat_map descriptor_entries processes)
+    → mapped (process_image k) (map.entries k.processes) ≡ processes
+processes_back next_id channels descriptions k processes h of_processes makers of_descriptors =
+    let rising : RisesFrom vpid_cmp None (pids processes) =
+    each_rising vpid_cmp (λ (e : ProcessEntry). e.pid) (ProcessFits next_id channels descriptions) (process_rises next_id channels descriptions) [] processes h in
+    let sorted = sorted_rising vpid_cmp vpid_total None (pids processes) rising in
+    let slots : map.entries k.descriptors ≡ flat_map descriptor_entries processes =
+    ap map.entries of_descriptors ∙ descriptors_entries processes sorted (all_from (ProcessFits next_id channels descriptions) KeepsOwn (keeps_own next_id channels descriptions) [] processes h) in
+    let threads = all_from (ProcessFits next_id channels descriptions) HasThreads (λ front e fits. threads_back next_id front e.threads fits.threads) [] processes h in
+    ap (λ m. mapped (process_image k) (map.entries m)) of_processes
+    ∙ ap (mapped (process_image k)) (entries_made vpid_total process_entry processes rising)
+    ∙ undone process_entry (process_image k) processes
+    (both_all HasThreads (IsFound processes) (λ e. process_image k (process_entry e) ≡ e) (λ e own found. process_back k processes e makers slots own found) processes threads (all_found processes sorted))
+
+pub shared_of-kernel_of : (s : Shared) → SharedFits s → shared_of (kernel_of s) ≡ s
+unfolding shared_of kernel_of
+shared_of-kernel_of s h =
+    let descriptions = descriptions_back s.next_id s.descriptions h.descriptions in
+    let processes = processes_back s.next_id s.channels s.descriptions (kernel_of s) s.processes h.processes refl refl refl in
+    λ i. record s { files = sym h.files i; channels = sym h.channels i; descriptions = descriptions i; processes = processes i }
+
+pub only_image : (s : Shared) (k : PlainKernel) → IsImage s k → shared_of k ≡ s
+only_image s k h = ap shared_of (sym h.kernel) ∙ shared_of-kernel_of s h.spelled.fields
+
+-- what is made of the entries is the image, where there is one
+pub the_image : (s : Shared) (k : PlainKernel) (made : Shared) → IsImage s k → made ≡ shared_of k → IsImage made k
+the_image s k made h is = subst (λ (t : Shared). IsImage t k) (sym (is ∙ only_image s k h)) h
+
+pub image_made : (k : PlainKernel) (made : Shared) → made.next_id ≡ k.next_id → made.next_file ≡ k.next_file → made.files ≡ [] → made.channels ≡ []
+    → made.descriptions ≡ mapped description_image (map.entries k.descriptions) → made.processes ≡ mapped (process_image k) (map.entries k.processes) → made ≡ shared_of k
+unfolding shared_of
+image_made k made next_id next_file files channels descriptions processes =
+    λ i. record { next_id = next_id i; next_file = next_file i; files = files i; channels = channels i; descriptions = descriptions i; processes = processes i }
+
+-- back from the image: what has no image so far is empty in the kernel part
+no_listener : (descriptions : List DescriptionImage) → AllByRecursion (λ d. IsTrue (field.is_object_kind (kind_of d.object))) descriptions
+    → filter_map (λ (d : DescriptionImage). listening_of d.object) descriptions ≡ []
+no_listener [] h = refl
+no_listener (d ∷ descriptions) h = ap (λ (o : ObjectImage). filter_map (λ (e : DescriptionImage). listening_of e.object) (record d { object = o } ∷ descriptions)) (is_console d.object h.0) ∙ no_listener descriptions h.1
+  where
+    is_console : (object : ObjectImage) → IsTrue (field.is_object_kind (kind_of object)) → object ≡ Console
+    is_console Console h = refl
+    is_console (File number offset) h = cc
+    is_console (Stream conn side) h = cc
+    is_console (Socket address) h = cc
+    is_console (Listener address backlog pending) h = cc
+
+pub kernel_made : (s : Shared) (k : PlainKernel) → SharedFits s
+    → k.processes ≡ map.from_entries (mapped process_entry s.processes) → k.makers ≡ map.from_entries (mapped maker_entry s.processes)
+    → k.descriptors ≡ map.from_entries (flat_map descriptor_entries s.processes) → k.descriptions ≡ map.from_entries (mapped description_entry s.descriptions)
+    → k.names ≡ map.empty → k.files ≡ map.empty → k.next_file ≡ s.next_file → k.channels ≡ map.empty → k.directions ≡ map.empty → k.listeners ≡ map.empty → k.inboxes ≡ map.empty → k.next_id ≡ s.next_id
+    → k ≡ kernel_of s
+unfolding kernel_of
+kernel_made s k h processes makers descriptors descriptions names files next_file channels directions listeners inboxes next_id =
+    let silent = no_listener s.descriptions (all_from (DescriptionFits s.next_id) (λ d. IsTrue (field.is_object_kind (kind_of d.object))) (λ front d fits. fits.kind.1) [] s.descriptions h.descriptions) in
+    let of_names : k.names ≡ map.from_entries (filter_map name_entry s.files) = names ∙ ap (λ (fs : List FileImage). map.from_entries (filter_map name_entry fs)) (sym h.files) in
+    let of_files : k.files ≡ map.from_entries (mapped file_entry s.files) = files ∙ ap (λ (fs : List FileImage). map.from_entries (mapped file_entry fs)) (sym h.files) in
+    let of_channels : k.channels ≡ map.from_entries (mapped (channel_entry s.descriptions) s.channels) = channels ∙ ap (λ (cs : List ChannelImage). map.from_entries (mapped (channel_entry s.descriptions) cs)) (sym h.channels) in
+    let of_directions : k.directions ≡ map.from_entries (flat_map direction_entries s.channels) = directions ∙ ap (λ (cs : List ChannelImage). map.from_entries (flat_map direction_entries cs)) (sym h.channels) in
+    let of_listeners : k.listeners ≡ map.from_entries (filter_map (λ (d : DescriptionImage). listening_of d.object) s.descriptions) = listeners ∙ ap map.from_entries (sym silent) in
+    λ i. record {
+      processes = processes i;
+      makers = makers i;
+      descriptors = descriptors i;
+      descriptions = descriptions i;
+      names = of_names i;
+      files = of_files i;
+      next_file = next_file i;
+      channels = of_channels i;
+      directions = of_directions i;
+      listeners = of_listeners i;
+      inboxes = inboxes i;
+      next_id = next_id i;
+    }

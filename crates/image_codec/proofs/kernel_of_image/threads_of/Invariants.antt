@@ -1,0 +1,10 @@
+use Rattle.std.proofs.Common.{◌≡◌}
+use Rattle.std.proofs.Common.{map as each}
+use Rattle.std.specs.FinMap as map
+use Rattle.std.specs.List.{flat_map}
+use Rattle.std.specs.Slice.Iter.{iter_rest}
+use Rattle.image_codec.specs.KernelParts.{inserted, signals_entry}
+use Rattle.image_codec.proofs.kernel_of_image.threads_of.Given as goal
+
+abbrev pub invariant-loop-image : goal.invariant-loop-image
+invariant-loop-image l = inserted (each signals_entry (iter_rest l.image-iterator.iter)) l.threads ≡ map.from_entries (each signals_entry l.images)

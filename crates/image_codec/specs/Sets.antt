@@ -1,0 +1,71 @@
+-- What a whole set spells: a manifest and the files that it names, the shared image and then the image of each live process in rising order
+-- of their numbers.
+--     SpellsFiles files shared images      the files spell these values
+--     DamagedFiles files file n      the files spell none: n is the place of the first damage, which is in the file of this index
+--     SpellsSet manifest files g state      the set of the generation g spells this plain state
+--     OneStateOfSet      a set spells one state of one generation at most
+-- Source: docs/FORMATS.md, "Whole sets".
+use Rattle.std.specs.Prelude.{◌≡◌, ◌≢◌, ℕ, ◌+◌, ◌⊎◌, List, [], ◌∷◌, length, count_by, map as each}
+use Rattle.std.specs.FinMap as map
+use Rattle.sys_abi.specs.declared.identity.VPid.{VPid}
+use Rattle.plain_machine.specs.declared.user_part.UserPart.{UserPart}
+use Rattle.plain_machine.specs.declared.plain.Plain.{Plain}
+use Rattle.plain_machine.specs.Kernel.{lives}
+use Rattle.image_codec.specs.declared.process_image.ProcImage.{ProcImage}
+use Rattle.image_codec.specs.declared.shared.Shared.{Shared}
+use Rattle.image_codec.specs.Manifests.{SpellsManifest}
+use Rattle.image_codec.specs.SharedFormat.{SpellsShared, DamagedShared}
+use Rattle.image_codec.specs.ProcessImages.{SpellsProcess, DamagedProcess, pid_at, tids_at}
+use Rattle.image_codec.specs.KernelParts.{kernel_of}
+use Rattle.image_codec.specs.UserParts.{user_of}
+
+-- each file the image of the process of its place
+unfoldable pub SpellsImages : Shared → ℕ → List (List ℕ) → List ProcImage → Type 0
+SpellsImages shared file [] [] = Unit {0}
+SpellsImages shared file [] (image ∷ images) = ⊥
+SpellsImages shared file (text ∷ texts) [] = ⊥
+SpellsImages shared file (text ∷ texts) (image ∷ images) =
+    SpellsProcess (pid_at shared file) (tids_at shared file) text image × SpellsImages shared (file + 1) texts images
+
+-- the first file that is damaged, after those that are not
+unfoldable pub DamagedImages : Shared → ℕ → List (List ℕ) → ℕ → ℕ → Type 0
+DamagedImages shared file [] damaged n = ⊥
+DamagedImages shared file (text ∷ texts) damaged n =
+    ((damaged ≡ file) × DamagedProcess (pid_at shared file) (tids_at shared file) text n)
+    ⊎ ((image : ProcImage) × SpellsProcess (pid_at shared file) (tids_at shared file) text image × DamagedImages shared (file + 1) texts damaged n)
+
+unfoldable pub live_count : Shared → ℕ
+live_count shared = count_by (λ process. lives process.life) shared.processes
+
+-- the shared image is file 1, and there is a file for each live process
+unfoldable pub SpellsFiles : List (List ℕ) → Shared → List ProcImage → Type 0
+SpellsFiles [] shared images = ⊥
+SpellsFiles (first ∷ texts) shared images = SpellsShared first shared × (length texts ≡ live_count shared) × SpellsImages shared 2 texts images
+
+-- a missing file is damaged at 0; a number of files that is not that of the live processes is a damage at the shared image's end
+unfoldable pub DamagedFiles : List (List ℕ) → ℕ → ℕ → Type 0
+DamagedFiles [] damaged n = (damaged ≡ 1) × (n ≡ 0)
+DamagedFiles (first ∷ texts) damaged n =
+    ((damaged ≡ 1) × DamagedShared first n)
+    ⊎ ((shared : Shared) × SpellsShared first shared × (length texts ≢ live_count shared) × (damaged ≡ 1) × (n ≡ length first))
+    ⊎ ((shared : Shared) × SpellsShared first shared × (length texts ≡ live_count shared) × DamagedImages shared 2 texts damaged n)
+
+abbrev pub user_entry : ProcImage → VPid × UserPart
+user_entry image = (image.pid, user_of image)
+
+-- the plain state of which these are the parts
+pub record IsStateOf (shared : Shared) (images : List ProcImage) (state : Plain) : Type 0 where
+  pub kernel : state.kernel ≡ kernel_of shared
+  pub users : state.users ≡ map.from_entries (each user_entry images)
+
+pub record SpellsSet (manifest : List ℕ) (files : List (List ℕ)) (g : ℕ) (state : Plain) : Type 0 where
+  pub shared : Shared
+  pub images : List ProcImage
+  pub named : SpellsManifest manifest (record { generation = g; lengths = each length files })
+  pub spelled : SpellsFiles files shared images
+  pub stands : IsStateOf shared images state
+
+abbrev pub OneStateOfSet : Type 0
+OneStateOfSet =
+    (manifest : List ℕ) (files : List (List ℕ)) (g h : ℕ) (state other : Plain)
+    → SpellsSet manifest files g state → SpellsSet manifest files h other → (g ≡ h) × (state ≡ other)

@@ -1,0 +1,77 @@
+-- The bytes of a shared image, and of each item of its lists.
+-- Source: docs/FORMATS.md, "Shared image".
+use Rattle.std.specs.Prelude.{ℕ, ◌+◌, ◌*◌, ◌^◌, ◌<◌, Bool, List, ◌++◌, length, codes, Option, Some, None, if◌then◌else◌}
+use Rattle.std.specs.List.{flat_map}
+use Rattle.sys_abi.specs.declared.identity.VirtAddr.{VirtAddr}
+use Rattle.plain_machine.specs.declared.process.Life.{Life}
+use Rattle.plain_machine.specs.declared.channel.ChannelKind.{ChannelKind}
+use Rattle.plain_machine.specs.declared.channel.ChannelKind.TheVariants.{Pair, Internet, Pipe}
+use Rattle.image_codec.specs.declared.shared.FileImage.{FileImage}
+use Rattle.image_codec.specs.declared.shared.SideImage.{SideImage}
+use Rattle.image_codec.specs.declared.shared.ChannelImage.{ChannelImage}
+use Rattle.image_codec.specs.declared.shared.DescriptionImage.{DescriptionImage}
+use Rattle.image_codec.specs.declared.shared.ThreadEntry.{ThreadEntry}
+use Rattle.image_codec.specs.declared.shared.DescriptorEntry.{DescriptorEntry}
+use Rattle.image_codec.specs.declared.shared.ProcessEntry.{ProcessEntry}
+use Rattle.image_codec.specs.declared.shared.Shared.{Shared}
+use Rattle.image_codec.specs.Format.{n8, n16, n32, bytes_of}
+use Rattle.image_codec.specs.SharedFits.{kind_of, state_of, status_of}
+
+abbrev pub SHARED_MAGIC : List ℕ
+SHARED_MAGIC = codes "DMTSHR01"
+
+-- a list: how many items, and their bytes
+abbrev pub list_text : {X : Type 0} → (X → List ℕ) → List X → List ℕ
+list_text text items = bytes_of n32 (length items) ++ flat_map text items
+
+abbrev pub flag : Bool → ℕ
+flag b = if b then 1 else 0
+
+unfoldable pub file_text : FileImage → List ℕ
+file_text f = bytes_of n32 f.number ++ bytes_of n16 (length f.name) ++ f.name ++ bytes_of n32 (length f.bytes) ++ f.bytes
+
+abbrev pub number_of_kind : ChannelKind → ℕ
+number_of_kind Pair = 0
+number_of_kind Internet = 1
+number_of_kind Pipe = 2
+
+abbrev pub address_text : Option VirtAddr → List ℕ
+address_text None = bytes_of n32 0xFFFFFFFF ++ bytes_of n32 0
+address_text (Some address) = bytes_of n32 address.host ++ bytes_of n32 address.port
+
+unfoldable pub side_text : SideImage → List ℕ
+side_text s = bytes_of n8 (flag s.ended + 2 * flag s.unread) ++ bytes_of n32 (length s.left) ++ s.left ++ address_text s.address
+
+unfoldable pub channel_text : ChannelImage → List ℕ
+channel_text c =
+    bytes_of n32 c.id.pid.0 ++ bytes_of n32 c.id.num ++ bytes_of n8 (number_of_kind c.kind) ++ side_text c.first ++ side_text c.second
+
+unfoldable pub description_text : DescriptionImage → List ℕ
+description_text d =
+    bytes_of n32 d.id.pid.0 ++ bytes_of n32 d.id.num ++ bytes_of n8 (kind_of d.object) ++ bytes_of n32 d.flags ++ bytes_of n32 d.owner
+
+unfoldable pub thread_text : ThreadEntry → List ℕ
+thread_text t = bytes_of n32 t.tid ++ bytes_of n32 t.pending
+
+unfoldable pub descriptor_text : DescriptorEntry → List ℕ
+descriptor_text d = bytes_of n32 d.number ++ bytes_of n32 d.desc.pid.0 ++ bytes_of n32 d.desc.num ++ bytes_of n8 (flag d.cloexec)
+
+unfoldable pub life_text : Life → List ℕ
+life_text life = bytes_of n8 (state_of life) ++ bytes_of n32 (status_of life)
+
+unfoldable pub process_text : ProcessEntry → List ℕ
+process_text p =
+    bytes_of n32 p.pid.0 ++ bytes_of n32 p.parent ++ bytes_of n32 p.host ++ bytes_of n32 p.made
+    ++ life_text p.life ++ bytes_of n32 p.pending
+    ++ list_text thread_text p.threads ++ list_text descriptor_text p.descriptors
+
+unfoldable pub shared_text : Shared → List ℕ
+shared_text s =
+    SHARED_MAGIC ++ bytes_of n32 s.next_id ++ bytes_of n32 s.next_file
+    ++ list_text file_text s.files ++ list_text channel_text s.channels
+    ++ list_text description_text s.descriptions ++ list_text process_text s.processes
+
+-- the lists of a process have a count
+pub record HasCounts (process : ProcessEntry) : Type 0 where
+  pub threads : length process.threads < 2 ^ 32
+  pub descriptors : length process.descriptors < 2 ^ 32

@@ -1,0 +1,137 @@
+//! The image of a kernel part, and the kernel part that an image stands for.
+
+ghost use Rattle.std.specs.Prelude.{◌≡◌, IfOk, filter, map as each};
+ghost use Rattle.std.specs.FinMap as map;
+ghost use Rattle.image_codec.specs.KernelParts.{kernel_of};
+ghost use Rattle.image_codec.specs.SharedFits.{IsShared};
+ghost use Rattle.image_codec.specs.KernelImages.{HasImage, IsImage, description_image, descriptor_image, is_of, maker_or, object_image, process_image, thread_image};
+
+use crate::shared::{
+    DescriptionImage, DescriptorEntry, ObjectImage, ProcessEntry, Shared, ThreadEntry,
+};
+use plain_machine::{Description, Descriptor, Maker, Object, PlainKernel, Process};
+use std::alloc::{AllocError, Global};
+use sys_abi::{ByDesc, BySlot, VPid};
+use views::list_of::ListOf;
+use views::number_map::NumberMap;
+
+/// The image of the kernel part, which is the only one.
+#[tactic(auto, unfolding(crate::specs::KernelImages::shared_of))]
+pub fn shared_image(alloc: Global, k: &PlainKernel) -> Result<Shared, AllocError>
+    requires { HasImage k.now }
+    ensures image { IfOk result (λ s. IsImage s k.now) }
+    ensures only { (s : Shared) → IsImage s k.now → IfOk result (λ found. found ≡ s) }
+{
+    Ok(Shared {
+        next_id: k.next_id,
+        next_file: k.next_file,
+        files: ListOf::new(alloc),
+        channels: ListOf::new(alloc),
+        descriptions: description_images(alloc, &k.descriptions)?,
+        processes: process_images(alloc, k)?,
+    })
+}
+
+fn description_images(
+    alloc: Global,
+    descriptions: &ByDesc<Description>,
+) -> Result<ListOf<DescriptionImage>, AllocError>
+    ensures { IfOk result (λ images. images ≡ each description_image (map.entries descriptions.now)) }
+{
+    let mut images = ListOf::new(alloc);
+    for (id, description) in descriptions.iter() {
+        images.push(DescriptionImage {
+            id: *id,
+            object: object_image(description.object),
+            flags: description.flags,
+            owner: description.owner,
+        })?;
+    }
+    Ok(images)
+}
+
+fn object_image(object: Object) -> ObjectImage
+    ensures { result ≡ object_image object }
+{
+    match object {
+        Object::File { number, offset } => ObjectImage::File { number, offset },
+        Object::Stream { conn, side } => ObjectImage::Stream { conn, side },
+        Object::Socket { address } => ObjectImage::Socket { address },
+        _ => ObjectImage::Console,
+    }
+}
+
+fn process_images(alloc: Global, k: &PlainKernel) -> Result<ListOf<ProcessEntry>, AllocError>
+    ensures { IfOk result (λ images. images ≡ each (process_image k.now) (map.entries k.now.processes)) }
+{
+    let mut images = ListOf::new(alloc);
+    for (pid, process) in k.processes.iter() {
+        images.push(process_image(alloc, k, *pid, process)?)?;
+    }
+    Ok(images)
+}
+
+fn process_image(
+    alloc: Global,
+    k: &PlainKernel,
+    pid: VPid,
+    process: &Process,
+) -> Result<ProcessEntry, AllocError>
+    ensures { IfOk result (λ image. image ≡ process_image k.now (pid, process.now)) }
+{
+    let maker = maker_of(k, pid);
+    Ok(ProcessEntry {
+        pid,
+        parent: process.parent,
+        host: maker.host,
+        made: maker.made,
+        life: process.life,
+        pending: process.pending,
+        threads: thread_images(alloc, &process.threads)?,
+        descriptors: descriptor_images(alloc, &k.descriptors, pid)?,
+    })
+}
+
+fn maker_of(k: &PlainKernel, pid: VPid) -> Maker
+    ensures { result ≡ maker_or (map.get k.now.makers pid) }
+{
+    match k.makers.get(pid) {
+        None => Maker { host: 0, made: 0 },
+        Some(maker) => *maker,
+    }
+}
+
+fn thread_images(alloc: Global, threads: &NumberMap<u32>) -> Result<ListOf<ThreadEntry>, AllocError>
+    ensures { IfOk result (λ images. images ≡ each thread_image (map.entries threads.now)) }
+{
+    let mut images = ListOf::new(alloc);
+    for (tid, pending) in threads.iter() {
+        images.push(ThreadEntry {
+            tid: *tid,
+            pending: *pending,
+        })?;
+    }
+    Ok(images)
+}
+
+/// The descriptors of one process.
+fn descriptor_images(
+    alloc: Global,
+    descriptors: &BySlot<Descriptor>,
+    pid: VPid,
+) -> Result<ListOf<DescriptorEntry>, AllocError>
+    ensures { IfOk result (λ images.
+        images ≡ each descriptor_image (filter (is_of pid) (map.entries descriptors.now))) }
+{
+    let mut images = ListOf::new(alloc);
+    for (slot, descriptor) in descriptors.iter() {
+        if slot.pid.0 == pid.0 {
+            images.push(DescriptorEntry {
+                number: slot.fd,
+                desc: descriptor.desc,
+                cloexec: descriptor.cloexec,
+            })?;
+        }
+    }
+    Ok(images)
+}
