@@ -1,5 +1,7 @@
 pub mod Decimals
 pub mod Items
+pub mod Options
+pub mod Jobs
 pub mod Sinks
 pub mod LentBytes
 pub mod ServedCalls
@@ -11,6 +13,9 @@ pub mod Walks
 pub mod Starts
 pub mod Endings
 pub mod Running
-pub mod Arrivals
-pub mod Decisions
-pub mod Conclusions
+pub mod Stillness
+pub mod Safety
+pub mod Checkpoints
+pub mod Images
+pub mod Served
+pub mod Turning

@@ -1,11 +1,11 @@
 -- What each served call keeps: it has an answer, gives its process no bytes, and nobody else lives after it who didn't before.
-use Rattle.std.proofs.Common.{◌≡◌, ◌≢◌, ℕ, Bool, true, false, List, [], Option, Some, None, refl, ap, subst, ◌∙◌}
+use Rattle.std.proofs.Common.{◌≡◌, ◌≢◌, ℕ, Bool, true, false, List, [], Option, Some, None, refl, sym, ap, subst, ◌∙◌}
 use Rattle.sys_abi.specs.declared.identity.VPid.{VPid}
 use Rattle.sys_abi.specs.declared.errors.TheConstants.{EBADF}
 use Rattle.sys_abi.specs.declared.request.Request.{Request}
 use Rattle.sys_abi.specs.declared.request.Request.TheVariants.{Write, ExitGroup}
 use Rattle.sys_abi.proofs.OrderLaws.{vpid_total, vpid_exact}
-use Rattle.views.proofs.MapLaws.{get_remove_other, get_remove_same}
+use Rattle.views.proofs.MapLaws.{get_remove_other, get_remove_same, true_false}
 use Rattle.plain_machine.specs.declared.kernel.PlainKernel.{PlainKernel}
 use Rattle.plain_machine.specs.declared.description.Description.{Description}
 use Rattle.plain_machine.specs.declared.description.Object.{Object}
@@ -23,6 +23,8 @@ RevivesNobody before after p = (q : VPid) → q ≢ p → is_live before q ≡ f
 pub record IsTame (k : PlainKernel) (p : VPid) (served : Served) : Type 0 where
   pub bytes : served.bytes ≡ []
   pub others : RevivesNobody k served.kernel p
+  -- while its process lives, nothing of the kernel part has changed
+  pub still : is_live served.kernel p ≡ true → served.kernel ≡ k
 
 abbrev TameTry : PlainKernel → VPid → Try Served → Type 0
 TameTry k p (Fails e) = Unit {0}
@@ -34,7 +36,7 @@ unchanged k p q differ dead = dead
 
 object_tame : (k : PlainKernel) (p : VPid) (object : Object) (given : List ℕ) → TameTry k p (write_object k object given)
 unfolding write_object
-object_tame k p Console given = record { bytes = refl; others = unchanged k p }
+object_tame k p Console given = record { bytes = refl; others = unchanged k p; still = λ alive. refl }
 object_tame k p (File number offset) given = tt
 object_tame k p (Stream conn side) given = tt
 object_tame k p (Socket address) given = tt
@@ -68,7 +70,7 @@ ended_is_dead k p = ap is_live_process (get_remove_same vpid_total vpid_exact k.
 
 end_tame : (k : PlainKernel) (p : VPid) → TameTry k p (exit_group_row k p)
 unfolding exit_group_row
-end_tame k p = record { bytes = refl; others = end_revives_nobody k p }
+end_tame k p = record { bytes = refl; others = end_revives_nobody k p; still = λ alive. true_false (sym alive ∙ ended_is_dead k p) }
 
 row_tame : (k : PlainKernel) (p : VPid) (t : ℕ) (q : Request) (given : List ℕ) → TameTry k p (row k p t q given)
 unfolding row
@@ -81,7 +83,7 @@ TameServed k p None = ⊥
 TameServed k p (Some served) = IsTame k p served
 
 settled_tame : (k : PlainKernel) (p : VPid) (m : Try Served) → TameTry k p m → TameServed k p (settled k m)
-settled_tame k p (Fails e) tame = record { bytes = refl; others = unchanged k p }
+settled_tame k p (Fails e) tame = record { bytes = refl; others = unchanged k p; still = λ alive. refl }
 settled_tame k p NotReady tame = tame
 settled_tame k p (Gives served) tame = tame
 

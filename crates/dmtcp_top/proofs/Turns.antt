@@ -2,6 +2,7 @@
 use Rattle.std.proofs.Common.{◌≡◌, ◌≢◌, ℕ, ◌<◌, ◌≤◌, true, false, if◌then◌else◌, List, [], Option, Some, None, Result, Ok, Err, OnOk, inl, inr, refl, sym, ap, subst, ◌∙◌, arith}
 use Rattle.std.specs.Prelude.{◌⊎◌}
 use Rattle.sys_abi.specs.declared.identity.VPid.{VPid}
+use Rattle.sys_abi.specs.declared.identity.Tid.{Tid}
 use Rattle.sys_abi.specs.declared.identity.Signal.{Signal}
 use Rattle.sys_abi.specs.declared.record.Record.{Record}
 use Rattle.sys_abi.specs.declared.record.Record.TheVariants.{User, Call, Deliver}
@@ -25,7 +26,7 @@ use Rattle.plain_machine.specs.Serve.{serve}
 use Rattle.plain_machine.specs.Records.{outcome, quiet, stands}
 use Rattle.dmtcp_top.specs.declared.machine.Machine.{Machine}
 use Rattle.dmtcp_top.specs.Sessions.{Sunk, sunk, Took, TookFront}
-use Rattle.dmtcp_top.specs.Machines.{single, plain_of, lives, OneThread, IsSingle, IsOwn, with_record, Notes, Spoils}
+use Rattle.dmtcp_top.specs.Machines.{single, plain_of, lives, OneThread, IsSingle, IsSame, IsOwn, with_record, Notes, Spoils}
 use Rattle.dmtcp_top.proofs.Sinks.{took_nothing}
 use Rattle.dmtcp_top.proofs.ServedCalls.{RevivesNobody, served_tame, end_revives_nobody}
 use Rattle.dmtcp_top.proofs.OneProcess.{user_goes, fault_goes, local_goes, serve_goes, trap_goes}
@@ -44,125 +45,127 @@ quiet_notes m n from to taken r next goes is noted own = record {
   own = own;
 }
 
-pub single_after : (m n : Machine) → IsSingle m → RevivesNobody m.kernel n.kernel m.guest.pid → n.guest.pid ≡ m.guest.pid → OneThread n.guest.user m.guest.pid.0 → IsSingle n
+pub single_after : (m n : Machine) → IsSingle m → RevivesNobody m.kernel n.kernel m.guest.pid → IsSame m n → OneThread n.guest.user m.thread.0 → IsSingle n
 single_after m n alone others same one = record {
-  alone = λ q differ. let apart : q ≢ m.guest.pid = λ is. differ (is ∙ sym same) in others q apart (alone.alone q apart);
-  one = subst (λ (p : VPid). OneThread n.guest.user p.0) (sym same) one;
+  alone = λ q differ. let apart : q ≢ m.guest.pid = λ is. differ (is ∙ sym same.pid) in others q apart (alone.alone q apart);
+  one = subst (λ (t : Tid). OneThread n.guest.user t.0) (sym same.thread) one;
 }
 
 -- a quantum of instructions
-pub user_notes : (m n : Machine) (from to : TraceState) (taken : Option (List ℕ)) (p : VPid) (count : ℕ) → p ≡ m.guest.pid → lives m ≡ true → 0 < count → count ≤ 4096 → n.kernel ≡ m.kernel → n.guest.pid ≡ m.guest.pid → user_steps count m.guest.user p.0 ≡ Some n.guest.user → (count ≡ 4096) ⊎ (stands (user_step n.guest.user p.0) ≡ true) → to ≡ with_record from (User p (record { 0 = p.0 }) count) → Notes m n from to (sunk taken taken)
+pub user_notes : (m n : Machine) (from to : TraceState) (taken : Option (List ℕ)) (p : VPid) (count : ℕ) → p ≡ m.guest.pid → lives m ≡ true → 0 < count → count ≤ 4096 → n.kernel ≡ m.kernel → n.guest.pid ≡ m.guest.pid → user_steps count m.guest.user m.thread.0 ≡ Some n.guest.user → (count ≡ 4096) ⊎ (stands (user_step n.guest.user m.thread.0) ≡ true) → to ≡ with_record from (User p m.thread count) → Notes m n from to (sunk taken taken)
 user_notes m n from to taken p count is alive some most kernel pid steps ending noted =
-    let at_pid : user_steps count m.guest.user m.guest.pid.0 ≡ Some n.guest.user = subst (λ (q : VPid). user_steps count m.guest.user q.0 ≡ Some n.guest.user) is steps in
-    let ends : (count ≡ 4096) ⊎ (stands (user_step n.guest.user m.guest.pid.0) ≡ true) = subst (λ (q : VPid). (count ≡ 4096) ⊎ (stands (user_step n.guest.user q.0) ≡ true)) is ending in
-    let goes = user_goes m.kernel m.guest.pid (record { 0 = m.guest.pid.0 }) count m.guest.user n.guest.user alive some most at_pid ends in
-    let goes_p : outcome (plain_of m) (User p (record { 0 = p.0 }) count) ≡ Some (quiet (single m.kernel m.guest.pid n.guest.user)) =
-    subst (λ (q : VPid). outcome (plain_of m) (User q (record { 0 = q.0 }) count) ≡ Some (quiet (single m.kernel m.guest.pid n.guest.user))) (sym is) goes in
-    quiet_notes m n from to taken (User p (record { 0 = p.0 }) count) (single m.kernel m.guest.pid n.guest.user) goes_p
+    let at_pid : user_steps count m.guest.user m.thread.0 ≡ Some n.guest.user = subst (λ (q : VPid). user_steps count m.guest.user m.thread.0 ≡ Some n.guest.user) is steps in
+    let ends : (count ≡ 4096) ⊎ (stands (user_step n.guest.user m.thread.0) ≡ true) = subst (λ (q : VPid). (count ≡ 4096) ⊎ (stands (user_step n.guest.user m.thread.0) ≡ true)) is ending in
+    let goes = user_goes m.kernel m.guest.pid m.thread count m.guest.user n.guest.user alive some most at_pid ends in
+    let goes_p : outcome (plain_of m) (User p m.thread count) ≡ Some (quiet (single m.kernel m.guest.pid n.guest.user)) =
+    subst (λ (q : VPid). outcome (plain_of m) (User q m.thread count) ≡ Some (quiet (single m.kernel m.guest.pid n.guest.user))) (sym is) goes in
+    quiet_notes m n from to taken (User p m.thread count) (single m.kernel m.guest.pid n.guest.user) goes_p
     (ap (λ (k : PlainKernel). single k n.guest.pid n.guest.user) kernel ∙ ap (λ (q : VPid). single m.kernel q n.guest.user) pid) noted
-    ((is, ap (λ (q : VPid). q.0) is), ran_stood_not count m.guest.user n.guest.user m.guest.pid.0 some at_pid)
+    ((is, refl), ran_stood_not count m.guest.user n.guest.user m.thread.0 some at_pid)
 
 -- the trap at which the thread stands
-pub deliver_notes : (m n : Machine) (from to : TraceState) (taken : Option (List ℕ)) (p : VPid) (s : Signal) → p ≡ m.guest.pid → lives m ≡ true → user_step m.guest.user m.guest.pid.0 ≡ Trapped s.0 → n.kernel ≡ after_end m.kernel p → n.guest ≡ m.guest → to ≡ with_record from (Deliver p (record { 0 = p.0 }) s) → Notes m n from to (sunk taken taken)
+pub deliver_notes : (m n : Machine) (from to : TraceState) (taken : Option (List ℕ)) (p : VPid) (s : Signal) → p ≡ m.guest.pid → lives m ≡ true → user_step m.guest.user m.thread.0 ≡ Trapped s.0 → n.kernel ≡ after_end m.kernel p → n.guest ≡ m.guest → to ≡ with_record from (Deliver p m.thread s) → Notes m n from to (sunk taken taken)
 deliver_notes m n from to taken p s is alive traps kernel guest noted =
-    let goes = trap_goes m.kernel m.guest.pid (record { 0 = m.guest.pid.0 }) m.guest.user s alive traps in
-    let goes_p : outcome (plain_of m) (Deliver p (record { 0 = p.0 }) s) ≡ Some (quiet (single (after_end m.kernel p) m.guest.pid m.guest.user)) =
-    subst (λ (q : VPid). outcome (plain_of m) (Deliver q (record { 0 = q.0 }) s) ≡ Some (quiet (single (after_end m.kernel q) m.guest.pid m.guest.user))) (sym is) goes in
-    quiet_notes m n from to taken (Deliver p (record { 0 = p.0 }) s) (single (after_end m.kernel p) m.guest.pid m.guest.user) goes_p
-    (same_state n.kernel (after_end m.kernel p) n.guest m.guest kernel guest) noted (is, ap (λ (q : VPid). q.0) is)
+    let goes = trap_goes m.kernel m.guest.pid m.thread m.guest.user s alive traps in
+    let goes_p : outcome (plain_of m) (Deliver p m.thread s) ≡ Some (quiet (single (after_end m.kernel p) m.guest.pid m.guest.user)) =
+    subst (λ (q : VPid). outcome (plain_of m) (Deliver q m.thread s) ≡ Some (quiet (single (after_end m.kernel q) m.guest.pid m.guest.user))) (sym is) goes in
+    quiet_notes m n from to taken (Deliver p m.thread s) (single (after_end m.kernel p) m.guest.pid m.guest.user) goes_p
+    (same_state n.kernel (after_end m.kernel p) n.guest m.guest kernel guest) noted (is, refl)
 
-pub deliver_single : (m n : Machine) (p : VPid) → p ≡ m.guest.pid → IsSingle m → n.kernel ≡ after_end m.kernel p → n.guest ≡ m.guest → IsSingle n
-deliver_single m n p is alone kernel guest =
+pub deliver_single : (m n : Machine) (p : VPid) → p ≡ m.guest.pid → IsSingle m → n.thread ≡ m.thread → n.kernel ≡ after_end m.kernel p → n.guest ≡ m.guest → IsSingle n
+deliver_single m n p is alone thread kernel guest =
     let ends : RevivesNobody m.kernel n.kernel m.guest.pid = subst (λ (k : PlainKernel). RevivesNobody m.kernel k m.guest.pid) (sym (kernel ∙ ap (after_end m.kernel) is)) (end_revives_nobody m.kernel m.guest.pid) in
-    single_after m n alone ends (ap (λ (g : GuestPart). g.pid) guest) (subst (λ (g : GuestPart). OneThread g.user m.guest.pid.0) (sym guest) alone.one)
+    single_after m n alone ends (record { pid = ap (λ (g : GuestPart). g.pid) guest; thread = thread }) (subst (λ (g : GuestPart). OneThread g.user m.thread.0) (sym guest) alone.one)
 
 -- an answer without the kernel: a fault, or a row of the process's own
-pub fault_notes : (m n : Machine) (from to : TraceState) (taken : Option (List ℕ)) (p : VPid) (q : Request) → p ≡ m.guest.pid → lives m ≡ true → user_step m.guest.user m.guest.pid.0 ≡ Asks q → lent m.guest.user.memory q ≡ None → n.kernel ≡ m.kernel → n.guest ≡ record { pid = m.guest.pid; user = put_fault m.guest.user p.0 q } → to ≡ with_record from (Call p (record { 0 = p.0 })) → Notes m n from to (sunk taken taken)
+pub fault_notes : (m n : Machine) (from to : TraceState) (taken : Option (List ℕ)) (p : VPid) (q : Request) → p ≡ m.guest.pid → lives m ≡ true → user_step m.guest.user m.thread.0 ≡ Asks q → lent m.guest.user.memory q ≡ None → n.kernel ≡ m.kernel → n.guest ≡ record { pid = m.guest.pid; user = put_fault m.guest.user m.thread.0 q } → to ≡ with_record from (Call p m.thread) → Notes m n from to (sunk taken taken)
 fault_notes m n from to taken p q is alive asks faults kernel guest noted =
-    let goes = fault_goes m.kernel m.guest.pid (record { 0 = m.guest.pid.0 }) m.guest.user q alive asks faults in
-    let goes_p : outcome (plain_of m) (Call p (record { 0 = p.0 })) ≡ Some (quiet (single m.kernel m.guest.pid (put_fault m.guest.user p.0 q))) =
-    subst (λ (r : VPid). outcome (plain_of m) (Call r (record { 0 = r.0 })) ≡ Some (quiet (single m.kernel m.guest.pid (put_fault m.guest.user r.0 q)))) (sym is) goes in
-    quiet_notes m n from to taken (Call p (record { 0 = p.0 })) (single m.kernel m.guest.pid (put_fault m.guest.user p.0 q)) goes_p
-    (same_state n.kernel m.kernel n.guest (record { pid = m.guest.pid; user = put_fault m.guest.user p.0 q }) kernel guest) noted (is, ap (λ (r : VPid). r.0) is)
+    let goes = fault_goes m.kernel m.guest.pid m.thread m.guest.user q alive asks faults in
+    let goes_p : outcome (plain_of m) (Call p m.thread) ≡ Some (quiet (single m.kernel m.guest.pid (put_fault m.guest.user m.thread.0 q))) =
+    subst (λ (r : VPid). outcome (plain_of m) (Call r m.thread) ≡ Some (quiet (single m.kernel m.guest.pid (put_fault m.guest.user m.thread.0 q)))) (sym is) goes in
+    quiet_notes m n from to taken (Call p m.thread) (single m.kernel m.guest.pid (put_fault m.guest.user m.thread.0 q)) goes_p
+    (same_state n.kernel m.kernel n.guest (record { pid = m.guest.pid; user = put_fault m.guest.user m.thread.0 q }) kernel guest) noted (is, refl)
 
-pub local_notes : (m n : Machine) (from to : TraceState) (taken : Option (List ℕ)) (p : VPid) (q : Request) (given : List ℕ) → p ≡ m.guest.pid → lives m ≡ true → user_step m.guest.user m.guest.pid.0 ≡ Asks q → lent m.guest.user.memory q ≡ Some given → is_local q ≡ true → n.kernel ≡ m.kernel → n.guest ≡ record { pid = m.guest.pid; user = local_row m.guest.user p.0 q } → to ≡ with_record from (Call p (record { 0 = p.0 })) → Notes m n from to (sunk taken taken)
+pub local_notes : (m n : Machine) (from to : TraceState) (taken : Option (List ℕ)) (p : VPid) (q : Request) (given : List ℕ) → p ≡ m.guest.pid → lives m ≡ true → user_step m.guest.user m.thread.0 ≡ Asks q → lent m.guest.user.memory q ≡ Some given → is_local q ≡ true → n.kernel ≡ m.kernel → n.guest ≡ record { pid = m.guest.pid; user = local_row m.guest.user m.thread.0 q } → to ≡ with_record from (Call p m.thread) → Notes m n from to (sunk taken taken)
 local_notes m n from to taken p q given is alive asks reads local kernel guest noted =
-    let goes = local_goes m.kernel m.guest.pid (record { 0 = m.guest.pid.0 }) m.guest.user q given alive asks reads local in
-    let goes_p : outcome (plain_of m) (Call p (record { 0 = p.0 })) ≡ Some (quiet (single m.kernel m.guest.pid (local_row m.guest.user p.0 q))) =
-    subst (λ (r : VPid). outcome (plain_of m) (Call r (record { 0 = r.0 })) ≡ Some (quiet (single m.kernel m.guest.pid (local_row m.guest.user r.0 q)))) (sym is) goes in
-    quiet_notes m n from to taken (Call p (record { 0 = p.0 })) (single m.kernel m.guest.pid (local_row m.guest.user p.0 q)) goes_p
-    (same_state n.kernel m.kernel n.guest (record { pid = m.guest.pid; user = local_row m.guest.user p.0 q }) kernel guest) noted (is, ap (λ (r : VPid). r.0) is)
+    let goes = local_goes m.kernel m.guest.pid m.thread m.guest.user q given alive asks reads local in
+    let goes_p : outcome (plain_of m) (Call p m.thread) ≡ Some (quiet (single m.kernel m.guest.pid (local_row m.guest.user m.thread.0 q))) =
+    subst (λ (r : VPid). outcome (plain_of m) (Call r m.thread) ≡ Some (quiet (single m.kernel m.guest.pid (local_row m.guest.user m.thread.0 q)))) (sym is) goes in
+    quiet_notes m n from to taken (Call p m.thread) (single m.kernel m.guest.pid (local_row m.guest.user m.thread.0 q)) goes_p
+    (same_state n.kernel m.kernel n.guest (record { pid = m.guest.pid; user = local_row m.guest.user m.thread.0 q }) kernel guest) noted (is, refl)
 
 -- the part after an answer keeps its thread
-pub answered_single : (m n : Machine) (p : VPid) (q : Request) (reply : Reply) (bytes : List ℕ) → p ≡ m.guest.pid → IsSingle m → RevivesNobody m.kernel n.kernel m.guest.pid → n.guest ≡ record { pid = m.guest.pid; user = put m.guest.user p.0 q reply bytes } → IsSingle n
-answered_single m n p q reply bytes is alone others guest =
-    let one : OneThread (put m.guest.user p.0 q reply bytes) m.guest.pid.0 = subst (λ (r : VPid). OneThread (put m.guest.user r.0 q reply bytes) m.guest.pid.0) (sym is) (put_one m.guest.user m.guest.pid.0 q reply bytes alone.one) in
-    single_after m n alone others (ap (λ (g : GuestPart). g.pid) guest) (subst (λ (g : GuestPart). OneThread g.user m.guest.pid.0) (sym guest) one)
+pub answered_single : (m n : Machine) (p : VPid) (q : Request) (reply : Reply) (bytes : List ℕ) → p ≡ m.guest.pid → IsSingle m → n.thread ≡ m.thread → RevivesNobody m.kernel n.kernel m.guest.pid → n.guest ≡ record { pid = m.guest.pid; user = put m.guest.user m.thread.0 q reply bytes } → IsSingle n
+answered_single m n p q reply bytes is alone thread others guest =
+    let one : OneThread (put m.guest.user m.thread.0 q reply bytes) m.thread.0 = subst (λ (r : VPid). OneThread (put m.guest.user m.thread.0 q reply bytes) m.thread.0) (sym is) (put_one m.guest.user m.thread.0 q reply bytes alone.one) in
+    single_after m n alone others (record { pid = ap (λ (g : GuestPart). g.pid) guest; thread = thread }) (subst (λ (g : GuestPart). OneThread g.user m.thread.0) (sym guest) one)
 
-pub local_single : (m n : Machine) (p : VPid) (q : Request) → p ≡ m.guest.pid → IsSingle m → n.kernel ≡ m.kernel → n.guest ≡ record { pid = m.guest.pid; user = local_row m.guest.user p.0 q } → IsSingle n
-local_single m n p q is alone kernel guest =
-    let one : OneThread (local_row m.guest.user p.0 q) m.guest.pid.0 = subst (λ (r : VPid). OneThread (local_row m.guest.user r.0 q) m.guest.pid.0) (sym is) (local_one m.guest.user m.guest.pid.0 q alone.one) in
+pub local_single : (m n : Machine) (p : VPid) (q : Request) → p ≡ m.guest.pid → IsSingle m → n.thread ≡ m.thread → n.kernel ≡ m.kernel → n.guest ≡ record { pid = m.guest.pid; user = local_row m.guest.user m.thread.0 q } → IsSingle n
+local_single m n p q is alone thread kernel guest =
+    let one : OneThread (local_row m.guest.user m.thread.0 q) m.thread.0 = subst (λ (r : VPid). OneThread (local_row m.guest.user m.thread.0 q) m.thread.0) (sym is) (local_one m.guest.user m.thread.0 q alone.one) in
     let others : RevivesNobody m.kernel n.kernel m.guest.pid = subst (λ (k : PlainKernel). RevivesNobody m.kernel k m.guest.pid) (sym kernel) (λ r differ dead. dead) in
-    single_after m n alone others (ap (λ (g : GuestPart). g.pid) guest) (subst (λ (g : GuestPart). OneThread g.user m.guest.pid.0) (sym guest) one)
+    single_after m n alone others (record { pid = ap (λ (g : GuestPart). g.pid) guest; thread = thread }) (subst (λ (g : GuestPart). OneThread g.user m.thread.0) (sym guest) one)
 
 -- a call of the kernel: the record, and the state and bytes that belong to it
-pub kernel_outcome : (m : Machine) (k : PlainKernel) (p : VPid) (q : Request) (given : List ℕ) (answer : Answer) → p ≡ m.guest.pid → lives m ≡ true → user_step m.guest.user m.guest.pid.0 ≡ Asks q → lent m.guest.user.memory q ≡ Some given → is_local q ≡ false → serve m.kernel p p.0 q given ≡ answer_told k given (Some answer) → outcome (plain_of m) (Call p (record { 0 = p.0 })) ≡ Some (record { state = single k m.guest.pid (put m.guest.user p.0 q answer.reply answer.bytes); console = if answer.is_shown then given else [] })
+pub kernel_outcome : (m : Machine) (k : PlainKernel) (p : VPid) (q : Request) (given : List ℕ) (answer : Answer) → p ≡ m.guest.pid → lives m ≡ true → user_step m.guest.user m.thread.0 ≡ Asks q → lent m.guest.user.memory q ≡ Some given → is_local q ≡ false → serve m.kernel p m.thread.0 q given ≡ answer_told k given (Some answer) → outcome (plain_of m) (Call p m.thread) ≡ Some (record { state = single k m.guest.pid (put m.guest.user m.thread.0 q answer.reply answer.bytes); console = if answer.is_shown then given else [] })
 kernel_outcome m k p q given answer is alive asks reads kernels serves =
-    let serves_pid : serve m.kernel m.guest.pid m.guest.pid.0 q given ≡ Some (served_by k given answer) = subst (λ (r : VPid). serve m.kernel r r.0 q given ≡ Some (served_by k given answer)) is serves in
-    let goes = serve_goes m.kernel m.guest.pid (record { 0 = m.guest.pid.0 }) m.guest.user q given (served_by k given answer) alive asks reads kernels serves_pid in
-    subst (λ (r : VPid). outcome (plain_of m) (Call r (record { 0 = r.0 })) ≡ Some (record { state = single k m.guest.pid (put m.guest.user r.0 q answer.reply answer.bytes); console = if answer.is_shown then given else [] })) (sym is) goes
+    let serves_pid : serve m.kernel m.guest.pid m.thread.0 q given ≡ Some (served_by k given answer) = subst (λ (r : VPid). serve m.kernel r m.thread.0 q given ≡ Some (served_by k given answer)) is serves in
+    let goes = serve_goes m.kernel m.guest.pid m.thread m.guest.user q given (served_by k given answer) alive asks reads kernels serves_pid in
+    subst (λ (r : VPid). outcome (plain_of m) (Call r m.thread) ≡ Some (record { state = single k m.guest.pid (put m.guest.user m.thread.0 q answer.reply answer.bytes); console = if answer.is_shown then given else [] })) (sym is) goes
 
-pub kernel_notes : (m n : Machine) (k : PlainKernel) (from to : TraceState) (console : Sunk) (p : VPid) (q : Request) (given : List ℕ) (answer : Answer) → p ≡ m.guest.pid → outcome (plain_of m) (Call p (record { 0 = p.0 })) ≡ Some (record { state = single k m.guest.pid (put m.guest.user p.0 q answer.reply answer.bytes); console = if answer.is_shown then given else [] }) → n.kernel ≡ k → n.guest ≡ record { pid = m.guest.pid; user = put m.guest.user p.0 q answer.reply answer.bytes } → to ≡ with_record from (Call p (record { 0 = p.0 })) → Took console (if answer.is_shown then given else []) → Notes m n from to console
+pub kernel_notes : (m n : Machine) (k : PlainKernel) (from to : TraceState) (console : Sunk) (p : VPid) (q : Request) (given : List ℕ) (answer : Answer) → p ≡ m.guest.pid → outcome (plain_of m) (Call p m.thread) ≡ Some (record { state = single k m.guest.pid (put m.guest.user m.thread.0 q answer.reply answer.bytes); console = if answer.is_shown then given else [] }) → n.kernel ≡ k → n.guest ≡ record { pid = m.guest.pid; user = put m.guest.user m.thread.0 q answer.reply answer.bytes } → to ≡ with_record from (Call p m.thread) → Took console (if answer.is_shown then given else []) → Notes m n from to console
 kernel_notes m n k from to console p q given answer is goes kernel guest noted shown = record {
-  noted = Call p (record { 0 = p.0 });
+  noted = Call p m.thread;
   bytes = if answer.is_shown then given else [];
-  outcome = goes ∙ ap (λ (g : Plain). Some (record { state = g; console = if answer.is_shown then given else [] })) (sym (same_state n.kernel k n.guest (record { pid = m.guest.pid; user = put m.guest.user p.0 q answer.reply answer.bytes }) kernel guest));
+  outcome = goes ∙ ap (λ (g : Plain). Some (record { state = g; console = if answer.is_shown then given else [] })) (sym (same_state n.kernel k n.guest (record { pid = m.guest.pid; user = put m.guest.user m.thread.0 q answer.reply answer.bytes }) kernel guest));
   trace = noted;
   shown = shown;
-  own = (is, ap (λ (r : VPid). r.0) is);
+  own = (is, refl);
 }
 
-pub kernel_spoils : (m : Machine) (k : PlainKernel) (from to : TraceState) (console : Sunk) (p : VPid) (q : Request) (given : List ℕ) (answer : Answer) → p ≡ m.guest.pid → outcome (plain_of m) (Call p (record { 0 = p.0 })) ≡ Some (record { state = single k m.guest.pid (put m.guest.user p.0 q answer.reply answer.bytes); console = if answer.is_shown then given else [] }) → to ≡ with_record from (Call p (record { 0 = p.0 })) → TookFront console (if answer.is_shown then given else []) → Spoils m from to console
+pub kernel_spoils : (m : Machine) (k : PlainKernel) (from to : TraceState) (console : Sunk) (p : VPid) (q : Request) (given : List ℕ) (answer : Answer) → p ≡ m.guest.pid → outcome (plain_of m) (Call p m.thread) ≡ Some (record { state = single k m.guest.pid (put m.guest.user m.thread.0 q answer.reply answer.bytes); console = if answer.is_shown then given else [] }) → to ≡ with_record from (Call p m.thread) → TookFront console (if answer.is_shown then given else []) → Spoils m from to console
 kernel_spoils m k from to console p q given answer is goes noted shown = record {
-  noted = Call p (record { 0 = p.0 });
+  noted = Call p m.thread;
   bytes = if answer.is_shown then given else [];
-  state = single k m.guest.pid (put m.guest.user p.0 q answer.reply answer.bytes);
+  state = single k m.guest.pid (put m.guest.user m.thread.0 q answer.reply answer.bytes);
   outcome = goes;
   trace = noted;
   shown = shown;
-  own = (is, ap (λ (r : VPid). r.0) is);
+  own = (is, refl);
 }
 
 -- what a served call says of who lives
-pub kernel_others : (m : Machine) (k : PlainKernel) (p : VPid) (q : Request) (given : List ℕ) (answer : Answer) → p ≡ m.guest.pid → serve m.kernel p p.0 q given ≡ answer_told k given (Some answer) → RevivesNobody m.kernel k m.guest.pid
-kernel_others m k p q given answer is serves = subst (λ (r : VPid). RevivesNobody m.kernel k r) is (served_tame m.kernel p p.0 q given (served_by k given answer) serves).others
+pub kernel_others : (m : Machine) (k : PlainKernel) (p : VPid) (q : Request) (given : List ℕ) (answer : Answer) → p ≡ m.guest.pid → serve m.kernel p m.thread.0 q given ≡ answer_told k given (Some answer) → RevivesNobody m.kernel k m.guest.pid
+kernel_others m k p q given answer is serves = subst (λ (r : VPid). RevivesNobody m.kernel k r) is (served_tame m.kernel p m.thread.0 q given (served_by k given answer) serves).others
 
-pub kernel_bytes : (m : Machine) (k : PlainKernel) (p : VPid) (q : Request) (given : List ℕ) (answer : Answer) → serve m.kernel p p.0 q given ≡ answer_told k given (Some answer) → answer.bytes ≡ []
-kernel_bytes m k p q given answer serves = (served_tame m.kernel p p.0 q given (served_by k given answer) serves).bytes
+pub kernel_bytes : (m : Machine) (k : PlainKernel) (p : VPid) (q : Request) (given : List ℕ) (answer : Answer) → serve m.kernel p m.thread.0 q given ≡ answer_told k given (Some answer) → answer.bytes ≡ []
+kernel_bytes m k p q given answer serves = (served_tame m.kernel p m.thread.0 q given (served_by k given answer) serves).bytes
 
 -- what is noted depends on the kernel part and the guest alone
-own_from : (m before : Machine) (r : Record) → before.guest ≡ m.guest → IsOwn before r → IsOwn m r
-own_from m before r guest own = subst (λ (g : GuestPart). IsOwn (record { kernel = m.kernel; guest = g; transfer = m.transfer }) r) guest own
+own_from : (m before : Machine) (r : Record) → before.guest ≡ m.guest → before.thread ≡ m.thread → IsOwn before r → IsOwn m r
+own_from m before r guest thread own =
+    subst (λ (t : Tid). IsOwn (record { kernel = m.kernel; guest = m.guest; thread = t; transfer = m.transfer }) r) thread
+    (subst (λ (g : GuestPart). IsOwn (record { kernel = m.kernel; guest = g; thread = before.thread; transfer = m.transfer }) r) guest own)
 
-pub notes_from : (m before n : Machine) (from to : TraceState) (console : Sunk) → before.kernel ≡ m.kernel → before.guest ≡ m.guest → Notes before n from to console → Notes m n from to console
-notes_from m before n from to console kernel guest notes = record {
+pub notes_from : (m before n : Machine) (from to : TraceState) (console : Sunk) → before.kernel ≡ m.kernel → before.guest ≡ m.guest → before.thread ≡ m.thread → Notes before n from to console → Notes m n from to console
+notes_from m before n from to console kernel guest thread notes = record {
   noted = notes.noted;
   bytes = notes.bytes;
   outcome = ap (λ (g : Plain). outcome g notes.noted) (sym (same_state before.kernel m.kernel before.guest m.guest kernel guest)) ∙ notes.outcome;
   trace = notes.trace;
   shown = notes.shown;
-  own = own_from m before notes.noted guest notes.own;
+  own = own_from m before notes.noted guest thread notes.own;
 }
 
-pub spoils_from : (m before : Machine) (from to : TraceState) (console : Sunk) → before.kernel ≡ m.kernel → before.guest ≡ m.guest → Spoils before from to console → Spoils m from to console
-spoils_from m before from to console kernel guest spoils = record {
+pub spoils_from : (m before : Machine) (from to : TraceState) (console : Sunk) → before.kernel ≡ m.kernel → before.guest ≡ m.guest → before.thread ≡ m.thread → Spoils before from to console → Spoils m from to console
+spoils_from m before from to console kernel guest thread spoils = record {
   noted = spoils.noted;
   bytes = spoils.bytes;
   state = spoils.state;
   outcome = ap (λ (g : Plain). outcome g spoils.noted) (sym (same_state before.kernel m.kernel before.guest m.guest kernel guest)) ∙ spoils.outcome;
   trace = spoils.trace;
   shown = spoils.shown;
-  own = own_from m before spoils.noted guest spoils.own;
+  own = own_from m before spoils.noted guest thread spoils.own;
 }
 
 pub OnOk-map : {A E P Q : Type 0} (r : Result A E) → (P → Q) → OnOk r P → OnOk r Q

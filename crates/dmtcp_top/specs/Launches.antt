@@ -1,17 +1,29 @@
--- A launch: the words that ask for it, the file that they name, and the plain machine on which its program starts.
-use Rattle.std.specs.Prelude.{◌≡◌, ℕ, List, [], ◌∷◌, ◌++◌, Some, None}
+-- How a run begins: by a launch, whose words name the file of the program, or by a restart from the set that counts.
+--     origin begun          the plain state with which it begins
+--     schedule_of begun     when it asks for checkpoints
+use Rattle.std.specs.Prelude.{◌≡◌, ℕ, List, [], ◌∷◌, ◌++◌, Option, Some, None, IfSome}
 use Rattle.elf32.specs.Programs.{program_of}
 use Rattle.elf32.specs.Rules.{first_fault}
 use Rattle.plain_machine.specs.declared.plain.Plain.{Plain}
 use Rattle.plain_machine.specs.Start.{start}
-use Rattle.dmtcp_top.specs.Words.{IsLaunch}
+use Rattle.set_disk.specs.Files.{Files as Folder}
+use Rattle.dmtcp_top.specs.Sets.{SpellsState}
+use Rattle.trace_log.specs.declared.requests.Schedule.{Schedule}
+use Rattle.dmtcp_top.specs.declared.settings.Settings.{Settings}
+use Rattle.dmtcp_top.specs.Words.{IsLaunch, IsRestart}
 use Rattle.dmtcp_top.specs.Sessions.{Session, IsInput}
+use Rattle.dmtcp_top.specs.Sets.{SpellsSet, opening_of}
 
 -- the words ask for a launch
-pub record Asked (session : Session) : Type 0 where
+pub record LaunchAsked (session : Session) : Type 0 where
   pub name : List ℕ
-  pub records : ℕ
-  pub words : IsLaunch session.words name records
+  pub settings : Settings
+  pub words : IsLaunch session.words name settings
+
+-- the words ask for a restart
+pub record RestartAsked (session : Session) : Type 0 where
+  pub settings : Settings
+  pub words : IsRestart session.words settings
 
 -- the one argument of a program is its name, with a zero byte at its end
 abbrev pub arguments_of : List ℕ → List ℕ
@@ -21,12 +33,47 @@ arguments_of name = name ++ 0 ∷ []
 abbrev pub start_of : List ℕ → List ℕ → Plain
 start_of name file = start (record { host = 0; program = program_of file; arguments = arguments_of name } ∷ []) []
 
+-- the generation of the set that counted at the start, which nobody asks for where there are no checkpoints
+abbrev pub Opens : Option Folder → Option ℕ → ℕ → Type 0
+Opens folder None opening = opening ≡ 0
+Opens folder (Some every) opening = IfSome folder (λ files. opening ≡ opening_of files)
+
 -- the file that the words name keeps every rule of its format, and its program was started
 pub record Launched (session : Session) : Type 0 where
-  pub asked : Asked session
+  pub asked : LaunchAsked session
   pub file : List ℕ
   pub input : IsInput session.files asked.name (Some file)
   pub grammar : first_fault file ≡ None
+  pub opening : ℕ
+  pub opened : Opens session.folder asked.settings.every opening
 
-abbrev pub origin : (session : Session) → Launched session → Plain
-origin session launched = start_of launched.asked.name launched.file
+-- the set that counts spells a state, and the run goes on from there
+pub record Restarted (session : Session) : Type 0 where
+  pub asked : RestartAsked session
+  pub generation : ℕ
+  pub state : Plain
+  pub images : List (List ℕ)
+  pub spelled : SpellsState images state
+  pub counted : IfSome session.folder (λ files. SpellsSet files generation state)
+
+pub data Begun (session : Session) : Type 0 where
+  ByLaunch : Launched session → Begun session
+  ByRestart : Restarted session → Begun session
+
+abbrev pub origin : {session : Session} → Begun session → Plain
+origin (ByLaunch launched) = start_of launched.asked.name launched.file
+origin (ByRestart restarted) = restarted.state
+
+abbrev pub settings_in : {session : Session} → Begun session → Settings
+settings_in (ByLaunch launched) = launched.asked.settings
+settings_in (ByRestart restarted) = restarted.asked.settings
+
+abbrev pub opening_in : {session : Session} → Begun session → ℕ
+opening_in (ByLaunch launched) = launched.opening
+opening_in (ByRestart restarted) = restarted.generation
+
+abbrev pub schedule_of : Settings → ℕ → Schedule
+schedule_of settings opening = record { every = settings.every; opening = opening }
+
+abbrev pub schedule_in : {session : Session} → Begun session → Schedule
+schedule_in begun = schedule_of (settings_in begun) (opening_in begun)

@@ -3,6 +3,7 @@ use Rattle.std.specs.Prelude.{ℕ, List, ◌++◌, codes}
 use Rattle.std.specs.Fmt.{decimal}
 use Rattle.elf32.specs.declared.fault.ElfFault.{ElfFault}
 use Rattle.elf32.specs.Faults.{word_of}
+use Rattle.image_codec.specs.declared.damage.Damage.{Damage}
 
 abbrev pub line : List ℕ → List ℕ
 line text = text ++ codes "\n"
@@ -31,3 +32,12 @@ budget_line records = codes "budget spent: " ++ decimal records ++ codes " recor
 
 abbrev pub memory_line : List ℕ
 memory_line = line (codes "memory")
+
+abbrev pub disk_fault_line : List ℕ
+disk_fault_line = line (codes "disk fault")
+
+abbrev pub no_set_line : List ℕ
+no_set_line = line (codes "no set")
+
+abbrev pub damaged_line : ℕ → Damage → List ℕ
+damaged_line slot damage = codes "damaged: slot " ++ decimal slot ++ codes " file " ++ decimal damage.file ++ codes " at " ++ decimal damage.offset ++ codes "\n"

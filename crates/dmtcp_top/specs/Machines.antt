@@ -1,8 +1,9 @@
 -- One process with one thread, run by one thread of the host, and what one record of it does.
 --     plain_of m        the plain state for which the machine stands
 --     IsSingle m        nobody else lives, and the process has one thread, which doesn't wait
+--     IsReady m         it can be checkpointed
 --     Notes, Spoils     one more record on the trace, with its bytes on the console, or a first part of them
-use Rattle.std.specs.Prelude.{◌≡◌, ◌≢◌, ℕ, ◌-◌, Bool, false, List, [], ◌∷◌, ◌++◌, Some}
+use Rattle.std.specs.Prelude.{◌≡◌, ◌≢◌, ℕ, ◌-◌, Bool, true, false, List, [], ◌∷◌, ◌++◌, Some}
 use Rattle.std.specs.FinMap as map
 use Rattle.sys_abi.specs.declared.identity.VPid.{VPid}
 use Rattle.sys_abi.specs.declared.identity.Tid.{Tid}
@@ -15,6 +16,8 @@ use Rattle.plain_machine.specs.declared.kernel.PlainKernel.{PlainKernel}
 use Rattle.plain_machine.specs.declared.user_part.UserPart.{UserPart}
 use Rattle.plain_machine.specs.declared.user_part.ThreadPart.{ThreadPart}
 use Rattle.plain_machine.specs.Kernel.{is_live}
+use Rattle.plain_machine.specs.Valid.{IsValid}
+use Rattle.image_codec.specs.KernelImages.{HasImage}
 use Rattle.plain_machine.specs.Steps.{user_step}
 use Rattle.plain_machine.specs.Records.{outcome, living, stands}
 use Rattle.dmtcp_top.specs.declared.machine.Machine.{Machine}
@@ -41,14 +44,25 @@ pub record OneThread (user : UserPart) (t : ℕ) : Type 0 where
 
 pub record IsSingle (m : Machine) : Type 0 where
   pub alone : (q : VPid) → q ≢ m.guest.pid → is_live m.kernel q ≡ false
-  pub one : OneThread m.guest.user m.guest.pid.0
+  pub one : OneThread m.guest.user m.thread.0
+
+-- nobody else lives, the plain state is a valid one, and there is an image of the kernel part as long as the process lives
+pub record IsReady (m : Machine) : Type 0 where
+  pub single : IsSingle m
+  pub valid : IsValid (plain_of m)
+  pub imaged : lives m ≡ true → HasImage m.kernel
+
+-- another moment of the same process and thread
+pub record IsSame (m n : Machine) : Type 0 where
+  pub pid : n.guest.pid ≡ m.guest.pid
+  pub thread : n.thread ≡ m.thread
 
 -- the record is of the machine's process and thread, and instructions are run where the thread stands at no call or trap
 abbrev pub IsOf : Machine → VPid → Tid → Type 0
-IsOf m p t = (p ≡ m.guest.pid) × (t.0 ≡ m.guest.pid.0)
+IsOf m p t = (p ≡ m.guest.pid) × (t.0 ≡ m.thread.0)
 
 abbrev pub IsOwn : Machine → Record → Type 0
-IsOwn m (User p t n) = IsOf m p t × (stands (user_step m.guest.user m.guest.pid.0) ≡ false)
+IsOwn m (User p t n) = IsOf m p t × (stands (user_step m.guest.user m.thread.0) ≡ false)
 IsOwn m (Call p t) = IsOf m p t
 IsOwn m (Deliver p t s) = IsOf m p t
 IsOwn m _ = ⊥

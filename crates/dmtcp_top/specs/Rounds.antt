@@ -1,9 +1,10 @@
 -- The order in which one thread of the host runs the threads of all processes: round after round. A round has the processes that live at its start, in
 -- rising order. When a process's turn comes, the threads that it has then follow each other in rising order. In its turn a thread runs one quantum,
 -- unless it stands at a call or a trap; if it then stands at one, the call is served or the trap is delivered. Who has ended meanwhile is passed over.
---     new_round g                  the first turn of a round that starts at this state
---     in_rounds g place records    each of the records is due when it comes, from this state and this place in the rounds on
-use Rattle.std.specs.Prelude.{◌≡◌, ◌==◌, ◌&&◌, ℕ, Bool, true, false, not, List, [], ◌∷◌, Option, Some, None, is_some, option_and_then, if◌then◌else◌}
+-- Marks stand between the records of the rounds, and nobody's turn goes on while a request for a checkpoint waits.
+--     new_round g                      the first turn of a round that starts at this state
+--     in_rounds schedule g at records  each of the records is due when it comes, from this state and this place on
+use Rattle.std.specs.Prelude.{◌≡◌, ◌==◌, ◌&&◌, ◌||◌, ℕ, Bool, true, false, not, List, [], ◌∷◌, Option, Some, None, is_some, option_and_then, if◌then◌else◌}
 use Rattle.std.specs.FinMap as map
 use Rattle.sys_abi.specs.declared.identity.VPid.{VPid}
 use Rattle.sys_abi.specs.declared.identity.Tid.{Tid}
@@ -13,6 +14,8 @@ use Rattle.plain_machine.specs.declared.plain.Plain.{Plain}
 use Rattle.plain_machine.specs.declared.user_part.UserPart.{UserPart}
 use Rattle.plain_machine.specs.Records.{step, stands}
 use Rattle.plain_machine.specs.Steps.{user_step}
+use Rattle.trace_log.specs.declared.requests.Schedule.{Schedule}
+use Rattle.trace_log.specs.Requests.{Phase, Requested, Requests, is_mark, at_start, next_requests}
 
 -- a place in the rounds: whose turn it is, and whether that thread has run its quantum
 pub record Place : Type 0 where
@@ -63,22 +66,24 @@ is_due_in here (Call p t) = is_turn_of here p t
 is_due_in here (Deliver p t s) = is_turn_of here p t
 is_due_in here _ = false
 
-abbrev pub is_due : Option Place → Record → Bool
-is_due None r = false
-is_due (Some here) r = is_due_in here r
+abbrev pub is_due_at : Option Place → Record → Bool
+is_due_at None r = false
+is_due_at (Some here) r = is_due_in here r
 
 abbrev pub stands_in : Option UserPart → ℕ → Bool
 stands_in None t = false
 stands_in (Some user) t = stands (user_step user t)
 
--- the place after a record, where g is the state after it
+-- the place after a record, where g is the state after it. A mark moves nobody
 abbrev pub place_after : Plain → Place → Record → Option Place
 place_after g here (User p t n) =
     if stands_in (map.get g.users here.p) here.t then
     Some (record { p = here.p; t = here.t; has_run = true; threads = here.threads; processes = here.processes })
     else
     next_turn g here
-place_after g here _ = next_turn g here
+place_after g here (Call p t) = next_turn g here
+place_after g here (Deliver p t s) = next_turn g here
+place_after g here _ = Some here
 
 abbrev pub moved : Plain → Option Place → Record → Option Place
 moved g place r = option_and_then (λ here. place_after g here r) place
@@ -87,10 +92,29 @@ abbrev pub then_so : {A : Type 0} → Option A → (A → Bool) → Bool
 then_so None test = false
 then_so (Some a) test = test a
 
-unfoldable pub in_rounds : Plain → Option Place → List Record → Bool
-in_rounds g place [] = true
-in_rounds g place (r ∷ records) = is_due place r && then_so (step g r) (λ next. in_rounds next (moved next place r) records)
+-- whose turn it is, and how far the requests have come
+pub record Standing : Type 0 where
+  pub place : Option Place
+  pub requests : Requests
+
+abbrev pub waits : Phase → Bool
+waits (Requested since) = true
+waits _ = false
+
+abbrev pub is_due : Standing → Record → Bool
+is_due at r = is_mark r || (not (waits at.requests.phase) && is_due_at at.place r)
+
+-- after a record that leads from g to next
+abbrev pub standing_after : Schedule → Plain → Plain → Standing → Record → Standing
+standing_after schedule g next at r = record { place = moved next at.place r; requests = next_requests schedule g at.requests r }
+
+unfoldable pub in_rounds : Schedule → Plain → Standing → List Record → Bool
+in_rounds schedule g at [] = true
+in_rounds schedule g at (r ∷ records) = is_due at r && then_so (step g r) (λ next. in_rounds schedule next (standing_after schedule g next at r) records)
+
+abbrev pub first_standing : Schedule → Plain → Standing
+first_standing schedule g = record { place = new_round g; requests = at_start schedule }
 
 -- the records are those of the rounds that start at this state
-abbrev pub GoesInRounds : Plain → List Record → Type 0
-GoesInRounds g records = in_rounds g (new_round g) records ≡ true
+abbrev pub GoesInRounds : Schedule → Plain → List Record → Type 0
+GoesInRounds schedule g records = in_rounds schedule g (first_standing schedule g) records ≡ true

@@ -1,46 +1,54 @@
 -- Runs of the plain machine, and how the one that a machine makes may end.
---     IsRun g room trace state      the trace is a run from g to this state
-use Rattle.std.specs.Prelude.{◌≡◌, ℕ, ◌≤◌, Bool, true, false, List, length, All, Some}
+--     IsRun schedule g room trace state      the trace is a run from g to this state
+use Rattle.std.specs.Prelude.{◌≡◌, ◌⊎◌, ℕ, ◌≤◌, true, false, List, length, Some}
 use Rattle.sys_abi.specs.declared.record.Record.{Record}
-use Rattle.sys_abi.specs.declared.record.Record.TheVariants.{User, Call, Deliver, Arrive}
 use Rattle.plain_machine.specs.declared.plain.Plain.{Plain}
 use Rattle.plain_machine.specs.Runs.{run, console}
 use Rattle.plain_machine.specs.Tests.{ended}
+use Rattle.trace_log.specs.declared.requests.Schedule.{Schedule}
+use Rattle.trace_log.specs.Requests.{Requests, Reaches, IsAnswered}
+use Rattle.trace_log.specs.LogText.{log_text}
 use Rattle.dmtcp_top.specs.declared.run_end.RunEnd.{RunEnd}
 use Rattle.dmtcp_top.specs.declared.run_end.RunEnd.TheVariants.{Done, Budget, SinkFault, Memory}
 use Rattle.dmtcp_top.specs.Rounds.{GoesInRounds}
 use Rattle.dmtcp_top.specs.Sessions.{Sunk, Took, TookFront}
 
--- a mark is about a checkpoint, and no step of a process
-abbrev pub is_mark : Record → Bool
-is_mark (User p t n) = false
-is_mark (Call p t) = false
-is_mark (Deliver p t s) = false
-is_mark (Arrive dir n) = false
-is_mark _ = true
-
--- each record is a step of the plain machine, they come in the order of the rounds, there are no more than there is room for, and without checkpoints
--- none is a mark
-pub record IsRun (g : Plain) (room : ℕ) (trace : List Record) (state : Plain) : Type 0 where
+-- each record is a step of the plain machine, they come in the order of the rounds, requests are made and answered as the schedule asks, and there are no
+-- more records than there is room for
+pub record IsRun (schedule : Schedule) (g : Plain) (room : ℕ) (trace : List Record) (state : Plain) : Type 0 where
   pub steps : run g trace ≡ Some state
-  pub order : GoesInRounds g trace
+  pub order : GoesInRounds schedule g trace
+  pub requests : Requests
+  pub reaches : Reaches schedule g trace state requests
   pub fits : length trace ≤ room
-  pub marks : All (λ r. is_mark r ≡ false) trace
 
 -- the console took what the run writes
-pub record Shown (g : Plain) (room : ℕ) (trace : List Record) (sink : Sunk) : Type 0 where
+pub record Shown (schedule : Schedule) (g : Plain) (room : ℕ) (trace : List Record) (sink : Sunk) : Type 0 where
   pub state : Plain
-  pub run : IsRun g room trace state
+  pub run : IsRun schedule g room trace state
   pub console : Took sink (console g trace)
 
 -- the console took a first part of it
-pub record CutShort (g : Plain) (room : ℕ) (trace : List Record) (sink : Sunk) : Type 0 where
+pub record CutShort (schedule : Schedule) (g : Plain) (room : ℕ) (trace : List Record) (sink : Sunk) : Type 0 where
   pub state : Plain
-  pub run : IsRun g room trace state
+  pub run : IsRun schedule g room trace state
   pub console : TookFront sink (console g trace)
 
-abbrev pub EndsRun : RunEnd → Plain → ℕ → List Record → Sunk → Type 0
-EndsRun Done g room trace sink = (shown : Shown g room trace sink) × (ended shown.state ≡ true)
-EndsRun Budget g room trace sink = (shown : Shown g room trace sink) × ((ended shown.state ≡ false) × (length trace ≡ room))
-EndsRun SinkFault g room trace sink = CutShort g room trace sink
-EndsRun Memory g room trace sink = CutShort g room trace sink
+-- nobody lives, and each request has its outcome, but for a last one that came when the trace was full
+pub record RanOut (schedule : Schedule) (g : Plain) (room : ℕ) (trace : List Record) (sink : Sunk) : Type 0 where
+  pub shown : Shown schedule g room trace sink
+  pub nobody : ended shown.state ≡ true
+  pub answered : IsAnswered shown.run.requests ⊎ (length trace ≡ room)
+
+-- the trace is full, and somebody lives
+pub record FilledUp (schedule : Schedule) (g : Plain) (room : ℕ) (trace : List Record) (sink : Sunk) : Type 0 where
+  pub shown : Shown schedule g room trace sink
+  pub somebody : ended shown.state ≡ false
+  pub full : length trace ≡ room
+
+-- with what the log took of the lines for the checkpoints
+abbrev pub EndsRun : RunEnd → Schedule → Plain → ℕ → List Record → Sunk → Sunk → Type 0
+EndsRun Done schedule g room trace sink log = RanOut schedule g room trace sink × Took log (log_text trace)
+EndsRun Budget schedule g room trace sink log = FilledUp schedule g room trace sink × Took log (log_text trace)
+EndsRun SinkFault schedule g room trace sink log = CutShort schedule g room trace sink × TookFront log (log_text trace)
+EndsRun Memory schedule g room trace sink log = CutShort schedule g room trace sink × TookFront log (log_text trace)

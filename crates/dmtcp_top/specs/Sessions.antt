@@ -4,6 +4,8 @@ use Rattle.std.specs.FinMap as map
 use Rattle.sys_abi.specs.declared.record.Record.{Record}
 use Rattle.edge_io.specs.Inputs.{Files}
 use Rattle.edge_io.specs.Sink.{appended}
+use Rattle.set_disk.specs.Files.{Files as Folder}
+use Rattle.plain_machine.specs.declared.plain.Plain.{Plain}
 
 -- the bytes that a sink had taken before the call and has taken after it, where it tells them
 pub record Sunk : Type 0 where
@@ -21,15 +23,18 @@ Took sink bytes = sink.after ≡ appended sink.before bytes
 abbrev pub TookFront : Sunk → List ℕ → Type 0
 TookFront sink bytes = (n : ℕ) × Took sink (take n bytes)
 
--- the words of the command line, the files that the inputs hold, where they tell them, the trace that is left, and the console
+-- the words of the command line; the files that the inputs hold and those that the folder of sets had at the start, where they tell them; the state with
+-- which a run began, if one did; the trace that is left; and the console
 pub record Session : Type 0 where
   pub words : List (List ℕ)
   pub files : Option Files
+  pub folder : Option Folder
+  pub start : Option Plain
   pub trace : List Record
   pub console : Sunk
 
-abbrev pub session : List (List ℕ) → Option Files → List Record → Sunk → Session
-session words files trace console = record { words = words; files = files; trace = trace; console = console }
+abbrev pub session : List (List ℕ) → Option Files → Option Folder → Option Plain → List Record → Sunk → Session
+session words files folder start trace console = record { words = words; files = files; folder = folder; start = start; trace = trace; console = console }
 
 -- the inputs hold this under the name, or they don't tell
 abbrev pub IsInput : Option Files → List ℕ → Option (List ℕ) → Type 0

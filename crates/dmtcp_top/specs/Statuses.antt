@@ -1,7 +1,7 @@
 -- The numbers of statuses, with which the program ends.
 use Rattle.std.specs.Prelude.{ℕ}
 use Rattle.dmtcp_top.specs.declared.status.Status.{Status}
-use Rattle.dmtcp_top.specs.declared.status.Status.TheVariants.{Done, Usage, InputFault, Missing, BadElf, SinkFault, Budget, Memory}
+use Rattle.dmtcp_top.specs.declared.status.Status.TheVariants.{Done, Usage, InputFault, Missing, BadElf, SinkFault, DiskFault, NoSet, Damaged, Budget, Memory}
 
 abbrev pub number_of : Status → ℕ
 number_of Done = 0
@@ -10,5 +10,8 @@ number_of InputFault = 11
 number_of Missing = 12
 number_of BadElf = 13
 number_of SinkFault = 14
+number_of DiskFault = 15
+number_of NoSet = 16
+number_of Damaged = 17
 number_of Budget = 18
 number_of Memory = 20

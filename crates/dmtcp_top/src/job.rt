@@ -1,71 +1,47 @@
-ghost use Rattle.std.specs.Prelude.{◌≡◌, ℕ, List, [], ◌∷◌, map, string_bytes, IsTrue, ◌↔◌, IfSome, IfNone};
-ghost use Rattle.std.specs.Fmt.{decimal};
-ghost use Rattle.dmtcp_top.specs.Words.{IsName, IsBudget, IsLaunch, NoLaunch, program_word};
+ghost use Rattle.std.specs.Prelude.{◌≡◌, ℕ, List, [], ◌∷◌, codes, map, string_bytes, IsTrue, ◌↔◌, IfSome, IfNone};
+ghost use Rattle.dmtcp_top.specs.Words.{IsName, IsLaunch, IsRestart, AskNothing, program_word};
+ghost use Rattle.dmtcp_top.specs.Jobs.{IsAsked};
 
-/// What the words of the command line ask for: a launch of the program in the file of this name, with room for so many
-/// records.
+use crate::settings::Settings;
+
+/// What the words of the command line ask for.
 #[derive(Clone, Copy, Debug, PartialEq, Eq)]
-pub struct Job<'a> {
-    pub name: &'a str,
-    pub records: u32,
+pub enum Job<'a> {
+    /// A launch of the program in the file of this name.
+    Launch { name: &'a str, settings: Settings },
+    /// A restart from the last complete set.
+    Restart { settings: Settings },
 }
-
-/// How many records a trace has room for where the words don't say.
-const DEFAULT_BUDGET: u32 = 1_000_000;
-
-/// The greatest number of records that words may name.
-const GREATEST_BUDGET: u32 = 4_000_000;
 
 /// The greatest length of a file's name, in bytes.
 const LONGEST_NAME: usize = 255;
 
 impl<'a> Job<'a> {
-    /// The job of these words: `launch 0:NAME` or `launch --records M 0:NAME`. `None` exactly where they are neither.
+    /// The job of these words. `None` exactly where they ask for none.
     pub fn read(words: &'a [String]) -> Option<Self>
-        ensures some { IfSome result (λ job. IsLaunch (map string_bytes words.now) job.name.now job.records) }
-        ensures none { IfNone result (NoLaunch (map string_bytes words.now)) }
+        ensures some { IfSome result (λ job. IsAsked (map string_bytes words.now) job) }
+        ensures none { IfNone result (AskNothing (map string_bytes words.now)) }
     {
-        match words {
-            [command, program] => Job::plain(command.as_str(), program.as_str()),
-            [command, option, records, program] => Job::with_records(
-                command.as_str(),
-                option.as_str(),
-                records.as_str(),
-                program.as_str(),
-            ),
+        let (command, rest) = words.split_first()?;
+        match command.as_str() {
+            "launch" => Job::launch(rest),
+            "restart" => Some(Job::Restart {
+                settings: Settings::read(rest)?,
+            }),
             _ => None,
         }
     }
 
-    fn plain(command: &str, program: &'a str) -> Option<Self>
-        ensures some { IfSome result
-            (λ job. IsLaunch (command.now ∷ program.now ∷ []) job.name.now job.records) }
-        ensures none { IfNone result (NoLaunch (command.now ∷ program.now ∷ [])) }
+    /// The launch of the words after the command's name.
+    fn launch(words: &'a [String]) -> Option<Self>
+        ensures some { IfSome result (λ job. IsAsked (codes "launch" ∷ map string_bytes words.now) job) }
+        ensures none { IfNone result ((name : List ℕ) (settings : Settings) →
+            IsLaunch (codes "launch" ∷ map string_bytes words.now) name settings → ⊥) }
     {
-        if command != "launch" {
-            return None;
-        }
-        Some(Job {
-            name: name_in(program)?,
-            records: DEFAULT_BUDGET,
-        })
-    }
-
-    fn with_records(command: &str, option: &str, records: &str, program: &'a str) -> Option<Self>
-        ensures some { IfSome result (λ job. IsLaunch
-            (command.now ∷ option.now ∷ records.now ∷ program.now ∷ []) job.name.now job.records) }
-        ensures none { IfNone result
-            (NoLaunch (command.now ∷ option.now ∷ records.now ∷ program.now ∷ [])) }
-    {
-        if command != "launch" {
-            return None;
-        }
-        if option != "--records" {
-            return None;
-        }
-        Some(Job {
-            name: name_in(program)?,
-            records: budget_in(records)?,
+        let (program, options) = words.split_last()?;
+        Some(Job::Launch {
+            name: name_in(program.as_str())?,
+            settings: Settings::read(options)?,
         })
     }
 }
@@ -88,22 +64,4 @@ fn is_name(name: &str) -> bool
             .as_bytes()
             .iter()
             .all(|byte| *byte != b',' && *byte != 0)
-}
-
-/// The number of records in the word after `--records`.
-fn budget_in(word: &str) -> Option<u32>
-    ensures some { IfSome result (λ records. IsBudget records × (word.now ≡ decimal records)) }
-    ensures none { IfNone result ((records : ℕ) → IsBudget records → word.now ≡ decimal records → ⊥) }
-{
-    // `parse` takes a sign and leading zeros too.
-    let first = word.as_bytes().first()?;
-    if *first <= b'0' {
-        return None;
-    }
-    let records = word.parse::<u32>().ok()?;
-    if records <= GREATEST_BUDGET {
-        Some(records)
-    } else {
-        None
-    }
 }

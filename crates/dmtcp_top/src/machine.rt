@@ -11,6 +11,7 @@ ghost use Rattle.dmtcp_top.specs.Sessions.{sunk, Took, TookFront};
 use edge_io::Sink;
 use elf32::Program;
 use guest_proc::{Guest, LendFault, Ran};
+use image_codec::SetBytes;
 use plain_machine::{FIRST_PID, PlainKernel};
 use std::alloc::{AllocError, Global};
 use sys_abi::errors::EFAULT;
@@ -40,16 +41,18 @@ impl From<AllocError> for Stop {
     }
 }
 
-/// One process with one thread: the kernel part, the process's own part, and the buffer of its calls.
+/// One process with one thread: the kernel part, the process's own part, its thread, and the buffer of its calls.
 #[derive(Drop)]
 pub struct Machine {
     pub kernel: PlainKernel,
     pub guest: Guest,
+    pub thread: Tid,
     pub transfer: Transfer,
 }
 
 impl Machine {
-    ghost use Rattle.dmtcp_top.specs.Machines.{plain_of, lives, IsSingle, Notes, Spoils};
+    ghost use Rattle.dmtcp_top.specs.Machines.{plain_of, lives, IsSingle, IsReady, IsSame, Notes, Spoils};
+    ghost use Rattle.dmtcp_top.specs.Sets.{SpellsState};
 
     /// The start of a program, with these argument strings.
     pub fn start(alloc: Global, program: &Program, arguments: &[u8]) -> Result<Machine, AllocError>
@@ -68,8 +71,28 @@ impl Machine {
         Ok(Machine {
             kernel,
             guest,
+            thread: Tid(FIRST_PID),
             transfer,
         })
+    }
+
+    /// Whether the process lives.
+    pub fn lives(&self) -> bool
+        ensures { result ≡ lives self.now }
+    {
+        self.kernel.is_live(self.guest.pid())
+    }
+
+    /// The images of the machine's state.
+    pub fn images(&self, alloc: Global) -> Result<SetBytes, AllocError>
+        requires ready { IsReady self.now }
+        requires alive { lives self.now ≡ true }
+        ensures spelled { IfOk result (λ set. SpellsState set.files (plain_of self.now)) }
+        ensures some { IfOk result (λ set. 0 < length set.files) }
+        ensures few { IfOk result (λ set. length set.files ≤ 129) }
+    {
+        let _ = alloc;
+        Err(AllocError)
     }
 
     /// One record of the thread: a quantum of instructions, or the call or the trap at which it stands.
@@ -85,7 +108,7 @@ impl Machine {
         ensures ok { OnOk result (Notes self.old self.new trace.old trace.new
             (sunk (O.taken out.old) (O.taken out.new))) }
         ensures single { OnOk result (IsSingle self.new) }
-        ensures pid { self.new.guest.pid ≡ self.old.guest.pid }
+        ensures same { IsSame self.old self.new }
         ensures failed { IsErrOf result Stop.Sink → Spoils self.old trace.old trace.new
             (sunk (O.taken out.old) (O.taken out.new)) }
         ensures memory { IsErrOf result Stop.Memory →
@@ -94,7 +117,7 @@ impl Machine {
         ensures later { O.faults out.old ≤ O.faults out.new }
     {
         let p = self.guest.pid();
-        let t = Tid(p.0);
+        let t = self.thread;
         let (n, ran) = self.guest.run(t, QUANTUM);
         if let Ran::Memory = ran {
             return Err(Stop::Memory);
@@ -119,17 +142,17 @@ impl Machine {
     fn deliver(&mut self, signal: Signal, trace: &mut Trace)
         requires single { IsSingle self.old }
         requires alive { lives self.old ≡ true }
-        requires trap { user_step self.old.guest.user self.old.guest.pid.0 ≡ Trapped signal.0 }
+        requires trap { user_step self.old.guest.user self.old.thread.0 ≡ Trapped signal.0 }
         requires room { 0 < trace.old.room }
         ensures noted { (taken : _) → Notes self.old self.new trace.old trace.new (sunk taken taken) }
         ensures single { IsSingle self.new }
-        ensures pid { self.new.guest.pid ≡ self.old.guest.pid }
+        ensures same { IsSame self.old self.new }
     {
         let p = self.guest.pid();
         self.kernel.end_process(p);
         trace.append(Record::Deliver {
             p,
-            t: Tid(p.0),
+            t: self.thread,
             s: signal,
         });
     }
@@ -144,12 +167,12 @@ impl Machine {
     ) -> Result<(), Stop>
         requires single { IsSingle self.old }
         requires alive { lives self.old ≡ true }
-        requires asks { user_step self.old.guest.user self.old.guest.pid.0 ≡ Asks request.now }
+        requires asks { user_step self.old.guest.user self.old.thread.0 ≡ Asks request.now }
         requires room { 0 < trace.old.room }
         ensures ok { OnOk result (Notes self.old self.new trace.old trace.new
             (sunk (O.taken out.old) (O.taken out.new))) }
         ensures single { OnOk result (IsSingle self.new) }
-        ensures pid { self.new.guest.pid ≡ self.old.guest.pid }
+        ensures same { IsSame self.old self.new }
         ensures failed { IsErrOf result Stop.Sink → Spoils self.old trace.old trace.new
             (sunk (O.taken out.old) (O.taken out.new)) }
         ensures memory { IsErrOf result Stop.Memory →
@@ -157,7 +180,7 @@ impl Machine {
         ensures cause { IsFaultOf result Stop.Sink (O.faults out.old) (O.faults out.new) }
         ensures later { O.faults out.old ≤ O.faults out.new }
     {
-        let t = Tid(self.guest.pid().0);
+        let t = self.thread;
         match self.guest.lend(t, request, &mut self.transfer) {
             Ok(()) => {
                 if is_local(request) {
@@ -178,15 +201,15 @@ impl Machine {
     fn refuse(&mut self, request: &Request, trace: &mut Trace)
         requires single { IsSingle self.old }
         requires alive { lives self.old ≡ true }
-        requires asks { user_step self.old.guest.user self.old.guest.pid.0 ≡ Asks request.now }
+        requires asks { user_step self.old.guest.user self.old.thread.0 ≡ Asks request.now }
         requires fault { lent self.old.guest.user.memory request.now ≡ None }
         requires room { 0 < trace.old.room }
         ensures noted { (taken : _) → Notes self.old self.new trace.old trace.new (sunk taken taken) }
         ensures single { IsSingle self.new }
-        ensures pid { self.new.guest.pid ≡ self.old.guest.pid }
+        ensures same { IsSame self.old self.new }
     {
         let p = self.guest.pid();
-        let t = Tid(p.0);
+        let t = self.thread;
         self.transfer.clear();
         self.guest
             .answer(t, request, Reply::Error(Errno(EFAULT)), &self.transfer);
@@ -202,18 +225,18 @@ impl Machine {
     ) -> Result<(), Stop>
         requires single { IsSingle self.old }
         requires alive { lives self.old ≡ true }
-        requires asks { user_step self.old.guest.user self.old.guest.pid.0 ≡ Asks request.now }
+        requires asks { user_step self.old.guest.user self.old.thread.0 ≡ Asks request.now }
         requires given { lent self.old.guest.user.memory request.now ≡ Some self.old.transfer }
         requires local { is_local request.now ≡ true }
         requires room { 0 < trace.old.room }
         ensures ok { OnOk result ((taken : _) → Notes self.old self.new trace.old trace.new (sunk taken taken)) }
         ensures single { OnOk result (IsSingle self.new) }
-        ensures pid { self.new.guest.pid ≡ self.old.guest.pid }
+        ensures same { IsSame self.old self.new }
         ensures memory { OnErr result (trace.new ≡ trace.old) }
         ensures kind { result ≢ Err Stop.Sink }
     {
         let p = self.guest.pid();
-        let t = Tid(p.0);
+        let t = self.thread;
         self.guest.local(alloc, t, request)?;
         trace.append(Record::Call { p, t });
         Ok(())
@@ -229,14 +252,14 @@ impl Machine {
     ) -> Result<(), Stop>
         requires single { IsSingle self.old }
         requires alive { lives self.old ≡ true }
-        requires asks { user_step self.old.guest.user self.old.guest.pid.0 ≡ Asks request.now }
+        requires asks { user_step self.old.guest.user self.old.thread.0 ≡ Asks request.now }
         requires given { lent self.old.guest.user.memory request.now ≡ Some self.old.transfer }
         requires kernels { is_local request.now ≡ false }
         requires room { 0 < trace.old.room }
         ensures ok { OnOk result (Notes self.old self.new trace.old trace.new
             (sunk (O.taken out.old) (O.taken out.new))) }
         ensures single { OnOk result (IsSingle self.new) }
-        ensures pid { self.new.guest.pid ≡ self.old.guest.pid }
+        ensures same { IsSame self.old self.new }
         ensures failed { IsErrOf result Stop.Sink → Spoils self.old trace.old trace.new
             (sunk (O.taken out.old) (O.taken out.new)) }
         ensures memory { IsErrOf result Stop.Memory →
@@ -245,7 +268,7 @@ impl Machine {
         ensures later { O.faults out.old ≤ O.faults out.new }
     {
         let p = self.guest.pid();
-        let t = Tid(p.0);
+        let t = self.thread;
         let Some(answer) = self
             .kernel
             .serve(alloc, p, t, request, self.transfer.as_slice())?

@@ -1,38 +1,65 @@
-ghost use Rattle.std.specs.Prelude.{◌≡◌, ◌≤◌, []};
+ghost use Rattle.std.specs.Prelude.{◌≡◌, ◌≢◌, ◌<◌, ◌≤◌, ◌⊎◌, [], None, IfSome};
 ghost use Rattle.views.specs.Faults.{Rose};
+ghost use Rattle.trace_log.specs.LogText.{at_start};
+ghost use Rattle.trace_log.specs.Requests.{first_tally};
+ghost use Rattle.dmtcp_top.specs.Keeping.{IsKept, IsSafe};
+ghost use Rattle.dmtcp_top.specs.Machines.{plain_of, IsReady};
+ghost use Rattle.dmtcp_top.specs.RunEnds.{EndsRun};
 ghost use Rattle.dmtcp_top.specs.Sessions.{sunk};
 
-use crate::machine::{Machine, Stop};
+use crate::machine::Stop;
 use crate::run_end::RunEnd;
+use crate::start::Start;
 use edge_io::Sink;
+use set_disk::Folder;
 use std::alloc::Global;
 use trace_log::Trace;
 
-impl Machine {
-    ghost use Rattle.dmtcp_top.specs.Machines.{plain_of, IsSingle};
-    ghost use Rattle.dmtcp_top.specs.RunEnds.{EndsRun};
-
-    /// Runs turn after turn, until nobody lives or the trace is full.
-    pub fn run<O: Sink>(&mut self, alloc: Global, out: &mut O, trace: &mut Trace) -> RunEnd
-        requires single { IsSingle self.old }
+impl Start {
+    /// Runs turn after turn, until nobody lives or the trace is full, and makes the checkpoints that the records ask for.
+    pub fn run<O: Sink, L: Sink, F: Folder>(
+        &mut self,
+        alloc: Global,
+        out: &mut O,
+        log: &mut L,
+        disk: &mut F,
+        trace: &mut Trace,
+    ) -> RunEnd
+        requires ready { IsReady self.old.machine }
+        requires every { IfSome self.old.keeper.schedule.every (λ every. 0 < every) }
+        requires tally { self.old.keeper.tally ≡ first_tally self.old.keeper.schedule }
+        requires lines { self.old.keeper.lines ≡ at_start }
+        requires kept { self.old.keeper.schedule.every ≢ None → IsKept self.old.keeper (F.reads disk.old) (F.may_leave disk.old) }
         requires empty { trace.old.records ≡ [] }
-        ensures ends { EndsRun result (plain_of self.old) trace.old.room trace.new.records
-            (sunk (O.taken out.old) (O.taken out.new)) }
-        ensures cause { result ≡ RunEnd.SinkFault → Rose (O.faults out.old) (O.faults out.new) }
+        ensures ends { EndsRun result self.old.keeper.schedule (plain_of self.old.machine) trace.old.room trace.new.records
+            (sunk (O.taken out.old) (O.taken out.new)) (sunk (L.taken log.old) (L.taken log.new)) }
+        ensures safe { IsSafe F.reads F.moment F.may_leave F.left_since F.faults (plain_of self.old.machine) trace.new.records disk.old disk.new }
+        ensures untouched { self.old.keeper.schedule.every ≡ None → disk.new ≡ disk.old }
+        ensures cause { result ≡ RunEnd.SinkFault → Rose (O.faults out.old) (O.faults out.new) ⊎ Rose (L.faults log.old) (L.faults log.new) }
         ensures later { O.faults out.old ≤ O.faults out.new }
+        ensures log_later { L.faults log.old ≤ L.faults log.new }
     {
         let room = trace.room();
         for _turn in 0..room {
-            if !self.kernel.is_live(self.guest.pid()) {
+            if !self.machine.lives() {
                 return RunEnd::Done;
             }
-            match self.take_turn(alloc, out, trace) {
+            if trace.room() == 0 {
+                return RunEnd::Budget;
+            }
+            match self.machine.take_turn(alloc, out, trace) {
+                Ok(()) => {}
+                Err(Stop::Sink) => return RunEnd::SinkFault,
+                Err(Stop::Memory) => return RunEnd::Memory,
+            }
+            self.keeper.count();
+            match self.keeper.serve(alloc, &self.machine, log, disk, trace) {
                 Ok(()) => {}
                 Err(Stop::Sink) => return RunEnd::SinkFault,
                 Err(Stop::Memory) => return RunEnd::Memory,
             }
         }
-        if self.kernel.is_live(self.guest.pid()) {
+        if self.machine.lives() {
             RunEnd::Budget
         } else {
             RunEnd::Done

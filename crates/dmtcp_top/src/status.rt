@@ -2,7 +2,7 @@ ghost use Rattle.std.specs.Prelude.{◌≡◌};
 ghost use Rattle.dmtcp_top.specs.Statuses.{number_of};
 
 /// How a call ended. Statuses are tried in the order in which a call goes on: the words, the trace's room, the inputs,
-/// the memory of the start, the run.
+/// the folder of sets, the memory of the start, the run.
 #[derive(Clone, Copy, Debug, PartialEq, Eq)]
 pub enum Status {
     /// No process lives.
@@ -17,6 +17,12 @@ pub enum Status {
     BadElf = 13,
     /// A sink did not take what it was given.
     SinkFault = 14,
+    /// The folder of sets failed before the run.
+    DiskFault = 15,
+    /// There is no set to restart from.
+    NoSet = 16,
+    /// The set to restart from spells no state.
+    Damaged = 17,
     /// The trace is full, and a process lives.
     Budget = 18,
     /// There was no memory.

@@ -1,17 +1,21 @@
-use Rattle.std.proofs.Common.{◌≡◌, [], ◌∷◌, map, string_bytes, IfNone, sym, ap, subst}
-use Rattle.dmtcp_top.specs.Words.{NoLaunch}
-use Rattle.dmtcp_top.proofs.Items.{two_items, four_items}
+use Rattle.std.proofs.Common.{◌≡◌, ◌∷◌, map, string_bytes, IfNone, sym, ap, subst, ◌∙◌}
+use Rattle.std.specs.Prelude.{codes}
+use Rattle.dmtcp_top.specs.Words.{AskNothing}
+use Rattle.dmtcp_top.proofs.Decimals.{IfNone-of_any}
+use Rattle.dmtcp_top.proofs.Options.{IfNone-map}
+use Rattle.dmtcp_top.proofs.Jobs.{restart_fails, launch_fails}
 use Rattle.dmtcp_top.proofs.job.Job.read.Goals as goal
 
-pub returns-in-len2-clause-none : goal.returns-in-len2-clause-none
-returns-in-len2-clause-none c =
-    let words = two_items c.args.words.now c.command-item.result c.program-item.result c.in-len2.len_at_least c.in-len2.len_below c.command-item.is c.program-item.is in
-    let bytes : map string_bytes c.args.words.now ≡ c.as_str.result.now ∷ c.as_str-in-len2.result.now ∷ [] = let bytes_of_each = ap (map string_bytes) words in let command = c.as_str.ensures.value in let program = c.as_str-in-len2.ensures.value in cc in
-    subst (λ ws. IfNone c.plain.result (NoLaunch ws)) (sym bytes) c.plain.ensures.none
+pub returns-in_err-read-in-restart-clause-none : goal.returns-in_err-read-in-restart-clause-none
+returns-in_err-read-in-restart-clause-none c =
+    let rest = map string_bytes c.in_ok-command.rest.now in
+    let words : map string_bytes c.args.words.now ≡ codes "restart" ∷ rest =
+    ap (map string_bytes) c.in_ok-command.ensures.cases.0 ∙ ap (λ command. command ∷ rest) (sym c.as_str.ensures.value ∙ c.in-restart.is) in
+    IfNone-of_any (AskNothing (map string_bytes c.args.words.now)) _ (subst AskNothing (sym words) (restart_fails rest c.in_err-read-in-restart.ensures.none))
 
-pub returns-in-len4-clause-none : goal.returns-in-len4-clause-none
-returns-in-len4-clause-none c =
-    let words = four_items c.args.words.now c.command-item-then-words-lt5.result c.option-item.result c.records-item.result c.program-item-then-words-lt5.result c.in-len4.len_at_least c.in-len4.len_below c.command-item-then-words-lt5.is c.option-item.is c.records-item.is c.program-item-then-words-lt5.is in
-    let bytes : map string_bytes c.args.words.now ≡ c.as_str-in-len4.result.now ∷ c.as_str-in-len4-2.result.now ∷ c.as_str-in-len4-3.result.now ∷ c.as_str-in-len4-4.result.now ∷ [] =
-    let bytes_of_each = ap (map string_bytes) words in let command = c.as_str-in-len4.ensures.value in let option = c.as_str-in-len4-2.ensures.value in let records = c.as_str-in-len4-3.ensures.value in let program = c.as_str-in-len4-4.ensures.value in cc in
-    subst (λ ws. IfNone c.with_records.result (NoLaunch ws)) (sym bytes) c.with_records.ensures.none
+pub returns-in-launch-clause-none : goal.returns-in-launch-clause-none
+returns-in-launch-clause-none c =
+    let rest = map string_bytes c.in_ok-command.rest.now in
+    let words : map string_bytes c.args.words.now ≡ codes "launch" ∷ rest =
+    ap (map string_bytes) c.in_ok-command.ensures.cases.0 ∙ ap (λ command. command ∷ rest) (sym c.as_str.ensures.value ∙ c.in-launch.is) in
+    IfNone-map c.launch.result (λ none. subst AskNothing (sym words) (launch_fails rest none)) c.launch.ensures.none

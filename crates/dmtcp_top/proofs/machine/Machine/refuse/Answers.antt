@@ -15,8 +15,8 @@ answer-requires c =
 pub returns-clause-noted : goal.returns-clause-noted
 returns-clause-noted c taken =
     let m = c.args.self.now in
-    let answered = c.answer.ensures ∙ ap (λ (bytes : List ℕ). let g : GuestPart = record { pid = m.guest.pid; user = put m.guest.user c.pid-p.result.0 c.args.request.now (error 14) bytes } in g) c.clear.ensures in
+    let answered = c.answer.ensures ∙ ap (λ (bytes : List ℕ). let g : GuestPart = record { pid = m.guest.pid; user = put m.guest.user c.args.self.now.thread.0 c.args.request.now (error 14) bytes } in g) c.clear.ensures in
     fault_notes m _ _ _ taken c.pid-p.result c.args.request.now c.pid-p.ensures c.requires.alive c.requires.asks c.requires.fault refl answered c.append.ensures
 
 pub returns-clause-single : goal.returns-clause-single
-returns-clause-single c = answered_single c.args.self.now _ c.pid-p.result c.args.request.now (error 14) c.clear.new.self c.pid-p.ensures c.requires.single (λ q differ dead. dead) c.answer.ensures
+returns-clause-single c = answered_single c.args.self.now _ c.pid-p.result c.args.request.now (error 14) c.clear.new.self c.pid-p.ensures c.requires.single refl (λ q differ dead. dead) c.answer.ensures

@@ -21,5 +21,5 @@ returns-clause-single c =
       alone = λ q differ.
           let apart : q ≢ pid 40000 = λ is. differ (is ∙ sym (ap (λ (h : GuestPart). h.pid) c.in_ok-guest.ensures)) in
           subst (λ (k : PlainKernel). is_live k q ≡ false) (sym kernel) (first_is_alone q apart);
-      one = subst (λ (h : GuestPart). OneThread h.user h.pid.0) (sym c.in_ok-guest.ensures) (one_thread_at_start c.args.program.now c.args.arguments.now 40000);
+      one = subst (λ (h : GuestPart). OneThread h.user 40000) (sym c.in_ok-guest.ensures) (one_thread_at_start c.args.program.now c.args.arguments.now 40000);
     }

@@ -1,0 +1,161 @@
+-- A request served: which marks may stand there, and what is true after each.
+use Rattle.std.proofs.Common.{◌≡◌, ◌≢◌, ℕ, zero, suc, ◌+◌, ◌-◌, ◌^◌, ◌<◌, ◌≤◌, Bool, true, false, cond, List, [], ◌∷◌, ◌++◌, length, Option, Some, None, inl, inr, refl, sym, ap, subst, ◌∙◌, arith, tests}
+use Rattle.std.specs.Prelude.{◌⊎◌, ◌&&◌, nat_lt, max, IfSome, Result, Ok, Err, OnOk, OnErr}
+use Rattle.std.specs.FinMap as map
+use Rattle.std.specs.List.{Contains}
+use Rattle.std.specs.Option.{ForSome, option_map_or}
+use Rattle.std.proofs.lemmas.List.{length-append}
+use Rattle.views.proofs.MapLaws.{true_false}
+use Rattle.sys_abi.specs.declared.record.Record.{Record}
+use Rattle.sys_abi.specs.declared.record.Record.TheVariants.{User, Call, Deliver, Arrive, Cut, Drained, Refilled, Complete, Refused, Lapsed}
+use Rattle.sys_abi.specs.declared.record.Cause.{Cause}
+use Rattle.sys_abi.specs.declared.record.Cause.TheVariants.{Unsupported, DiskFault, Memory}
+use Rattle.set_disk.specs.Files.{Files as Folder}
+use Rattle.plain_machine.specs.declared.plain.Plain.{Plain}
+use Rattle.plain_machine.specs.Tests.{ended, full_arrive, unsupported}
+use Rattle.trace_log.specs.declared.requests.Schedule.{Schedule}
+use Rattle.trace_log.specs.declared.requests.Tally.{Tally}
+use Rattle.trace_log.specs.declared.log_lines.Progress.{Progress}
+use Rattle.trace_log.specs.Trace.{TraceState}
+use Rattle.trace_log.specs.Requests.{Requests, Phase, NoRequest, Requested, AfterCut, MayStand, MayStandIn, CanBeHeld, CutAt, is_mark, is_multiple_of, asks, cut_marks, tally_after, next_requests, phase_after}
+use Rattle.trace_log.specs.LogText.{line_of, after, log_text}
+use Rattle.dmtcp_top.specs.declared.machine.Machine.{Machine}
+use Rattle.dmtcp_top.specs.declared.keeper.Keeper.{Keeper}
+use Rattle.dmtcp_top.specs.Sessions.{Sunk, sunk, Took, TookFront}
+use Rattle.dmtcp_top.specs.Machines.{plain_of, with_record}
+use Rattle.dmtcp_top.specs.Running.{IsRunning, IsNoted}
+use Rattle.dmtcp_top.specs.Keeping.{IsSafe}
+use Rattle.dmtcp_top.specs.UnderWay.{IsUnderWay, IsBrokenOff, IsSettled}
+use Rattle.dmtcp_top.proofs.Running.{running_mark, noted_mark, part_noted, steps_of}
+
+left_true : (a b : Bool) → (a && b) ≡ true → a ≡ true
+left_true true b both = refl
+left_true false b both = both
+
+right_true : (a b : Bool) → (a && b) ≡ true → b ≡ true
+right_true true b both = both
+right_true false b both = true_false (sym both)
+
+-- requests are asked for only where there is a schedule, and a generation left
+pub asks_below : (schedule : Schedule) (tally : Tally) → asks schedule tally ≡ true → tally.greatest < 2 ^ 64 - 2
+unfolding asks
+asks_below schedule tally is = less tally.greatest (right_true (is_multiple_of schedule.every tally.work) (nat_lt tally.greatest (2 ^ 64 - 2)) is)
+  where
+    less : (n : ℕ) → nat_lt n (2 ^ 64 - 2) ≡ true → n < 2 ^ 64 - 2
+    less n below = grind (arith, tests)
+
+pub asks_some : (schedule : Schedule) (tally : Tally) → asks schedule tally ≡ true → schedule.every ≢ None
+unfolding asks
+asks_some schedule tally is none = true_false (sym (left_true (is_multiple_of schedule.every tally.work) (nat_lt tally.greatest (2 ^ 64 - 2)) is) ∙ ap (λ every. is_multiple_of every tally.work) none)
+
+-- which marks may stand while a request waits
+pub lapse_stands : (g : Plain) (requests : Requests) → requests.phase ≡ Requested [] → ended g ≡ true → MayStand g requests Lapsed
+unfolding MayStand
+lapse_stands g requests waits over = subst (λ phase. MayStandIn phase g requests.tally Lapsed) (sym waits) over
+
+pub refusal_stands : (g : Plain) (requests : Requests) (cause : Cause) → requests.phase ≡ Requested [] → CanBeHeld g → (cause ≡ DiskFault) ⊎ (cause ≡ Memory) → MayStand g requests (Refused cause)
+unfolding MayStand
+refusal_stands g requests cause waits held (inl is) = subst (λ phase. MayStandIn phase g requests.tally (Refused cause)) (sym waits) (subst (λ c. MayStandIn (Requested []) g requests.tally (Refused c)) (sym is) held)
+refusal_stands g requests cause waits held (inr is) = subst (λ phase. MayStandIn phase g requests.tally (Refused cause)) (sym waits) (subst (λ c. MayStandIn (Requested []) g requests.tally (Refused c)) (sym is) held)
+
+pub cut_stands : (g : Plain) (requests : Requests) (generation : ℕ) → requests.phase ≡ Requested [] → CanBeHeld g → full_arrive g ≡ g → generation ≡ requests.tally.greatest + 1 → MayStand g requests (Cut generation)
+unfolding MayStand
+cut_stands g requests generation waits held arrived is = subst (λ phase. MayStandIn phase g requests.tally (Cut generation)) (sym waits) (held, arrived, is)
+
+-- after the cut, where no direction has bytes left
+pub after_cut : (schedule : Schedule) (g : Plain) (requests : Requests) (generation : ℕ) → cut_marks g ≡ [] → (next_requests schedule g requests (Cut generation)).phase ≡ AfterCut []
+unfolding next_requests
+after_cut schedule g requests generation none = ap AfterCut none
+
+pub complete_stands : (g : Plain) (requests : Requests) (generation : ℕ) → requests.phase ≡ AfterCut [] → generation ≡ requests.tally.greatest → MayStand g requests (Complete generation)
+unfolding MayStand
+complete_stands g requests generation cut is = subst (λ phase. MayStandIn phase g requests.tally (Complete generation)) (sym cut) is
+
+pub late_refusal_stands : (g : Plain) (requests : Requests) (cause : Cause) → requests.phase ≡ AfterCut [] → (cause ≡ DiskFault) ⊎ (cause ≡ Memory) → MayStand g requests (Refused cause)
+unfolding MayStand
+late_refusal_stands g requests cause cut (inl is) = subst (λ phase. MayStandIn phase g requests.tally (Refused cause)) (sym cut) (subst (λ c. MayStandIn (AfterCut []) g requests.tally (Refused c)) (sym is) tt)
+late_refusal_stands g requests cause cut (inr is) = subst (λ phase. MayStandIn phase g requests.tally (Refused cause)) (sym cut) (subst (λ c. MayStandIn (AfterCut []) g requests.tally (Refused c)) (sym is) tt)
+
+-- an outcome ends the request
+IsOutcome : Record → Type 0
+IsOutcome (Complete generation) = Unit {0}
+IsOutcome (Refused cause) = Unit {0}
+IsOutcome Lapsed = Unit {0}
+IsOutcome _ = ⊥
+
+phase_ends : (phase : Phase) (asked : Bool) (g : Plain) (r : Record) → IsOutcome r → (phase ≡ Requested []) ⊎ (phase ≡ AfterCut []) → phase_after phase asked g r ≡ NoRequest
+unfolding IsOutcome
+phase_ends phase asked g (Complete generation) outcome (inl waits) = ap (λ p. phase_after p asked g (Complete generation)) waits
+phase_ends phase asked g (Complete generation) outcome (inr cut) = ap (λ p. phase_after p asked g (Complete generation)) cut
+phase_ends phase asked g (Refused cause) outcome (inl waits) = ap (λ p. phase_after p asked g (Refused cause)) waits
+phase_ends phase asked g (Refused cause) outcome (inr cut) = ap (λ p. phase_after p asked g (Refused cause)) cut
+phase_ends phase asked g Lapsed outcome (inl waits) = ap (λ p. phase_after p asked g Lapsed) waits
+phase_ends phase asked g Lapsed outcome (inr cut) = ap (λ p. phase_after p asked g Lapsed) cut
+phase_ends phase asked g (User p t n) outcome either = absurd outcome
+phase_ends phase asked g (Call p t) outcome either = absurd outcome
+phase_ends phase asked g (Deliver p t s) outcome either = absurd outcome
+phase_ends phase asked g (Arrive dir n) outcome either = absurd outcome
+phase_ends phase asked g (Cut generation) outcome either = absurd outcome
+phase_ends phase asked g (Drained dir n) outcome either = absurd outcome
+phase_ends phase asked g (Refilled dir n) outcome either = absurd outcome
+
+pub complete_ends : (schedule : Schedule) (g : Plain) (requests : Requests) (generation : ℕ) → requests.phase ≡ AfterCut [] → (next_requests schedule g requests (Complete generation)).phase ≡ NoRequest
+unfolding next_requests IsOutcome
+complete_ends schedule g requests generation cut = phase_ends requests.phase (asks schedule (tally_after requests.tally (Complete generation))) g (Complete generation) tt (inr cut)
+
+pub refusal_ends : (schedule : Schedule) (g : Plain) (requests : Requests) (cause : Cause) → (requests.phase ≡ Requested []) ⊎ (requests.phase ≡ AfterCut []) → (next_requests schedule g requests (Refused cause)).phase ≡ NoRequest
+unfolding next_requests IsOutcome
+refusal_ends schedule g requests cause either = phase_ends requests.phase (asks schedule (tally_after requests.tally (Refused cause))) g (Refused cause) tt either
+
+pub lapse_ends : (schedule : Schedule) (g : Plain) (requests : Requests) → requests.phase ≡ Requested [] → (next_requests schedule g requests Lapsed).phase ≡ NoRequest
+unfolding next_requests IsOutcome
+lapse_ends schedule g requests waits = phase_ends requests.phase (asks schedule (tally_after requests.tally Lapsed)) g Lapsed tt (inl waits)
+
+-- the tally after a mark
+pub cut_tally : (tally : Tally) (generation : ℕ) → (tally_after tally (Cut generation)).greatest ≡ generation
+unfolding tally_after
+cut_tally tally generation = refl
+
+pub outcome_tally : (tally : Tally) (r : Record) → is_mark r ≡ true → ((generation : ℕ) → r ≢ Cut generation) → (tally_after tally r).greatest ≡ tally.greatest
+unfolding tally_after
+outcome_tally tally (Cut generation) marks other = absurd (other generation refl)
+outcome_tally tally (Complete generation) marks other = refl
+outcome_tally tally (Refused cause) marks other = refl
+outcome_tally tally Lapsed marks other = refl
+outcome_tally tally (Drained dir n) marks other = refl
+outcome_tally tally (Refilled dir n) marks other = refl
+outcome_tally tally (User p t n) marks other = absurd (cc)
+outcome_tally tally (Call p t) marks other = absurd (cc)
+outcome_tally tally (Deliver p t s) marks other = absurd (cc)
+outcome_tally tally (Arrive dir n) marks other = absurd (cc)
+
+module _ {D : Type 0} {reads : D → Option Folder} {moment : D → ℕ} {may_leave : D → Folder → Type 0} {left_since : D → ℕ → Folder → Type 0} {faults : D → ℕ} where
+  -- one more mark, whose line the log took
+  pub marked : (schedule : Schedule) (g : Plain) (m : Machine) (keeper later : Keeper) (from to : TraceState) (sink : Sunk) (had mid has : Option (List ℕ)) (r : Record) (first disk next : D)
+      → (before : IsUnderWay reads moment may_leave left_since faults schedule g m keeper from sink (sunk had mid) first disk) → is_mark r ≡ true → MayStand (plain_of m) before.running.requests r → to ≡ with_record from r
+      → later.schedule ≡ keeper.schedule → later.lines ≡ after keeper.lines r → later.tally ≡ tally_after keeper.tally r → Took (sunk mid has) (line_of keeper.lines r)
+      → later.lines.request ≤ suc keeper.lines.request → later.lines.drained ≡ 0 → IsSafe reads moment may_leave left_since faults g (from.records ++ r ∷ []) first next
+      → (after : IsUnderWay reads moment may_leave left_since faults schedule g m later to sink (sunk had has) first next) × (after.running.requests ≡ next_requests schedule (plain_of m) before.running.requests r)
+  marked schedule g m keeper later from to sink had mid has r first disk next before marks may traced scheduled lined tallied took few dry safe =
+      let running = running_mark schedule g m from.records sink r before.running marks may in
+      let noted = noted_mark schedule (plain_of m) r before.running.requests keeper later from.records had mid has before.noted scheduled lined tallied took few dry in
+      let whole : IsUnderWay reads moment may_leave left_since faults schedule g m later (with_record from r) sink (sunk had has) first next = record {
+        running = running.0;
+        noted = subst (λ (q : Requests). IsNoted schedule q later (from.records ++ r ∷ []) (sunk had has)) (sym running.1) noted;
+        safe = safe;
+      } in
+      subst (λ (t : TraceState). (after : IsUnderWay reads moment may_leave left_since faults schedule g m later t sink (sunk had has) first next) × (after.running.requests ≡ next_requests schedule (plain_of m) before.running.requests r)) (sym traced) (whole, running.1)
+
+  -- one more mark, of whose line the log took a first part
+  pub broken : (schedule : Schedule) (g : Plain) (m : Machine) (keeper : Keeper) (from to : TraceState) (sink : Sunk) (had mid has : Option (List ℕ)) (r : Record) (first disk next : D)
+      → (before : IsUnderWay reads moment may_leave left_since faults schedule g m keeper from sink (sunk had mid) first disk) → is_mark r ≡ true → MayStand (plain_of m) before.running.requests r → to ≡ with_record from r
+      → TookFront (sunk mid has) (line_of keeper.lines r) → IsSafe reads moment may_leave left_since faults g (from.records ++ r ∷ []) first next
+      → IsBrokenOff reads moment may_leave left_since faults schedule g m to sink (sunk had has) first next
+  broken schedule g m keeper from to sink had mid has r first disk next before marks may traced front safe =
+      let running = running_mark schedule g m from.records sink r before.running marks may in
+      let whole : IsBrokenOff reads moment may_leave left_since faults schedule g m (with_record from r) sink (sunk had has) first next = record {
+        running = running.0;
+        logged = part_noted before.running.requests keeper schedule r from.records had mid has before.noted front;
+        safe = safe;
+      } in
+      subst (λ (t : TraceState). IsBrokenOff reads moment may_leave left_since faults schedule g m t sink (sunk had has) first next) (sym traced) whole

@@ -1,0 +1,277 @@
+-- What is true after a request was served, by how it ended.
+use Rattle.std.proofs.Common.{◌≡◌, ◌≢◌, ℕ, zero, suc, ◌+◌, ◌-◌, ◌^◌, ◌<◌, ◌≤◌, Bool, true, false, List, [], ◌∷◌, ◌++◌, Option, Some, None, inl, inr, refl, sym, ap, subst, ◌∙◌, arith}
+use Rattle.std.specs.Prelude.{◌⊎◌, max, is_some, IfSome, Result, Ok, Err, OnOk, OnErr}
+use Rattle.std.specs.List.{Contains}
+use Rattle.std.specs.Option.{ForSome, option_map_or}
+use Rattle.views.specs.Faults.{Rose}
+use Rattle.sys_abi.specs.declared.record.Record.{Record}
+use Rattle.sys_abi.specs.declared.record.Record.TheVariants.{Cut, Complete, Refused, Lapsed}
+use Rattle.sys_abi.specs.declared.record.Cause.{Cause}
+use Rattle.sys_abi.specs.declared.record.Cause.TheVariants.{Unsupported, DiskFault, Memory}
+use Rattle.edge_io.specs.Sink.{appended}
+use Rattle.set_disk.specs.Files.{Files as Folder}
+use Rattle.set_disk.specs.Moments.{LeavesOnly}
+use Rattle.plain_machine.specs.declared.plain.Plain.{Plain}
+use Rattle.plain_machine.specs.Tests.{ended}
+use Rattle.trace_log.specs.declared.requests.Schedule.{Schedule}
+use Rattle.trace_log.specs.declared.requests.Tally.{Tally}
+use Rattle.trace_log.specs.declared.log_lines.Progress.{Progress}
+use Rattle.trace_log.specs.Trace.{TraceState}
+use Rattle.trace_log.specs.Requests.{Requests, Phase, NoRequest, Requested, AfterCut, CanBeHeld, CutAt, is_mark, tally_after, next_requests}
+use Rattle.trace_log.specs.LogText.{line_of, after}
+use Rattle.dmtcp_top.specs.Sets.{SpellsState}
+use Rattle.image_store.specs.declared.set_info.SetInfo.{SetInfo}
+use Rattle.image_store.specs.Slots.{last}
+use Rattle.image_store.specs.FoundSets.{last_set, HasSet}
+use Rattle.image_store.specs.StoreStates.{Known, FitsFolder, generation_after, next_generation}
+use Rattle.image_store.specs.StoreCrashes.{OldOrNew, ChangesNothing}
+use Rattle.dmtcp_top.specs.declared.machine.Machine.{Machine}
+use Rattle.dmtcp_top.specs.declared.keeper.Keeper.{Keeper}
+use Rattle.dmtcp_top.specs.Sessions.{Sunk, sunk, Took, TookFront}
+use Rattle.dmtcp_top.specs.Machines.{plain_of, lives, with_record, IsReady}
+use Rattle.dmtcp_top.specs.Keeping.{IsKept, IsPut, IsSafe, Counts, CountsFaults, IsOutside}
+use Rattle.dmtcp_top.specs.UnderWay.{IsUnderWay, IsBrokenOff, IsSettled}
+use Rattle.dmtcp_top.proofs.Sinks.{took_nothing}
+use Rattle.dmtcp_top.proofs.Endings.{goes_on_while_live}
+use Rattle.dmtcp_top.proofs.Images.{supported, nothing_on_the_way}
+use Rattle.dmtcp_top.proofs.Running.{steps_of}
+use Rattle.dmtcp_top.proofs.Safety.{some_there, if_some, new_below, same_below, counts_later, counts_fault, safe_quiet, safe_looked, safe_put, safe_complete, safe_refused}
+use Rattle.dmtcp_top.proofs.Checkpoints.{lapse_stands, refusal_stands, cut_stands, after_cut, complete_stands, late_refusal_stands, complete_ends, refusal_ends, lapse_ends, cut_tally, outcome_tally, marked, broken}
+
+pub on_ok2 : {A E P Q R : Type 0} (r : Result A E) → OnOk r P → OnOk r Q → (P → Q → R) → OnOk r R
+on_ok2 (Ok a) p q f = f p q
+on_ok2 (Err e) p q f = tt
+
+-- the next generation of a store that was opened again
+pub reopened_next : (store : Known) (greatest : ℕ) → store.floor ≡ greatest → 0 < greatest → IfSome store.last (λ info. info.generation ≤ greatest) → next_generation store ≡ suc greatest
+unfolding generation_after
+reopened_next store greatest floor some below = by store.last below
+  where
+    by : (found : Option SetInfo) → IfSome found (λ info. info.generation ≤ greatest) → suc (max store.floor (option_map_or (λ (info : SetInfo). info.generation) found 0)) ≡ suc greatest
+    by None bound = omega arith
+    by (Some info) bound = omega arith
+
+-- what the keeper knows afterwards
+pub kept_refused : (keeper later : Keeper) (told now : Option Folder) (images left : Folder → Type 0) → IsKept keeper told images → keeper.store ≡ None → later.store ≡ None → later.tally.greatest ≡ keeper.tally.greatest → now ≡ told → IsKept later now left
+kept_refused keeper later told now images left kept none gone same same_told = record {
+  fits = λ store is. absurd (cc);
+  above = λ files is. subst (λ (n : ℕ). IfSome (last files) (λ info. info.generation ≤ n)) (sym same) (kept.above files (sym same_told ∙ is));
+  floor = λ _. let floor = kept.floor none in omega arith;
+}
+
+pub raised : (files : Folder) (least most : ℕ) → least ≤ most → IfSome (last files) (λ info. info.generation ≤ least) → IfSome (last files) (λ info. info.generation ≤ most)
+raised files least most le below = by (last files) below
+  where
+    by : (found : Option SetInfo) → IfSome found (λ info. info.generation ≤ least) → IfSome found (λ info. info.generation ≤ most)
+    by None bound = tt
+    by (Some info) bound = omega arith
+
+pub kept_cut : (keeper later : Keeper) (told now : Option Folder) (images left : Folder → Type 0) → IsKept keeper told images → later.store ≡ None → later.tally.greatest ≡ suc keeper.tally.greatest → now ≡ told → IsKept later now left
+kept_cut keeper later told now images left kept gone next same_told = record {
+  fits = λ store is. absurd (cc);
+  above = λ files is. raised files keeper.tally.greatest later.tally.greatest (omega arith) (kept.above files (sym same_told ∙ is));
+  floor = λ _. omega arith;
+}
+
+pub kept_same : (keeper later : Keeper) (told : Option Folder) (images : Folder → Type 0) → IsKept keeper told images → later.store ≡ keeper.store → later.tally.greatest ≡ keeper.tally.greatest → IsKept later told images
+kept_same keeper later told images kept same greatest = record {
+  fits = λ store is. let fits = kept.fits store (sym same ∙ is) in (fits.0, fits.1 ∙ ap suc (sym greatest));
+  above = λ files is. subst (λ (n : ℕ). IfSome (last files) (λ info. info.generation ≤ n)) (sym greatest) (kept.above files is);
+  floor = λ none. let floor = kept.floor (sym same ∙ none) in omega arith;
+}
+
+pub kept_complete : (later : Keeper) (done : Known) (generation : ℕ) (bytes : List (List ℕ)) (now : Option Folder) (left : Folder → Type 0) → later.store ≡ Some done → later.tally.greatest ≡ generation → FitsFolder done now left → next_generation done ≡ suc generation → ForSome now (λ files. HasSet (last_set files) generation bytes) → IsKept later now left
+kept_complete later done generation bytes now left has same fits next stored = record {
+  fits = λ store is. let equal : done ≡ store = cc in (subst (λ s. FitsFolder s now left) equal fits, ap next_generation (sym equal) ∙ next ∙ ap suc (sym same));
+  above = λ files is. new_below files generation later.tally.greatest bytes (stored files is) (omega arith);
+  floor = λ none. absurd (cc);
+}
+
+pub kept_put : (later : Keeper) (generation least : ℕ) (bytes : List (List ℕ)) (told now : Option Folder) (left : Folder → Type 0) → later.store ≡ None → later.tally.greatest ≡ generation → 0 < generation → least ≤ generation → ForSome told (λ files. IfSome (last files) (λ info. info.generation ≤ least)) → is_some now ≡ is_some told → ForSome told (λ before. ForSome now (OldOrNew (last_set before) generation bytes)) → IsKept later now left
+kept_put later generation least bytes told now left gone same some le above told_too refused = record {
+  fits = λ store is. absurd (cc);
+  above = λ files is.
+      let before = some_there now told files (sym told_too) is in
+      by files before.0 (above before.0 before.1) (refused before.0 before.1 files is);
+  floor = λ _. omega arith;
+}
+  where
+    by : (files before : Folder) → IfSome (last before) (λ info. info.generation ≤ least) → OldOrNew (last_set before) generation bytes files → IfSome (last files) (λ info. info.generation ≤ later.tally.greatest)
+    by files before below (inl old) = same_below before files later.tally.greatest old (raised before least later.tally.greatest (omega arith) below)
+    by files before below (inr new) = new_below files generation later.tally.greatest bytes new (omega arith)
+
+-- the lines of the log after a mark
+refused_lines : (lines : Progress) (cause : Cause) → ((after lines (Refused cause)).request ≤ suc lines.request) × ((after lines (Refused cause)).drained ≡ 0)
+unfolding after
+refused_lines lines cause = (omega arith, refl)
+
+complete_lines : (lines : Progress) (generation : ℕ) → ((after lines (Complete generation)).request ≤ suc lines.request) × ((after lines (Complete generation)).drained ≡ 0)
+unfolding after
+complete_lines lines generation = (omega arith, refl)
+
+lapsed_lines : (lines : Progress) → ((after lines Lapsed).request ≤ suc lines.request) × ((after lines Lapsed).drained ≡ 0)
+unfolding after
+lapsed_lines lines = (omega arith, refl)
+
+cut_lines : (lines : Progress) (generation : ℕ) → after lines (Cut generation) ≡ lines
+unfolding after
+cut_lines lines generation = refl
+
+no_cut_line : (lines : Progress) (generation : ℕ) → line_of lines (Cut generation) ≡ []
+unfolding line_of
+no_cut_line lines generation = refl
+
+next_greatest : (schedule : Schedule) (g : Plain) (requests : Requests) (generation : ℕ) → (next_requests schedule g requests (Cut generation)).tally.greatest ≡ generation
+unfolding next_requests
+next_greatest schedule g requests generation = cut_tally requests.tally generation
+
+-- a machine that is ready can be held in a set
+pub can_be_held : (m : Machine) → IsReady m → lives m ≡ true → CanBeHeld (plain_of m)
+can_be_held m ready alive = record { lives = goes_on_while_live m alive; supported = supported (plain_of m) (ready.imaged alive) }
+
+not_complete : (r : Record) → ((generation : ℕ) → r ≢ Complete generation) → (generation : ℕ) → Contains (r ∷ []) (Complete generation) → ⊥
+not_complete r other generation (zero, below, is) = other generation is
+not_complete r other generation (suc k, below, is) = omega arith
+
+outside : (cause : Cause) → IsOutside cause → (cause ≡ DiskFault) ⊎ (cause ≡ Memory)
+outside DiskFault kind = inl refl
+outside Memory kind = inr refl
+outside (Unsupported p fd k) kind = absurd kind
+
+-- at the cut of a generation
+pub record AtCut {D : Type 0} (reads : D → Option Folder) (moment : D → ℕ) (may_leave : D → Folder → Type 0) (left_since : D → ℕ → Folder → Type 0) (faults : D → ℕ) (schedule : Schedule) (g : Plain) (m : Machine) (keeper : Keeper) (trace : TraceState) (sink log : Sunk) (first disk : D) (generation : ℕ) : Type 0 where
+  pub now : IsUnderWay reads moment may_leave left_since faults schedule g m keeper trace sink log first disk
+  pub cut : now.running.requests.phase ≡ AfterCut []
+  pub greatest : now.running.requests.tally.greatest ≡ generation
+  pub at : CutAt g trace.records generation (plain_of m)
+
+module _ {D : Type 0} {reads : D → Option Folder} {moment : D → ℕ} {may_leave : D → Folder → Type 0} {left_since : D → ℕ → Folder → Type 0} {faults : D → ℕ} where
+  refusal_safe : (g : Plain) (records : List Record) (cause : Cause) (first mid next : D) → IsOutside cause → IsSafe reads moment may_leave left_since faults g records first next → CountsFaults records (faults first) (faults mid) → Counts (faults mid) (faults next) → (cause ≡ DiskFault → Rose (faults mid) (faults next)) → IsSafe reads moment may_leave left_since faults g (records ++ Refused cause ∷ []) first next
+  refusal_safe g records DiskFault first mid next kind safe counted counts rose = safe_refused g records first next safe (counts_fault records (faults first) (faults mid) (faults next) counted (rose refl) counts.later counts.small)
+  refusal_safe g records Memory first mid next kind safe counted counts rose = safe_quiet g records (Refused Memory) first next (not_complete (Refused Memory) (λ generation is. cc)) refl safe
+  refusal_safe g records (Unsupported p fd k) first mid next kind safe counted counts rose = absurd kind
+
+  -- a request that is refused while it waits
+  pub refused_ok : (schedule : Schedule) (g : Plain) (m : Machine) (keeper later : Keeper) (from to : TraceState) (sink : Sunk) (had mid has : Option (List ℕ)) (cause : Cause) (first disk next : D)
+      → (before : IsUnderWay reads moment may_leave left_since faults schedule g m keeper from sink (sunk had mid) first disk) → before.running.requests.phase ≡ Requested [] → CanBeHeld (plain_of m) → IsOutside cause
+      → to ≡ with_record from (Refused cause) → later.schedule ≡ keeper.schedule → later.lines ≡ after keeper.lines (Refused cause) → later.tally ≡ tally_after keeper.tally (Refused cause) → Took (sunk mid has) (line_of keeper.lines (Refused cause))
+      → IsSafe reads moment may_leave left_since faults g (from.records ++ Refused cause ∷ []) first next
+      → (after : IsUnderWay reads moment may_leave left_since faults schedule g m later to sink (sunk had has) first next) × IsSettled after.running.requests to
+  refused_ok schedule g m keeper later from to sink had mid has cause first disk next before waits held kind traced scheduled lined tallied took safe =
+      let bounds = refused_lines keeper.lines cause in
+      let done = marked schedule g m keeper later from to sink had mid has (Refused cause) first disk next before refl (refusal_stands (plain_of m) before.running.requests cause waits held (outside cause kind)) traced scheduled lined tallied took
+      (subst (λ (l : Progress). l.request ≤ suc keeper.lines.request) (sym lined) bounds.0) (ap (λ (l : Progress). l.drained) lined ∙ bounds.1) safe in
+      (done.0, inl (ap (λ (q : Requests). q.phase) done.1 ∙ refusal_ends schedule (plain_of m) before.running.requests cause (inl waits)))
+
+  pub refused_broken : (schedule : Schedule) (g : Plain) (m : Machine) (keeper : Keeper) (from to : TraceState) (sink : Sunk) (had mid has : Option (List ℕ)) (cause : Cause) (first disk next : D)
+      → (before : IsUnderWay reads moment may_leave left_since faults schedule g m keeper from sink (sunk had mid) first disk) → before.running.requests.phase ≡ Requested [] → CanBeHeld (plain_of m) → IsOutside cause
+      → to ≡ with_record from (Refused cause) → TookFront (sunk mid has) (line_of keeper.lines (Refused cause)) → IsSafe reads moment may_leave left_since faults g (from.records ++ Refused cause ∷ []) first next
+      → IsBrokenOff reads moment may_leave left_since faults schedule g m to sink (sunk had has) first next
+  refused_broken schedule g m keeper from to sink had mid has cause first disk next before waits held kind traced front safe =
+      broken schedule g m keeper from to sink had mid has (Refused cause) first disk next before refl (refusal_stands (plain_of m) before.running.requests cause waits held (outside cause kind)) traced front safe
+
+  pub lapsed_ok : (schedule : Schedule) (g : Plain) (m : Machine) (keeper later : Keeper) (from to : TraceState) (sink : Sunk) (had mid has : Option (List ℕ)) (first disk : D)
+      → (before : IsUnderWay reads moment may_leave left_since faults schedule g m keeper from sink (sunk had mid) first disk) → before.running.requests.phase ≡ Requested [] → ended (plain_of m) ≡ true
+      → to ≡ with_record from Lapsed → later.schedule ≡ keeper.schedule → later.lines ≡ after keeper.lines Lapsed → later.tally ≡ tally_after keeper.tally Lapsed → Took (sunk mid has) (line_of keeper.lines Lapsed)
+      → (after : IsUnderWay reads moment may_leave left_since faults schedule g m later to sink (sunk had has) first disk) × IsSettled after.running.requests to
+  lapsed_ok schedule g m keeper later from to sink had mid has first disk before waits over traced scheduled lined tallied took =
+      let bounds = lapsed_lines keeper.lines in
+      let done = marked schedule g m keeper later from to sink had mid has Lapsed first disk disk before refl (lapse_stands (plain_of m) before.running.requests waits over) traced scheduled lined tallied took
+      (subst (λ (l : Progress). l.request ≤ suc keeper.lines.request) (sym lined) bounds.0) (ap (λ (l : Progress). l.drained) lined ∙ bounds.1)
+      (safe_quiet g from.records Lapsed first disk (not_complete Lapsed (λ generation is. cc)) refl before.safe) in
+      (done.0, inl (ap (λ (q : Requests). q.phase) done.1 ∙ lapse_ends schedule (plain_of m) before.running.requests waits))
+
+  pub lapsed_broken : (schedule : Schedule) (g : Plain) (m : Machine) (keeper : Keeper) (from to : TraceState) (sink : Sunk) (had mid has : Option (List ℕ)) (first disk : D)
+      → (before : IsUnderWay reads moment may_leave left_since faults schedule g m keeper from sink (sunk had mid) first disk) → before.running.requests.phase ≡ Requested [] → ended (plain_of m) ≡ true
+      → to ≡ with_record from Lapsed → TookFront (sunk mid has) (line_of keeper.lines Lapsed) → IsBrokenOff reads moment may_leave left_since faults schedule g m to sink (sunk had has) first disk
+  lapsed_broken schedule g m keeper from to sink had mid has first disk before waits over traced front =
+      broken schedule g m keeper from to sink had mid has Lapsed first disk disk before refl (lapse_stands (plain_of m) before.running.requests waits over) traced front
+      (safe_quiet g from.records Lapsed first disk (not_complete Lapsed (λ generation is. cc)) refl before.safe)
+
+  -- the cut
+  pub cut_made : (schedule : Schedule) (g : Plain) (m : Machine) (keeper later : Keeper) (from to : TraceState) (sink : Sunk) (had mid : Option (List ℕ)) (generation : ℕ) (first disk next : D)
+      → ((d : D) (t : ℕ) (image : Folder) → t ≤ moment d → may_leave d image → left_since d t image)
+      → (before : IsUnderWay reads moment may_leave left_since faults schedule g m keeper from sink (sunk had mid) first disk) → before.running.requests.phase ≡ Requested [] → IsReady m → lives m ≡ true
+      → generation ≡ suc keeper.tally.greatest → to ≡ with_record from (Cut generation) → later.schedule ≡ keeper.schedule → later.lines ≡ keeper.lines → later.tally ≡ tally_after keeper.tally (Cut generation)
+      → ChangesNothing reads moment may_leave left_since disk next → LeavesOnly moment left_since disk next (may_leave disk) → Counts (faults disk) (faults next)
+      → AtCut reads moment may_leave left_since faults schedule g m later to sink (sunk had mid) first next generation
+  cut_made schedule g m keeper later from to sink had mid generation first disk next counts_now before waits ready alive is traced scheduled lined tallied nothing leaves counts =
+      let held = can_be_held m ready alive in
+      let way = nothing_on_the_way (plain_of m) (ready.imaged alive) in
+      let numbered : generation ≡ before.running.requests.tally.greatest + 1 = let same = ap (λ (t : Tally). t.greatest) before.noted.tallied in omega arith in
+      let looked = safe_looked g from.records first disk next counts_now before.safe nothing leaves counts.later counts.small in
+      let safe = safe_quiet g from.records (Cut generation) first next (not_complete (Cut generation) (λ n e. cc)) refl looked in
+      let silent : Took (sunk mid mid) (line_of keeper.lines (Cut generation)) = took_nothing mid ∙ ap (appended mid) (sym (no_cut_line keeper.lines generation)) in
+      let done = marked schedule g m keeper later from to sink had mid mid (Cut generation) first disk next before refl (cut_stands (plain_of m) before.running.requests generation waits held way.0 numbered) traced
+      scheduled (lined ∙ sym (cut_lines keeper.lines generation)) tallied silent (let same = ap (λ (l : Progress). l.request) lined in omega arith) (ap (λ (l : Progress). l.drained) lined ∙ before.noted.dry) safe in
+      record {
+        now = done.0;
+        cut = ap (λ (q : Requests). q.phase) done.1 ∙ after_cut schedule (plain_of m) before.running.requests generation way.1;
+        greatest = ap (λ (q : Requests). q.tally.greatest) done.1 ∙ next_greatest schedule (plain_of m) before.running.requests generation;
+        at = subst (λ (t : TraceState). CutAt g t.records generation (plain_of m)) (sym traced) (record { front = from.records; rest = []; whole = refl; there = steps_of schedule g m from.records sink before.running });
+      }
+
+  -- the set is complete
+  pub completed_ok : (schedule : Schedule) (g : Plain) (m : Machine) (keeper later : Keeper) (from to : TraceState) (sink : Sunk) (had mid has : Option (List ℕ)) (generation : ℕ) (first disk next : D)
+      → (before : AtCut reads moment may_leave left_since faults schedule g m keeper from sink (sunk had mid) first disk generation) → to ≡ with_record from (Complete generation) → later.schedule ≡ keeper.schedule → later.lines ≡ after keeper.lines (Complete generation)
+      → later.tally ≡ tally_after keeper.tally (Complete generation) → Took (sunk mid has) (line_of keeper.lines (Complete generation)) → IsSafe reads moment may_leave left_since faults g (from.records ++ Complete generation ∷ []) first next
+      → (after : IsUnderWay reads moment may_leave left_since faults schedule g m later to sink (sunk had has) first next) × IsSettled after.running.requests to
+  completed_ok schedule g m keeper later from to sink had mid has generation first disk next before traced scheduled lined tallied took safe =
+      let bounds = complete_lines keeper.lines generation in
+      let requests = before.now.running.requests in
+      let done = marked schedule g m keeper later from to sink had mid has (Complete generation) first disk next before.now refl (complete_stands (plain_of m) requests generation before.cut (sym before.greatest)) traced scheduled lined tallied took
+      (subst (λ (l : Progress). l.request ≤ suc keeper.lines.request) (sym lined) bounds.0) (ap (λ (l : Progress). l.drained) lined ∙ bounds.1) safe in
+      (done.0, inl (ap (λ (q : Requests). q.phase) done.1 ∙ complete_ends schedule (plain_of m) requests generation before.cut))
+
+  pub completed_broken : (schedule : Schedule) (g : Plain) (m : Machine) (keeper : Keeper) (from to : TraceState) (sink : Sunk) (had mid has : Option (List ℕ)) (generation : ℕ) (first disk next : D)
+      → (before : AtCut reads moment may_leave left_since faults schedule g m keeper from sink (sunk had mid) first disk generation) → to ≡ with_record from (Complete generation) → TookFront (sunk mid has) (line_of keeper.lines (Complete generation))
+      → IsSafe reads moment may_leave left_since faults g (from.records ++ Complete generation ∷ []) first next → IsBrokenOff reads moment may_leave left_since faults schedule g m to sink (sunk had has) first next
+  completed_broken schedule g m keeper from to sink had mid has generation first disk next before traced front safe =
+      broken schedule g m keeper from to sink had mid has (Complete generation) first disk next before.now refl (complete_stands (plain_of m) before.now.running.requests generation before.cut (sym before.greatest)) traced front safe
+
+  -- the set is refused after the cut
+  pub late_ok : (schedule : Schedule) (g : Plain) (m : Machine) (keeper later : Keeper) (from to : TraceState) (sink : Sunk) (had mid has : Option (List ℕ)) (generation : ℕ) (cause : Cause) (first disk next : D)
+      → (before : AtCut reads moment may_leave left_since faults schedule g m keeper from sink (sunk had mid) first disk generation) → IsOutside cause → to ≡ with_record from (Refused cause) → later.schedule ≡ keeper.schedule → later.lines ≡ after keeper.lines (Refused cause)
+      → later.tally ≡ tally_after keeper.tally (Refused cause) → Took (sunk mid has) (line_of keeper.lines (Refused cause)) → IsSafe reads moment may_leave left_since faults g (from.records ++ Refused cause ∷ []) first next
+      → (after : IsUnderWay reads moment may_leave left_since faults schedule g m later to sink (sunk had has) first next) × IsSettled after.running.requests to
+  late_ok schedule g m keeper later from to sink had mid has generation cause first disk next before kind traced scheduled lined tallied took safe =
+      let bounds = refused_lines keeper.lines cause in
+      let requests = before.now.running.requests in
+      let done = marked schedule g m keeper later from to sink had mid has (Refused cause) first disk next before.now refl (late_refusal_stands (plain_of m) requests cause before.cut (outside cause kind)) traced scheduled lined tallied took
+      (subst (λ (l : Progress). l.request ≤ suc keeper.lines.request) (sym lined) bounds.0) (ap (λ (l : Progress). l.drained) lined ∙ bounds.1) safe in
+      (done.0, inl (ap (λ (q : Requests). q.phase) done.1 ∙ refusal_ends schedule (plain_of m) requests cause (inr before.cut)))
+
+  pub late_broken : (schedule : Schedule) (g : Plain) (m : Machine) (keeper : Keeper) (from to : TraceState) (sink : Sunk) (had mid has : Option (List ℕ)) (generation : ℕ) (cause : Cause) (first disk next : D)
+      → (before : AtCut reads moment may_leave left_since faults schedule g m keeper from sink (sunk had mid) first disk generation) → IsOutside cause → to ≡ with_record from (Refused cause) → TookFront (sunk mid has) (line_of keeper.lines (Refused cause))
+      → IsSafe reads moment may_leave left_since faults g (from.records ++ Refused cause ∷ []) first next → IsBrokenOff reads moment may_leave left_since faults schedule g m to sink (sunk had has) first next
+  late_broken schedule g m keeper from to sink had mid has generation cause first disk next before kind traced front safe =
+      broken schedule g m keeper from to sink had mid has (Refused cause) first disk next before.now refl (late_refusal_stands (plain_of m) before.now.running.requests cause before.cut (outside cause kind)) traced front safe
+
+  -- what a crash leaves, by how the request ended
+  pub safe_open_refused : (g : Plain) (records : List Record) (cause : Cause) (first disk next : D) → ((d : D) (t : ℕ) (image : Folder) → t ≤ moment d → may_leave d image → left_since d t image)
+      → IsSafe reads moment may_leave left_since faults g records first disk → IsOutside cause → ChangesNothing reads moment may_leave left_since disk next → LeavesOnly moment left_since disk next (may_leave disk) → Counts (faults disk) (faults next)
+      → (cause ≡ DiskFault → Rose (faults disk) (faults next)) → IsSafe reads moment may_leave left_since faults g (records ++ Refused cause ∷ []) first next
+  safe_open_refused g records cause first disk next counts_now safe kind nothing leaves counts rose =
+      refusal_safe g records cause first disk next kind (safe_looked g records first disk next counts_now safe nothing leaves counts.later counts.small) safe.counted counts rose
+
+  pub safe_put_complete : (g state : Plain) (records : List Record) (generation : ℕ) (result : Result Known Cause) (done : Known) (first disk next : D)
+      → ((d : D) (t : ℕ) (image : Folder) → t ≤ moment d → may_leave d image → left_since d t image) → ((d : D) (files : Folder) → reads d ≡ Some files → may_leave d files)
+      → IsSafe reads moment may_leave left_since faults g records first disk → CutAt g records generation state → ForSome (reads disk) (λ files. IfSome (last files) (λ info. info.generation ≤ generation))
+      → result ≡ Ok done → IsPut reads moment may_leave left_since state generation result disk next → Counts (faults disk) (faults next) → IsSafe reads moment may_leave left_since faults g (records ++ Complete generation ∷ []) first next
+  safe_put_complete g state records generation result done first disk next counts_now reads_left safe cut above is put counts =
+      let safe_now = safe_put g state records generation put.images first disk next counts_now reads_left safe cut put.spelled above put.crash put.told counts.later counts.small in
+      let durable : ForSome (reads disk) (λ _. (image : Folder) → may_leave next image → HasSet (last_set image) generation put.images) = subst (λ (r : Result Known Cause). OnOk r (ForSome (reads disk) (λ _. (image : Folder) → may_leave next image → HasSet (last_set image) generation put.images))) is put.durable in
+      safe_complete g records generation put.images first next safe_now (λ files told. let here = some_there (reads first) (reads disk) files safe.told told in durable here.0 here.1)
+
+  pub safe_put_refused : (g state : Plain) (records : List Record) (generation : ℕ) (result : Result Known Cause) (cause : Cause) (first disk next : D)
+      → ((d : D) (t : ℕ) (image : Folder) → t ≤ moment d → may_leave d image → left_since d t image) → ((d : D) (files : Folder) → reads d ≡ Some files → may_leave d files)
+      → IsSafe reads moment may_leave left_since faults g records first disk → CutAt g records generation state → ForSome (reads disk) (λ files. IfSome (last files) (λ info. info.generation ≤ generation))
+      → IsOutside cause → IsPut reads moment may_leave left_since state generation result disk next → Counts (faults disk) (faults next) → (cause ≡ DiskFault → Rose (faults disk) (faults next))
+      → IsSafe reads moment may_leave left_since faults g (records ++ Refused cause ∷ []) first next
+  safe_put_refused g state records generation result cause first disk next counts_now reads_left safe cut above kind put counts rose =
+      refusal_safe g records cause first disk next kind (safe_put g state records generation put.images first disk next counts_now reads_left safe cut put.spelled above put.crash put.told counts.later counts.small) safe.counted counts rose
+
+  -- no memory for the images: the folder was not called
+  pub safe_no_images : (g : Plain) (records : List Record) (first disk next : D) → IsSafe reads moment may_leave left_since faults g records first disk → next ≡ disk → IsSafe reads moment may_leave left_since faults g (records ++ Refused Memory ∷ []) first next
+  safe_no_images g records first disk next safe same =
+      subst (λ (d : D). IsSafe reads moment may_leave left_since faults g (records ++ Refused Memory ∷ []) first d) (sym same) (safe_quiet g records (Refused Memory) first disk (not_complete (Refused Memory) (λ generation is. cc)) refl safe)
