@@ -86,10 +86,10 @@ pub record IsFrame (place : ℕ) (frame : Frame) : Type 0 where
 
 pub record IsThread (thread : ThreadPart) : Type 0 where
   pub regs : IsRegs thread.regs
-  pub mask : IsSignalSet thread.mask
+  pub mask : IsWord thread.mask
   pub clear_tid : IsWord thread.clear_tid
   pub count : length thread.contexts ≤ 64
-  pub contexts : All (λ context. IsRegs context.regs × IsSignalSet context.mask) thread.contexts
+  pub contexts : All (λ context. IsRegs context.regs × IsWord context.mask) thread.contexts
 
 pub record IsAction (action : SignalAction) : Type 0 where
   pub handler : IsWord action.handler
