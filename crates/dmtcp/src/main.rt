@@ -1,8 +1,8 @@
 //! The program `dmtcp`: the top call over the host's arguments, current folder and standard streams.
 //!
-//! Its words are those after the program's own name. Inputs are files of the current folder, the console is standard
-//! output, the log standard error. The trace is written to `dmtcp.trace` where it has a record; that this fails changes
-//! nothing else. The exit status is that of the top call.
+//! Its words are those after the program's own name. Inputs are files of the current folder, sets of checkpoints lie in
+//! its folder `dmtcp_set`, the console is standard output, the log standard error. The trace is written to `dmtcp.trace`
+//! where it has a record; that this fails changes nothing else. The exit status is that of the top call.
 //!
 //! The promise is the top call's, in the crate `dmtcp_top`. What is left here, and not proved, is that these arguments,
 //! files and streams are the ones handed in. A sole word `--help` or `--version` is answered here.
@@ -10,7 +10,8 @@
 
 use dmtcp_top::{Status, dmtcp};
 use edge_io::{HostInputs, HostSink, Sink};
-use std::alloc::Global;
+use set_disk::HostFolder;
+use std::alloc::{AllocError, Global};
 use std::env::Env;
 use std::process::ExitCode;
 use std::rt::Files;
@@ -20,7 +21,10 @@ use trace_log::Trace;
 /// Where the trace is written.
 const TRACE_FILE: &str = "dmtcp.trace";
 
-const HELP: &str = "dmtcp launch [--records M] 0:NAME\n";
+/// Where the sets of checkpoints lie.
+const SET_FOLDER: &str = "dmtcp_set";
+
+const HELP: &str = "dmtcp launch [--every K] [--records M] 0:NAME\ndmtcp restart [--every K] [--records M]\n";
 
 const VERSION: &str = "dmtcp 0.1.0\n";
 
@@ -34,6 +38,10 @@ fn main(rt: HostRuntime) -> ExitCode {
     if let Some(text) = greeting(words.as_slice()) {
         return ExitCode::from(said(text, &mut out).code());
     }
+    let mut disk = match HostFolder::new(&rt, rt.alloc(), SET_FOLDER) {
+        Ok(folder) => folder,
+        Err(AllocError) => return ExitCode::from(ended("memory\n", Status::Memory, &mut log).code()),
+    };
     let mut inputs = HostInputs::new(&rt);
     let mut trace = Trace::new(rt.alloc());
     let status = dmtcp(
@@ -43,6 +51,7 @@ fn main(rt: HostRuntime) -> ExitCode {
         &mut inputs,
         &mut out,
         &mut log,
+        &mut disk,
         &mut trace,
     );
     write_trace(&rt, &trace);
@@ -60,11 +69,15 @@ fn words_after_name<R: Env + Alloc<A = Global>>(rt: &R) -> io::Result<Vec<String
 
 /// The status where the words could not be read: those that are no text are none of the command line's.
 fn unreadable<L: Sink>(error: &io::Error, log: &mut L) -> Status {
-    let (line, status) = if error.kind() == io::ErrorKind::OutOfMemory {
-        ("memory\n", Status::Memory)
+    if error.kind() == io::ErrorKind::OutOfMemory {
+        ended("memory\n", Status::Memory, log)
     } else {
-        ("usage\n", Status::Usage)
-    };
+        ended("usage\n", Status::Usage, log)
+    }
+}
+
+/// The status of a call that ends with this last line.
+fn ended<L: Sink>(line: &str, status: Status, log: &mut L) -> Status {
     match log.put(line.as_bytes()) {
         Ok(()) => status,
         Err(_) => Status::SinkFault,

@@ -12,6 +12,10 @@ pub mod Turns
 pub mod Walks
 pub mod Starts
 pub mod Endings
+pub mod Conclusions
+pub mod SetLaws
+pub mod Decisions
+pub mod Arrivals
 pub mod Running
 pub mod Stillness
 pub mod Safety

@@ -11,3 +11,7 @@ pub mod RunEnds
 pub mod Running
 pub mod Keeping
 pub mod UnderWay
+pub mod Ends
+pub mod Endings
+pub mod Promise
+pub mod Loads

@@ -39,5 +39,9 @@ disk_fault_line = line (codes "disk fault")
 abbrev pub no_set_line : List ℕ
 no_set_line = line (codes "no set")
 
+-- as `2 at 51`
+abbrev pub place_text : Damage → List ℕ
+place_text damage = decimal damage.file ++ codes " at " ++ decimal damage.offset
+
 abbrev pub damaged_line : ℕ → Damage → List ℕ
-damaged_line slot damage = codes "damaged: slot " ++ decimal slot ++ codes " file " ++ decimal damage.file ++ codes " at " ++ decimal damage.offset ++ codes "\n"
+damaged_line slot damage = line (codes "damaged: slot " ++ decimal slot ++ codes " file " ++ place_text damage)

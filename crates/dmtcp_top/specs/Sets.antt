@@ -14,7 +14,7 @@ use Rattle.image_codec.specs.declared.shared.Shared.{Shared}
 use Rattle.image_codec.specs.Sets.{SpellsFiles, DamagedFiles, IsStateOf}
 use Rattle.image_store.specs.Slots.{last}
 use Rattle.image_store.specs.FoundSets.{FoundSet, last_set, HasSet, IsSet}
-use Rattle.image_store.specs.SetDamages.{HasDamage}
+use Rattle.image_store.specs.SetDamages.{IsFirstDamage}
 use Rattle.image_store.specs.declared.set_info.SetInfo.{SetInfo}
 
 pub record SpellsState (images : List (List ℕ)) (g : Plain) : Type 0 where
@@ -33,7 +33,7 @@ pub record SpoilsSet (files : Files) (slot : ℕ) (damage : Damage) : Type 0 whe
   pub found : FoundSet
   pub counts : last_set files ≡ Some found
   pub place : found.slot ≡ slot
-  pub damaged : HasDamage (last_set files) damage ⊎ ((images : List (List ℕ)) × (IsSet found found.generation images × DamagedFiles images damage.file damage.offset))
+  pub damaged : IsFirstDamage found damage ⊎ ((images : List (List ℕ)) × (IsSet found found.generation images × DamagedFiles images damage.file damage.offset))
 
 abbrev pub opening_of : Files → ℕ
 opening_of files = option_map_or (λ (info : SetInfo). info.generation) (last files) 0

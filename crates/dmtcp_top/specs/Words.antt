@@ -87,3 +87,8 @@ pub record IsRestart (words : List (List ℕ)) (settings : Settings) : Type 0 wh
 pub record AskNothing (words : List (List ℕ)) : Type 0 where
   pub launch : (name : List ℕ) (settings : Settings) → IsLaunch words name settings → ⊥
   pub restart : (settings : Settings) → IsRestart words settings → ⊥
+
+-- they ask for no checkpoint, and for no restart
+pub record MakesNoCheckpoints (words : List (List ℕ)) : Type 0 where
+  pub launch : (name : List ℕ) (settings : Settings) → IsLaunch words name settings → settings.every ≡ None
+  pub restart : (settings : Settings) → IsRestart words settings → ⊥

@@ -1,11 +1,17 @@
 //! Reduced.
 #![tactic(auto)]
 
+mod ending;
 mod job;
 mod keeper;
+mod loading;
 mod machine;
 mod rounds;
 mod run_end;
 mod settings;
 mod start;
 pub mod status;
+pub mod top_call;
+
+pub use status::Status;
+pub use top_call::{dmtcp, run_words};

@@ -1,0 +1,151 @@
+-- How a call comes to its end, from what its parts promise.
+--     usage_arrives             the words ask for nothing
+--     memory_arrives            no run was begun for want of memory
+--     launch_refused, restart_refused      no run was begun
+--     run_arrives               a run was begun, and came to its end
+use Rattle.std.proofs.Common.{◌≡◌, ◌≢◌, ℕ, zero, suc, true, List, [], ◌∷◌, ◌++◌, take, Option, Some, None, IfSome, inl, inr, refl, sym, ap, subst, ◌∙◌}
+use Rattle.std.specs.Prelude.{◌⊎◌}
+use Rattle.sys_abi.specs.declared.record.Record.{Record}
+use Rattle.edge_io.specs.Inputs.{Files}
+use Rattle.set_disk.specs.Files.{Files as Folder}
+use Rattle.plain_machine.specs.declared.plain.Plain.{Plain}
+use Rattle.trace_log.specs.declared.requests.Schedule.{Schedule}
+use Rattle.trace_log.specs.LogText.{log_text}
+use Rattle.dmtcp_top.specs.declared.ending.Ending.{Ending}
+use Rattle.dmtcp_top.specs.declared.ending.Ending.TheVariants.{Done, Usage, InputFault, Missing, BadElf, SinkFault, DiskFault, NoSet, Damaged, Budget, Memory}
+use Rattle.dmtcp_top.specs.declared.run_end.RunEnd.{RunEnd}
+use Rattle.dmtcp_top.specs.declared.run_end.RunEnd.TheVariants.{Done as RunDone, Budget as RunBudget, SinkFault as RunSinkFault, Memory as RunMemory}
+use Rattle.dmtcp_top.specs.declared.settings.Settings.{Settings}
+use Rattle.dmtcp_top.specs.declared.start.Start.{Start}
+use Rattle.dmtcp_top.specs.Words.{IsLaunch, IsRestart, AskNothing}
+use Rattle.dmtcp_top.specs.Log.{input_fault_line, missing_line, bad_program_line, budget_line}
+use Rattle.dmtcp_top.specs.Sessions.{Sunk, Session, session, Took, TookFront}
+use Rattle.dmtcp_top.specs.Sets.{SpellsSet}
+use Rattle.dmtcp_top.specs.Launches.{LaunchAsked, RestartAsked, Launched, Restarted, Begun, origin, settings_in, schedule_in, schedule_of, start_of}
+use Rattle.dmtcp_top.specs.Launches.Begun.{ByLaunch, ByRestart}
+use Rattle.dmtcp_top.specs.RunEnds.{EndsRun}
+use Rattle.dmtcp_top.specs.Ends.{NotBegun, IsAsked}
+use Rattle.dmtcp_top.specs.Ends.NeedsStore.{ToLaunch, ToRestart}
+use Rattle.dmtcp_top.specs.Endings.{Arrives}
+use Rattle.dmtcp_top.specs.Machines.{plain_of}
+use Rattle.dmtcp_top.specs.Loads.{IsLaunched, IsRestarted, RefusesLaunch, RefusesRestart}
+
+abbrev pub ending_by : RunEnd → ℕ → Ending
+ending_by RunDone records = Done
+ending_by RunBudget records = Budget records
+ending_by RunSinkFault records = SinkFault
+ending_by RunMemory records = Memory
+
+-- a trace of no records has no lines
+silent_log : (trace : List Record) (log : Sunk) → trace ≡ [] → Took log [] → Took log (log_text trace)
+silent_log trace log none took = subst (λ records. Took log (log_text records)) (sym none) took
+
+front_of_all : (log : Sunk) (lines : List ℕ) → lines ≡ [] → Took log [] → TookFront log lines
+front_of_all log lines none took = (zero, took)
+
+module _ (words : List (List ℕ)) (files : Option Files) (folder : Option Folder) (trace : List Record) (console log : Sunk) (none : trace ≡ []) (quiet : Took console []) (unlogged : Took log []) where
+  abbrev unbegun_call : Session
+  unbegun_call = session words files folder None trace console
+
+  unbegun : NotBegun unbegun_call
+  unbegun = record { start = refl; trace = none; console = quiet }
+
+  lines : Took log (log_text trace)
+  lines = silent_log trace log none unlogged
+
+  pub usage_arrives : AskNothing words → Arrives Usage unbegun_call log
+  usage_arrives nothing = ((unbegun, nothing, refl), lines)
+
+  pub launch_memory_arrives : (name : List ℕ) (settings : Settings) → IsLaunch words name settings → Arrives Memory unbegun_call log
+  launch_memory_arrives name settings launch = ((inl (unbegun, inl (record { name = name; settings = settings; words = launch })), refl), (zero, unlogged))
+
+  pub restart_memory_arrives : (settings : Settings) → IsRestart words settings → Arrives Memory unbegun_call log
+  restart_memory_arrives settings restart = ((inl (unbegun, inr (record { settings = settings; words = restart })), refl), (zero, unlogged))
+
+  pub launch_refused : (ending : Ending) (name : List ℕ) (settings : Settings) → IsLaunch words name settings → RefusesLaunch ending files name settings → Arrives ending unbegun_call log
+  launch_refused (InputFault who) name settings launch why = (record { nothing = unbegun; asked = record { name = name; settings = settings; words = launch }; line = ap input_fault_line why }, lines)
+  launch_refused (Missing who) name settings launch why =
+      (record { nothing = unbegun; asked = record { name = name; settings = settings; words = launch }; input = why.1; line = ap missing_line why.0 }, lines)
+  launch_refused (BadElf who fault) name settings launch why =
+      (record {
+        nothing = unbegun;
+        asked = record { name = name; settings = settings; words = launch };
+        file = why.1.0;
+        input = why.1.1.0;
+        fault = fault;
+        rule = why.1.1.1;
+        line = ap (λ who_is. bad_program_line who_is fault) why.0;
+      }, lines)
+  launch_refused DiskFault name settings launch why =
+      (record {
+        nothing = unbegun;
+        needs = ToLaunch (record { name = name; settings = settings; words = launch }) why.1.0 why.0 why.1.1.0 why.1.1.1;
+        line = refl;
+      }, lines)
+  launch_refused Memory name settings launch why = launch_memory_arrives name settings launch
+  launch_refused Done name settings launch why = absurd why
+  launch_refused Usage name settings launch why = absurd why
+  launch_refused SinkFault name settings launch why = absurd why
+  launch_refused NoSet name settings launch why = absurd why
+  launch_refused (Damaged slot damage) name settings launch why = absurd why
+  launch_refused (Budget number) name settings launch why = absurd why
+
+  pub restart_refused : (ending : Ending) (settings : Settings) → IsRestart words settings → RefusesRestart ending folder → Arrives ending unbegun_call log
+  restart_refused DiskFault settings restart why = (record { nothing = unbegun; needs = ToRestart (record { settings = settings; words = restart }); line = refl }, lines)
+  restart_refused NoSet settings restart why = (record { nothing = unbegun; asked = record { settings = settings; words = restart }; none = why; line = refl }, lines)
+  restart_refused (Damaged slot damage) settings restart why =
+      (record { nothing = unbegun; asked = record { settings = settings; words = restart }; slot = slot; damage = damage; spoilt = why; line = refl }, lines)
+  restart_refused Memory settings restart why = restart_memory_arrives settings restart
+  restart_refused Done settings restart why = absurd why
+  restart_refused Usage settings restart why = absurd why
+  restart_refused (InputFault who) settings restart why = absurd why
+  restart_refused (Missing who) settings restart why = absurd why
+  restart_refused (BadElf who fault) settings restart why = absurd why
+  restart_refused SinkFault settings restart why = absurd why
+  restart_refused (Budget number) settings restart why = absurd why
+
+module _ (words : List (List ℕ)) (files : Option Files) (folder : Option Folder) (trace : List Record) (console log : Sunk) (g : Plain) where
+  abbrev begun_call : Session
+  begun_call = session words files folder (Some g) trace console
+
+  -- a run that began so comes to its end so
+  arrives_by : (end : RunEnd) (begun : Begun begun_call) (records : ℕ) → g ≡ origin begun → (settings_in begun).records ≡ records → EndsRun end (schedule_in begun) (origin begun) (settings_in begun).records trace console log → Arrives (ending_by end records) begun_call log
+  arrives_by RunDone begun records from same ends = ((record { begun = begun; start = ap (λ state. Some state) from; run = ends.0 }, refl), ends.1)
+  arrives_by RunBudget begun records from same ends = (record { begun = begun; start = ap (λ state. Some state) from; run = ends.0; line = ap budget_line (sym same) }, ends.1)
+  arrives_by RunSinkFault begun records from same ends = record { run = record { begun = begun; start = ap (λ state. Some state) from; run = ends.0 }; took = ends.1 }
+  arrives_by RunMemory begun records from same ends = ((inr (record { begun = begun; start = ap (λ state. Some state) from; run = ends.0 }), refl), ends.1)
+
+pub launch_arrives : (words : List (List ℕ)) (files : Option Files) (folder : Option Folder) (trace : List Record) (console log : Sunk) (end : RunEnd) (start : Start) (name : List ℕ) (settings : Settings) (room : ℕ)
+    → IsLaunch words name settings → (launched : IsLaunched files folder name settings start) → room ≡ settings.records
+    → EndsRun end start.keeper.schedule (plain_of start.machine) room trace console log
+    → Arrives (ending_by end settings.records) (session words files folder (Some (plain_of start.machine)) trace console) log
+launch_arrives words files folder trace console log end start name settings room launch launched full ends =
+    let begun : Begun (session words files folder (Some (plain_of start.machine)) trace console) = ByLaunch (record {
+      asked = record { name = name; settings = settings; words = launch };
+      file = launched.file;
+      input = launched.input;
+      grammar = launched.grammar;
+      opening = launched.opening;
+      opened = launched.opened;
+    }) in
+    let scheduled = subst (λ schedule. EndsRun end schedule (plain_of start.machine) room trace console log) launched.keeper.schedule ends in
+    let roomy = subst (λ n. EndsRun end (schedule_of settings launched.opening) (plain_of start.machine) n trace console log) full scheduled in
+    arrives_by words files folder trace console log (plain_of start.machine) end begun settings.records launched.state refl
+    (subst (λ (g : Plain). EndsRun end (schedule_of settings launched.opening) g settings.records trace console log) launched.state roomy)
+
+pub restart_arrives : (words : List (List ℕ)) (files : Option Files) (folder : Option Folder) (trace : List Record) (console log : Sunk) (end : RunEnd) (start : Start) (settings : Settings) (room : ℕ)
+    → IsRestart words settings → (restarted : IsRestarted folder settings start) → room ≡ settings.records
+    → EndsRun end start.keeper.schedule (plain_of start.machine) room trace console log
+    → Arrives (ending_by end settings.records) (session words files folder (Some (plain_of start.machine)) trace console) log
+restart_arrives words files folder trace console log end start settings room restart restarted full ends =
+    let begun : Begun (session words files folder (Some (plain_of start.machine)) trace console) = ByRestart (record {
+      asked = record { settings = settings; words = restart };
+      generation = restarted.generation;
+      state = plain_of start.machine;
+      images = restarted.images;
+      spelled = restarted.spelled;
+      counted = restarted.counted;
+    }) in
+    let scheduled = subst (λ schedule. EndsRun end schedule (plain_of start.machine) room trace console log) restarted.keeper.schedule ends in
+    let roomy = subst (λ n. EndsRun end (schedule_of settings restarted.generation) (plain_of start.machine) n trace console log) full scheduled in
+    arrives_by words files folder trace console log (plain_of start.machine) end begun settings.records refl refl roomy

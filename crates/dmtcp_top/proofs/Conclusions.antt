@@ -1,0 +1,95 @@
+-- How a call ends, from how it came to its end and what became of the last line.
+use Rattle.std.proofs.Common.{◌≡◌, ◌≢◌, ℕ, zero, suc, List, [], ◌∷◌, ◌++◌, take, Option, inl, inr, refl, sym, ap, subst, ◌∙◌}
+use Rattle.edge_io.specs.Sink.{appended}
+use Rattle.trace_log.specs.LogText.{log_text}
+use Rattle.dmtcp_top.specs.declared.status.Status.{Status}
+use Rattle.dmtcp_top.specs.declared.status.Status.TheVariants.{SinkFault as IsSinkFault, Memory as IsMemory}
+use Rattle.dmtcp_top.specs.declared.ending.Ending.{Ending}
+use Rattle.dmtcp_top.specs.declared.ending.Ending.TheVariants.{Done, Usage, InputFault, Missing, BadElf, SinkFault, DiskFault, NoSet, Damaged, Budget, Memory}
+use Rattle.dmtcp_top.specs.Log.{memory_line}
+use Rattle.dmtcp_top.specs.Sessions.{Sunk, sunk, Session, Took, TookFront}
+use Rattle.dmtcp_top.specs.Ends.{Ends, Reaches, SinkFailed, LoggedPart, LogFailed}
+use Rattle.dmtcp_top.specs.Endings.{status_of, line_of, Arrives, Concludes}
+use Rattle.dmtcp_top.proofs.Sinks.{took_both, took_more}
+
+-- no first part of nothing is more than nothing
+take_of_nothing : (n : ℕ) (xs : List ℕ) → xs ≡ [] → take n xs ≡ []
+take_of_nothing zero xs is = refl
+take_of_nothing (suc n) xs is = ap (take (suc n)) is
+
+front_of_nothing : (sink : Sunk) → TookFront sink [] → Took sink []
+front_of_nothing sink front = front.1 ∙ ap (appended sink.before) (take_of_nothing front.0 [] refl)
+
+append_nothing : {A : Type 0} (xs : List A) → xs ++ [] ≡ xs
+append_nothing [] = refl
+append_nothing (x ∷ xs) = ap (λ rest. x ∷ rest) (append_nothing xs)
+
+module _ (session : Session) (had mid has : Option (List ℕ)) where
+  -- the last line came whole
+  reached_whole : (ending : Ending) → Reaches (status_of ending) session (line_of ending) → Took (sunk had mid) (log_text session.trace) → Took (sunk mid has) (line_of ending) → Took (sunk had has) (log_text session.trace ++ line_of ending)
+  reached_whole ending reached lines took = took_both had mid has (log_text session.trace) (line_of ending) lines took
+
+  -- a run that was cut off has no line
+  cut_off : SinkFailed session (sunk had mid) → Took (sunk mid has) [] → SinkFailed session (sunk had has)
+  cut_off there took = record {
+    run = there.run;
+    took = (there.took.0, took_both had mid has (take there.took.0 (log_text session.trace)) [] there.took.1 took ∙ ap (appended had) (append_nothing (take there.took.0 (log_text session.trace))));
+  }
+
+  -- the log failed at the last line
+  fails : (ending : Ending) → Reaches (status_of ending) session (line_of ending) → Took (sunk had mid) (log_text session.trace) → TookFront (sunk mid has) (line_of ending) → Ends IsSinkFault session (sunk had has)
+  fails ending reached lines front = inr (record {
+    status = status_of ending;
+    last = line_of ending;
+    reached = reached;
+    text = log_text session.trace;
+    lines = inl refl;
+    took = took_more had mid has (log_text session.trace) (line_of ending) lines front;
+  })
+
+  logged : (ending : Ending) → Arrives ending session (sunk had mid) → Took (sunk mid has) (line_of ending) → Ends (status_of ending) session (sunk had has)
+  logged Done there took = record { last = line_of Done; reached = there.0; took = reached_whole Done there.0 there.1 took }
+  logged Usage there took = record { last = line_of Usage; reached = there.0; took = reached_whole Usage there.0 there.1 took }
+  logged (InputFault name) there took = record { last = line_of (InputFault name); reached = there.0; took = reached_whole (InputFault name) there.0 there.1 took }
+  logged (Missing name) there took = record { last = line_of (Missing name); reached = there.0; took = reached_whole (Missing name) there.0 there.1 took }
+  logged (BadElf name fault) there took = record { last = line_of (BadElf name fault); reached = there.0; took = reached_whole (BadElf name fault) there.0 there.1 took }
+  logged SinkFault there took = inl (cut_off there took)
+  logged DiskFault there took = record { last = line_of DiskFault; reached = there.0; took = reached_whole DiskFault there.0 there.1 took }
+  logged NoSet there took = record { last = line_of NoSet; reached = there.0; took = reached_whole NoSet there.0 there.1 took }
+  logged (Damaged slot damage) there took = record { last = line_of (Damaged slot damage); reached = there.0; took = reached_whole (Damaged slot damage) there.0 there.1 took }
+  logged (Budget records) there took = record { last = line_of (Budget records); reached = there.0; took = reached_whole (Budget records) there.0 there.1 took }
+  logged Memory there took = record {
+    last = memory_line;
+    reached = there.0;
+    count = there.1.0;
+    took = took_both had mid has (take there.1.0 (log_text session.trace)) memory_line there.1.1 took;
+  }
+
+  cut : (ending : Ending) → Arrives ending session (sunk had mid) → TookFront (sunk mid has) (line_of ending) → Ends IsSinkFault session (sunk had has)
+  cut Done there front = fails Done there.0 there.1 front
+  cut Usage there front = fails Usage there.0 there.1 front
+  cut (InputFault name) there front = fails (InputFault name) there.0 there.1 front
+  cut (Missing name) there front = fails (Missing name) there.0 there.1 front
+  cut (BadElf name fault) there front = fails (BadElf name fault) there.0 there.1 front
+  cut SinkFault there front = inl (cut_off there (front_of_nothing (sunk mid has) front))
+  cut DiskFault there front = fails DiskFault there.0 there.1 front
+  cut NoSet there front = fails NoSet there.0 there.1 front
+  cut (Damaged slot damage) there front = fails (Damaged slot damage) there.0 there.1 front
+  cut (Budget records) there front = fails (Budget records) there.0 there.1 front
+  cut Memory there front = inr (record {
+    status = IsMemory;
+    last = memory_line;
+    reached = there.0;
+    text = take there.1.0 (log_text session.trace);
+    lines = inr (refl, (there.1.0, refl));
+    took = took_more had mid has (take there.1.0 (log_text session.trace)) memory_line there.1.1 front;
+  })
+
+pub call_ends : (ending : Ending) (status : Status) (session : Session) (had mid has : Option (List ℕ)) → Arrives ending session (sunk had mid) → Concludes ending status (sunk mid has) → Ends status session (sunk had has)
+call_ends ending status session had mid has arrives (inl whole) = subst (λ s. Ends s session (sunk had has)) (sym whole.0) (logged session had mid has ending arrives whole.1)
+call_ends ending status session had mid has arrives (inr failed) = subst (λ s. Ends s session (sunk had has)) (sym failed.0) (cut session had mid has ending arrives failed.1)
+
+-- the status is the one that the call came to, but for a sink's fault
+pub status_kept : (ending : Ending) (status wanted : Status) (log : Sunk) → Concludes ending status log → wanted ≢ IsSinkFault → status ≡ wanted → status_of ending ≡ wanted
+status_kept ending status wanted log (inl whole) other is = sym whole.0 ∙ is
+status_kept ending status wanted log (inr failed) other is = absurd (other (sym is ∙ failed.0))

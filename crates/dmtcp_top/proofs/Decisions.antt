@@ -1,0 +1,264 @@
+-- Which status comes where nothing outside failed: by what the call was given.
+use Rattle.std.proofs.Common.{◌≡◌, ◌≢◌, ℕ, List, [], ◌∷◌, ◌++◌, Option, Some, None, IfSome, inl, inr, refl, sym, ap, subst, ◌∙◌, drop}
+use Rattle.std.specs.Prelude.{◌⊎◌, ◌↔◌, codes}
+use Rattle.std.specs.FinMap as map
+use Rattle.sys_abi.specs.declared.record.Record.{Record}
+use Rattle.edge_io.specs.Inputs.{Files}
+use Rattle.elf32.specs.Rules.{first_fault}
+use Rattle.set_disk.specs.Files.{Files as Folder}
+use Rattle.plain_machine.specs.declared.plain.Plain.{Plain}
+use Rattle.image_codec.specs.declared.damage.Damage.{Damage}
+use Rattle.image_store.specs.Slots.{last as set_that_counts}
+use Rattle.dmtcp_top.specs.declared.status.Status.{Status}
+use Rattle.dmtcp_top.specs.declared.status.Status.TheVariants.{Done, Usage, InputFault, Missing, BadElf, SinkFault, DiskFault, NoSet, Damaged, Budget, Memory}
+use Rattle.dmtcp_top.specs.declared.settings.Settings.{Settings}
+use Rattle.dmtcp_top.specs.Words.{IsLaunch, IsRestart, AskNothing, program_word}
+use Rattle.dmtcp_top.specs.Sets.{SpellsSet, SpoilsSet}
+use Rattle.dmtcp_top.specs.Sessions.{Sunk, Session, session, IsInput}
+use Rattle.dmtcp_top.specs.Launches.{LaunchAsked, RestartAsked, Launched, Restarted, Begun}
+use Rattle.dmtcp_top.specs.Launches.Begun.{ByLaunch, ByRestart}
+use Rattle.dmtcp_top.specs.Ends.{Ends, IsAsked, IsDecided, Reaches, RunsOn, NeedsStore}
+use Rattle.dmtcp_top.specs.Ends.NeedsStore.{ToLaunch, ToRestart}
+use Rattle.dmtcp_top.proofs.SetLaws.{SetLaws, none_spelled, none_spoilt, spelled_or_spoilt}
+
+-- words ask for one launch at most
+last_from : List ℕ → List (List ℕ) → List ℕ
+last_from word [] = word
+last_from word (next ∷ rest) = last_from next rest
+
+last_of : (word : List ℕ) (options : List (List ℕ)) (program : List ℕ) → last_from word (options ++ program ∷ []) ≡ program
+unfolding last_from
+last_of word [] program = refl
+last_of word (option ∷ options) program = last_of option options program
+
+last_of_launch : (words : List (List ℕ)) (name : List ℕ) (settings : Settings) → IsLaunch words name settings → last_from [] words ≡ program_word name
+unfolding last_from
+last_of_launch words name settings launch = ap (last_from []) launch.form ∙ last_of (codes "launch") launch.options (program_word name)
+
+same_name : (name other : List ℕ) → program_word name ≡ program_word other → name ≡ other
+same_name name other is = ap (drop 2) is
+
+pub one_name : (words : List (List ℕ)) (name other : List ℕ) (settings set : Settings) → IsLaunch words name settings → IsLaunch words other set → name ≡ other
+one_name words name other settings set first second = same_name name other (sym (last_of_launch words name settings first) ∙ last_of_launch words other set second)
+
+-- no words ask for both
+differ : (a b : List (List ℕ)) → codes "launch" ∷ a ≡ codes "restart" ∷ b → ⊥
+differ a b is = cc
+
+pub not_both : (words : List (List ℕ)) (name : List ℕ) (settings set : Settings) → IsLaunch words name settings → IsRestart words set → ⊥
+not_both words name settings set launch restart = differ _ _ (sym launch.form ∙ restart.form)
+
+none_some : {A P : Type 0} (a : A) → None ≡ Some a → P
+none_some a is = cc
+
+inner : {A : Type 0} (a b : A) → Some a ≡ Some b → a ≡ b
+inner a b is = cc
+
+told : {A : Type 0} (P : A → Type 0) (o : Option A) (a : A) → o ≡ Some a → IfSome o P → P a
+told P o a is holds = subst (λ (p : Option _). IfSome p P) is holds
+
+module _ (called : Session) (line : List ℕ) where
+  against_both : {P : Type 0} → LaunchAsked called → RestartAsked called → P
+  against_both launch restart = absurd (not_both called.words launch.name launch.settings restart.settings launch.words restart.words)
+
+  none_launched : {P : Type 0} → LaunchAsked called → AskNothing called.words → P
+  none_launched asked nothing = absurd (nothing.launch asked.name asked.settings asked.words)
+
+  none_restarted : {P : Type 0} → RestartAsked called → AskNothing called.words → P
+  none_restarted asked nothing = absurd (nothing.restart asked.settings asked.words)
+
+  none_asked : {P : Type 0} → IsAsked called → AskNothing called.words → P
+  none_asked (inl launch) nothing = none_launched launch nothing
+  none_asked (inr restart) nothing = none_restarted restart nothing
+
+  none_needed : {P : Type 0} → NeedsStore called → AskNothing called.words → P
+  none_needed (ToLaunch asked file every input fine) nothing = none_launched asked nothing
+  none_needed (ToRestart asked) nothing = none_restarted asked nothing
+
+  none_begun : {P : Type 0} → Begun called → AskNothing called.words → P
+  none_begun (ByLaunch launched) nothing = none_launched launched.asked nothing
+  none_begun (ByRestart restarted) nothing = none_restarted restarted.asked nothing
+
+  usage_decided : (status : Status) → Reaches status called line → (status ≡ Usage) ↔ AskNothing called.words
+  usage_decided status reached = (to status reached, from status reached)
+    where
+      to : (s : Status) → Reaches s called line → s ≡ Usage → AskNothing called.words
+      to Usage r is = r.1
+      to Done r is = absurd (cc)
+      to InputFault r is = absurd (cc)
+      to Missing r is = absurd (cc)
+      to BadElf r is = absurd (cc)
+      to SinkFault r is = absurd (cc)
+      to DiskFault r is = absurd (cc)
+      to NoSet r is = absurd (cc)
+      to Damaged r is = absurd (cc)
+      to Budget r is = absurd (cc)
+      to Memory r is = absurd (cc)
+
+      from : (s : Status) → Reaches s called line → AskNothing called.words → s ≡ Usage
+      from Usage r nothing = refl
+      from Done r nothing = none_begun r.0.begun nothing
+      from InputFault r nothing = none_launched r.asked nothing
+      from Missing r nothing = none_launched r.asked nothing
+      from BadElf r nothing = none_launched r.asked nothing
+      from SinkFault r nothing = absurd r
+      from DiskFault r nothing = none_needed r.needs nothing
+      from NoSet r nothing = none_restarted r.asked nothing
+      from Damaged r nothing = none_restarted r.asked nothing
+      from Budget r nothing = none_begun r.begun nothing
+      from Memory (inl unbegun, is) nothing = none_asked unbegun.1 nothing
+      from Memory (inr cut, is) nothing = none_begun cut.begun nothing
+
+  -- the file of the other name is the same
+  module _ (held : Files) (asked : LaunchAsked called) (holds : called.files ≡ Some held) where
+    same_input : (other : LaunchAsked called) (content : Option (List ℕ)) → IsInput called.files other.name content → map.get held asked.name ≡ content
+    same_input other content input =
+        ap (map.get held) (one_name called.words asked.name other.name asked.settings other.settings asked.words other.words) ∙ input held holds
+
+    -- a run began with a file that is a program
+    begun_file : {P : Type 0} → Begun called → ((file : List ℕ) → map.get held asked.name ≡ Some file → first_fault file ≡ None → P) → P
+    begun_file (ByLaunch launched) next = next launched.file (same_input launched.asked (Some launched.file) launched.input) launched.grammar
+    begun_file (ByRestart restarted) next = against_both asked restarted.asked
+
+    no_file : {P : Type 0} → Begun called → map.get held asked.name ≡ None → P
+    no_file begun none = begun_file begun (λ file is fine. none_some file (sym none ∙ is))
+
+    bad_file : {P : Type 0} (content : List ℕ) → Begun called → map.get held asked.name ≡ Some content → first_fault content ≢ None → P
+    bad_file content begun is breaks = begun_file begun (λ file there fine. absurd (breaks (ap first_fault (inner content file (sym is ∙ there)) ∙ fine)))
+
+    missing_decided : (status : Status) → Reaches status called line → status ≢ InputFault → status ≢ DiskFault → status ≢ Memory → (status ≡ Missing) ↔ (map.get held asked.name ≡ None)
+    missing_decided Done r fault disk memory = (λ is. absurd (cc), λ none. no_file r.0.begun none)
+    missing_decided Usage r fault disk memory = (λ is. absurd (cc), λ none. none_launched asked r.1)
+    missing_decided InputFault r fault disk memory = absurd (fault refl)
+    missing_decided Missing r fault disk memory = (λ is. same_input r.asked None r.input, λ none. refl)
+    missing_decided BadElf r fault disk memory = (λ is. absurd (cc), λ none. none_some r.file (sym none ∙ same_input r.asked (Some r.file) r.input))
+    missing_decided SinkFault r fault disk memory = absurd r
+    missing_decided DiskFault r fault disk memory = absurd (disk refl)
+    missing_decided NoSet r fault disk memory = (λ is. absurd (cc), λ none. against_both asked r.asked)
+    missing_decided Damaged r fault disk memory = (λ is. absurd (cc), λ none. against_both asked r.asked)
+    missing_decided Budget r fault disk memory = (λ is. absurd (cc), λ none. no_file r.begun none)
+    missing_decided Memory r fault disk memory = absurd (memory refl)
+
+    module _ (file : List ℕ) (is : map.get held asked.name ≡ Some file) where
+      bad_decided : (status : Status) → Reaches status called line → status ≢ InputFault → status ≢ DiskFault → status ≢ Memory → (status ≡ BadElf) ↔ (first_fault file ≢ None)
+      bad_decided Done r fault disk memory = (λ e. absurd (cc), λ breaks. bad_file file r.0.begun is breaks)
+      bad_decided Usage r fault disk memory = (λ e. absurd (cc), λ breaks. none_launched asked r.1)
+      bad_decided InputFault r fault disk memory = absurd (fault refl)
+      bad_decided Missing r fault disk memory = (λ e. absurd (cc), λ breaks. none_some file (sym (same_input r.asked None r.input) ∙ is))
+      bad_decided BadElf r fault disk memory = (λ e. λ fine. none_some r.fault (sym fine ∙ ap first_fault (inner file r.file (sym is ∙ same_input r.asked (Some r.file) r.input)) ∙ r.rule), λ breaks. refl)
+      bad_decided SinkFault r fault disk memory = absurd r
+      bad_decided DiskFault r fault disk memory = absurd (disk refl)
+      bad_decided NoSet r fault disk memory = (λ e. absurd (cc), λ breaks. against_both asked r.asked)
+      bad_decided Damaged r fault disk memory = (λ e. absurd (cc), λ breaks. against_both asked r.asked)
+      bad_decided Budget r fault disk memory = (λ e. absurd (cc), λ breaks. bad_file file r.begun is breaks)
+      bad_decided Memory r fault disk memory = absurd (memory refl)
+
+      launch_decided : (status : Status) → Reaches status called line → status ≢ InputFault → status ≢ DiskFault → first_fault file ≡ None → RunsOn status
+      launch_decided Done r fault disk fine = inl refl
+      launch_decided Usage r fault disk fine = none_launched asked r.1
+      launch_decided InputFault r fault disk fine = absurd (fault refl)
+      launch_decided Missing r fault disk fine = none_some file (sym (same_input r.asked None r.input) ∙ is)
+      launch_decided BadElf r fault disk fine = none_some r.fault (sym fine ∙ ap first_fault (inner file r.file (sym is ∙ same_input r.asked (Some r.file) r.input)) ∙ r.rule)
+      launch_decided SinkFault r fault disk fine = absurd r
+      launch_decided DiskFault r fault disk fine = absurd (disk refl)
+      launch_decided NoSet r fault disk fine = against_both asked r.asked
+      launch_decided Damaged r fault disk fine = against_both asked r.asked
+      launch_decided Budget r fault disk fine = inr (inl refl)
+      launch_decided Memory r fault disk fine = inr (inr refl)
+
+  module _ (files : Folder) (asked : RestartAsked called) (reads : called.folder ≡ Some files) where
+    -- a run began with the state that the folder's set spells
+    begun_set : {P : Type 0} → Begun called → ((generation : ℕ) (g : Plain) → SpellsSet files generation g → P) → P
+    begun_set (ByLaunch launched) next = against_both launched.asked asked
+    begun_set (ByRestart restarted) next = next restarted.generation restarted.state (told (λ there. SpellsSet there restarted.generation restarted.state) called.folder files reads restarted.counted)
+
+    no_set : {P : Type 0} → Begun called → set_that_counts files ≡ None → P
+    no_set begun none = begun_set begun (λ generation g spells. absurd (none_spelled files generation g none spells))
+
+    setless_decided : (status : Status) → Reaches status called line → status ≢ DiskFault → status ≢ Memory → (status ≡ NoSet) ↔ (set_that_counts files ≡ None)
+    setless_decided Done r disk memory = (λ is. absurd (cc), λ none. no_set r.0.begun none)
+    setless_decided Usage r disk memory = (λ is. absurd (cc), λ none. none_restarted asked r.1)
+    setless_decided InputFault r disk memory = (λ is. absurd (cc), λ none. against_both r.asked asked)
+    setless_decided Missing r disk memory = (λ is. absurd (cc), λ none. against_both r.asked asked)
+    setless_decided BadElf r disk memory = (λ is. absurd (cc), λ none. against_both r.asked asked)
+    setless_decided SinkFault r disk memory = absurd r
+    setless_decided DiskFault r disk memory = absurd (disk refl)
+    setless_decided NoSet r disk memory = (λ is. told (λ there. set_that_counts there ≡ None) called.folder files reads r.none, λ none. refl)
+    setless_decided Damaged r disk memory =
+        (λ is. absurd (cc), λ none. absurd (none_spoilt files r.slot r.damage none (told (λ there. SpoilsSet there r.slot r.damage) called.folder files reads r.spoilt)))
+    setless_decided Budget r disk memory = (λ is. absurd (cc), λ none. no_set r.begun none)
+    setless_decided Memory r disk memory = absurd (memory refl)
+
+    module _ (laws : SetLaws) where
+      spoilt_decided : (slot : ℕ) (damage : Damage) → SpoilsSet files slot damage → (status : Status) → Reaches status called line → status ≢ DiskFault → status ≢ Memory → status ≡ Damaged
+      spoilt_decided slot damage spoils Done r disk memory = begun_set r.0.begun (λ generation g spells. absurd (spelled_or_spoilt laws files generation g slot damage spells spoils))
+      spoilt_decided slot damage spoils Usage r disk memory = none_restarted asked r.1
+      spoilt_decided slot damage spoils InputFault r disk memory = against_both r.asked asked
+      spoilt_decided slot damage spoils Missing r disk memory = against_both r.asked asked
+      spoilt_decided slot damage spoils BadElf r disk memory = against_both r.asked asked
+      spoilt_decided slot damage spoils SinkFault r disk memory = absurd r
+      spoilt_decided slot damage spoils DiskFault r disk memory = absurd (disk refl)
+      spoilt_decided slot damage spoils NoSet r disk memory =
+          absurd (none_spoilt files slot damage (told (λ there. set_that_counts there ≡ None) called.folder files reads r.none) spoils)
+      spoilt_decided slot damage spoils Damaged r disk memory = refl
+      spoilt_decided slot damage spoils Budget r disk memory = begun_set r.begun (λ generation g spells. absurd (spelled_or_spoilt laws files generation g slot damage spells spoils))
+      spoilt_decided slot damage spoils Memory r disk memory = absurd (memory refl)
+
+      restart_decided : (generation : ℕ) (g : Plain) → SpellsSet files generation g → (status : Status) → Reaches status called line → status ≢ DiskFault → RunsOn status
+      restart_decided generation g spells Done r disk = inl refl
+      restart_decided generation g spells Usage r disk = none_restarted asked r.1
+      restart_decided generation g spells InputFault r disk = against_both r.asked asked
+      restart_decided generation g spells Missing r disk = against_both r.asked asked
+      restart_decided generation g spells BadElf r disk = against_both r.asked asked
+      restart_decided generation g spells SinkFault r disk = absurd r
+      restart_decided generation g spells DiskFault r disk = absurd (disk refl)
+      restart_decided generation g spells NoSet r disk =
+          absurd (none_spelled files generation g (told (λ there. set_that_counts there ≡ None) called.folder files reads r.none) spells)
+      restart_decided generation g spells Damaged r disk =
+          absurd (spelled_or_spoilt laws files generation g r.slot r.damage spells (told (λ there. SpoilsSet there r.slot r.damage) called.folder files reads r.spoilt))
+      restart_decided generation g spells Budget r disk = inr (inl refl)
+      restart_decided generation g spells Memory r disk = inr (inr refl)
+
+  decided_by : SetLaws → (status : Status) → Reaches status called line → status ≢ InputFault → status ≢ DiskFault → IsDecided status called
+  decided_by laws status reached fault disk = record {
+    usage = usage_decided status reached;
+    missing = λ held asked holds memory. missing_decided held asked holds status reached fault disk memory;
+    bad = λ held asked file holds is memory. bad_decided held asked holds file is status reached fault disk memory;
+    launches = λ held asked file holds is fine. launch_decided held asked holds file is status reached fault disk fine;
+    setless = λ files asked reads memory. setless_decided files asked reads status reached disk memory;
+    spoilt = λ files slot damage asked reads spoils memory. spoilt_decided files asked reads laws slot damage spoils status reached disk memory;
+    restarts = λ files generation g asked reads spells. restart_decided files asked reads laws generation g spells status reached disk;
+  }
+
+pub decided : SetLaws → (status : Status) (called : Session) (log : Sunk) → Ends status called log → status ≢ InputFault → status ≢ SinkFault → status ≢ DiskFault → IsDecided status called
+decided laws Done called log ends fault sink disk = decided_by called ends.last laws Done ends.reached fault disk
+decided laws Usage called log ends fault sink disk = decided_by called ends.last laws Usage ends.reached fault disk
+decided laws InputFault called log ends fault sink disk = absurd (fault refl)
+decided laws Missing called log ends fault sink disk = decided_by called ends.last laws Missing ends.reached fault disk
+decided laws BadElf called log ends fault sink disk = decided_by called ends.last laws BadElf ends.reached fault disk
+decided laws SinkFault called log ends fault sink disk = absurd (sink refl)
+decided laws DiskFault called log ends fault sink disk = absurd (disk refl)
+decided laws NoSet called log ends fault sink disk = decided_by called ends.last laws NoSet ends.reached fault disk
+decided laws Damaged called log ends fault sink disk = decided_by called ends.last laws Damaged ends.reached fault disk
+decided laws Budget called log ends fault sink disk = decided_by called ends.last laws Budget ends.reached fault disk
+decided laws Memory called log ends fault sink disk = decided_by called ends.last laws Memory ends.reached fault disk
+
+-- with whatever state a run began
+module _ (words : List (List ℕ)) (files : Option Files) (folder : Option Folder) (start other : Option Plain) (trace : List Record) (console : Sunk) where
+  launch_asked : LaunchAsked (session words files folder other trace console) → LaunchAsked (session words files folder start trace console)
+  launch_asked asked = record { name = asked.name; settings = asked.settings; words = asked.words }
+
+  restart_asked : RestartAsked (session words files folder other trace console) → RestartAsked (session words files folder start trace console)
+  restart_asked asked = record { settings = asked.settings; words = asked.words }
+
+  pub decided_anyhow : (status : Status) → IsDecided status (session words files folder start trace console) → IsDecided status (session words files folder other trace console)
+  unfolding launch_asked
+  decided_anyhow status is = record {
+    usage = is.usage;
+    missing = λ held asked. is.missing held (launch_asked asked);
+    bad = λ held asked. is.bad held (launch_asked asked);
+    launches = λ held asked. is.launches held (launch_asked asked);
+    setless = λ there asked. is.setless there (restart_asked asked);
+    spoilt = λ there slot damage asked. is.spoilt there slot damage (restart_asked asked);
+    restarts = λ there generation g asked. is.restarts there generation g (restart_asked asked);
+  }

@@ -1,0 +1,44 @@
+-- What a folder's set spells, it spells in one way, and no set both spells a state and is damaged.
+use Rattle.std.proofs.Common.{◌≡◌, ℕ, List, Option, Some, None, inl, inr, sym, ap, subst, ◌∙◌}
+use Rattle.std.specs.Prelude.{◌⊎◌, option_map}
+use Rattle.set_disk.specs.Files.{Files}
+use Rattle.plain_machine.specs.declared.plain.Plain.{Plain}
+use Rattle.image_codec.specs.declared.damage.Damage.{Damage}
+use Rattle.image_codec.specs.declared.process_image.ProcImage.{ProcImage}
+use Rattle.image_codec.specs.declared.shared.Shared.{Shared}
+use Rattle.image_codec.specs.Sets.{SpellsFiles, DamagedFiles}
+use Rattle.image_store.specs.Slots.{last}
+use Rattle.image_store.specs.FoundSets.{FoundSet, set_of, last_set, IsSet, HasSet}
+use Rattle.image_store.specs.SetDamages.{IsFirstDamage, HasDamage}
+use Rattle.dmtcp_top.specs.Sets.{SpellsSet, SpoilsSet}
+
+pub record SetLaws : Type 0 where
+  pub one : (found : Option FoundSet) (g h : ℕ) (images others : List (List ℕ)) → HasSet found g images → HasSet found h others → images ≡ others
+  pub whole : (found : Option FoundSet) (g : ℕ) (images : List (List ℕ)) (damage : Damage) → HasSet found g images → HasDamage found damage → ⊥
+  pub apart : (images : List (List ℕ)) (file n : ℕ) (shared : Shared) (processes : List ProcImage) → SpellsFiles images shared processes → DamagedFiles images file n → ⊥
+
+no_some : {A : Type 0} (a : A) → None ≡ Some a → ⊥
+no_some a is = cc
+
+-- where no set counts there is none to look into
+no_set_there : (files : Files) (found : FoundSet) → last files ≡ None → last_set files ≡ Some found → ⊥
+unfolding last_set
+no_set_there files found none some = no_some found (sym (ap (option_map (set_of files)) none) ∙ some)
+
+pub none_spelled : (files : Files) (generation : ℕ) (g : Plain) → last files ≡ None → SpellsSet files generation g → ⊥
+none_spelled files generation g none spells = no_set_there files spells.counts.0 none spells.counts.1
+
+pub none_spoilt : (files : Files) (slot : ℕ) (damage : Damage) → last files ≡ None → SpoilsSet files slot damage → ⊥
+none_spoilt files slot damage none spoils = no_set_there files spoils.found none spoils.counts
+
+pub spelled_or_spoilt : SetLaws → (files : Files) (generation : ℕ) (g : Plain) (slot : ℕ) (damage : Damage) → SpellsSet files generation g → SpoilsSet files slot damage → ⊥
+spelled_or_spoilt laws files generation g slot damage spells spoils = by spoils.damaged
+  where
+    by : IsFirstDamage spoils.found damage ⊎ ((images : List (List ℕ)) × (IsSet spoils.found spoils.found.generation images × DamagedFiles images damage.file damage.offset)) → ⊥
+    by (inl broken) = laws.whole (last_set files) generation spells.images damage spells.counts (spoils.found, spoils.counts, broken)
+    by (inr (images, spoilt)) =
+        let same : spells.images ≡ images = laws.one (last_set files) generation spoils.found.generation spells.images images spells.counts (spoils.found, spoils.counts, spoilt.0) in
+        laws.apart images damage.file damage.offset spells.state.shared spells.state.processes (subst (λ files. SpellsFiles files spells.state.shared spells.state.processes) same spells.state.spelled) spoilt.1
+
+pub set_laws : SetLaws
+set_laws = ?

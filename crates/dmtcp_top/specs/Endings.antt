@@ -1,0 +1,47 @@
+-- How a call comes to its end, before the log has its last line.
+--     status_of ending, line_of ending     its status and its last line
+--     Arrives ending session log           what holds there
+--     Concludes ending status log          the status that it gets when the line has been put
+use Rattle.std.specs.Prelude.{◌≡◌, ℕ, ◌⊎◌, List, [], take}
+use Rattle.trace_log.specs.LogText.{log_text}
+use Rattle.dmtcp_top.specs.declared.status.Status.{Status}
+use Rattle.dmtcp_top.specs.declared.status.Status.TheVariants.{Done as IsDone, Usage as IsUsage, InputFault as IsInputFault, Missing as IsMissing, BadElf as IsBadElf, SinkFault as IsSinkFault, DiskFault as IsDiskFault, NoSet as IsNoSet, Damaged as IsDamaged, Budget as IsBudget, Memory as IsMemory}
+use Rattle.dmtcp_top.specs.declared.ending.Ending.{Ending}
+use Rattle.dmtcp_top.specs.declared.ending.Ending.TheVariants.{Done, Usage, InputFault, Missing, BadElf, SinkFault, DiskFault, NoSet, Damaged, Budget, Memory}
+use Rattle.dmtcp_top.specs.Log.{done_line, usage_line, input_fault_line, missing_line, bad_program_line, disk_fault_line, no_set_line, damaged_line, budget_line, memory_line}
+use Rattle.dmtcp_top.specs.Sessions.{Sunk, Session, Took, TookFront}
+use Rattle.dmtcp_top.specs.Ends.{Reaches, SinkFailed}
+
+abbrev pub status_of : Ending → Status
+status_of Done = IsDone
+status_of Usage = IsUsage
+status_of (InputFault name) = IsInputFault
+status_of (Missing name) = IsMissing
+status_of (BadElf name fault) = IsBadElf
+status_of SinkFault = IsSinkFault
+status_of DiskFault = IsDiskFault
+status_of NoSet = IsNoSet
+status_of (Damaged slot damage) = IsDamaged
+status_of (Budget records) = IsBudget
+status_of Memory = IsMemory
+
+abbrev pub line_of : Ending → List ℕ
+line_of Done = done_line
+line_of Usage = usage_line
+line_of (InputFault name) = input_fault_line name.now
+line_of (Missing name) = missing_line name.now
+line_of (BadElf name fault) = bad_program_line name.now fault
+line_of SinkFault = []
+line_of DiskFault = disk_fault_line
+line_of NoSet = no_set_line
+line_of (Damaged slot damage) = damaged_line slot damage
+line_of (Budget records) = budget_line records
+line_of Memory = memory_line
+
+abbrev pub Arrives : Ending → Session → Sunk → Type 0
+Arrives SinkFault session log = SinkFailed session log
+Arrives Memory session log = Reaches IsMemory session memory_line × TookFront log (log_text session.trace)
+Arrives ending session log = Reaches (status_of ending) session (line_of ending) × Took log (log_text session.trace)
+
+abbrev pub Concludes : Ending → Status → Sunk → Type 0
+Concludes ending status log = ((status ≡ status_of ending) × Took log (line_of ending)) ⊎ ((status ≡ IsSinkFault) × TookFront log (line_of ending))

@@ -1,0 +1,162 @@
+-- How a call ends: for each status what holds of the trace, the console and the log, in one line.
+--     Reaches status session last     the call came to this status, with which this last line belongs on the log
+--     Ends status session log         the same with what the log took
+--     IsDecided status session        which status comes where nothing outside failed
+use Rattle.std.specs.Prelude.{◌≡◌, ◌≢◌, ℕ, ◌⊎◌, ◌↔◌, true, false, List, [], ◌++◌, length, take, Some, None, IfSome}
+use Rattle.std.specs.FinMap as map
+use Rattle.elf32.specs.declared.fault.ElfFault.{ElfFault}
+use Rattle.elf32.specs.Rules.{first_fault}
+use Rattle.edge_io.specs.Inputs.{Files}
+use Rattle.set_disk.specs.Files.{Files as Folder}
+use Rattle.plain_machine.specs.declared.plain.Plain.{Plain}
+use Rattle.image_codec.specs.declared.damage.Damage.{Damage}
+use Rattle.image_store.specs.Slots.{last as set_that_counts}
+use Rattle.trace_log.specs.LogText.{log_text}
+use Rattle.dmtcp_top.specs.declared.status.Status.{Status}
+use Rattle.dmtcp_top.specs.declared.status.Status.TheVariants.{Done, Usage, InputFault, Missing, BadElf, SinkFault, DiskFault, NoSet, Damaged, Budget, Memory}
+use Rattle.dmtcp_top.specs.declared.settings.Settings.{Settings}
+use Rattle.dmtcp_top.specs.Words.{AskNothing}
+use Rattle.dmtcp_top.specs.Log.{done_line, usage_line, input_fault_line, missing_line, bad_program_line, disk_fault_line, no_set_line, damaged_line, budget_line, memory_line}
+use Rattle.dmtcp_top.specs.Sessions.{Sunk, Session, Took, TookFront, IsInput}
+use Rattle.dmtcp_top.specs.Sets.{SpellsSet, SpoilsSet}
+use Rattle.dmtcp_top.specs.Launches.{LaunchAsked, RestartAsked, Begun, origin, settings_in, schedule_in}
+use Rattle.dmtcp_top.specs.RunEnds.{RanOut, FilledUp, CutShort}
+
+-- nobody lives at the end of the run that the trace is, and the console took what the run writes
+pub record Finished (session : Session) : Type 0 where
+  pub begun : Begun session
+  pub start : session.start ≡ Some (origin begun)
+  pub run : RanOut (schedule_in begun) (origin begun) (settings_in begun).records session.trace session.console
+
+-- the trace is full, somebody lives, and the console took what the run writes
+pub record Spent (session : Session) (last : List ℕ) : Type 0 where
+  pub begun : Begun session
+  pub start : session.start ≡ Some (origin begun)
+  pub run : FilledUp (schedule_in begun) (origin begun) (settings_in begun).records session.trace session.console
+  pub line : last ≡ budget_line (settings_in begun).records
+
+-- the run was cut off, and the console took a first part of what it writes
+pub record CutOff (session : Session) : Type 0 where
+  pub begun : Begun session
+  pub start : session.start ≡ Some (origin begun)
+  pub run : CutShort (schedule_in begun) (origin begun) (settings_in begun).records session.trace session.console
+
+-- no run was begun: the trace is empty, and the console took nothing
+pub record NotBegun (session : Session) : Type 0 where
+  pub start : session.start ≡ None
+  pub trace : session.trace ≡ []
+  pub console : Took session.console []
+
+-- the file that the words name could not be read
+pub record Unread (session : Session) (last : List ℕ) : Type 0 where
+  pub nothing : NotBegun session
+  pub asked : LaunchAsked session
+  pub line : last ≡ input_fault_line asked.name
+
+-- there is no file of the name
+pub record Absent (session : Session) (last : List ℕ) : Type 0 where
+  pub nothing : NotBegun session
+  pub asked : LaunchAsked session
+  pub input : IsInput session.files asked.name None
+  pub line : last ≡ missing_line asked.name
+
+-- the fault is that of the first rule that the file breaks
+pub record Rejected (session : Session) (last : List ℕ) : Type 0 where
+  pub nothing : NotBegun session
+  pub asked : LaunchAsked session
+  pub file : List ℕ
+  pub input : IsInput session.files asked.name (Some file)
+  pub fault : ElfFault
+  pub rule : first_fault file ≡ Some fault
+  pub line : last ≡ bad_program_line asked.name fault
+
+-- the words ask for a restart, or for a launch with checkpoints whose file is a program
+pub data NeedsStore (session : Session) : Type 0 where
+  ToLaunch : (asked : LaunchAsked session) (file : List ℕ) → asked.settings.every ≢ None → IsInput session.files asked.name (Some file) → first_fault file ≡ None → NeedsStore session
+  ToRestart : RestartAsked session → NeedsStore session
+
+-- the folder of sets failed before the run
+pub record Unopened (session : Session) (last : List ℕ) : Type 0 where
+  pub nothing : NotBegun session
+  pub needs : NeedsStore session
+  pub line : last ≡ disk_fault_line
+
+-- a restart, and no set counts
+pub record Setless (session : Session) (last : List ℕ) : Type 0 where
+  pub nothing : NotBegun session
+  pub asked : RestartAsked session
+  pub none : IfSome session.folder (λ files. set_that_counts files ≡ None)
+  pub line : last ≡ no_set_line
+
+-- a restart, and the set that counts spells no state
+pub record Spoilt (session : Session) (last : List ℕ) : Type 0 where
+  pub nothing : NotBegun session
+  pub asked : RestartAsked session
+  pub slot : ℕ
+  pub damage : Damage
+  pub spoilt : IfSome session.folder (λ files. SpoilsSet files slot damage)
+  pub line : last ≡ damaged_line slot damage
+
+-- the words ask for something
+abbrev pub IsAsked : Session → Type 0
+IsAsked session = LaunchAsked session ⊎ RestartAsked session
+
+abbrev pub Reaches : Status → Session → List ℕ → Type 0
+Reaches Done session last = Finished session × (last ≡ done_line)
+Reaches Usage session last = NotBegun session × AskNothing session.words × (last ≡ usage_line)
+Reaches InputFault session last = Unread session last
+Reaches Missing session last = Absent session last
+Reaches BadElf session last = Rejected session last
+Reaches SinkFault session last = ⊥
+Reaches DiskFault session last = Unopened session last
+Reaches NoSet session last = Setless session last
+Reaches Damaged session last = Spoilt session last
+Reaches Budget session last = Spent session last
+Reaches Memory session last = ((NotBegun session × IsAsked session) ⊎ CutOff session) × (last ≡ memory_line)
+
+-- the log took the lines of the checkpoints, and the last line
+pub record Logged (status : Status) (session : Session) (log : Sunk) : Type 0 where
+  pub last : List ℕ
+  pub reached : Reaches status session last
+  pub took : Took log (log_text session.trace ++ last)
+
+-- where memory was wanted the log took a first part of the lines of the checkpoints, and the last line
+pub record LoggedPart (status : Status) (session : Session) (log : Sunk) : Type 0 where
+  pub last : List ℕ
+  pub reached : Reaches status session last
+  pub count : ℕ
+  pub took : Took log (take count (log_text session.trace) ++ last)
+
+-- the log failed at the last line, whatever the status was to be
+pub record LogFailed (session : Session) (log : Sunk) : Type 0 where
+  pub status : Status
+  pub last : List ℕ
+  pub reached : Reaches status session last
+  pub text : List ℕ
+  pub lines : text ≡ log_text session.trace ⊎ (status ≡ Memory) × ((count : ℕ) × (text ≡ take count (log_text session.trace)))
+  pub took : TookFront log (text ++ last)
+
+-- the console or the log failed in the run
+pub record SinkFailed (session : Session) (log : Sunk) : Type 0 where
+  pub run : CutOff session
+  pub took : TookFront log (log_text session.trace)
+
+abbrev pub Ends : Status → Session → Sunk → Type 0
+Ends SinkFault session log = SinkFailed session log ⊎ LogFailed session log
+Ends Memory session log = LoggedPart Memory session log
+Ends status session log = Logged status session log
+
+abbrev pub RunsOn : Status → Type 0
+RunsOn status = (status ≡ Done) ⊎ (status ≡ Budget) ⊎ (status ≡ Memory)
+
+-- where no input, no sink and not the folder failed, the words, the files that the inputs hold and those of the folder decide which status comes, but for
+-- want of memory
+pub record IsDecided (status : Status) (session : Session) : Type 0 where
+  pub usage : (status ≡ Usage) ↔ AskNothing session.words
+  pub missing : (held : Files) (asked : LaunchAsked session) → session.files ≡ Some held → status ≢ Memory → (status ≡ Missing) ↔ (map.get held asked.name ≡ None)
+  pub bad : (held : Files) (asked : LaunchAsked session) (file : List ℕ) → session.files ≡ Some held → map.get held asked.name ≡ Some file → status ≢ Memory
+      → (status ≡ BadElf) ↔ (first_fault file ≢ None)
+  pub launches : (held : Files) (asked : LaunchAsked session) (file : List ℕ) → session.files ≡ Some held → map.get held asked.name ≡ Some file → first_fault file ≡ None → RunsOn status
+  pub setless : (files : Folder) → RestartAsked session → session.folder ≡ Some files → status ≢ Memory → (status ≡ NoSet) ↔ (set_that_counts files ≡ None)
+  pub spoilt : (files : Folder) (slot : ℕ) (damage : Damage) → RestartAsked session → session.folder ≡ Some files → SpoilsSet files slot damage → status ≢ Memory → status ≡ Damaged
+  pub restarts : (files : Folder) (generation : ℕ) (g : Plain) → RestartAsked session → session.folder ≡ Some files → SpellsSet files generation g → RunsOn status

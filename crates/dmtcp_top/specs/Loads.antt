@@ -1,0 +1,70 @@
+-- What beginning a run gives: a machine at its start with the keeper of its checkpoints, or how the call ends without them.
+use Rattle.std.specs.Prelude.{◌≡◌, ◌≢◌, ℕ, List, Option, Some, None, Result, Ok, Err, IfSome}
+use Rattle.elf32.specs.Rules.{first_fault}
+use Rattle.edge_io.specs.Inputs.{Files}
+use Rattle.set_disk.specs.Files.{Files as Folder}
+use Rattle.plain_machine.specs.declared.plain.Plain.{Plain}
+use Rattle.dmtcp_top.specs.Sets.{SpellsState}
+use Rattle.image_store.specs.Slots.{last}
+use Rattle.trace_log.specs.LogText.{at_start}
+use Rattle.trace_log.specs.Requests.{first_tally}
+use Rattle.dmtcp_top.specs.declared.ending.Ending.{Ending}
+use Rattle.dmtcp_top.specs.declared.ending.Ending.TheVariants.{InputFault, Missing, BadElf, DiskFault, NoSet, Damaged, Memory}
+use Rattle.dmtcp_top.specs.declared.settings.Settings.{Settings}
+use Rattle.dmtcp_top.specs.declared.keeper.Keeper.{Keeper}
+use Rattle.dmtcp_top.specs.declared.start.Start.{Start}
+use Rattle.dmtcp_top.specs.Sessions.{IsInput}
+use Rattle.dmtcp_top.specs.Sets.{SpellsSet, SpoilsSet}
+use Rattle.dmtcp_top.specs.Launches.{start_of, Opens, schedule_of}
+use Rattle.dmtcp_top.specs.Machines.{plain_of, IsReady}
+
+-- a keeper before the first record
+pub record IsFresh (keeper : Keeper) (settings : Settings) (opening : ℕ) : Type 0 where
+  pub schedule : keeper.schedule ≡ schedule_of settings opening
+  pub tally : keeper.tally ≡ first_tally (schedule_of settings opening)
+  pub lines : keeper.lines ≡ at_start
+
+-- the machine stands at the start of the program in the file
+pub record IsLaunched (files : Option Files) (folder : Option Folder) (name : List ℕ) (settings : Settings) (start : Start) : Type 0 where
+  pub file : List ℕ
+  pub input : IsInput files name (Some file)
+  pub grammar : first_fault file ≡ None
+  pub state : plain_of start.machine ≡ start_of name file
+  pub ready : IsReady start.machine
+  pub opening : ℕ
+  pub opened : Opens folder settings.every opening
+  pub keeper : IsFresh start.keeper settings opening
+
+-- the machine stands at the state that the set which counts spells
+pub record IsRestarted (folder : Option Folder) (settings : Settings) (start : Start) : Type 0 where
+  pub generation : ℕ
+  pub images : List (List ℕ)
+  pub spelled : SpellsState images (plain_of start.machine)
+  pub counted : IfSome folder (λ files. SpellsSet files generation (plain_of start.machine))
+  pub ready : IsReady start.machine
+  pub keeper : IsFresh start.keeper settings generation
+
+-- how a launch ends without a machine, and why
+abbrev pub RefusesLaunch : Ending → Option Files → List ℕ → Settings → Type 0
+RefusesLaunch (InputFault who) files name settings = who.now ≡ name
+RefusesLaunch (Missing who) files name settings = (who.now ≡ name) × IsInput files name None
+RefusesLaunch (BadElf who fault) files name settings = (who.now ≡ name) × ((file : List ℕ) × (IsInput files name (Some file) × (first_fault file ≡ Some fault)))
+RefusesLaunch DiskFault files name settings = (settings.every ≢ None) × ((file : List ℕ) × (IsInput files name (Some file) × (first_fault file ≡ None)))
+RefusesLaunch Memory files name settings = Unit {0}
+RefusesLaunch _ files name settings = ⊥
+
+-- how a restart ends without one
+abbrev pub RefusesRestart : Ending → Option Folder → Type 0
+RefusesRestart DiskFault folder = Unit {0}
+RefusesRestart NoSet folder = IfSome folder (λ files. last files ≡ None)
+RefusesRestart (Damaged slot damage) folder = IfSome folder (λ files. SpoilsSet files slot damage)
+RefusesRestart Memory folder = Unit {0}
+RefusesRestart _ folder = ⊥
+
+abbrev pub Launches : Result Start Ending → Option Files → Option Folder → List ℕ → Settings → Type 0
+Launches (Ok start) files folder name settings = IsLaunched files folder name settings start
+Launches (Err ending) files folder name settings = RefusesLaunch ending files name settings
+
+abbrev pub Restarts : Result Start Ending → Option Folder → Settings → Type 0
+Restarts (Ok start) folder settings = IsRestarted folder settings start
+Restarts (Err ending) folder settings = RefusesRestart ending folder

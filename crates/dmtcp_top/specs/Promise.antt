@@ -1,0 +1,30 @@
+-- The promise of a call: how it ends, and what a crash at any moment of it leaves of the folder of sets.
+--     SpellsCutOf start trace image      the set that counts in the image spells the state of the run at one of its cuts
+--     StaysWhole ..                      what a crash leaves, what stays complete, and how often the folder failed
+--     IsPromised ..                      both
+use Rattle.std.specs.Prelude.{◌≡◌, ◌⊎◌, ℕ, List, Option, Some}
+use Rattle.std.specs.Option.{ForSome}
+use Rattle.sys_abi.specs.declared.record.Record.{Record}
+use Rattle.set_disk.specs.Files.{Files as Folder}
+use Rattle.set_disk.specs.Moments.{LeavesOnly}
+use Rattle.plain_machine.specs.declared.plain.Plain.{Plain}
+use Rattle.dmtcp_top.specs.declared.status.Status.{Status}
+use Rattle.dmtcp_top.specs.Sessions.{Sunk, Session}
+use Rattle.dmtcp_top.specs.Ends.{Ends}
+use Rattle.dmtcp_top.specs.Keeping.{IsOpening, SpellsCut, KeepsComplete, CountsFaults}
+
+pub record SpellsCutOf (start : Option Plain) (trace : List Record) (image : Folder) : Type 0 where
+  pub g : Plain
+  pub began : start ≡ Some g
+  pub cut : SpellsCut g trace image
+
+-- A crash at any moment of the call leaves the set that counted in an image of its start, or one that spells the state at a cut of the run. Each set that
+-- the trace says is complete stays, or a later one does. The folder failed at least as often as a checkpoint was refused for it.
+pub record StaysWhole {D : Type 0} (reads : D → Option Folder) (moment : D → ℕ) (may_leave : D → Folder → Type 0) (left_since : D → ℕ → Folder → Type 0) (faults : D → ℕ) (start : Option Plain) (trace : List Record) (old new : D) : Type 0 where
+  pub crash : ForSome (reads old) (λ _. LeavesOnly moment left_since old new (λ image. IsOpening (may_leave old) image ⊎ SpellsCutOf start trace image))
+  pub complete : ForSome (reads old) (λ _. KeepsComplete trace (may_leave new))
+  pub counted : CountsFaults trace (faults old) (faults new)
+
+pub record IsPromised {D : Type 0} (reads : D → Option Folder) (moment : D → ℕ) (may_leave : D → Folder → Type 0) (left_since : D → ℕ → Folder → Type 0) (faults : D → ℕ) (status : Status) (session : Session) (log : Sunk) (old new : D) : Type 0 where
+  pub ends : Ends status session log
+  pub whole : StaysWhole reads moment may_leave left_since faults session.start session.trace old new
