@@ -11,7 +11,6 @@ ghost use Rattle.dmtcp_top.specs.Sessions.{sunk, Took, TookFront};
 use edge_io::Sink;
 use elf32::Program;
 use guest_proc::{Guest, LendFault, Ran};
-use image_codec::SetBytes;
 use plain_machine::{FIRST_PID, PlainKernel};
 use std::alloc::{AllocError, Global};
 use sys_abi::errors::EFAULT;
@@ -52,7 +51,6 @@ pub struct Machine {
 
 impl Machine {
     ghost use Rattle.dmtcp_top.specs.Machines.{plain_of, lives, IsSingle, IsReady, IsSame, Notes, Spoils};
-    ghost use Rattle.dmtcp_top.specs.Sets.{SpellsState};
 
     /// The start of a program, with these argument strings.
     pub fn start(alloc: Global, program: &Program, arguments: &[u8]) -> Result<Machine, AllocError>
@@ -62,7 +60,7 @@ impl Machine {
         requires few { length arguments.now ≤ 4096 }
         ensures state { IfOk result (λ m. plain_of m ≡
             start (record { host = 0; program = program.now; arguments = arguments.now } ∷ []) []) }
-        ensures single { IfOk result (λ m. IsSingle m) }
+        ensures ready { IfOk result (λ m. IsReady m) }
     {
         let mut kernel = PlainKernel::empty(alloc);
         kernel.add_process(alloc, FIRST_PID, 0)?;
@@ -81,18 +79,6 @@ impl Machine {
         ensures { result ≡ lives self.now }
     {
         self.kernel.is_live(self.guest.pid())
-    }
-
-    /// The images of the machine's state.
-    pub fn images(&self, alloc: Global) -> Result<SetBytes, AllocError>
-        requires ready { IsReady self.now }
-        requires alive { lives self.now ≡ true }
-        ensures spelled { IfOk result (λ set. SpellsState set.files (plain_of self.now)) }
-        ensures some { IfOk result (λ set. 0 < length set.files) }
-        ensures few { IfOk result (λ set. length set.files ≤ 129) }
-    {
-        let _ = alloc;
-        Err(AllocError)
     }
 
     /// One record of the thread: a quantum of instructions, or the call or the trap at which it stands.
