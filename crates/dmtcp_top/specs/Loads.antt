@@ -1,6 +1,15 @@
 -- What beginning a run gives: a machine at its start with the keeper of its checkpoints, or how the call ends without them.
-use Rattle.std.specs.Prelude.{◌≡◌, ◌≢◌, ℕ, List, Option, Some, None, Result, Ok, Err, IfSome}
+use Rattle.std.specs.Prelude.{◌≡◌, ◌≢◌, ℕ, List, Option, Some, None, Result, Ok, Err, IfSome, All}
 use Rattle.elf32.specs.Rules.{first_fault}
+use Rattle.elf32.specs.Programs.{program_of}
+use Rattle.elf32.specs.declared.program.Program.{Program}
+use Rattle.plain_machine.specs.Launches.{IsLaunched}
+use Rattle.plain_machine.specs.Valid.{IsByte}
+use Rattle.set_disk.specs.Moments.{LeavesOnly}
+use Rattle.image_store.specs.declared.set_info.SetInfo.{SetInfo}
+use Rattle.image_store.specs.StoreStates.{Known}
+use Rattle.image_store.specs.StoreCrashes.{ChangesNothing}
+use Rattle.dmtcp_top.specs.Keeping.{Counts}
 use Rattle.edge_io.specs.Inputs.{Files}
 use Rattle.set_disk.specs.Files.{Files as Folder}
 use Rattle.plain_machine.specs.declared.plain.Plain.{Plain}
@@ -10,6 +19,9 @@ use Rattle.trace_log.specs.LogText.{at_start}
 use Rattle.trace_log.specs.Requests.{first_tally}
 use Rattle.dmtcp_top.specs.declared.ending.Ending.{Ending}
 use Rattle.dmtcp_top.specs.declared.ending.Ending.TheVariants.{InputFault, Missing, BadElf, DiskFault, NoSet, Damaged, Memory}
+use Rattle.dmtcp_top.specs.declared.job.Job.{Job}
+use Rattle.dmtcp_top.specs.declared.job.Job.TheVariants.{Launch, Restart}
+use Rattle.dmtcp_top.specs.declared.machine.Machine.{Machine}
 use Rattle.dmtcp_top.specs.declared.settings.Settings.{Settings}
 use Rattle.dmtcp_top.specs.declared.keeper.Keeper.{Keeper}
 use Rattle.dmtcp_top.specs.declared.start.Start.{Start}
@@ -68,3 +80,54 @@ Launches (Err ending) files folder name settings = RefusesLaunch ending files na
 abbrev pub Restarts : Result Start Ending → Option Folder → Settings → Type 0
 Restarts (Ok start) folder settings = IsRestarted folder settings start
 Restarts (Err ending) folder settings = RefusesRestart ending folder
+
+-- what beginning a run gives
+abbrev pub Begins : Result Start Ending → Job → Option Files → Option Folder → Type 0
+Begins result (Launch name settings) files folder = Launches result files folder name.now settings
+Begins result (Restart settings) files folder = Restarts result folder settings
+
+-- a job that leaves the folder of sets alone
+abbrev pub IsQuiet : Job → Type 0
+IsQuiet (Launch name settings) = settings.every ≡ None
+IsQuiet (Restart settings) = ⊥
+
+-- it can be launched with every list of arguments
+abbrev pub IsGoodProgram : Program → Type 0
+IsGoodProgram program = (arguments : List ℕ) → All IsByte arguments → IsLaunched (record { host = 0; program = program; arguments = arguments })
+
+-- the program in the input of this name, or why there is none
+abbrev pub IsReadProgram : Result Program Ending → Option Files → List ℕ → Type 0
+IsReadProgram (Ok program) files name =
+    (file : List ℕ) × (IsInput files name (Some file) × (first_fault file ≡ None) × (program ≡ program_of file) × IsGoodProgram program)
+IsReadProgram (Err (InputFault who)) files name = who.now ≡ name
+IsReadProgram (Err (Missing who)) files name = (who.now ≡ name) × IsInput files name None
+IsReadProgram (Err (BadElf who fault)) files name = (who.now ≡ name) × ((file : List ℕ) × (IsInput files name (Some file) × (first_fault file ≡ Some fault)))
+IsReadProgram (Err Memory) files name = Unit {0}
+IsReadProgram (Err _) files name = ⊥
+
+-- a store that was opened without a floor, or why there is none
+abbrev pub Reopened : Result Known Ending → Option Folder → Type 0
+Reopened (Ok store) folder = (store.floor ≡ 0) × IfSome folder (λ files. last files ≡ store.last)
+Reopened (Err DiskFault) folder = Unit {0}
+Reopened (Err Memory) folder = Unit {0}
+Reopened (Err _) folder = ⊥
+
+-- the machine at the state of the set that counts, or why there is none
+pub record IsRestored (info : SetInfo) (folder : Option Folder) (m : Machine) : Type 0 where
+  pub images : List (List ℕ)
+  pub spelled : SpellsState images (plain_of m)
+  pub counted : IfSome folder (λ files. SpellsSet files info.generation (plain_of m))
+  pub ready : IsReady m
+
+abbrev pub Restored : Result Machine Ending → SetInfo → Option Folder → Type 0
+Restored (Ok m) info folder = IsRestored info folder m
+Restored (Err DiskFault) info folder = Unit {0}
+Restored (Err (Damaged slot damage)) info folder = IfSome folder (λ files. SpoilsSet files slot damage)
+Restored (Err Memory) info folder = Unit {0}
+Restored (Err _) info folder = ⊥
+
+-- a stretch of calls of the folder that only look or sync
+pub record OnlyLooks {D : Type 0} (reads : D → Option Folder) (moment : D → ℕ) (may_leave : D → Folder → Type 0) (left_since : D → ℕ → Folder → Type 0) (faults : D → ℕ) (old new : D) : Type 0 where
+  pub nothing : ChangesNothing reads moment may_leave left_since old new
+  pub crash : LeavesOnly moment left_since old new (may_leave old)
+  pub counts : Counts (faults old) (faults new)

@@ -1,6 +1,6 @@
 ghost use Rattle.std.specs.Prelude.{◌≡◌, ℕ, List, [], ◌∷◌, codes, map, string_bytes, IsTrue, ◌↔◌, IfSome, IfNone};
 ghost use Rattle.dmtcp_top.specs.Words.{IsName, IsLaunch, IsRestart, AskNothing, program_word};
-ghost use Rattle.dmtcp_top.specs.Jobs.{IsAsked};
+ghost use Rattle.dmtcp_top.specs.Jobs.{IsAsked, settings_of};
 
 use crate::settings::Settings;
 
@@ -29,6 +29,16 @@ impl<'a> Job<'a> {
                 settings: Settings::read(rest)?,
             }),
             _ => None,
+        }
+    }
+
+    /// What the options set.
+    pub fn settings(self) -> Settings
+        ensures { result ≡ settings_of self }
+    {
+        match self {
+            Job::Launch { settings, .. } => settings,
+            Job::Restart { settings } => settings,
         }
     }
 

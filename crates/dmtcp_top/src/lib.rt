@@ -1,11 +1,14 @@
 //! Reduced.
 #![tactic(auto)]
 
+mod carry_out;
 mod ending;
+mod images;
 mod job;
 mod keeper;
 mod loading;
 mod machine;
+mod restore;
 mod rounds;
 mod run_end;
 mod settings;

@@ -1,78 +1,56 @@
-ghost use Rattle.std.specs.Prelude.{◌≡◌, ◌≢◌, ◌≤◌, ◌++◌, ◌∷◌, ◌⊎◌, [], ℕ, Option, None, map, string_bytes, IfOk, IfErr, IfSome, All};
+ghost use Rattle.std.specs.Prelude.{◌≡◌, ◌≢◌, ◌≤◌, ◌++◌, ◌∷◌, [], ℕ, Option, List, Some, None, IfOk, IfErr, All};
+ghost use Rattle.std.specs.Option.{option_map_or};
 ghost use Rattle.views.specs.Faults.{Rose};
 ghost use Rattle.elf32.specs.Pages.{page_count};
-ghost use Rattle.elf32.specs.Programs.{IsWellPlaced};
-ghost use Rattle.plain_machine.specs.declared.plain.Plain.{Plain};
+ghost use Rattle.elf32.specs.Programs.{IsWellPlaced, program_of};
+ghost use Rattle.elf32.specs.Rules.{first_fault};
+ghost use Rattle.plain_machine.specs.Launches.{IsLaunched};
 ghost use Rattle.plain_machine.specs.Start.{start};
-ghost use Rattle.set_disk.specs.Moments.{LeavesOnly};
-ghost use Rattle.image_store.specs.StoreCrashes.{ChangesNothing};
-ghost use Rattle.dmtcp_top.specs.Endings.{status_of, Arrives};
-ghost use Rattle.dmtcp_top.specs.Keeping.{Counts, IsKept};
+ghost use Rattle.image_store.specs.FoundSets.{last_set, HasSet};
+ghost use Rattle.image_store.specs.StoreStates.{FitsFolder};
+ghost use Rattle.dmtcp_top.specs.Endings.{status_of};
+ghost use Rattle.dmtcp_top.specs.Jobs.{IsAsked};
+ghost use Rattle.dmtcp_top.specs.Keeping.{IsKept};
 ghost use Rattle.dmtcp_top.specs.Launches.{arguments_of};
-ghost use Rattle.dmtcp_top.specs.Loads.{Launches, Restarts};
+ghost use Rattle.dmtcp_top.specs.Loads.{Begins, IsFresh, IsQuiet, IsReadProgram, Launches, OnlyLooks, Reopened, Restarts, Restored};
 ghost use Rattle.dmtcp_top.specs.Machines.{plain_of, IsReady};
-ghost use Rattle.dmtcp_top.specs.Promise.{StaysWhole};
-ghost use Rattle.dmtcp_top.specs.Sessions.{session, sunk};
-ghost use Rattle.dmtcp_top.specs.Words.{IsName, IsInterval, MakesNoCheckpoints};
+ghost use Rattle.dmtcp_top.specs.Words.{IsName};
 
 use crate::ending::Ending;
 use crate::job::Job;
 use crate::keeper::Keeper;
 use crate::machine::Machine;
-use crate::run_end::RunEnd;
 use crate::settings::Settings;
 use crate::start::Start;
-use edge_io::{InputFault, Inputs, Sink};
+use crate::status::Status;
+use edge_io::{InputFault, Inputs};
 use elf32::{ElfReason, Program, read_elf};
-use image_store::{Store, StoreFault};
+use image_codec::ReadFault;
+use image_store::{SetInfo, Store, StoreFault};
 use rebuild::decode_set;
 use set_disk::Folder;
 use std::alloc::{AllocError, Global};
-use trace_log::Trace;
 
-/// Does what the words ask for, to the last line of the log, which is left out.
-pub(crate) fn carry_out<'a, I: Inputs, O: Sink, L: Sink, F: Folder>(
+/// The start of the run that the words ask for.
+pub(crate) fn begin<'a, I: Inputs, F: Folder>(
     alloc: Global,
-    words: &'a [String],
+    job: Job<'a>,
     inputs: &mut I,
-    out: &mut O,
-    log: &mut L,
     disk: &mut F,
-    trace: &mut Trace,
-) -> Ending<'a>
-    requires { trace.old.records ≡ [] }
-    ensures promise { (start : Option Plain) × (Arrives result
-        (session (map string_bytes words.now) (I.held inputs.old) (F.reads disk.old) start trace.new.records (sunk (O.taken out.old) (O.taken out.new)))
-        (sunk (L.taken log.old) (L.taken log.new))
-        × StaysWhole F.reads F.moment F.may_leave F.left_since F.faults start trace.new.records disk.old disk.new) }
-    ensures input { status_of result ≡ Status.InputFault → Rose (I.faults inputs.old) (I.faults inputs.new) }
-    ensures sink { status_of result ≡ Status.SinkFault → Rose (O.faults out.old) (O.faults out.new) ⊎ Rose (L.faults log.old) (L.faults log.new) }
-    ensures disk { status_of result ≡ Status.DiskFault → Rose (F.faults disk.old) (F.faults disk.new) }
-    ensures untouched { MakesNoCheckpoints (map string_bytes words.now) → disk.new ≡ disk.old }
+) -> Result<Start, Ending<'a>>
+    requires asked { (words : List (List ℕ)) × IsAsked words job }
+    ensures begins { Begins result job (I.held inputs.old) (F.reads disk.old) }
+    ensures kept { IfOk result (λ start. start.keeper.schedule.every ≢ None → IsKept start.keeper (F.reads disk.new) (F.may_leave disk.new)) }
+    ensures input { IfErr result (λ ending. status_of ending ≡ Status.InputFault → Rose (I.faults inputs.old) (I.faults inputs.new)) }
+    ensures sink { IfErr result (λ ending. status_of ending ≢ Status.SinkFault) }
+    ensures disk { IfErr result (λ ending. status_of ending ≡ Status.DiskFault → Rose (F.faults disk.old) (F.faults disk.new)) }
+    ensures looks { OnlyLooks F.reads F.moment F.may_leave F.left_since F.faults disk.old disk.new }
+    ensures untouched { IsQuiet job → disk.new ≡ disk.old }
     ensures same { I.held inputs.new ≡ I.held inputs.old }
-    ensures later { O.faults out.old ≤ O.faults out.new }
-    ensures log_later { L.faults log.old ≤ L.faults log.new }
 {
-    let Some(job) = Job::read(words) else {
-        return Ending::Usage;
-    };
-    let records = job.settings().records;
-    if trace.reserve(records).is_err() {
-        return Ending::Memory;
-    }
-    let begun = match job {
+    match job {
         Job::Launch { name, settings } => launch(alloc, name, settings, inputs, disk),
         Job::Restart { settings } => restart(alloc, settings, disk),
-    };
-    let mut start = match begun {
-        Ok(start) => start,
-        Err(ending) => return ending,
-    };
-    match start.run(alloc, out, log, disk, trace) {
-        RunEnd::Done => Ending::Done,
-        RunEnd::Budget => Ending::Budget(records),
-        RunEnd::SinkFault => Ending::SinkFault,
-        RunEnd::Memory => Ending::Memory,
     }
 }
 
@@ -86,19 +64,17 @@ fn launch<'a, I: Inputs, F: Folder>(
 ) -> Result<Start, Ending<'a>>
     requires { IsName name.now }
     ensures launches { Launches result (I.held inputs.old) (F.reads disk.old) name.now settings }
-    ensures kept { IfOk result (λ start. settings.every ≢ None → IsKept start.keeper (F.reads disk.new) (F.may_leave disk.new)) }
+    ensures kept { IfOk result (λ start. start.keeper.schedule.every ≢ None → IsKept start.keeper (F.reads disk.new) (F.may_leave disk.new)) }
     ensures input { IfErr result (λ ending. status_of ending ≡ Status.InputFault → Rose (I.faults inputs.old) (I.faults inputs.new)) }
     ensures disk { IfErr result (λ ending. status_of ending ≡ Status.DiskFault → Rose (F.faults disk.old) (F.faults disk.new)) }
-    ensures nothing { ChangesNothing F.reads F.moment F.may_leave F.left_since disk.old disk.new }
-    ensures crash { LeavesOnly F.moment F.left_since disk.old disk.new (F.may_leave disk.old) }
-    ensures counts { Counts (F.faults disk.old) (F.faults disk.new) }
+    ensures looks { OnlyLooks F.reads F.moment F.may_leave F.left_since F.faults disk.old disk.new }
     ensures untouched { settings.every ≡ None → disk.new ≡ disk.old }
     ensures same { I.held inputs.new ≡ I.held inputs.old }
 {
     let program = read_program(alloc, name, inputs)?;
     let keeper = match settings.every {
         None => Keeper::new(settings, None, 0),
-        Some(_) => open(alloc, settings, disk)?,
+        Some(_) => keeper_of(settings, open(alloc, disk)?),
     };
     match start(alloc, &program, name) {
         Ok(machine) => Ok(Start { machine, keeper }),
@@ -107,7 +83,15 @@ fn launch<'a, I: Inputs, F: Folder>(
 }
 
 /// The program in the file of this name.
-fn read_program<'a, I: Inputs>(alloc: Global, name: &'a str, inputs: &mut I) -> Result<Program, Ending<'a>> {
+fn read_program<'a, I: Inputs>(
+    alloc: Global,
+    name: &'a str,
+    inputs: &mut I,
+) -> Result<Program, Ending<'a>>
+    ensures reads { IsReadProgram result (I.held inputs.old) name.now }
+    ensures input { IfErr result (λ ending. status_of ending ≡ Status.InputFault → Rose (I.faults inputs.old) (I.faults inputs.new)) }
+    ensures same { I.held inputs.new ≡ I.held inputs.old }
+{
     let bytes = match inputs.read(alloc, name) {
         Ok(Some(bytes)) => bytes,
         Ok(None) => return Err(Ending::Missing(name)),
@@ -126,43 +110,93 @@ fn read_program<'a, I: Inputs>(alloc: Global, name: &'a str, inputs: &mut I) -> 
     }
 }
 
-/// The keeper of a launch's checkpoints, whose sets follow those of the folder.
-fn open<'a, F: Folder>(alloc: Global, settings: Settings, disk: &mut F) -> Result<Keeper, Ending<'a>> {
+/// The machine at the start of the program, whose one argument is its name.
+fn start(alloc: Global, program: &Program, name: &str) -> Result<Machine, AllocError>
+    requires launched { IsLaunched (record { host = 0; program = program.now; arguments = arguments_of name.now }) }
+    requires short { IsName name.now }
+    ensures state { IfOk result (λ m. plain_of m ≡
+        start (record { host = 0; program = program.now; arguments = arguments_of name.now } ∷ []) []) }
+    ensures ready { IfOk result (λ m. IsReady m) }
+{
+    let mut arguments = Vec::from_slice(alloc, name.as_bytes())?;
+    arguments.push(0)?;
+    Machine::start(alloc, program, arguments.as_slice())
+}
+
+/// The store of the folder's sets.
+fn open<'a, F: Folder>(alloc: Global, disk: &mut F) -> Result<Store, Ending<'a>>
+    ensures opens { Reopened result (F.reads disk.old) }
+    ensures fits { IfOk result (λ store. FitsFolder store (F.reads disk.new) (F.may_leave disk.new)) }
+    ensures disk { IfErr result (λ ending. status_of ending ≡ Status.DiskFault → Rose (F.faults disk.old) (F.faults disk.new)) }
+    ensures looks { OnlyLooks F.reads F.moment F.may_leave F.left_since F.faults disk.old disk.new }
+{
     match Store::open_store(alloc, disk, 0) {
-        Ok(store) => {
-            let opening = match store.last() {
-                Some(info) => info.generation,
-                None => 0,
-            };
-            Ok(Keeper::new(settings, Some(store), opening))
-        }
+        Ok(store) => Ok(store),
         Err(StoreFault::DiskFault) => Err(Ending::DiskFault),
         Err(_) => Err(Ending::Memory),
     }
 }
 
-/// The run at the state that the set which counts spells.
-fn restart<'a, F: Folder>(alloc: Global, settings: Settings, disk: &mut F) -> Result<Start, Ending<'a>> {
-    let store = match Store::open_store(alloc, disk, 0) {
-        Ok(store) => store,
-        Err(fault) => return Err(refusal(fault, 0)),
+/// The keeper of a run whose sets follow those of this store.
+fn keeper_of(settings: Settings, store: Store) -> Keeper
+    ensures fresh { IsFresh result settings (option_map_or (λ (info : SetInfo). info.generation) store.last 0) }
+    ensures kept { (told : Option _) (images : _) → store.floor ≡ 0 → FitsFolder store told images → IsKept result told images }
+{
+    let opening = match store.last() {
+        Some(info) => info.generation,
+        None => 0,
     };
+    Keeper::new(settings, Some(store), opening)
+}
+
+/// The run at the state that the set which counts spells.
+fn restart<'a, F: Folder>(
+    alloc: Global,
+    settings: Settings,
+    disk: &mut F,
+) -> Result<Start, Ending<'a>>
+    ensures restarts { Restarts result (F.reads disk.old) settings }
+    ensures kept { IfOk result (λ start. IsKept start.keeper (F.reads disk.new) (F.may_leave disk.new)) }
+    ensures disk { IfErr result (λ ending. status_of ending ≡ Status.DiskFault → Rose (F.faults disk.old) (F.faults disk.new)) }
+    ensures looks { OnlyLooks F.reads F.moment F.may_leave F.left_since F.faults disk.old disk.new }
+{
+    let store = open(alloc, disk)?;
     let Some(info) = store.last() else {
         return Err(Ending::NoSet);
     };
+    let machine = restore(alloc, &store, info, disk)?;
+    let keeper = keeper_of(settings, store);
+    Ok(Start { machine, keeper })
+}
+
+/// The machine at the state that the set which counts spells.
+fn restore<'a, F: Folder>(
+    alloc: Global,
+    store: &Store,
+    info: SetInfo,
+    disk: &mut F,
+) -> Result<Machine, Ending<'a>>
+    requires last { store.now.last ≡ Some info }
+    requires fits { FitsFolder store.now (F.reads disk.old) (F.may_leave disk.old) }
+    ensures restored { Restored result info (F.reads disk.old) }
+    ensures fits { FitsFolder store.now (F.reads disk.new) (F.may_leave disk.new) }
+    ensures disk { IfErr result (λ ending. status_of ending ≡ Status.DiskFault → Rose (F.faults disk.old) (F.faults disk.new)) }
+    ensures looks { OnlyLooks F.reads F.moment F.may_leave F.left_since F.faults disk.old disk.new }
+{
     let set = match store.get_set(alloc, disk) {
         Ok(set) => set,
-        Err(fault) => return Err(refusal(fault, info.slot)),
+        Err(StoreFault::DiskFault) => return Err(Ending::DiskFault),
+        Err(StoreFault::NoSet) => unreachable!(),
+        Err(StoreFault::Damaged(damage)) => return Err(Ending::Damaged(info.slot, damage)),
+        Err(StoreFault::Memory) => return Err(Ending::Memory),
     };
-    match decode_set(alloc, &set) {
-        Ok(decoded) => match Machine::restore(alloc, decoded) {
-            Ok(machine) => Ok(Start {
-                machine,
-                keeper: Keeper::new(settings, Some(store), info.generation),
-            }),
-            Err(AllocError) => Err(Ending::Memory),
-        },
-        Err(ReadFault::Damaged(damage)) => Err(Ending::Damaged(info.slot, damage)),
-        Err(ReadFault::Memory) => Err(Ending::Memory),
+    let decoded = match decode_set(alloc, &set) {
+        Ok(decoded) => decoded,
+        Err(ReadFault::Damaged(damage)) => return Err(Ending::Damaged(info.slot, damage)),
+        Err(ReadFault::Memory) => return Err(Ending::Memory),
+    };
+    match Machine::restore(alloc, decoded) {
+        Ok(machine) => Ok(machine),
+        Err(AllocError) => Err(Ending::Memory),
     }
 }

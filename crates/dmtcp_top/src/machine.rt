@@ -1,7 +1,6 @@
 ghost use Rattle.std.specs.Prelude.{◌≡◌, ◌≢◌, ℕ, ◌+◌, ◌<◌, ◌≤◌, [], ◌∷◌, true, false, if◌then◌else◌, None, Some, All, length, Err, IsErrOf, IfOk, OnOk, OnErr};
 ghost use Rattle.views.specs.Faults.{Rose, IsFaultOf};
-ghost use Rattle.elf32.specs.Programs.{IsWellPlaced};
-ghost use Rattle.elf32.specs.Pages.{page_count};
+ghost use Rattle.plain_machine.specs.Launches.{IsLaunched};
 ghost use Rattle.plain_machine.specs.Buffers.{lent};
 ghost use Rattle.plain_machine.specs.Start.{start};
 ghost use Rattle.plain_machine.specs.Steps.{user_step, Asks, Trapped};
@@ -54,8 +53,7 @@ impl Machine {
 
     /// The start of a program, with these argument strings.
     pub fn start(alloc: Global, program: &Program, arguments: &[u8]) -> Result<Machine, AllocError>
-        requires placed { All IsWellPlaced program.now.segments }
-        requires pages { page_count program.now.segments ≤ 1536 }
+        requires launched { IsLaunched (record { host = 0; program = program.now; arguments = arguments.now }) }
         requires some { 1 ≤ length arguments.now }
         requires few { length arguments.now ≤ 4096 }
         ensures state { IfOk result (λ m. plain_of m ≡

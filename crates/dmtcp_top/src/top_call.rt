@@ -6,7 +6,7 @@ ghost use Rattle.dmtcp_top.specs.Ends.{IsDecided};
 ghost use Rattle.dmtcp_top.specs.Promise.{IsPromised};
 ghost use Rattle.dmtcp_top.specs.Words.{MakesNoCheckpoints};
 
-use crate::loading::carry_out;
+use crate::carry_out::carry_out;
 use crate::status::Status;
 use edge_io::{Inputs, Sink};
 use set_disk::Folder;
