@@ -47,6 +47,7 @@ fn so_many_actions_at(
     Ok((actions, rest))
 }
 
+/// The rows of the signals 1 to 31.
 pub fn actions_at(alloc: Global, text: &[u8]) -> Result<(ListOf<SignalAction>, &[u8]), Fault>
     ensures { Gives (λ x. (x.0, x.1.now)) result (read (each (λ _. action_format) 31 []) text.now) }
 {

@@ -25,6 +25,7 @@ impl From<AllocError> for Fault {
     }
 }
 
+/// The next number of 8 bits, and what follows it.
 #[tactic(auto, unfolding(crate::specs::Format::size_of, crate::specs::Format::number_in, crate::specs::Reading::read_if, crate::specs::Reading::read))]
 pub fn u8_at(text: &[u8]) -> Result<(u8, &[u8]), Fault>
     ensures { Gives (λ x. (x.0, x.1.now)) result (read (unsigned n8 any) text.now) }
@@ -35,6 +36,7 @@ pub fn u8_at(text: &[u8]) -> Result<(u8, &[u8]), Fault>
     }
 }
 
+/// The next number of 16 bits, and what follows it.
 #[tactic(auto, unfolding(crate::specs::Format::size_of, crate::specs::Format::number_in, crate::specs::Reading::read_if, crate::specs::Reading::read))]
 pub fn u16_at(text: &[u8]) -> Result<(u16, &[u8]), Fault>
     ensures { Gives (λ x. (x.0, x.1.now)) result (read (unsigned n16 any) text.now) }
@@ -45,6 +47,7 @@ pub fn u16_at(text: &[u8]) -> Result<(u16, &[u8]), Fault>
     }
 }
 
+/// The next number of 32 bits, and what follows it.
 #[tactic(auto, unfolding(crate::specs::Format::size_of, crate::specs::Format::number_in, crate::specs::Reading::read_if, crate::specs::Reading::read))]
 pub fn u32_at(text: &[u8]) -> Result<(u32, &[u8]), Fault>
     ensures { Gives (λ x. (x.0, x.1.now)) result (read (unsigned n32 any) text.now) }
@@ -55,6 +58,7 @@ pub fn u32_at(text: &[u8]) -> Result<(u32, &[u8]), Fault>
     }
 }
 
+/// The next number of 64 bits, and what follows it.
 #[tactic(auto, unfolding(crate::specs::Format::size_of, crate::specs::Format::number_in, crate::specs::Reading::read_if, crate::specs::Reading::read))]
 pub fn u64_at(text: &[u8]) -> Result<(u64, &[u8]), Fault>
     ensures { Gives (λ x. (x.0, x.1.now)) result (read (unsigned n64 any) text.now) }
@@ -65,7 +69,7 @@ pub fn u64_at(text: &[u8]) -> Result<(u64, &[u8]), Fault>
     }
 }
 
-/// The next so many bytes.
+/// The next so many bytes, and what follows them.
 #[tactic(auto, unfolding(crate::specs::Reading::read_if, crate::specs::Reading::read))]
 pub fn bytes_at(text: &[u8], size: usize) -> Result<(&[u8], &[u8]), Fault>
     ensures read { Gives (λ x. (x.0.now, x.1.now)) result (read (raw size any) text.now) }
@@ -91,6 +95,7 @@ pub fn after_magic<'a>(text: &'a [u8], magic: &[u8]) -> Result<&'a [u8], Fault>
     Ok(rest)
 }
 
+/// Puts a number of 8 bits at the end.
 #[tactic(auto, unfolding(crate::specs::Format::bytes_of))]
 pub fn put_u8(bytes: &mut Vec<u8>, number: u8) -> Result<(), AllocError>
     ensures { OnOk result (bytes.new.items ≡ bytes.old.items ++ bytes_of n8 number) }
@@ -99,6 +104,7 @@ pub fn put_u8(bytes: &mut Vec<u8>, number: u8) -> Result<(), AllocError>
     Ok(())
 }
 
+/// Puts a number of 16 bits at the end.
 #[tactic(auto, unfolding(crate::specs::Format::bytes_of))]
 pub fn put_u16(bytes: &mut Vec<u8>, number: u16) -> Result<(), AllocError>
     ensures { OnOk result (bytes.new.items ≡ bytes.old.items ++ bytes_of n16 number) }
@@ -106,6 +112,7 @@ pub fn put_u16(bytes: &mut Vec<u8>, number: u16) -> Result<(), AllocError>
     bytes.extend_from_slice(&number.to_le_bytes())
 }
 
+/// Puts a number of 32 bits at the end.
 #[tactic(auto, unfolding(crate::specs::Format::bytes_of))]
 pub fn put_u32(bytes: &mut Vec<u8>, number: u32) -> Result<(), AllocError>
     ensures { OnOk result (bytes.new.items ≡ bytes.old.items ++ bytes_of n32 number) }
@@ -113,6 +120,7 @@ pub fn put_u32(bytes: &mut Vec<u8>, number: u32) -> Result<(), AllocError>
     bytes.extend_from_slice(&number.to_le_bytes())
 }
 
+/// Puts a number of 64 bits at the end.
 #[tactic(auto, unfolding(crate::specs::Format::bytes_of))]
 pub fn put_u64(bytes: &mut Vec<u8>, number: u64) -> Result<(), AllocError>
     ensures { OnOk result (bytes.new.items ≡ bytes.old.items ++ bytes_of n64 number) }
@@ -120,6 +128,7 @@ pub fn put_u64(bytes: &mut Vec<u8>, number: u64) -> Result<(), AllocError>
     bytes.extend_from_slice(&number.to_le_bytes())
 }
 
+/// Puts the bytes at the end.
 pub fn put_bytes(bytes: &mut Vec<u8>, more: &[u8]) -> Result<(), AllocError>
     ensures { OnOk result (bytes.new.items ≡ bytes.old.items ++ more.now) }
 {

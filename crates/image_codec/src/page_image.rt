@@ -39,13 +39,13 @@ const RETURN_RIGHTS: u8 = 5;
 
 const RETURN_CODE: [u8; 8] = [0x93, 0x08, 0xB0, 0x08, 0x73, 0x00, 0x00, 0x00];
 
-pub fn is_break_start(start: u32) -> bool
+pub(crate) fn is_break_start(start: u32) -> bool
     ensures { result ≡ is_break_start start }
 {
     start % PAGE_BYTES == 0 && start <= BREAK_LIMIT
 }
 
-pub fn is_break_end(start: u32, end: u32) -> bool
+pub(crate) fn is_break_end(start: u32, end: u32) -> bool
     ensures { result ≡ is_break_end start end }
 {
     start <= end && end <= BREAK_LIMIT
@@ -120,7 +120,7 @@ fn next_after(limit: u64, next: u64, page: &PageImage) -> u64
 
 /// Whether each page is there that holds a byte from the break's start to below the break. The pages are in rising order.
 #[tactic(auto, using(crate::proofs::HeapWalk::walk_more, crate::proofs::HeapWalk::walk_all, crate::proofs::HeapWalk::heap_found))]
-pub fn has_heap(start: u32, end: u32, pages: &[PageImage]) -> bool
+pub(crate) fn has_heap(start: u32, end: u32, pages: &[PageImage]) -> bool
     requires order { start ≤ end }
     requires pages { EachFrom (IsPage start end) [] pages.now }
     ensures { result ≡ has_heap start end pages.now }
@@ -134,7 +134,7 @@ pub fn has_heap(start: u32, end: u32, pages: &[PageImage]) -> bool
     next == limit
 }
 
-pub fn has_return_page(pages: &[PageImage]) -> bool
+pub(crate) fn has_return_page(pages: &[PageImage]) -> bool
     ensures { result ≡ has_return_page pages.now }
 {
     pages.iter().any(|page| page.number == RETURN_PAGE)
@@ -173,7 +173,7 @@ fn page_at<'a>(
 }
 
 #[tactic(auto, unfolding(crate::specs::Format::counted, crate::specs::Reading::read, crate::specs::Reading::read_next, crate::specs::Reading::read_if), using(crate::proofs::Loop::goes_on, crate::proofs::Loop::one_item, crate::proofs::Loop::is_done))]
-pub fn pages_at(
+pub(crate) fn pages_at(
     alloc: Global,
     start: u32,
     end: u32,
@@ -205,7 +205,7 @@ fn put_page(bytes: &mut Vec<u8>, page: &PageImage) -> Result<(), AllocError>
 }
 
 #[tactic(auto, unfolding(crate::specs::ProcessImages::list_text), using(crate::proofs::Writing::puts_none, crate::proofs::Writing::puts_more, crate::proofs::Writing::puts_all))]
-pub fn put_pages(bytes: &mut Vec<u8>, pages: &[PageImage]) -> Result<(), AllocError>
+pub(crate) fn put_pages(bytes: &mut Vec<u8>, pages: &[PageImage]) -> Result<(), AllocError>
     requires { length pages.now < 2 ^ 32 }
     ensures { OnOk result (bytes.new.items ≡ bytes.old.items ++ list_text page_text pages.now) }
 {

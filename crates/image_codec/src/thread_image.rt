@@ -42,7 +42,7 @@ fn is_thread_at(threads: &[ThreadEntry], place: usize, tid: u32) -> bool
 }
 
 #[tactic(auto, unfolding(crate::specs::ProcessImages::word_format))]
-pub fn word_at(text: &[u8]) -> Result<(u32, &[u8]), Fault>
+pub(crate) fn word_at(text: &[u8]) -> Result<(u32, &[u8]), Fault>
     ensures { Gives (λ x. (x.0, x.1.now)) result (read word_format text.now) }
 {
     u32_at(text)
@@ -130,7 +130,7 @@ fn thread_at<'a>(
 }
 
 #[tactic(auto, unfolding(crate::specs::Format::counted, crate::specs::Reading::read, crate::specs::Reading::read_next, crate::specs::Reading::read_if), using(crate::proofs::Loop::goes_on, crate::proofs::Loop::one_item, crate::proofs::Loop::is_done))]
-pub fn threads_at<'a>(
+pub(crate) fn threads_at<'a>(
     alloc: Global,
     threads: &[ThreadEntry],
     text: &'a [u8],
@@ -207,7 +207,7 @@ fn put_thread(bytes: &mut Vec<u8>, thread: &ThreadImage) -> Result<(), AllocErro
 }
 
 #[tactic(auto, unfolding(crate::specs::ProcessImages::list_text), using(crate::proofs::Writing::puts_none, crate::proofs::Writing::puts_more, crate::proofs::Writing::puts_all))]
-pub fn put_threads(bytes: &mut Vec<u8>, threads: &[ThreadImage]) -> Result<(), AllocError>
+pub(crate) fn put_threads(bytes: &mut Vec<u8>, threads: &[ThreadImage]) -> Result<(), AllocError>
     requires count { length threads.now < 2 ^ 32 }
     requires contexts { All (λ thread. length thread.part.contexts < 2 ^ 32) threads.now }
     ensures value { OnOk result (bytes.new.items ≡ bytes.old.items ++ list_text thread_text threads.now) }
