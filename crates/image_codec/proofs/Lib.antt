@@ -14,6 +14,7 @@ pub mod ReturnContent
 pub mod Rising
 pub mod SetLaws
 pub mod SharedLaws
+pub mod StartImages
 pub mod Texts
 pub mod Waiting
 pub mod WholeFiles

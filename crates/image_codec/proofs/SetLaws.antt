@@ -45,8 +45,7 @@ manifest_of g files = record { generation = g; lengths = mapped length files }
 pub one_state_of_set : OneStateOfSet
 one_state_of_set text files g h state other s t =
     let named : manifest_of g files ≡ manifest_of h files = manifest.laws.one_value text (manifest_of g files) (manifest_of h files) s.named t.named in
-    let (shared, images) = one_of_files files s.shared t.shared s.images t.images s.spelled t.spelled in
-    (
+    let (shared, images) = one_of_files files s.shared t.shared s.images t.images s.spelled t.spelled in (
       ap (λ (m : Manifest). m.generation) named,
       same_state s.shared s.images state other s.stands
           (subst (λ (i : List ProcImage). IsStateOf s.shared i other) (sym images) (subst (λ (k : Shared). IsStateOf k t.images other) (sym shared) t.stands)),

@@ -12,5 +12,6 @@ pub mod SharedFits
 pub mod SharedFormat
 pub mod SharedTests
 pub mod SharedTexts
+pub mod StartImages
 pub mod Texts
 pub mod UserParts
