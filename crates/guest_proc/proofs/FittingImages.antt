@@ -50,10 +50,10 @@ entries_all P (e ∷ es) sorted holds =
 pub each_entry : {X : Type 0} (P : ℕ → X → Type 0) (m : map.FinMap nat_cmp X) → Each m P → All (λ e. P e.0 e.1) (map.entries m)
 each_entry P m holds = entries_all P (map.entries m) (map.entries_sorted m) (λ q v found. holds q v (map.get-entries m q ∙ found))
 
-first_of : {X : Type 0} (P : X → Type 0) (x : X) (xs : List X) → All P (x ∷ xs) → P x
+pub first_of : {X : Type 0} (P : X → Type 0) (x : X) (xs : List X) → All P (x ∷ xs) → P x
 first_of P x xs are = are 0 x (omega arith)
 
-rest_of : {X : Type 0} (P : X → Type 0) (x : X) (xs : List X) → All P (x ∷ xs) → All P xs
+pub rest_of : {X : Type 0} (P : X → Type 0) (x : X) (xs : List X) → All P (x ∷ xs) → All P xs
 rest_of P x xs are = λ k d inside. are (suc k) d (omega arith)
 
 -- tests
@@ -72,16 +72,16 @@ same_bytes (byte ∷ rest) = both_true (byte == byte) (bytes_eq rest rest) (same
 eq_true : (m n : ℕ) → m ≡ n → (m == n) ≡ true
 eq_true m n is = grind (arith, nat_tests, is)
 
-from_eq : (m n : ℕ) → (m == n) ≡ true → m ≡ n
+pub from_eq : (m n : ℕ) → (m == n) ≡ true → m ≡ n
 from_eq m n is = grind (arith, nat_tests, is)
 
 le_true : (m n : ℕ) → m ≤ n → nat_le m n ≡ true
 le_true m n less = grind (arith, nat_tests, less)
 
-from_le : (m n : ℕ) → nat_le m n ≡ true → m ≤ n
+pub from_le : (m n : ℕ) → nat_le m n ≡ true → m ≤ n
 from_le m n is = grind (arith, nat_tests, is)
 
-from_lt : (m n : ℕ) → nat_lt m n ≡ true → m < n
+pub from_lt : (m n : ℕ) → nat_lt m n ≡ true → m < n
 from_lt m n is = grind (arith, nat_tests, is)
 
 -- a page
@@ -90,11 +90,11 @@ pub record IsKept (start end place : ℕ) (frame : Frame) : Type 0 where
   pub free : is_free_of_break start end place ≡ true
   pub return_page : place ≡ RETURN_PAGE → frame ≡ return_frame
 
-and_first : (a b : Bool) → (a && b) ≡ true → a ≡ true
+pub and_first : (a b : Bool) → (a && b) ≡ true → a ≡ true
 and_first true b is = refl
 and_first false b is = is
 
-and_second : (a b : Bool) → (a && b) ≡ true → b ≡ true
+pub and_second : (a b : Bool) → (a && b) ≡ true → b ≡ true
 and_second true b is = is
 and_second false b is = cc
 
@@ -169,7 +169,7 @@ pages_fit_all user pages is same =
     first_next (p ∷ pages) = refl
 
 -- which pages are there
-page_there : (n : ℕ) (pages : List PageImage) → has_page pages n ≡ is_some (map.find nat_cmp n (each page_entry pages))
+pub page_there : (n : ℕ) (pages : List PageImage) → has_page pages n ≡ is_some (map.find nat_cmp n (each page_entry pages))
 page_there n [] = refl
 page_there n (p ∷ pages) = ⊎_elim
     (λ (here : n ≡ p.number).

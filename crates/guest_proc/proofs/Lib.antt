@@ -7,6 +7,7 @@ pub mod GuestLemmas
 pub mod Loading
 pub mod Images
 pub mod FittingImages
+pub mod RebuiltUsers
 pub mod Breaks
 pub mod StackLemmas
 pub mod Taking

@@ -1,4 +1,4 @@
-ghost use Rattle.std.specs.Prelude.{◌≡◌, ◌≢◌, ◌↔◌, ◌<◌, ◌≤◌, ◌^◌, length, map as each, All, Some, None, Err, IfOk, OnErr, OnOk, false};
+ghost use Rattle.std.specs.Prelude.{◌≡◌, ◌≢◌, ◌↔◌, ◌<◌, ◌≤◌, ◌^◌, ℕ, List, Option, length, map as each, All, Some, None, Err, IfOk, OnErr, OnOk, false};
 ghost use Rattle.std.specs.FinMap as map;
 ghost use Rattle.elf32.specs.Pages.{page_count};
 ghost use Rattle.elf32.specs.Programs.{IsWellPlaced};
@@ -6,8 +6,8 @@ ghost use Rattle.plain_machine.specs.Start.{start_user};
 ghost use Rattle.plain_machine.specs.Steps.{user_step, user_steps, waits};
 ghost use Rattle.plain_machine.specs.Buffers.{lent, written_spans};
 ghost use Rattle.plain_machine.specs.Put.{put, local_row};
-ghost use Rattle.plain_machine.specs.Valid.{IsUser};
-ghost use Rattle.image_codec.specs.ProcessImages.{HasImage};
+ghost use Rattle.plain_machine.specs.Valid.{IsByte, IsUser};
+ghost use Rattle.image_codec.specs.ProcessImages.{HasImage, SpellsProcess};
 ghost use Rattle.image_codec.specs.UserParts.{user_of, page_entry, thread_entry};
 ghost use Rattle.guest_proc.specs.Guests.{HasThread, IsAlone, Tells, ran_at};
 ghost use Rattle.guest_proc.specs.Lending.{CanTake};
@@ -124,7 +124,10 @@ impl Guest {
     pub fn of_image(alloc: Global, image: ProcImage) -> Result<Guest, AllocError>
         requires numbers { All (λ page. page.number < 2 ^ 20) image.pages }
         requires few { length image.pages ≤ 2048 }
-        ensures { IfOk result (λ guest. guest ≡ record { pid = image.pid; user = user_of image }) }
+        ensures part { IfOk result (λ guest. guest ≡ record { pid = image.pid; user = user_of image }) }
+
+        // And the part of an image that was read is one that a run may go on from.
+        ensures valid { IfOk result (λ guest. (pid : Option ℕ) (tids text : List ℕ) → SpellsProcess pid tids text image → All IsByte text → IsUser guest.user) }
     {
         Ok(Guest {
             pid: image.pid,
