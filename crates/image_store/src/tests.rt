@@ -50,36 +50,47 @@ fn compare(
     Ok(())
 }
 
-#[test]
+/// A folder with both sets, put by the calls 4 to 14 and 15 to 27.
 #[tactic(auto, unfolding(crate::specs::StoreStates::generation_after))]
-fn a_crash_leaves_the_old_set_or_the_new(rt: HostRuntime) -> Result<(), Fail> {
+fn with_both_sets(rt: &(impl Abort + AllocGlobal)) -> Result<MemFolder, Fail> {
     let alloc = rt.alloc();
     let mut folder = MemFolder::new(alloc, &[])?;
     let store = Store::open_store(alloc, &mut folder, 0)?;
-    assert!(&rt; store.last().is_none());
+    assert!(rt; store.last().is_none());
     let first = set_of(alloc, &FIRST)?;
     let second = set_of(alloc, &SECOND)?;
-    assert!(&rt; first.files.len() == 2 && second.files.len() == 3);
+    assert!(rt; first.files.len() == 2 && second.files.len() == 3);
     let (store, one) = store.put_set(alloc, &mut folder, &first)?;
-    let begin = folder.calls();
+    assert_eq!(rt; (one, folder.calls()), (1, 14));
     let (_store, two) = store.put_set(alloc, &mut folder, &second)?;
-    assert_eq!(&rt; (one, two), (1, 2));
-    let end = folder.calls();
-    assert_eq!(&rt; (begin, end), (14, 27));
-    for before in 14..27 {
-        for pattern in 0..3 {
-            let call = before + 1;
-            assert!(&rt; call <= folder.calls());
-            let mut image = folder.crash_image(alloc, call, pattern)?;
-            // The gate is opened by the last call but one.
-            let allowed: &[u64] = match call {
-                27 => &[2],
-                26 => &[1, 2],
-                _ => &[1],
-            };
-            let place = format!(in alloc; "call {call}, pattern {pattern}")?;
-            compare(&rt, &mut image, allowed, place.as_str())?;
+    assert_eq!(rt; (two, folder.calls()), (2, 27));
+    Ok(folder)
+}
+
+/// Compares the set that a crash right after the call leaves.
+fn compare_image(
+    rt: &(impl Abort + AllocGlobal),
+    folder: &MemFolder,
+    call: u64,
+    pattern: u8,
+    allowed: &[u64],
+) -> Result<(), Fail> {
+    assert!(rt; 1 <= call && call <= folder.calls() && pattern < 3);
+    let mut image = folder.crash_image(rt.alloc(), call, pattern)?;
+    let place = format!(in rt.alloc(); "call {call}, pattern {pattern}")?;
+    compare(rt, &mut image, allowed, place.as_str())
+}
+
+#[test]
+fn a_crash_leaves_the_old_set_or_the_new(rt: HostRuntime) -> Result<(), Fail> {
+    let folder = with_both_sets(&rt)?;
+    for pattern in 0..3 {
+        for call in 14..26 {
+            compare_image(&rt, &folder, call, pattern, &[1])?;
         }
+        // The write that opens the gate has begun.
+        compare_image(&rt, &folder, 26, pattern, &[1, 2])?;
+        compare_image(&rt, &folder, 27, pattern, &[2])?;
     }
     Ok(())
 }
