@@ -20,6 +20,7 @@ pub mod Running
 pub mod Stillness
 pub mod Safety
 pub mod Checkpoints
-pub mod Images
+pub mod ImagedKernels
 pub mod Served
 pub mod Turning
+pub mod Loads

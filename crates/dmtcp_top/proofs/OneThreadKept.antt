@@ -25,20 +25,23 @@ there user t one = ap (λ m. map.get m t) one.threads ∙ get_insert_same nat_cm
 pub has_thread : (user : UserPart) (t : ℕ) → OneThread user t → is_some (map.get user.threads t) ≡ true
 has_thread user t one = ap is_some (there user t one)
 
-with_thread_one : (user : UserPart) (t : ℕ) (thread : ThreadPart) (memory : Memory) → OneThread user t → OneThread (with_thread user t thread memory) t
-with_thread_one user t thread memory one = record {
+with_thread_one : (user : UserPart) (t : ℕ) (thread : ThreadPart) (memory : Memory) → thread.contexts ≡ [] → OneThread user t → OneThread (with_thread user t thread memory) t
+with_thread_one user t thread memory contexts one = record {
   thread = thread;
+  contexts = contexts;
   threads = ap (λ m. map.insert m t thread) one.threads ∙ insert_insert nat_cmp_total nat_cmp-IsAntisymmetric map.empty t one.thread thread;
   waiters = one.waiters;
 }
 
-put_by_one : (user : UserPart) (t value : ℕ) (memory : Memory) (thread : Option ThreadPart) → OneThread user t → OneThread (put_by user t value memory thread) t
-put_by_one user t value memory None one = one
-put_by_one user t value memory (Some thread) one = with_thread_one user t (after_call thread value) memory one
+put_by_one : (user : UserPart) (t value : ℕ) (memory : Memory) (thread : Option ThreadPart) → (one : OneThread user t) → thread ≡ Some one.thread → OneThread (put_by user t value memory thread) t
+put_by_one user t value memory None one is = one
+put_by_one user t value memory (Some thread) one is =
+    let same : thread ≡ one.thread = cc in
+    with_thread_one user t (after_call thread value) memory (ap (λ (part : ThreadPart). part.contexts) same ∙ one.contexts) one
 
 pub put_one : (user : UserPart) (t : ℕ) (q : Request) (reply : Reply) (bytes : List ℕ) → OneThread user t → OneThread (put user t q reply bytes) t
 unfolding put
-put_one user t q reply bytes one = put_by_one user t (word_of reply) (with_spans user.memory (written_spans user.memory q) bytes) (map.get user.threads t) one
+put_one user t q reply bytes one = put_by_one user t (word_of reply) (with_spans user.memory (written_spans user.memory q) bytes) (map.get user.threads t) one (there user t one)
 
 pub local_one : (user : UserPart) (t : ℕ) (q : Request) → OneThread user t → OneThread (local_row user t q) t
 unfolding local_row
@@ -50,10 +53,10 @@ Keeps t (Stepped user) = OneThread user t
 Keeps t Waits = ⊥
 Keeps t _ = Unit {0}
 
-by_keeps : (user : UserPart) (t : ℕ) (thread : ThreadPart) (e : Effect) → OneThread user t → Keeps t (step_by user t thread e)
-by_keeps user t thread (Next regs memory) one = with_thread_one user t (with_regs thread regs) memory one
-by_keeps user t thread Calls one = tt
-by_keeps user t thread (Traps s) one = tt
+by_keeps : (user : UserPart) (t : ℕ) (thread : ThreadPart) (e : Effect) → thread.contexts ≡ [] → OneThread user t → Keeps t (step_by user t thread e)
+by_keeps user t thread (Next regs memory) contexts one = with_thread_one user t (with_regs thread regs) memory contexts one
+by_keeps user t thread Calls contexts one = tt
+by_keeps user t thread (Traps s) contexts one = tt
 
 step_keeps : (user : UserPart) (t : ℕ) → OneThread user t → Keeps t (user_step user t)
 unfolding user_step
@@ -61,7 +64,7 @@ step_keeps user t one =
     let nobody : waits user t ≡ false = ap (λ (ws : List Waiter). list_any (λ waiter. waiter.tid == t) ws) one.waiters in
     let stands_there : step_of user t (map.get user.threads t) ≡ step_by user t one.thread (effect_at one.thread.regs user.memory) =
     ap (step_of user t) (there user t one) ∙ ap (λ b. cond b Waits (step_by user t one.thread (effect_at one.thread.regs user.memory))) nobody in
-    subst (Keeps t) (sym stands_there) (by_keeps user t one.thread (effect_at one.thread.regs user.memory) one)
+    subst (Keeps t) (sym stands_there) (by_keeps user t one.thread (effect_at one.thread.regs user.memory) one.contexts one)
 
 pub never_waits : (user : UserPart) (t : ℕ) → OneThread user t → user_step user t ≡ Waits → ⊥
 never_waits user t one is = subst (Keeps t) is (step_keeps user t one)

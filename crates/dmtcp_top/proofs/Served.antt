@@ -33,7 +33,7 @@ use Rattle.dmtcp_top.specs.Keeping.{IsKept, IsPut, IsSafe, Counts, CountsFaults,
 use Rattle.dmtcp_top.specs.UnderWay.{IsUnderWay, IsBrokenOff, IsSettled}
 use Rattle.dmtcp_top.proofs.Sinks.{took_nothing}
 use Rattle.dmtcp_top.proofs.Endings.{goes_on_while_live}
-use Rattle.dmtcp_top.proofs.Images.{supported, nothing_on_the_way}
+use Rattle.dmtcp_top.proofs.ImagedKernels.{supported, nothing_on_the_way}
 use Rattle.dmtcp_top.proofs.Running.{steps_of}
 use Rattle.dmtcp_top.proofs.Safety.{some_there, if_some, new_below, same_below, counts_later, counts_fault, safe_quiet, safe_looked, safe_put, safe_complete, safe_refused}
 use Rattle.dmtcp_top.proofs.Checkpoints.{lapse_stands, refusal_stands, cut_stands, after_cut, complete_stands, late_refusal_stands, complete_ends, refusal_ends, lapse_ends, cut_tally, outcome_tally, marked, broken}

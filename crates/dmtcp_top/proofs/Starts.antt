@@ -28,7 +28,7 @@ first_is_alone q differ =
 
 pub one_thread_at_start : (program : Program) (arguments : List ℕ) (t : ℕ) → OneThread (start_user program arguments t) t
 unfolding start_user
-one_thread_at_start program arguments t = record { thread = start_thread (start_regs program arguments); threads = refl; waiters = refl }
+one_thread_at_start program arguments t = record { thread = start_thread (start_regs program arguments); threads = refl; contexts = refl; waiters = refl }
 
 started : (program : Program) (arguments : List ℕ) → start (record { host = 0; program = program; arguments = arguments } ∷ []) [] ≡ record { kernel = with_process empty_kernel 40000 0; users = only (pid 40000) (start_user program arguments 40000) }
 unfolding start start_kernel with_processes with_files with_users

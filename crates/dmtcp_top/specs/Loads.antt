@@ -3,7 +3,7 @@ use Rattle.std.specs.Prelude.{◌≡◌, ◌≢◌, ℕ, List, Option, Some, Non
 use Rattle.elf32.specs.Rules.{first_fault}
 use Rattle.elf32.specs.Programs.{program_of}
 use Rattle.elf32.specs.declared.program.Program.{Program}
-use Rattle.plain_machine.specs.Launches.{IsLaunched}
+use Rattle.plain_machine.specs.Launches.{IsLaunched as CanLaunch}
 use Rattle.plain_machine.specs.Valid.{IsByte}
 use Rattle.set_disk.specs.Moments.{LeavesOnly}
 use Rattle.image_store.specs.declared.set_info.SetInfo.{SetInfo}
@@ -93,7 +93,7 @@ IsQuiet (Restart settings) = ⊥
 
 -- it can be launched with every list of arguments
 abbrev pub IsGoodProgram : Program → Type 0
-IsGoodProgram program = (arguments : List ℕ) → All IsByte arguments → IsLaunched (record { host = 0; program = program; arguments = arguments })
+IsGoodProgram program = (arguments : List ℕ) → All IsByte arguments → CanLaunch (record { host = 0; program = program; arguments = arguments })
 
 -- the program in the input of this name, or why there is none
 abbrev pub IsReadProgram : Result Program Ending → Option Files → List ℕ → Type 0

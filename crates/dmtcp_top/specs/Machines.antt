@@ -36,10 +36,11 @@ plain_of m = single m.kernel m.guest.pid m.guest.user
 abbrev pub lives : Machine → Bool
 lives m = is_live m.kernel m.guest.pid
 
--- the part has this one thread, and nobody waits
+-- the part has this one thread, which no handler interrupted, and nobody waits
 pub record OneThread (user : UserPart) (t : ℕ) : Type 0 where
   pub thread : ThreadPart
   pub threads : user.threads ≡ map.insert map.empty t thread
+  pub contexts : thread.contexts ≡ []
   pub waiters : user.waiters ≡ []
 
 pub record IsSingle (m : Machine) : Type 0 where

@@ -34,7 +34,7 @@ impl<'a> Job<'a> {
 
     /// What the options set.
     pub fn settings(self) -> Settings
-        ensures { result ≡ settings_of self }
+        ensures { result ≡ settings_of self.entry }
     {
         match self {
             Job::Launch { settings, .. } => settings,

@@ -39,13 +39,13 @@ pub(crate) fn begin<'a, I: Inputs, F: Folder>(
     disk: &mut F,
 ) -> Result<Start, Ending<'a>>
     requires asked { (words : List (List ℕ)) × IsAsked words job }
-    ensures begins { Begins result job (I.held inputs.old) (F.reads disk.old) }
+    ensures begins { Begins result job.entry (I.held inputs.old) (F.reads disk.old) }
     ensures kept { IfOk result (λ start. start.keeper.schedule.every ≢ None → IsKept start.keeper (F.reads disk.new) (F.may_leave disk.new)) }
     ensures input { IfErr result (λ ending. status_of ending ≡ Status.InputFault → Rose (I.faults inputs.old) (I.faults inputs.new)) }
     ensures sink { IfErr result (λ ending. status_of ending ≢ Status.SinkFault) }
     ensures disk { IfErr result (λ ending. status_of ending ≡ Status.DiskFault → Rose (F.faults disk.old) (F.faults disk.new)) }
     ensures looks { OnlyLooks F.reads F.moment F.may_leave F.left_since F.faults disk.old disk.new }
-    ensures untouched { IsQuiet job → disk.new ≡ disk.old }
+    ensures untouched { IsQuiet job.entry → disk.new ≡ disk.old }
     ensures same { I.held inputs.new ≡ I.held inputs.old }
 {
     match job {
@@ -140,7 +140,7 @@ fn open<'a, F: Folder>(alloc: Global, disk: &mut F) -> Result<Store, Ending<'a>>
 /// The keeper of a run whose sets follow those of this store.
 fn keeper_of(settings: Settings, store: Store) -> Keeper
     ensures fresh { IsFresh result settings (option_map_or (λ (info : SetInfo). info.generation) store.last 0) }
-    ensures kept { (told : Option _) (images : _) → store.floor ≡ 0 → FitsFolder store told images → IsKept result told images }
+    ensures store { result.store ≡ Some store }
 {
     let opening = match store.last() {
         Some(info) => info.generation,

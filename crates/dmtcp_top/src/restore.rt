@@ -1,4 +1,5 @@
-ghost use Rattle.std.specs.Prelude.{◌≡◌, ℕ, List, IfOk};
+ghost use Rattle.std.specs.Prelude.{ℕ, List, All, IfOk};
+ghost use Rattle.plain_machine.specs.Valid.{IsByte};
 ghost use Rattle.image_codec.specs.Sets.{SpellsFiles, IsStateOf};
 ghost use Rattle.dmtcp_top.specs.Machines.{plain_of, IsReady};
 
@@ -9,9 +10,9 @@ use std::alloc::{AllocError, Global};
 impl Machine {
     /// The machine whose state the values of a set stand for. It takes the pages as they are.
     pub fn restore(alloc: Global, decoded: Decoded) -> Result<Machine, AllocError>
-        requires spelled { (files : List (List ℕ)) × SpellsFiles files decoded.now.shared decoded.now.procs }
+        requires spelled { (files : List (List ℕ)) × (All (λ file. All IsByte file) files × SpellsFiles files decoded.shared decoded.procs) }
         ensures ready { IfOk result (λ m. IsReady m) }
-        ensures state { IfOk result (λ m. IsStateOf decoded.now.shared decoded.now.procs (plain_of m)) }
+        ensures state { IfOk result (λ m. IsStateOf decoded.shared decoded.procs (plain_of m)) }
     {
         let _ = alloc;
         Err(AllocError)

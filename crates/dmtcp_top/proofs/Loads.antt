@@ -1,0 +1,123 @@
+-- Looking at the folder of sets before a run, and the run after it.
+--     looks_none, looks_then           no call of the folder, and two stretches that only look
+--     whole_unbegun, whole_begun       what a crash leaves of a call that began no run, and of one that did
+--     kept                             what a keeper knows whose sets follow those of a store
+use Rattle.std.proofs.Common.{◌≡◌, ◌≢◌, ℕ, zero, suc, ◌+◌, ◌^◌, ◌<◌, ◌≤◌, List, [], Option, Some, None, inl, inr, refl, sym, ap, subst, ◌∙◌, arith}
+use Rattle.std.specs.Prelude.{◌⊎◌, IfSome, max}
+use Rattle.std.proofs.Math.Nat.{zero-max}
+use Rattle.std.specs.List.{Contains}
+use Rattle.std.specs.Option.{ForSome, option_map_or}
+use Rattle.sys_abi.specs.declared.record.Record.{Record}
+use Rattle.sys_abi.specs.declared.record.Record.TheVariants.{Complete}
+use Rattle.set_disk.specs.Files.{Files as Folder}
+use Rattle.set_disk.specs.Crash.{Same}
+use Rattle.set_disk.specs.Moments.{Passes, LeavesOnly}
+use Rattle.set_disk.proofs.Stretches.{joins, weakens}
+use Rattle.plain_machine.specs.declared.plain.Plain.{Plain}
+use Rattle.trace_log.specs.Requests.{first_tally}
+use Rattle.image_store.specs.declared.set_info.SetInfo.{SetInfo}
+use Rattle.image_store.specs.Slots.{last}
+use Rattle.image_store.specs.FoundSets.{last_set}
+use Rattle.image_store.specs.StoreStates.{Known, FitsFolder, next_generation, generation_after}
+use Rattle.image_store.specs.StoreCrashes.{ChangesNothing}
+use Rattle.image_store.proofs.Passing.{passes_then}
+use Rattle.dmtcp_top.specs.declared.keeper.Keeper.{Keeper}
+use Rattle.dmtcp_top.specs.declared.settings.Settings.{Settings}
+use Rattle.dmtcp_top.specs.Keeping.{IsOpening, SpellsCut, CountsFaults, IsKept, IsSafe}
+use Rattle.dmtcp_top.specs.Launches.{schedule_of}
+use Rattle.dmtcp_top.specs.Loads.{IsFresh, OnlyLooks}
+use Rattle.dmtcp_top.specs.Promise.{SpellsCutOf, StaysWhole}
+use Rattle.dmtcp_top.proofs.Safety.{if_some}
+
+nothing_there : (generation : ℕ) → Contains {X = Record} [] (Complete generation) → ⊥
+nothing_there generation there = let below = there.1 in omega arith
+
+module _ {D : Type 0} {reads : D → Option Folder} {moment : D → ℕ} {may_leave : D → Folder → Type 0} {left_since : D → ℕ → Folder → Type 0} where
+  -- what could be left after calls that change nothing could be left before them
+  left_before : (old new : D) (image : Folder) → ChangesNothing reads moment may_leave left_since old new → may_leave new image → may_leave old image
+  left_before old new image nothing left = let before = nothing.crash.now image left in subst (may_leave old) (sym before.2) before.1
+
+  opening_before : (old new : D) (image : Folder) → ChangesNothing reads moment may_leave left_since old new → IsOpening (may_leave new) image → IsOpening (may_leave old) image
+  opening_before old new image nothing opening = record { old = opening.old; could = left_before old new opening.old nothing opening.could; same = opening.same }
+
+module _ {D : Type 0} {reads : D → Option Folder} {moment : D → ℕ} {may_leave : D → Folder → Type 0} {left_since : D → ℕ → Folder → Type 0} {faults : D → ℕ} where
+  pub looks_none : (d : D) → ((image : Folder) → left_since d (moment d) image → may_leave d image) → OnlyLooks reads moment may_leave left_since faults d d
+  looks_none d only_now = record {
+    nothing = record {
+      same = refl;
+      crash = record {
+        later = omega arith;
+        now = λ image left. (image, left, refl);
+        since = λ t image le left. inl left;
+        keeps = λ t image le left. left;
+      };
+    };
+    crash = record {
+      later = omega arith;
+      each = only_now;
+      before = λ t image le left. inl left;
+    };
+    counts = record { later = omega arith; small = λ small. small };
+  }
+
+  pub looks_then : (old mid new : D) → OnlyLooks reads moment may_leave left_since faults old mid → OnlyLooks reads moment may_leave left_since faults mid new → OnlyLooks reads moment may_leave left_since faults old new
+  looks_then old mid new first second = record {
+    nothing = record {
+      same = second.nothing.same ∙ first.nothing.same;
+      crash = passes_then Same first.nothing.crash second.nothing.crash (λ before after same. same) (λ before between after same again. again ∙ same);
+    };
+    crash = joins old mid new (may_leave old) first.crash
+        (weakens mid new (may_leave mid) (may_leave old) second.crash (λ image left. left_before old mid image first.nothing left));
+    counts = record {
+      later = let one = first.counts.later in let two = second.counts.later in omega arith;
+      small = λ small. second.counts.small (first.counts.small small);
+    };
+  }
+
+  pub whole_unbegun : (trace : List Record) (old new : D) → trace ≡ [] → OnlyLooks reads moment may_leave left_since faults old new → StaysWhole reads moment may_leave left_since faults None trace old new
+  whole_unbegun trace old new none looks = subst (λ records. StaysWhole reads moment may_leave left_since faults None records old new) (sym none) (record {
+    crash = λ files is. weakens old new (may_leave old) (λ image. IsOpening (may_leave old) image ⊎ SpellsCutOf None [] image) looks.crash
+        (λ image left. inl (record { old = image; could = left; same = refl }));
+    complete = λ files is generation image there left. absurd (nothing_there generation there);
+    counted = inl (let later = looks.counts.later in omega arith);
+  })
+
+  pub whole_begun : (g : Plain) (trace : List Record) (old mid new : D) → OnlyLooks reads moment may_leave left_since faults old mid → IsSafe reads moment may_leave left_since faults g trace mid new → StaysWhole reads moment may_leave left_since faults (Some g) trace old new
+  whole_begun g trace old mid new looks safe = record {
+    crash = λ files is. joins old mid new (λ image. IsOpening (may_leave old) image ⊎ SpellsCutOf (Some g) trace image)
+        (weakens old mid (may_leave old) (λ image. IsOpening (may_leave old) image ⊎ SpellsCutOf (Some g) trace image) looks.crash (λ image left. inl (record { old = image; could = left; same = refl })))
+        (weakens mid new (λ image. IsOpening (may_leave mid) image ⊎ SpellsCut g trace image) (λ image. IsOpening (may_leave old) image ⊎ SpellsCutOf (Some g) trace image) (safe.crash files (looks.nothing.same ∙ is)) good);
+    complete = λ files is. safe.complete files (looks.nothing.same ∙ is);
+    counted = counted safe.counted;
+  }
+    where
+      good : (image : Folder) → IsOpening (may_leave mid) image ⊎ SpellsCut g trace image → IsOpening (may_leave old) image ⊎ SpellsCutOf (Some g) trace image
+      good image (inl opening) = inl (opening_before old mid image looks.nothing opening)
+      good image (inr cut) = inr (record { g = g; began = refl; cut = cut })
+      counted : CountsFaults trace (faults mid) (faults new) → CountsFaults trace (faults old) (faults new)
+      counted (inl counts) = inl (let later = looks.counts.later in omega arith)
+      counted (inr full) = inr full
+
+abbrev pub generation_of : Option SetInfo → ℕ
+generation_of info = option_map_or (λ (i : SetInfo). i.generation) info 0
+
+next_after : (store : Known) → store.floor ≡ 0 → next_generation store ≡ suc (generation_of store.last)
+unfolding generation_after
+next_after store none = ap (λ floor. suc (max floor (generation_of store.last))) none ∙ ap suc (zero-max (generation_of store.last))
+
+none_some : {A : Type 0} (o : Option A) (a : A) → o ≡ Some a → o ≡ None → ⊥
+none_some o a some none = cc
+
+pub kept : (keeper : Keeper) (settings : Settings) (store : Known) (told : Option Folder) (images : Folder → Type 0) → keeper.store ≡ Some store → keeper.tally ≡ first_tally (schedule_of settings (generation_of store.last))
+    → store.floor ≡ 0 → FitsFolder store told images → IsKept keeper told images
+kept keeper settings store told images stored tallied none fits = record {
+  fits = λ other is. let same : store ≡ other = cc in
+      (subst (λ (s : Known). FitsFolder s told images) same fits, ap next_generation (sym same) ∙ next_after store none ∙ ap suc (sym greatest));
+  above = λ files is. if_some (last files) (λ info at.
+      let found : store.last ≡ Some info = sym (fits files is).last ∙ at in
+      let bound : keeper.tally.greatest ≡ info.generation = greatest ∙ ap generation_of found in omega arith);
+  floor = λ no_store. absurd (none_some keeper.store store stored no_store);
+}
+  where
+    greatest : keeper.tally.greatest ≡ generation_of store.last
+    greatest = ap (λ tally. tally.greatest) tallied
