@@ -11,7 +11,7 @@
 use dmtcp_top::{Status, dmtcp};
 use edge_io::{HostInputs, HostSink, Sink};
 use set_disk::HostFolder;
-use std::alloc::{AllocError, Global};
+use std::alloc::Global;
 use std::env::Env;
 use std::process::ExitCode;
 use std::rt::Files;
@@ -24,7 +24,8 @@ const TRACE_FILE: &str = "dmtcp.trace";
 /// Where the sets of checkpoints lie.
 const SET_FOLDER: &str = "dmtcp_set";
 
-const HELP: &str = "dmtcp launch [--every K] [--records M] 0:NAME\ndmtcp restart [--every K] [--records M]\n";
+const HELP: &str =
+    "dmtcp launch [--every K] [--records M] 0:NAME\ndmtcp restart [--every K] [--records M]\n";
 
 const VERSION: &str = "dmtcp 0.1.0\n";
 
@@ -38,9 +39,8 @@ fn main(rt: HostRuntime) -> ExitCode {
     if let Some(text) = greeting(words.as_slice()) {
         return ExitCode::from(said(text, &mut out).code());
     }
-    let mut disk = match HostFolder::new(&rt, rt.alloc(), SET_FOLDER) {
-        Ok(folder) => folder,
-        Err(AllocError) => return ExitCode::from(ended("memory\n", Status::Memory, &mut log).code()),
+    let Ok(mut disk) = HostFolder::new(&rt, rt.alloc(), SET_FOLDER) else {
+        return ExitCode::from(ended("memory\n", Status::Memory, &mut log).code());
     };
     let mut inputs = HostInputs::new(&rt);
     let mut trace = Trace::new(rt.alloc());

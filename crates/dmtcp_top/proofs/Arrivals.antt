@@ -3,13 +3,11 @@
 --     memory_arrives            no run was begun for want of memory
 --     launch_refused, restart_refused      no run was begun
 --     run_arrives               a run was begun, and came to its end
-use Rattle.std.proofs.Common.{◌≡◌, ◌≢◌, ℕ, zero, suc, true, List, [], ◌∷◌, ◌++◌, take, Option, Some, None, IfSome, inl, inr, refl, sym, ap, subst, ◌∙◌}
-use Rattle.std.specs.Prelude.{◌⊎◌}
+use Rattle.std.proofs.Common.{◌≡◌, ℕ, zero, List, [], Option, Some, None, inl, inr, refl, sym, ap, subst}
 use Rattle.sys_abi.specs.declared.record.Record.{Record}
 use Rattle.edge_io.specs.Inputs.{Files}
 use Rattle.set_disk.specs.Files.{Files as Folder}
 use Rattle.plain_machine.specs.declared.plain.Plain.{Plain}
-use Rattle.trace_log.specs.declared.requests.Schedule.{Schedule}
 use Rattle.trace_log.specs.LogText.{log_text}
 use Rattle.dmtcp_top.specs.declared.ending.Ending.{Ending}
 use Rattle.dmtcp_top.specs.declared.ending.Ending.TheVariants.{Done, Usage, InputFault, Missing, BadElf, SinkFault, DiskFault, NoSet, Damaged, Budget, Memory}
@@ -19,12 +17,11 @@ use Rattle.dmtcp_top.specs.declared.settings.Settings.{Settings}
 use Rattle.dmtcp_top.specs.declared.start.Start.{Start}
 use Rattle.dmtcp_top.specs.Words.{IsLaunch, IsRestart, AskNothing}
 use Rattle.dmtcp_top.specs.Log.{input_fault_line, missing_line, bad_program_line, budget_line}
-use Rattle.dmtcp_top.specs.Sessions.{Sunk, Session, session, Took, TookFront}
-use Rattle.dmtcp_top.specs.Sets.{SpellsSet}
-use Rattle.dmtcp_top.specs.Launches.{LaunchAsked, RestartAsked, Launched, Restarted, Begun, origin, settings_in, schedule_in, schedule_of, start_of}
+use Rattle.dmtcp_top.specs.Sessions.{Sunk, Session, session, Took}
+use Rattle.dmtcp_top.specs.Launches.{Begun, origin, settings_in, schedule_in, schedule_of}
 use Rattle.dmtcp_top.specs.Launches.Begun.{ByLaunch, ByRestart}
 use Rattle.dmtcp_top.specs.RunEnds.{EndsRun}
-use Rattle.dmtcp_top.specs.Ends.{NotBegun, IsAsked}
+use Rattle.dmtcp_top.specs.Ends.{NotBegun}
 use Rattle.dmtcp_top.specs.Ends.NeedsStore.{ToLaunch, ToRestart}
 use Rattle.dmtcp_top.specs.Endings.{Arrives}
 use Rattle.dmtcp_top.specs.Machines.{plain_of}
@@ -39,9 +36,6 @@ ending_by RunMemory records = Memory
 -- a trace of no records has no lines
 silent_log : (trace : List Record) (log : Sunk) → trace ≡ [] → Took log [] → Took log (log_text trace)
 silent_log trace log none took = subst (λ records. Took log (log_text records)) (sym none) took
-
-front_of_all : (log : Sunk) (lines : List ℕ) → lines ≡ [] → Took log [] → TookFront log lines
-front_of_all log lines none took = (zero, took)
 
 module _ (words : List (List ℕ)) (files : Option Files) (folder : Option Folder) (trace : List Record) (console log : Sunk) (none : trace ≡ []) (quiet : Took console []) (unlogged : Took log []) where
   abbrev unbegun_call : Session
@@ -66,22 +60,26 @@ module _ (words : List (List ℕ)) (files : Option Files) (folder : Option Folde
   launch_refused (InputFault who) name settings launch why = (record { nothing = unbegun; asked = record { name = name; settings = settings; words = launch }; line = ap input_fault_line why }, lines)
   launch_refused (Missing who) name settings launch why =
       (record { nothing = unbegun; asked = record { name = name; settings = settings; words = launch }; input = why.1; line = ap missing_line why.0 }, lines)
-  launch_refused (BadElf who fault) name settings launch why =
-      (record {
-        nothing = unbegun;
-        asked = record { name = name; settings = settings; words = launch };
-        file = why.1.0;
-        input = why.1.1.0;
-        fault = fault;
-        rule = why.1.1.1;
-        line = ap (λ who_is. bad_program_line who_is fault) why.0;
-      }, lines)
-  launch_refused DiskFault name settings launch why =
-      (record {
-        nothing = unbegun;
-        needs = ToLaunch (record { name = name; settings = settings; words = launch }) why.1.0 why.0 why.1.1.0 why.1.1.1;
-        line = refl;
-      }, lines)
+  launch_refused (BadElf who fault) name settings launch why = (
+    record {
+      nothing = unbegun;
+      asked = record { name = name; settings = settings; words = launch };
+      file = why.1.0;
+      input = why.1.1.0;
+      fault = fault;
+      rule = why.1.1.1;
+      line = ap (λ who_is. bad_program_line who_is fault) why.0;
+    },
+    lines,
+  )
+  launch_refused DiskFault name settings launch why = (
+    record {
+      nothing = unbegun;
+      needs = ToLaunch (record { name = name; settings = settings; words = launch }) why.1.0 why.0 why.1.1.0 why.1.1.1;
+      line = refl;
+    },
+    lines,
+  )
   launch_refused Memory name settings launch why = launch_memory_arrives name settings launch
   launch_refused Done name settings launch why = absurd why
   launch_refused Usage name settings launch why = absurd why

@@ -8,7 +8,7 @@ use Rattle.dmtcp_top.specs.declared.ending.Ending.{Ending}
 use Rattle.dmtcp_top.specs.declared.ending.Ending.TheVariants.{Done, Usage, InputFault, Missing, BadElf, SinkFault, DiskFault, NoSet, Damaged, Budget, Memory}
 use Rattle.dmtcp_top.specs.Log.{memory_line}
 use Rattle.dmtcp_top.specs.Sessions.{Sunk, sunk, Session, Took, TookFront}
-use Rattle.dmtcp_top.specs.Ends.{Ends, Reaches, SinkFailed, LoggedPart, LogFailed}
+use Rattle.dmtcp_top.specs.Ends.{Ends, Reaches, SinkFailed}
 use Rattle.dmtcp_top.specs.Endings.{status_of, line_of, Arrives, Concludes}
 use Rattle.dmtcp_top.proofs.Sinks.{took_both, took_more}
 

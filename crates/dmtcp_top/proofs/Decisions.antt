@@ -1,6 +1,6 @@
 -- Which status comes where nothing outside failed: by what the call was given.
 use Rattle.std.proofs.Common.{◌≡◌, ◌≢◌, ℕ, List, [], ◌∷◌, ◌++◌, Option, Some, None, IfSome, inl, inr, refl, sym, ap, subst, ◌∙◌, drop}
-use Rattle.std.specs.Prelude.{◌⊎◌, ◌↔◌, codes}
+use Rattle.std.specs.Prelude.{◌↔◌, codes}
 use Rattle.std.specs.FinMap as map
 use Rattle.sys_abi.specs.declared.record.Record.{Record}
 use Rattle.edge_io.specs.Inputs.{Files}
@@ -15,7 +15,7 @@ use Rattle.dmtcp_top.specs.declared.settings.Settings.{Settings}
 use Rattle.dmtcp_top.specs.Words.{IsLaunch, IsRestart, AskNothing, program_word}
 use Rattle.dmtcp_top.specs.Sets.{SpellsSet, SpoilsSet}
 use Rattle.dmtcp_top.specs.Sessions.{Sunk, Session, session, IsInput}
-use Rattle.dmtcp_top.specs.Launches.{LaunchAsked, RestartAsked, Launched, Restarted, Begun}
+use Rattle.dmtcp_top.specs.Launches.{LaunchAsked, RestartAsked, Begun}
 use Rattle.dmtcp_top.specs.Launches.Begun.{ByLaunch, ByRestart}
 use Rattle.dmtcp_top.specs.Ends.{Ends, IsAsked, IsDecided, Reaches, RunsOn, NeedsStore}
 use Rattle.dmtcp_top.specs.Ends.NeedsStore.{ToLaunch, ToRestart}

@@ -13,6 +13,7 @@ pub mod Walks
 pub mod Starts
 pub mod Endings
 pub mod Conclusions
+pub mod FilesApart
 pub mod SetLaws
 pub mod Decisions
 pub mod Arrivals

@@ -10,7 +10,9 @@ use Rattle.image_codec.specs.Sets.{SpellsFiles, DamagedFiles}
 use Rattle.image_store.specs.Slots.{last}
 use Rattle.image_store.specs.FoundSets.{FoundSet, set_of, last_set, IsSet, HasSet}
 use Rattle.image_store.specs.SetDamages.{IsFirstDamage, HasDamage}
+use Rattle.image_store.proofs.SetLaws.{one_set, apart}
 use Rattle.dmtcp_top.specs.Sets.{SpellsSet, SpoilsSet}
+use Rattle.dmtcp_top.proofs.FilesApart.{files_apart}
 
 pub record SetLaws : Type 0 where
   pub one : (found : Option FoundSet) (g h : ℕ) (images others : List (List ℕ)) → HasSet found g images → HasSet found h others → images ≡ others
@@ -41,4 +43,8 @@ spelled_or_spoilt laws files generation g slot damage spells spoils = by spoils.
         laws.apart images damage.file damage.offset spells.state.shared spells.state.processes (subst (λ files. SpellsFiles files spells.state.shared spells.state.processes) same spells.state.spelled) spoilt.1
 
 pub set_laws : SetLaws
-set_laws = ?
+set_laws = record {
+  one = λ found g h images others first second. (one_set found g h images others first second).1;
+  whole = apart;
+  apart = files_apart;
+}

@@ -1,6 +1,7 @@
 use crate::programs::hello;
 use dmtcp_top::{Status, dmtcp};
 use edge_io::{MemInputs, MemSink};
+use set_disk::MemFolder;
 use std::alloc::{AllocError, Global};
 use std::sync::Wait;
 use std::thread::Threads;
@@ -48,6 +49,7 @@ pub fn run<R: Wait + Threads + Sync>(
     inputs.add(file.0, file.1)?;
     let mut out = MemSink::new(alloc, failing.out)?;
     let mut log = MemSink::new(alloc, failing.log)?;
+    let mut disk = MemFolder::new(alloc, &[])?;
     let mut trace = Trace::new(alloc);
     let mut owned = Vec::new(alloc);
     for word in words {
@@ -60,6 +62,7 @@ pub fn run<R: Wait + Threads + Sync>(
         &mut inputs,
         &mut out,
         &mut log,
+        &mut disk,
         &mut trace,
     );
     Ok(Left {

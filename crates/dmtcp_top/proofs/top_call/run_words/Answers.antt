@@ -13,11 +13,13 @@ pub returns-clause-promise : goal.returns-clause-promise
 returns-clause-promise g c =
     let there = c.carry_out-ending.ensures.promise in
     let console = sunk (g.O.Sink.taken c.args.out.now) (g.O.Sink.taken c.carry_out-ending.new.out) in
-    let called = session (map string_bytes c.args.words.now) (g.I.Inputs.held c.args.inputs.now) (g.F.Folder.reads c.args.disk.now) there.0 c.carry_out-ending.new.trace.records console in
-    (there.0, record {
-      ends = call_ends c.carry_out-ending.result c.conclude.result called (g.L.Sink.taken c.args.log.now) (g.L.Sink.taken c.carry_out-ending.new.log) (g.L.Sink.taken c.conclude.new.log) there.1.0 c.conclude.ensures.concludes;
-      whole = there.1.1;
-    })
+    let called = session (map string_bytes c.args.words.now) (g.I.Inputs.held c.args.inputs.now) (g.F.Folder.reads c.args.disk.now) there.0 c.carry_out-ending.new.trace.records console in (
+      there.0,
+      record {
+        ends = call_ends c.carry_out-ending.result c.conclude.result called (g.L.Sink.taken c.args.log.now) (g.L.Sink.taken c.carry_out-ending.new.log) (g.L.Sink.taken c.conclude.new.log) there.1.0 c.conclude.ensures.concludes;
+        whole = there.1.1;
+      },
+    )
 
 either : {A B P : Type 0} → A ⊎ B → (A → P) → (B → P) → P
 either (inl a) f h = f a
@@ -41,7 +43,7 @@ returns-clause-decided g c = λ no_input no_console no_log no_disk start.
     (call_ends c.carry_out-ending.result c.conclude.result called had mid has there.1.0 c.conclude.ensures.concludes)
     (λ is. no_input (c.carry_out-ending.ensures.input (status_kept c.carry_out-ending.result c.conclude.result InputFault (sunk mid has) c.conclude.ensures.concludes (λ e. absurd (cc)) is)))
     (λ is. either (c.conclude.ensures.cause is)
-      (λ silent. either (c.carry_out-ending.ensures.sink silent) no_console
-        (λ rose. no_log (subst (λ log. Rose before (g.L.Sink.faults log)) (sym (c.conclude.ensures.silent silent)) rose)))
-      (λ rose. no_log (Rose-after before (g.L.Sink.faults c.carry_out-ending.new.log) (g.L.Sink.faults c.conclude.new.log) c.carry_out-ending.ensures.log_later rose)))
+    (λ silent. either (c.carry_out-ending.ensures.sink silent) no_console
+    (λ rose. no_log (subst (λ log. Rose before (g.L.Sink.faults log)) (sym (c.conclude.ensures.silent silent)) rose)))
+    (λ rose. no_log (Rose-after before (g.L.Sink.faults c.carry_out-ending.new.log) (g.L.Sink.faults c.conclude.new.log) c.carry_out-ending.ensures.log_later rose)))
     (λ is. no_disk (c.carry_out-ending.ensures.disk (status_kept c.carry_out-ending.result c.conclude.result DiskFault (sunk mid has) c.conclude.ensures.concludes (λ e. absurd (cc)) is))))
