@@ -16,9 +16,9 @@ returns-clause-spelled c =
     let one = c.in_ok-push.ensures.ok ∙ ap (λ (files : List (List ℕ)). files ++ c.from_vec.result ∷ []) c.new-files.ensures in
     let both = c.in_ok-push-2.ensures.ok ∙ ap (λ (files : List (List ℕ)). files ++ c.from_vec-2.result ∷ []) one in
     let texts : c.of_files.result.files ≡ c.in_ok-first.first.items ∷ c.in_ok-second.second.items ∷ [] =
-        c.of_files.ensures ∙ both
-        ∙ ap (λ (first : List ℕ). first ∷ c.from_vec-2.result ∷ []) c.from_vec.ensures
-        ∙ ap (λ (second : List ℕ). c.in_ok-first.first.items ∷ second ∷ []) c.from_vec-2.ensures in
+    c.of_files.ensures ∙ both
+    ∙ ap (λ (first : List ℕ). first ∷ c.from_vec-2.result ∷ []) c.from_vec.ensures
+    ∙ ap (λ (second : List ℕ). c.in_ok-first.first.items ∷ second ∷ []) c.from_vec-2.ensures in
     subst (λ (files : List (List ℕ)). SpellsState files (plain_of m)) (sym texts)
     (spells_state m c.requires.ready c.requires.alive c.in_ok-shared.shared c.in_ok-image.image c.in_ok-first.first.items c.in_ok-second.second.items
     c.in_ok-shared.ensures.image c.in_ok-first.ensures image.pid image.user image.threads c.in_ok-second.ensures)
