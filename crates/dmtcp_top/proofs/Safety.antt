@@ -20,7 +20,7 @@ use Rattle.dmtcp_top.specs.Sets.{SpellsState}
 use Rattle.image_store.specs.declared.set_info.SetInfo.{SetInfo}
 use Rattle.image_store.specs.Slots.{last}
 use Rattle.image_store.specs.FoundSets.{FoundSet, set_of, last_set, HasSet}
-use Rattle.image_store.specs.StoreStates.{Known, FitsFolder, next_generation}
+use Rattle.image_store.specs.StoreStates.{Known, FitsFolder, NoneAbove, next_generation}
 use Rattle.image_store.specs.StoreCrashes.{OldOrNew, ChangesNothing}
 use Rattle.dmtcp_top.specs.declared.keeper.Keeper.{Keeper}
 use Rattle.dmtcp_top.specs.Sets.{SpellsSet, IsAtLeast}
@@ -119,6 +119,13 @@ new_below image generation most images has enough = if_some (last image) (λ inf
     let found = new_generation image generation images has in
     let same : found.0 ≡ info = let first = found.1.0 in cc in
     let equal : info.generation ≡ generation = ap (λ (i : SetInfo). i.generation) (sym same) ∙ found.1.1 in omega arith)
+
+-- a bound on the set that counts is one on its place
+pub none_above : (told : Option Folder) (most : ℕ) → ForSome told (λ files. IfSome (last files) (λ info. info.generation ≤ most)) → ForSome told (NoneAbove most)
+none_above told most above = λ files is some.
+    if_some (last_set files) (λ set at.
+      let found = counts_as files set at in
+      let bound = at_some (λ info. info.generation ≤ most) (last files) found.info found.counts (above files is) in let same = found.generation in omega arith)
 
 -- counts of faults
 count_one : (records : List Record) (r : Record) → count_by is_disk_fault (records ++ r ∷ []) ≡ count_by is_disk_fault records + cond (is_disk_fault r) 1 0

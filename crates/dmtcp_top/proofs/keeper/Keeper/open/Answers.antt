@@ -1,6 +1,10 @@
 use Rattle.std.proofs.Common.{◌≡◌, inl, refl, sym, ap, ◌∙◌, arith}
+use Rattle.dmtcp_top.proofs.Safety.{none_above}
 use Rattle.dmtcp_top.proofs.Served.{reopened_next}
 use Rattle.dmtcp_top.proofs.keeper.Keeper.open.Goals as goal
+
+pub open_store-requires : goal.open_store-requires
+open_store-requires g c = none_above (g.F.Folder.reads c.args.disk.now) c.args.self.now.tally.greatest c.requires.kept.above
 
 pub returns-in-Some-clause-ok : goal.returns-in-Some-clause-ok
 returns-in-Some-clause-ok g c = c.requires.kept.fits c.in-Some.store (sym c.take.ensures.value ∙ c.in-Some.is)
