@@ -2,11 +2,11 @@
 --     shared_of-kernel_of      of an image that can be spelled
 --     only_image      so an image of a kernel part is what is made of its entries
 --     kernel_made     the kernel part of an image, map by map
-use Rattle.std.proofs.Common.{◌≡◌, ◌<◌, ℕ, Ordering, Less, Equal, Greater, Bool, true, false, cond, IsTrue, ◌&&◌, ◌||◌, ◌==◌, List, [], ◌∷◌, ◌++◌, filter, map as mapped, refl, sym, ap, subst, ◌∙◌, append-nil, arith}
+use Rattle.std.proofs.Common.{◌≡◌, ℕ, Less, Bool, true, false, cond, IsTrue, ◌&&◌, ◌||◌, ◌==◌, List, [], ◌∷◌, ◌++◌, filter, map as mapped, refl, sym, ap, subst, ◌∙◌, append-nil, arith}
 use Rattle.std.specs.Prelude.{Option, Some, None, nat_lt, nat_le, option_map}
 use Rattle.std.specs.List.{AllByRecursion, flat_map, filter_map}
 use Rattle.std.specs.List.Sorted.{IsStrictlySortedBy}
-use Rattle.std.specs.Ordering.{nat_cmp, is_eq, eq_by_cmp, ordering_then}
+use Rattle.std.specs.Ordering.{nat_cmp, is_eq, ordering_then}
 use Rattle.std.specs.Cmp.{nat_cmp_total, tied_itself}
 use Rattle.std.specs.Map.{keys_of}
 use Rattle.std.specs.FinMap as map
@@ -19,10 +19,7 @@ use Rattle.sys_abi.specs.declared.identity.Slot.{Slot}
 use Rattle.sys_abi.specs.declared.identity.DescId.{DescId}
 use Rattle.sys_abi.specs.Orders.{vpid_cmp, slot_cmp, desc_cmp}
 use Rattle.sys_abi.proofs.OrderLaws.{vpid_total, slot_total, desc_total}
-use Rattle.plain_machine.specs.declared.process.Maker.{Maker}
-use Rattle.plain_machine.specs.declared.description.Descriptor.{Descriptor}
 use Rattle.plain_machine.specs.declared.kernel.PlainKernel.{PlainKernel}
-use Rattle.plain_machine.specs.Kernel.{is_slot_of}
 use Rattle.image_codec.specs.declared.shared.ObjectImage.{ObjectImage}
 use Rattle.image_codec.specs.declared.shared.ObjectImage.TheVariants.{Console, File, Stream, Socket, Listener}
 use Rattle.image_codec.specs.declared.shared.FileImage.{FileImage}
@@ -34,7 +31,7 @@ use Rattle.image_codec.specs.declared.shared.ProcessEntry.{ProcessEntry}
 use Rattle.image_codec.specs.declared.shared.Shared.{Shared}
 use Rattle.image_codec.specs.Texts.{EachFrom}
 use Rattle.image_codec.specs.SharedTests as field
-use Rattle.image_codec.specs.SharedFits.{IsShared, SharedFits, DescriptionFits, ProcessFits, ThreadFits, DescriptorFits, kind_of}
+use Rattle.image_codec.specs.SharedFits.{SharedFits, DescriptionFits, ProcessFits, ThreadFits, DescriptorFits, kind_of}
 use Rattle.image_codec.specs.KernelParts.{kernel_of, process_entry, maker_entry, descriptor_entries, descriptor_entry, description_entry, signals_entry, object_of, listening_of, name_entry, file_entry, channel_entry, direction_entries}
 use Rattle.image_codec.specs.KernelImages.{shared_of, IsImage, object_image, description_image, thread_image, descriptor_image, process_image, is_of, maker_or}
 use Rattle.image_codec.proofs.Rising.{RisesFrom, IsAfter, each_rising, sorted_rising, sorted_append, entries_made, undone, all_from}

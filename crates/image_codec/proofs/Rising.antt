@@ -1,7 +1,7 @@
 -- Lists whose items rise by a key are lists in the order of their keys, and a map made of them has them as its entries.
 --     each_rising      each item of a list that meets a fact with those before it is above the one before
 --     sorted_rising      and so the list is sorted
-use Rattle.std.proofs.Common.{◌≡◌, ℕ, ◌+◌, ◌-◌, Ordering, Less, Equal, Greater, Bool, true, false, List, [], ◌∷◌, ◌++◌, length, map as mapped, refl, sym, ap, subst, ◌∙◌, length-append, arith}
+use Rattle.std.proofs.Common.{◌≡◌, Ordering, Less, List, [], ◌∷◌, ◌++◌, length, map as mapped, refl, sym, ap, subst, ◌∙◌, length-append, arith}
 use Rattle.std.specs.Prelude.{Option, Some, None, slice_get, option_map, All}
 use Rattle.std.proofs.lemmas.List.Elements.{All-nil, All-cons}
 use Rattle.std.specs.Cmp.{IsTotalOrder}

@@ -1,15 +1,11 @@
 -- A set spells one state at most
 use Rattle.std.proofs.Common.{◌≡◌, ℕ, ◌+◌, List, [], ◌∷◌, length, map as mapped, refl, sym, ap, subst, ◌∙◌}
-use Rattle.std.specs.FinMap as map
 use Rattle.plain_machine.specs.declared.plain.Plain.{Plain}
 use Rattle.image_codec.specs.declared.manifest.Manifest.{Manifest}
 use Rattle.image_codec.specs.declared.process_image.ProcImage.{ProcImage}
 use Rattle.image_codec.specs.declared.shared.Shared.{Shared}
-use Rattle.image_codec.specs.Files.{FileLaws}
-use Rattle.image_codec.specs.KernelParts.{kernel_of}
-use Rattle.image_codec.specs.ProcessImages.{SpellsProcess, pid_at, tids_at}
-use Rattle.image_codec.specs.SharedFormat.{SpellsShared}
-use Rattle.image_codec.specs.Sets.{SpellsImages, SpellsFiles, SpellsSet, IsStateOf, OneStateOfSet, user_entry}
+use Rattle.image_codec.specs.ProcessImages.{pid_at, tids_at}
+use Rattle.image_codec.specs.Sets.{SpellsImages, SpellsFiles, IsStateOf, OneStateOfSet}
 use Rattle.image_codec.proofs.ManifestLaws as manifest
 use Rattle.image_codec.proofs.SharedLaws as shared_image
 use Rattle.image_codec.proofs.ProcessFiles as process_image

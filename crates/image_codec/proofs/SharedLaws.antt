@@ -1,13 +1,11 @@
 -- The format of the shared image and its text say the same, and what a reading of it tells
-use Rattle.std.proofs.Common.{◌≡◌, ◌==◌, ◌&&◌, ℕ, ◌<◌, ◌≤◌, ◌^◌, ◌⊎◌, inl, inr, Bool, true, false, cond, IsTrue, List, [], ◌∷◌, ◌++◌, length, Ok, Err, refl, sym, ap, subst, ◌∙◌, append_assoc, append-nil, arith, lit<}
+use Rattle.std.proofs.Common.{◌≡◌, ◌==◌, ◌&&◌, ℕ, ◌<◌, ◌⊎◌, Bool, true, false, IsTrue, List, [], ◌++◌, length, Ok, Err, refl, sym, ap, subst, ◌∙◌, append_assoc, append-nil, arith, lit<}
 use Rattle.std.specs.Prelude.{All}
 use Rattle.std.specs.List.{flat_map}
 use Rattle.std.proofs.lemmas.Bool.Decides.{nat_tests}
 use Rattle.std.proofs.lemmas.Slice.Eq.{bytes_eq-Decides}
-use Rattle.sys_abi.specs.declared.identity.VPid.{VPid}
 use Rattle.plain_machine.specs.declared.process.Life.{Life}
 use Rattle.plain_machine.specs.declared.process.Life.TheVariants.{Live, Zombie}
-use Rattle.image_codec.specs.declared.shared.FileImage.{FileImage}
 use Rattle.image_codec.specs.declared.shared.ChannelImage.{ChannelImage}
 use Rattle.image_codec.specs.declared.shared.ObjectImage.{ObjectImage}
 use Rattle.image_codec.specs.declared.shared.ObjectImage.TheVariants.{Console, File, Stream, Socket, Listener}
@@ -20,7 +18,7 @@ use Rattle.image_codec.specs.Fields.{is_bytes}
 use Rattle.image_codec.specs.Files.{FileLaws}
 use Rattle.image_codec.specs.Format.{Format, n8, n32, any, bytes_of, counted, each, Spells, SpellsFile}
 use Rattle.image_codec.specs.Reading.{read}
-use Rattle.image_codec.specs.Texts.{FitsField, EachFrom}
+use Rattle.image_codec.specs.Texts.{FitsField}
 use Rattle.image_codec.specs.SharedTests as field
 use Rattle.image_codec.specs.SharedFits.{IsShared, SharedFits, DescriptionFits, ThreadFits, DescriptorFits, LifeFits, ProcessFits, kind_of, state_of, status_of}
 use Rattle.image_codec.specs.SharedTexts.{SHARED_MAGIC, HasCounts, list_text, flag, file_text, channel_text, description_text, thread_text, descriptor_text, life_text, process_text, shared_text}

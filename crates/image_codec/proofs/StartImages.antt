@@ -1,5 +1,5 @@
 -- The kernel part of the start of one program has an image
-use Rattle.std.proofs.Common.{◌≡◌, ◌≢◌, ℕ, ◌<◌, ◌+◌, ◌==◌, Bool, true, IsTrue, List, [], ◌∷◌, refl, sym, ap, ◌∙◌, arith, lit<}
+use Rattle.std.proofs.Common.{◌≡◌, ◌≢◌, ℕ, ◌<◌, ◌==◌, true, IsTrue, [], ◌∷◌, refl, ap, ◌∙◌, arith, lit<}
 use Rattle.std.specs.Prelude.{nat_lt}
 use Rattle.std.specs.FinMap as map
 use Rattle.std.proofs.lemmas.Bool.Decides.{nat_tests}
@@ -8,7 +8,6 @@ use Rattle.sys_abi.specs.declared.identity.Slot.{Slot}
 use Rattle.sys_abi.specs.Orders.{slot_cmp}
 use Rattle.sys_abi.proofs.OrderLaws.{slot_total, slot_exact}
 use Rattle.plain_machine.specs.declared.description.Descriptor.{Descriptor}
-use Rattle.plain_machine.specs.declared.kernel.PlainKernel.{PlainKernel}
 use Rattle.plain_machine.specs.Kernel.{pid, slot}
 use Rattle.plain_machine.specs.Start.{Launched, FIRST_PID, console_descriptor, start_kernel, with_processes, with_process, with_files, empty_kernel}
 use Rattle.image_codec.specs.SharedFits.{IsShared}

@@ -16,7 +16,7 @@ use Rattle.plain_machine.specs.declared.description.Descriptor.{Descriptor}
 use Rattle.plain_machine.specs.declared.kernel.PlainKernel.{PlainKernel}
 use Rattle.plain_machine.specs.Kernel.{is_slot_of}
 use Rattle.image_codec.specs.declared.shared.ObjectImage.{ObjectImage}
-use Rattle.image_codec.specs.declared.shared.ObjectImage.TheVariants.{Console, File, Stream, Socket, Listener}
+use Rattle.image_codec.specs.declared.shared.ObjectImage.TheVariants.{Console, File, Stream, Socket}
 use Rattle.image_codec.specs.declared.shared.DescriptionImage.{DescriptionImage}
 use Rattle.image_codec.specs.declared.shared.ThreadEntry.{ThreadEntry}
 use Rattle.image_codec.specs.declared.shared.DescriptorEntry.{DescriptorEntry}

@@ -2,7 +2,7 @@
 --     kernel_of s      its lists as maps, where all bytes of a direction have arrived
 --     is_named descriptions conn side      whether a stream, or the queue of a listener, names the side of the channel
 -- Source: docs/FORMATS.md, "Shared image".
-use Rattle.std.specs.Prelude.{◌==◌, ◌&&◌, ◌||◌, ℕ, Bool, true, false, List, [], ◌∷◌, length, Option, Some, None, if◌then◌else◌, map as each}
+use Rattle.std.specs.Prelude.{◌==◌, ◌&&◌, ℕ, Bool, false, List, [], ◌∷◌, length, Option, Some, None, map as each}
 use Rattle.std.specs.List.{flat_map, filter_map, list_any}
 use Rattle.std.specs.declared.cmp.Ordering.{Ordering}
 use Rattle.std.specs.Ordering.{eq_by_cmp}

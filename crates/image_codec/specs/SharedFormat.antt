@@ -4,7 +4,7 @@
 --     DamagedShared text n      the bytes are the file of no value, and n is the place where they break the format
 -- The tests of files and channels are those of a field alone: no file and no channel has an image so far, since their counts are 0.
 -- Source: docs/FORMATS.md, "Shared image".
-use Rattle.std.specs.Prelude.{◌≡◌, ℕ, ◌==◌, ◌%◌, nat_le, List, length, Option, Some, None, if◌then◌else◌}
+use Rattle.std.specs.Prelude.{◌≡◌, ℕ, ◌==◌, ◌%◌, nat_le, List, Option, Some, None, if◌then◌else◌}
 use Rattle.sys_abi.specs.declared.identity.VirtAddr.{VirtAddr}
 use Rattle.sys_abi.specs.declared.identity.DescId.{DescId}
 use Rattle.plain_machine.specs.declared.process.Life.{Life}

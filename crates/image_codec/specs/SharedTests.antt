@@ -2,7 +2,7 @@
 --     is_next_id .. is_flag      a field, after the fields of the item and of the items before it
 --     is_whole s      what is tested at the end of the file, over the whole value
 -- Source: docs/FORMATS.md, "Shared image".
-use Rattle.std.specs.Prelude.{◌==◌, ◌&&◌, ◌||◌, ℕ, ◌+◌, ◌-◌, ◌^◌, nat_le, nat_lt, bit_and, Bool, true, false, not, List, [], ◌∷◌, length, sum_by, slice_get, Option, Some, None, option_map, if◌then◌else◌}
+use Rattle.std.specs.Prelude.{◌==◌, ◌&&◌, ◌||◌, ℕ, ◌+◌, ◌-◌, ◌^◌, nat_le, nat_lt, bit_and, Bool, true, not, List, length, sum_by, slice_get, Option, Some, None, option_map, if◌then◌else◌}
 use Rattle.std.specs.List.{list_any, list_all}
 use Rattle.sys_abi.specs.declared.identity.DescId.{DescId}
 use Rattle.views.specs.NumberMap.{is_above}

@@ -1,4 +1,4 @@
-use Rattle.std.proofs.Common.{◌≡◌, refl, ◌∙◌}
+use Rattle.std.proofs.Common.{refl, ◌∙◌}
 use Rattle.image_codec.proofs.KernelLaws.{only_image, the_image, image_made}
 use Rattle.image_codec.proofs.kernel_image.shared_image.Goals as goal
 

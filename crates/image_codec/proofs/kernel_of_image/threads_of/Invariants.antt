@@ -1,7 +1,6 @@
 use Rattle.std.proofs.Common.{◌≡◌}
 use Rattle.std.proofs.Common.{map as each}
 use Rattle.std.specs.FinMap as map
-use Rattle.std.specs.List.{flat_map}
 use Rattle.std.specs.Slice.Iter.{iter_rest}
 use Rattle.image_codec.specs.KernelParts.{inserted, signals_entry}
 use Rattle.image_codec.proofs.kernel_of_image.threads_of.Given as goal
