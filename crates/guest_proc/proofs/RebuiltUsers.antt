@@ -1,7 +1,7 @@
 -- An image that has a spelling stands for a valid part.
 --     text_pages       the bytes of a text's pages are bytes      rebuilt_user      the part
 use Rattle.std.proofs.Common.{◌≡◌, ◌≢◌, ℕ, zero, suc, ◌+◌, ◌-◌, ◌*◌, ◌/◌, ◌%◌, ◌^◌, ◌<◌, ◌≤◌, Bool, true, false, cond, ◌&&◌, ◌||◌, not, List, [], ◌∷◌, ◌++◌, length, map as each, refl, sym, ap, subst, ◌∙◌, arith, ⊎_elim}
-use Rattle.std.specs.Prelude.{Option, Some, None, is_some, nat_lt, nat_le, ◌==◌, All, IsTrue, slice_get}
+use Rattle.std.specs.Prelude.{Option, Some, None, is_some, nat_lt, nat_le, ◌==◌, All, slice_get}
 use Rattle.std.specs.List.{flat_map}
 use Rattle.std.specs.Str.{bytes_eq}
 use Rattle.std.specs.Ordering.{nat_cmp, eq_by_cmp}
@@ -14,21 +14,17 @@ use Rattle.std.proofs.lemmas.Slice.Eq.{bytes_eq-Decides}
 use Rattle.std.proofs.lemmas.Bool.{cases_lt}
 use Rattle.views.proofs.MapLaws.{other_key, key_tied, same_or_other, true_false}
 use Rattle.plain_machine.specs.declared.memory.Frame.{Frame}
-use Rattle.plain_machine.specs.declared.user_part.ThreadPart.{ThreadPart}
-use Rattle.plain_machine.specs.declared.user_part.Context.{Context}
-use Rattle.plain_machine.specs.declared.user_part.SignalAction.{SignalAction}
-use Rattle.plain_machine.specs.declared.user_part.Waiter.{Waiter}
 use Rattle.plain_machine.specs.Memory.{Memory}
 use Rattle.plain_machine.specs.Start.{RETURN_PAGE, return_bytes, return_frame}
-use Rattle.plain_machine.specs.Valid.{Each, IsByte, IsWord, IsRegs, IsFrame, IsThread, IsAction, IsWaiter, IsHeap, IsUser}
+use Rattle.plain_machine.specs.Valid.{Each, IsByte, IsWord, IsFrame, IsThread, IsHeap, IsUser}
 use Rattle.image_codec.specs.declared.page_image.PageImage.{PageImage}
 use Rattle.image_codec.specs.declared.thread_image.ThreadImage.{ThreadImage}
 use Rattle.image_codec.specs.declared.process_image.ProcImage.{ProcImage}
 use Rattle.image_codec.specs.Format.{bytes_of, n8, n32}
 use Rattle.image_codec.specs.Texts.{EachFrom}
 use Rattle.image_codec.specs.UserParts.{page_entry, thread_entry, user_of}
-use Rattle.image_codec.specs.ProcessTests.{BREAK_LIMIT, is_heap_page, is_free_of_break, is_above_page, is_page_number, is_page_rights, is_page_content, return_content, has_page, has_pages, has_heap, has_return_page, heap_pages, is_context_count}
-use Rattle.image_codec.specs.ProcessImages.{IsPage, IsThreadImage, IsRegisters, IsImage, ImageWords, ThreadWords, ContextWords, ActionWords, SpellsProcess, PROCESS_MAGIC, list_text, page_text, action_text, waiter_text, thread_text, process_text, is_whole}
+use Rattle.image_codec.specs.ProcessTests.{BREAK_LIMIT, is_heap_page, is_free_of_break, is_above_page, is_page_number, is_page_content, return_content, has_page, has_pages, has_heap, has_return_page, heap_pages, is_context_count}
+use Rattle.image_codec.specs.ProcessImages.{IsPage, IsThreadImage, ThreadWords, SpellsProcess, PROCESS_MAGIC, list_text, page_text, action_text, waiter_text, thread_text, process_text, is_whole}
 use Rattle.guest_proc.proofs.FittingImages.{page_there, image_few, from_eq, from_le, from_lt, and_first, and_second, first_of, rest_of}
 
 -- the bytes of pages in a text
