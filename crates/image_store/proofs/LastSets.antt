@@ -224,8 +224,8 @@ put_last files image text m images put spelled less =
     let s = slot_to_write (last files) in
     let long : 16 ≤ length text = (let l = spelled_length text m spelled in omega arith) in
     let info : info_of s (manifest_of image s) ≡ Some (record { slot = s; generation = m.generation }) =
-        ap (info_of s) put.manifest ∙ info_open s text long (spelled_gate text m spelled)
-        ∙ ap (λ g. let i : SetInfo = record { slot = s; generation = g } in Some i) (spelled_generation text m spelled) in
+    ap (info_of s) put.manifest ∙ info_open s text long (spelled_gate text m spelled)
+    ∙ ap (λ g. let i : SetInfo = record { slot = s; generation = g } in Some i) (spelled_generation text m spelled) in
     last_new files image (last files) (record { slot = s; generation = m.generation }) refl (λ slot differs. other_kept s files image slot put.others differs) info less
 
 whole_set : (files image : Files) (s : ℕ) (text : List ℕ) (g : ℕ) (images : List (List ℕ)) → IsPut s files text images image → SpellsManifest text (record { generation = g; lengths = map length images }) → IsSet (set_of image (record { slot = s; generation = g })) g images
