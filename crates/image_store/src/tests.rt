@@ -1,5 +1,5 @@
-use crate::{Damage, SetBytes, SetInfo, Store, StoreFault};
-use set_disk::{FileName, Folder, MemFolder};
+use crate::{Damage, SetBytes, Store, StoreFault};
+use set_disk::{DiskFault, FileName, Folder, MemFolder};
 use std::alloc::{AllocError, Global};
 use std::process::Abort;
 use std::test::Fail;
@@ -172,57 +172,55 @@ enum Change {
     Cut(u32, u64),
 }
 
-#[test]
-#[tactic(auto, unfolding(crate::specs::StoreStates::generation_after))]
-fn where_a_set_is_damaged(rt: HostRuntime) -> Result<(), Fail> {
-    let alloc = rt.alloc();
-    let rows = [
-        (Change::Write(0, 1, "d"), (0, 1)),
-        (Change::Cut(0, 35), (0, 35)),
-        (Change::Write(0, 36, "x"), (0, 36)),
-        (Change::Write(0, 16, "\x03"), (0, 36)),
-        (Change::Write(1, 6, "s"), (1, 6)),
-        (Change::Cut(1, 5), (1, 5)),
-        (Change::Cut(2, 6), (2, 6)),
-    ];
-    for (i, (change, (file, offset))) in rows.iter().enumerate() {
-        let mut folder = MemFolder::new(alloc, &[])?;
-        let store = Store::open_store(alloc, &mut folder, 0)?;
-        assert!(&rt; store.last().is_none());
-        let set = set_of(alloc, &FIRST)?;
-        assert!(&rt; set.files.len() == 2);
-        store.put_set(alloc, &mut folder, &set)?;
-        match change {
-            Change::Write(index, at, text) => folder.write_at(
-                FileName {
-                    slot: 0,
-                    index: *index,
-                },
-                *at,
-                text.as_bytes(),
-            )?,
-            Change::Cut(index, len) => folder.cut(
-                FileName {
-                    slot: 0,
-                    index: *index,
-                },
-                *len,
-            )?,
+fn make(folder: &mut MemFolder, change: &Change) -> Result<(), DiskFault> {
+    match change {
+        Change::Write(index, at, text) => {
+            let index = *index;
+            folder.write_at(FileName { slot: 0, index }, *at, text.as_bytes())
         }
-        let store = Store::open_store(alloc, &mut folder, 0)?;
-        assert_eq!(&rt;
-            store.last(),
-            Some(SetInfo {
-                slot: 0,
-                generation: 1
-            })
-        );
-        let damaged = store.get_set(alloc, &mut folder).err();
-        let expected = StoreFault::Damaged(Damage {
+        Change::Cut(index, len) => {
+            let index = *index;
+            folder.cut(FileName { slot: 0, index }, *len)
+        }
+    }
+}
+
+/// Puts the first set and makes the change, and gives why the set is refused then.
+#[tactic(auto, unfolding(crate::specs::StoreStates::generation_after))]
+fn refusal_after(
+    rt: &(impl Abort + AllocGlobal),
+    change: &Change,
+) -> Result<Option<StoreFault>, Fail> {
+    let alloc = rt.alloc();
+    let mut folder = MemFolder::new(alloc, &[])?;
+    let store = Store::open_store(alloc, &mut folder, 0)?;
+    assert!(rt; store.last().is_none());
+    let set = set_of(alloc, &FIRST)?;
+    assert!(rt; set.files.len() == 2);
+    store.put_set(alloc, &mut folder, &set)?;
+    make(&mut folder, change)?;
+    let store = Store::open_store(alloc, &mut folder, 0)?;
+    Ok(store.get_set(alloc, &mut folder).err())
+}
+
+#[test]
+fn where_a_set_is_damaged(rt: HostRuntime) -> Result<(), Fail> {
+    let rows = [
+        (Change::Write(0, 1, "d"), 0, 1),
+        (Change::Cut(0, 35), 0, 35),
+        (Change::Write(0, 36, "x"), 0, 36),
+        (Change::Write(0, 16, "\x03"), 0, 36),
+        (Change::Write(1, 6, "s"), 1, 6),
+        (Change::Cut(1, 5), 1, 5),
+        (Change::Cut(2, 6), 2, 6),
+    ];
+    for (i, (change, file, offset)) in rows.iter().enumerate() {
+        let damage = Damage {
             file: *file,
             offset: *offset,
-        });
-        assert_eq!(&rt; damaged, Some(expected), "row {i}");
+        };
+        let refusal = refusal_after(&rt, change)?;
+        assert_eq!(&rt; refusal, Some(StoreFault::Damaged(damage)), "row {i}");
     }
     Ok(())
 }
