@@ -3,16 +3,15 @@
 --     cause_then         after calls that succeeded
 --     cause_up           the same of the store's own refusal
 --     cause_none         no call was made
-use Rattle.std.proofs.Common.{◌≡◌, ◌⊎◌, ℕ, ◌^◌, ◌<◌, ◌≤◌, inl, inr, refl, sym, ap, subst, ◌∙◌, arith}
-use Rattle.std.specs.Prelude.{Result, Ok, Err, OnOk}
-use Rattle.views.specs.Faults.{Rose, IsFaultOf}
+use Rattle.std.proofs.Common.{◌≡◌, ℕ, ◌^◌, ◌<◌, ◌≤◌, inl, inr, refl, arith}
+use Rattle.std.specs.Prelude.{Result, Err}
+use Rattle.views.specs.Faults.{Rose}
 use Rattle.set_disk.specs.Faults.{HasCause as FolderCause}
 use Rattle.set_disk.specs.declared.disk_fault.DiskFault.{DiskFault as FolderFault}
 use Rattle.set_disk.specs.declared.disk_fault.DiskFault.TheVariants as of_disk
-use Rattle.image_store.specs.FaultsOf.{of_folder, of_reading}
+use Rattle.image_store.specs.FaultsOf.{of_folder}
 use Rattle.image_store.specs.StoreCauses.{HasCause}
-use Rattle.image_store.specs.declared.store_fault.StoreFault.{StoreFault}
-use Rattle.image_store.specs.declared.store_fault.StoreFault.TheVariants.{DiskFault, NoSet, Damaged, Memory}
+use Rattle.image_store.specs.declared.store_fault.StoreFault.TheVariants.{DiskFault}
 
 -- a stretch of calls that succeeded
 pub record Counts (old new : ℕ) : Type 0 where

@@ -2,15 +2,13 @@
 --     last_stays         that slot has no set that counts, or has what it had
 --     last_new           it has a complete set of a greater generation
 --     same_last_set      the set that counts lies in another slot, whose files are as they were
-use Rattle.std.proofs.Common.{◌≡◌, ◌≢◌, ◌⊎◌, ℕ, suc, ◌<◌, ◌≤◌, inl, inr, List, refl, sym, ap, subst, ◌∙◌, arith}
-use Rattle.std.specs.Prelude.{length, map, [], take, drop, unwrap_or, Bool, true, false, if◌then◌else◌, ◌==◌, nat_lt, Option, Some, None, IfSome, option_map}
+use Rattle.std.proofs.Common.{◌≡◌, ◌≢◌, ◌⊎◌, ℕ, ◌<◌, ◌≤◌, inl, inr, List, refl, sym, ap, subst, ◌∙◌, arith}
+use Rattle.std.specs.Prelude.{length, map, [], unwrap_or, Bool, true, false, if◌then◌else◌, ◌==◌, nat_lt, Option, Some, None, IfSome, option_map}
 use Rattle.std.proofs.lemmas.Bool.{cases_eq}
 use Rattle.std.proofs.lemmas.List.{length-map}
 use Rattle.std.proofs.lemmas.Bool.Decides.{nat_tests}
-use Rattle.std.specs.FinMap as files_by_name
-use Rattle.set_disk.specs.Files.{Files, contents}
-use Rattle.set_disk.specs.declared.file_name.FileName.{FileName}
-use Rattle.image_store.specs.Slots.{manifest_name, manifest_of, count_of, info_of, later, last, slot_to_write}
+use Rattle.set_disk.specs.Files.{Files}
+use Rattle.image_store.specs.Slots.{manifest_of, count_of, info_of, later, last, slot_to_write}
 use Rattle.image_store.specs.SlotImages.{KeepsOthers, NoneOrKept, IsBeforePut, IsPut, IsInPut}
 use Rattle.image_store.specs.FoundSets.{FoundSet, file_at, files_from, set_of, last_set, IsSet, HasSet}
 use Rattle.image_codec.specs.declared.manifest.Manifest.{Manifest}

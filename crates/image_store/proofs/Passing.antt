@@ -3,7 +3,7 @@
 --     leaves_only        from a settled folder: what a crash in the stretch leaves
 --     unchanged          a stretch that changes nothing leaves only what could be left before
 --     told_same, told_after      the folder goes on to tell its content
-use Rattle.std.proofs.Common.{◌≡◌, ◌⊎◌, ℕ, ◌≤◌, inl, inr, refl, sym, ap, subst, ◌∙◌, arith}
+use Rattle.std.proofs.Common.{◌≡◌, ◌⊎◌, ℕ, inl, inr, refl, sym, ap, subst, ◌∙◌, arith}
 use Rattle.std.specs.Prelude.{Option, Some, None, option_map, is_some, IfSome, Result, Ok, Err, OnOk, OnErr}
 use Rattle.set_disk.specs.Files.{Files}
 use Rattle.set_disk.specs.Crash.{AfterStep, IsSettled, Only, Same, Takes}

@@ -2,12 +2,10 @@
 --     one_more           one more set
 --     none_above         what counts after a refusal is not above its generation
 --     next_opened        the next generation after that
-use Rattle.std.proofs.Common.{◌≡◌, ◌⊎◌, ℕ, suc, ◌+◌, ◌<◌, ◌≤◌, max, add-zero, inl, inr, List, length, refl, sym, ap, subst, ◌∙◌, arith}
+use Rattle.std.proofs.Common.{◌≡◌, ◌⊎◌, ℕ, suc, ◌+◌, ◌<◌, ◌≤◌, max, inl, inr, List, sym, subst, arith}
 use Rattle.std.specs.Prelude.{Option, Some, None, IfSome, option_map, slice_get, Result, Ok, Err, IfOk}
 use Rattle.std.specs.Option.{option_map_or}
 use Rattle.set_disk.specs.Files.{Files}
-use Rattle.set_disk.specs.Moments.{LeavesOnly}
-use Rattle.set_disk.proofs.Stretches.{weakens}
 use Rattle.image_codec.specs.declared.set_bytes.SetBytes.{SetBytes}
 use Rattle.image_store.specs.Slots.{last}
 use Rattle.image_store.specs.FoundSets.{FoundSet, HasSet, last_set, set_of}

@@ -2,7 +2,7 @@
 --     insert_over, written_file      a file cut to nothing and written
 --     written_body                   the manifest behind its gate
 --     images_keep, images_there      the images of a slot
-use Rattle.std.proofs.Common.{◌≡◌, ◌≢◌, ◌⊎◌, ℕ, zero, suc, ◌+◌, ◌-◌, ◌<◌, ◌≤◌, inl, inr, List, [], ◌∷◌, ◌++◌, length, take, drop, refl, sym, ap, subst, ◌∙◌, arith, length-take, length-append, length-drop, append-nil, add-one, get_or}
+use Rattle.std.proofs.Common.{◌≡◌, ◌≢◌, ◌⊎◌, ℕ, suc, ◌+◌, ◌<◌, ◌≤◌, inl, inr, List, [], ◌∷◌, ◌++◌, length, take, drop, refl, sym, ap, ◌∙◌, arith, length-take, length-append, length-drop, append-nil, add-one, get_or}
 use Rattle.std.specs.Prelude.{Option, Some, None, unwrap_or, option_map, map}
 use Rattle.std.specs.FinMap as files_by_name
 use Rattle.std.proofs.lemmas.List.{take_at, drop_all, drop_more}

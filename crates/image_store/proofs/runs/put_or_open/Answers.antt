@@ -1,4 +1,4 @@
-use Rattle.std.proofs.Common.{ℕ, ◌<◌, ◌∙◌, ap, subst, sym, suc}
+use Rattle.std.proofs.Common.{◌<◌, ◌∙◌, ap, subst, sym, suc}
 use Rattle.image_store.proofs.Passing.{told_before}
 use Rattle.image_store.proofs.RunSteps.{none_above, next_opened, ok_both, some_next}
 use Rattle.image_store.proofs.runs.put_or_open.Goals as goal
