@@ -1,7 +1,8 @@
 -- Which set counts when one slot changes, the one that a set is written into.
---     last_stays         that slot has no set that counts, or has what it had
---     last_new           it has a complete set of a greater generation
---     same_last_set      the set that counts lies in another slot, whose files are as they were
+--     to_write_differs, to_write_small      that slot is another than the one of the set that counts
+--     set_stays          it has no set that counts, or has what it had: the set that counts is the same
+--     put_set_is         it has a complete set of a greater generation: that one counts
+--     old_or_new         one or the other
 use Rattle.std.proofs.Common.{◌≡◌, ◌≢◌, ◌⊎◌, ℕ, ◌<◌, ◌≤◌, inl, inr, List, refl, sym, ap, subst, ◌∙◌, arith}
 use Rattle.std.specs.Prelude.{length, map, [], unwrap_or, Bool, true, false, if◌then◌else◌, ◌==◌, nat_lt, Option, Some, None, IfSome, option_map}
 use Rattle.std.proofs.lemmas.Bool.{cases_eq}
@@ -16,10 +17,6 @@ use Rattle.image_codec.specs.Manifests.{SpellsManifest}
 use Rattle.image_store.specs.StoreCrashes.{OldOrNew}
 use Rattle.image_store.specs.declared.set_info.SetInfo.{SetInfo}
 use Rattle.image_store.proofs.ManifestFronts.{info_some, info_open, spelled_gate, spelled_length, spelled_generation, spelled_count}
-
--- a slot's set lies there
-IsIn : ℕ → Option SetInfo → Type 0
-IsIn slot found = IfSome found (λ info. info.slot ≡ slot)
 
 in_slot : (slot : ℕ) (manifest : List ℕ) → IfSome (info_of slot manifest) (λ info. info.slot ≡ slot)
 in_slot slot manifest = at_found (info_of slot manifest) refl

@@ -2,6 +2,7 @@
 --     one_more           one more set
 --     none_above         what counts after a refusal is not above its generation
 --     next_opened        the next generation after that
+--     ok_both            two clauses of one answer
 use Rattle.std.proofs.Common.{◌≡◌, ◌⊎◌, ℕ, suc, ◌+◌, ◌<◌, ◌≤◌, max, inl, inr, List, sym, subst, arith}
 use Rattle.std.specs.Prelude.{Option, Some, None, IfSome, option_map, slice_get, Result, Ok, Err, IfOk}
 use Rattle.std.specs.Option.{option_map_or}
