@@ -3,14 +3,14 @@
 --     none_set           no set counts
 --     has_found, set_found          the set that counts in both wordings
 --     fits_still         a store goes on to fit while nothing changes
-use Rattle.std.proofs.Common.{◌≡◌, ◌⊎◌, ℕ, inl, inr, List, refl, sym, ap, subst, ◌∙◌}
+use Rattle.std.proofs.Common.{◌≡◌, ◌⊎◌, ℕ, inl, inr, List, sym, ap, subst, ◌∙◌}
 use Rattle.std.specs.Prelude.{Bool, true, false, if◌then◌else◌, nat_lt, Option, Some, None, IfSome, option_map}
 use Rattle.std.proofs.lemmas.Option.{same_Some}
 use Rattle.set_disk.specs.Files.{Files}
 use Rattle.set_disk.specs.Crash.{Same}
 use Rattle.set_disk.specs.Moments.{Passes}
 use Rattle.image_store.specs.Slots.{manifest_of, generation_of, info_of, later, last}
-use Rattle.image_store.specs.FoundSets.{FoundSet, set_of, last_set, IsSet, HasSet}
+use Rattle.image_store.specs.FoundSets.{set_of, last_set, IsSet, HasSet}
 use Rattle.image_codec.specs.declared.damage.Damage.{Damage as Place}
 use Rattle.image_store.specs.SetDamages.{IsFirstDamage, HasDamage}
 use Rattle.image_store.specs.StoreStates.{Known, FitsFiles}

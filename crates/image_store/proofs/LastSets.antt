@@ -1,16 +1,15 @@
 -- Which set counts when one slot changes, the one that a set is written into.
---     last_stays         that slot has no set that counts, or has what it had
---     last_new           it has a complete set of a greater generation
---     same_last_set      the set that counts lies in another slot, whose files are as they were
-use Rattle.std.proofs.Common.{◌≡◌, ◌≢◌, ◌⊎◌, ℕ, suc, ◌<◌, ◌≤◌, inl, inr, List, refl, sym, ap, subst, ◌∙◌, arith}
-use Rattle.std.specs.Prelude.{length, map, [], take, drop, unwrap_or, Bool, true, false, if◌then◌else◌, ◌==◌, nat_lt, Option, Some, None, IfSome, option_map}
+--     to_write_differs, to_write_small      that slot is another than the one of the set that counts
+--     set_stays          it has no set that counts, or has what it had: the set that counts is the same
+--     put_set_is         it has a complete set of a greater generation: that one counts
+--     old_or_new         one or the other
+use Rattle.std.proofs.Common.{◌≡◌, ◌≢◌, ◌⊎◌, ℕ, ◌<◌, ◌≤◌, inl, inr, List, refl, sym, ap, subst, ◌∙◌, arith}
+use Rattle.std.specs.Prelude.{length, map, [], unwrap_or, Bool, true, false, if◌then◌else◌, ◌==◌, nat_lt, Option, Some, None, IfSome, option_map}
 use Rattle.std.proofs.lemmas.Bool.{cases_eq}
 use Rattle.std.proofs.lemmas.List.{length-map}
 use Rattle.std.proofs.lemmas.Bool.Decides.{nat_tests}
-use Rattle.std.specs.FinMap as files_by_name
-use Rattle.set_disk.specs.Files.{Files, contents}
-use Rattle.set_disk.specs.declared.file_name.FileName.{FileName}
-use Rattle.image_store.specs.Slots.{manifest_name, manifest_of, count_of, info_of, later, last, slot_to_write}
+use Rattle.set_disk.specs.Files.{Files}
+use Rattle.image_store.specs.Slots.{manifest_of, count_of, info_of, later, last, slot_to_write}
 use Rattle.image_store.specs.SlotImages.{KeepsOthers, NoneOrKept, IsBeforePut, IsPut, IsInPut}
 use Rattle.image_store.specs.FoundSets.{FoundSet, file_at, files_from, set_of, last_set, IsSet, HasSet}
 use Rattle.image_codec.specs.declared.manifest.Manifest.{Manifest}
@@ -18,10 +17,6 @@ use Rattle.image_codec.specs.Manifests.{SpellsManifest}
 use Rattle.image_store.specs.StoreCrashes.{OldOrNew}
 use Rattle.image_store.specs.declared.set_info.SetInfo.{SetInfo}
 use Rattle.image_store.proofs.ManifestFronts.{info_some, info_open, spelled_gate, spelled_length, spelled_generation, spelled_count}
-
--- a slot's set lies there
-IsIn : ℕ → Option SetInfo → Type 0
-IsIn slot found = IfSome found (λ info. info.slot ≡ slot)
 
 in_slot : (slot : ℕ) (manifest : List ℕ) → IfSome (info_of slot manifest) (λ info. info.slot ≡ slot)
 in_slot slot manifest = at_found (info_of slot manifest) refl
@@ -224,8 +219,8 @@ put_last files image text m images put spelled less =
     let s = slot_to_write (last files) in
     let long : 16 ≤ length text = (let l = spelled_length text m spelled in omega arith) in
     let info : info_of s (manifest_of image s) ≡ Some (record { slot = s; generation = m.generation }) =
-        ap (info_of s) put.manifest ∙ info_open s text long (spelled_gate text m spelled)
-        ∙ ap (λ g. let i : SetInfo = record { slot = s; generation = g } in Some i) (spelled_generation text m spelled) in
+    ap (info_of s) put.manifest ∙ info_open s text long (spelled_gate text m spelled)
+    ∙ ap (λ g. let i : SetInfo = record { slot = s; generation = g } in Some i) (spelled_generation text m spelled) in
     last_new files image (last files) (record { slot = s; generation = m.generation }) refl (λ slot differs. other_kept s files image slot put.others differs) info less
 
 whole_set : (files image : Files) (s : ℕ) (text : List ℕ) (g : ℕ) (images : List (List ℕ)) → IsPut s files text images image → SpellsManifest text (record { generation = g; lengths = map length images }) → IsSet (set_of image (record { slot = s; generation = g })) g images

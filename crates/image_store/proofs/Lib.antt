@@ -12,3 +12,4 @@ pub mod Readings
 pub mod SetReadings
 pub mod Gets
 pub mod SetLaws
+pub mod RunSteps

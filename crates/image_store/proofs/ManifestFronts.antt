@@ -1,9 +1,9 @@
 -- What the front of a manifest tells.
 --     info_open, info_shut, info_short      the set of a slot whose gate is 1, whose gate is another byte, whose manifest is too short
 --     spelled_gate, spelled_generation, spelled_count, spelled_length      the fields of a spelled manifest
-use Rattle.std.proofs.Common.{◌≡◌, ◌≢◌, ℕ, ◌+◌, ◌<◌, ◌≤◌, ◌^◌, List, [], ◌∷◌, ◌++◌, length, take, drop, get_or, refl, sym, ap, subst, ◌∙◌, arith, append_assoc, length-append, length-take, length-drop}
-use Rattle.std.specs.Prelude.{Bool, true, false, ◌&&◌, if◌then◌else◌, ◌==◌, nat_lt, nat_le, IsTrue, Option, Some, None, slice_index, codes}
-use Rattle.std.specs.Int.{w32, w64, to_le_bytes, from_le_bytes}
+use Rattle.std.proofs.Common.{◌≡◌, ◌≢◌, ℕ, ◌+◌, ◌<◌, ◌≤◌, List, [], ◌∷◌, ◌++◌, length, take, drop, refl, sym, ap, ◌∙◌, arith, append_assoc, length-append, length-take}
+use Rattle.std.specs.Prelude.{Bool, true, false, ◌&&◌, if◌then◌else◌, ◌==◌, nat_le, Option, Some, None, slice_index}
+use Rattle.std.specs.Int.{w32, w64, from_le_bytes}
 use Rattle.std.specs.List.{flat_map}
 use Rattle.std.proofs.lemmas.Bool.Decides.{nat_tests}
 use Rattle.std.proofs.lemmas.List.{take_at, drop_at, get_or-take, get_or-drop, take-take, drop-take}

@@ -1,23 +1,21 @@
 -- Calls one after another: what a crash may leave, and whether the folder tells its content.
 --     passes_then, passes_widen, passes_none      two stretches, a weaker step, and no call at all
 --     leaves_only        from a settled folder: what a crash in the stretch leaves
---     unchanged          a stretch that changes nothing leaves only what could be left before
---     told_same, told_after      the folder goes on to tell its content
-use Rattle.std.proofs.Common.{◌≡◌, ◌⊎◌, ℕ, ◌≤◌, inl, inr, refl, sym, ap, subst, ◌∙◌, arith}
+--     nothing_then, nothing_call, nothing_none    stretches that change nothing
+--     told_then, told_before, told_still          the folder goes on to tell its content
+--     reads_then, reads_ok                        one change of what reads give after another
+--     settled_at, settled_same                    a settled folder
+use Rattle.std.proofs.Common.{◌≡◌, ◌⊎◌, ℕ, inl, inr, refl, sym, ap, subst, ◌∙◌, arith}
 use Rattle.std.specs.Prelude.{Option, Some, None, option_map, is_some, IfSome, Result, Ok, Err, OnOk, OnErr}
 use Rattle.set_disk.specs.Files.{Files}
-use Rattle.set_disk.specs.Crash.{AfterStep, IsSettled, Only, Same, Takes}
+use Rattle.set_disk.specs.Crash.{AfterStep, IsSettled, Only, Same}
 use Rattle.set_disk.specs.Moments.{Passes, LeavesOnly}
 use Rattle.set_disk.specs.declared.disk_fault.DiskFault.{DiskFault}
-use Rattle.set_disk.specs.declared.disk_fault.DiskFault.TheVariants.{Failed, Memory}
 use Rattle.image_store.specs.StoreCrashes.{SameTold, ChangesNothing}
 
 either : {A B C : Type 0} → A ⊎ B → (A → C) → (B → C) → C
 either (inl a) f g = f a
 either (inr b) f g = g b
-
-Step : Type 1
-Step = Files → Files → Type 0
 
 module _ {D : Type 0} {moment : D → ℕ} {may_leave : D → Files → Type 0} {left_since : D → ℕ → Files → Type 0} where
   both_steps : {a b : D} {R S T : Files → Files → Type 0} → Passes moment may_leave left_since R a b → ((old mid new : Files) → R old mid → S mid new → T old new) → (image : Files) → AfterStep S (may_leave b) image → AfterStep T (may_leave a) image
@@ -61,15 +59,6 @@ module _ {D : Type 0} {moment : D → ℕ} {may_leave : D → Files → Type 0} 
         before = λ t image le left. either (stretch.since t image le left) inl (λ it. inr (after image it));
       }
 
-  pub unchanged : {a b : D} → Passes moment may_leave left_since Same a b → ((image : Files) → left_since a (moment a) image → may_leave a image) → LeavesOnly moment left_since a b (may_leave a)
-  unchanged {a} {b} stretch only_now =
-      let after : (image : Files) → AfterStep Same (may_leave a) image → may_leave a image = λ image it. subst (may_leave a) (sym it.2) it.1 in
-      record {
-        later = stretch.later;
-        each = λ image left. either (stretch.since (moment a) image (omega arith) left) (only_now image) (after image);
-        before = λ t image le left. either (stretch.since t image le left) inl (λ it. inr (after image it));
-      }
-
   pub nothing_then : {reads : D → Option Files} {a b c : D} → ChangesNothing reads moment may_leave left_since a b → ChangesNothing reads moment may_leave left_since b c → ChangesNothing reads moment may_leave left_since a c
   nothing_then first second = record {
     same = second.same ∙ first.same;
@@ -84,20 +73,6 @@ module _ {D : Type 0} {moment : D → ℕ} {may_leave : D → Files → Type 0} 
 
 pub told_same : (old new : Option Files) → new ≡ old → SameTold old new
 told_same old new is = ap is_some is
-
-pub told_map : (old new : Option Files) (f : Files → Files) → new ≡ option_map f old → SameTold old new
-told_map None new f is = ap is_some is
-told_map (Some files) new f is = ap is_some is
-
-told_takes : (step : Files → Files → Type 0) (old new : Option Files) → Takes step old new → SameTold old new
-told_takes step None new is = ap is_some is
-told_takes step (Some files) new (after, is, taken) = ap is_some is
-
--- after a call that changes what reads give so, or fails
-pub told_after : (step : Files → Files → Type 0) (f : Files → Files) (old new : Option Files) (result : Result Unit DiskFault) → OnOk result (new ≡ option_map f old) → (result ≡ Err Failed → Takes step old new) → (result ≡ Err Memory → new ≡ old) → SameTold old new
-told_after step f old new (Ok value) ok failed memory = told_map old new f ok
-told_after step f old new (Err Failed) ok failed memory = told_takes step old new (failed refl)
-told_after step f old new (Err Memory) ok failed memory = told_same old new (memory refl)
 
 pub told_then : (a b c : Option Files) → SameTold a b → SameTold b c → SameTold a c
 told_then a b c first second = second ∙ first

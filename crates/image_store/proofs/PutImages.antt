@@ -2,14 +2,14 @@
 --     closing_image, closed_files       while the gate is closed, and after it
 --     filling_image, filled_files       while the slot is filled behind a shut gate, and after it
 --     opening_image, opened_files       while the gate is opened, and after it
-use Rattle.std.proofs.Common.{◌≡◌, ◌≢◌, ◌⊎◌, ℕ, suc, ◌+◌, ◌-◌, ◌<◌, ◌≤◌, zero, inl, inr, List, [], ◌∷◌, ◌++◌, length, take, drop, get_or, refl, sym, ap, subst, ◌∙◌, arith, length-take, length-append, length-drop, append-nil}
-use Rattle.std.specs.Prelude.{Bool, true, false, if◌then◌else◌, ◌==◌, Option, Some, None, unwrap_or, map, slice_get, slice_index}
+use Rattle.std.proofs.Common.{◌≡◌, ◌≢◌, ◌⊎◌, ℕ, suc, ◌<◌, ◌≤◌, zero, inl, inr, List, [], ◌∷◌, ◌++◌, length, take, drop, refl, sym, ap, subst, ◌∙◌, arith, length-take, length-append}
+use Rattle.std.specs.Prelude.{Bool, true, false, if◌then◌else◌, ◌==◌, Option, Some, None, unwrap_or, map, slice_index}
 use Rattle.std.specs.FinMap as files_by_name
 use Rattle.std.proofs.lemmas.Bool.{cases_eq}
 use Rattle.std.proofs.lemmas.Bool.Decides.{nat_tests}
 use Rattle.std.proofs.lemmas.List.{drop_more, drop_at, get_or-take}
 use Rattle.std.proofs.lemmas.Option.{get_or_from_slice_get}
-use Rattle.set_disk.specs.Files.{Files, contents, overwritten, with_write}
+use Rattle.set_disk.specs.Files.{Files, with_write}
 use Rattle.set_disk.specs.Crash.{Torn, TornBytes}
 use Rattle.set_disk.specs.declared.file_name.FileName.{FileName}
 use Rattle.set_disk.proofs.FilesAfter.{contents-write, get-write_other}
@@ -21,7 +21,7 @@ use Rattle.image_store.specs.FoundSets.{file_at, files_from}
 use Rattle.image_store.specs.SlotWrites.{with_closed, closing_step, with_images, with_manifest, KeepsGate}
 use Rattle.image_store.specs.SlotImages.{KeepsOthers, NoneOrKept, IsBeforePut, IsPut, IsInPut}
 use Rattle.image_store.proofs.ManifestFronts.{info_shut, info_short}
-use Rattle.image_store.proofs.SlotSteps.{other_name, gate_stays}
+use Rattle.image_store.proofs.SlotSteps.{other_name}
 use Rattle.image_store.proofs.SlotFiles.{images_keep, images_there}
 
 -- a manifest whose gate is there and is shut

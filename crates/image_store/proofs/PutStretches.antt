@@ -1,13 +1,13 @@
 -- The moments of a `put_set`, stage by stage, where the folder tells its content.
 --     closing_leaves, filling_leaves, opening_leaves      what a crash leaves in each stage
-use Rattle.std.proofs.Common.{◌≡◌, ℕ, ◌<◌, List, [], ◌∷◌, length, inl, inr, refl, subst}
+use Rattle.std.proofs.Common.{◌≡◌, ℕ, ◌<◌, List, length, inl, inr, refl}
 use Rattle.std.specs.Prelude.{Option, Some, slice_index}
-use Rattle.set_disk.specs.Files.{Files, with_write}
+use Rattle.set_disk.specs.Files.{Files}
 use Rattle.set_disk.specs.Crash.{IsSettled, Torn}
 use Rattle.set_disk.specs.Moments.{Passes, LeavesOnly}
 use Rattle.image_store.specs.Slots.{manifest_name, manifest_of, gate_of}
 use Rattle.image_store.specs.SlotWrites.{closing_step, KeepsGate}
-use Rattle.image_store.specs.SlotImages.{KeepsOthers, IsBeforePut, IsInPut}
+use Rattle.image_store.specs.SlotImages.{IsBeforePut, IsInPut}
 use Rattle.set_disk.proofs.TornFiles.{same_torn}
 use Rattle.image_store.proofs.SlotSteps.{gate_same}
 use Rattle.image_store.proofs.Passing.{leaves_only, settled_at}

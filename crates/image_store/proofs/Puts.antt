@@ -4,13 +4,12 @@
 --     ready_image, ready_set     what a crash leaves, and what is there in the end
 --     put_fits           the store that comes back fits
 --     next_next          and its next generation is one more
-use Rattle.std.proofs.Common.{◌≡◌, ◌≢◌, ◌⊎◌, ℕ, zero, suc, ◌+◌, ◌<◌, ◌≤◌, max, inl, inr, List, length, refl, sym, ap, ◌∙◌, subst, arith}
-use Rattle.std.specs.Prelude.{Option, Some, None, IfSome, map, slice_get, slice_index}
+use Rattle.std.proofs.Common.{◌≡◌, ◌≢◌, ◌⊎◌, ℕ, zero, suc, ◌<◌, max, inl, inr, List, length, sym, ap, ◌∙◌, subst, arith}
+use Rattle.std.specs.Prelude.{Option, Some, None, IfSome, map}
 use Rattle.std.specs.Option.{option_map_or}
 use Rattle.std.proofs.lemmas.Option.{slice_get-get_or}
 use Rattle.set_disk.specs.Files.{Files}
 use Rattle.set_disk.specs.Crash.{Only}
-use Rattle.image_codec.specs.declared.manifest.Manifest.{Manifest}
 use Rattle.image_codec.specs.Manifests.{SpellsManifest}
 use Rattle.image_store.specs.Slots.{gate_of, manifest_of, last, slot_to_write}
 use Rattle.image_store.specs.FoundSets.{FoundSet, last_set, HasSet}
@@ -69,12 +68,6 @@ module _ (files : Files) (slot g : ℕ) (text : List ℕ) (list : List (List ℕ
   text_gate =
       let long = spelled_length text _ ready.spelled in
       slice_get-get_or text 0 0 (omega arith) ∙ ap (λ (n : ℕ). Some n) (spelled_gate text _ ready.spelled)
-
-  pub text_some : 0 < length text
-  text_some = let long = spelled_length text _ ready.spelled in omega arith
-
-  pub text_open : slice_index text 0 ≡ 1
-  text_open = spelled_gate text _ ready.spelled
 
   gate_written : (image : Files) → IsPut slot files text list image → gate_of (manifest_of image slot) ≡ Some 1
   gate_written image put = ap gate_of put.manifest ∙ text_gate

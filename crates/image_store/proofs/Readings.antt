@@ -3,8 +3,8 @@
 --     damage_here        the first damage from a place on
 --     damage_step, damage_end      one file more, and no file left
 --     read_step, read_end          the same of the files that are read
-use Rattle.std.proofs.Common.{◌≡◌, ◌≢◌, ◌⊎◌, ℕ, zero, suc, ◌+◌, ◌<◌, ◌≤◌, add-one, get_or, inl, inr, List, [], ◌∷◌, ◌++◌, length, take, drop, refl, sym, ap, subst, ◌∙◌, arith, append_assoc, append-nil}
-use Rattle.std.specs.Prelude.{Bool, true, false, if◌then◌else◌, ◌==◌, Option, Some, None, option_map, unwrap_or, map, Result, Ok, Err, IfErr}
+use Rattle.std.proofs.Common.{◌≡◌, ℕ, ◌+◌, ◌<◌, ◌≤◌, add-one, get_or, List, [], ◌∷◌, ◌++◌, length, take, drop, refl, sym, ap, ◌∙◌, arith, append_assoc, append-nil}
+use Rattle.std.specs.Prelude.{Bool, true, false, if◌then◌else◌, ◌==◌, Option, Some, None, unwrap_or, map}
 use Rattle.std.specs.Option.{option_or}
 use Rattle.std.proofs.lemmas.Bool.Decides.{nat_tests}
 use Rattle.std.proofs.lemmas.List.{drop_more, drop_all, take_all, map_push, take_more}
@@ -30,10 +30,6 @@ whole_bytes index n file bytes none is =
     let there = whole_file index n file none in
     let same : bytes ≡ there.0 = is ∙ ap (λ f. take n (unwrap_or f [])) there.1 ∙ take_all n there.0 (omega (arith, there.2)) in
     (there.1 ∙ ap (λ (xs : List ℕ). Some xs) (sym same), ap length same ∙ there.2)
-
-pub whole_contents : (file : Option (List ℕ)) (len : Option ℕ) (bytes : List ℕ) → len ≡ option_map length file → bytes ≡ take (unwrap_or len 0) (unwrap_or file []) → bytes ≡ unwrap_or file []
-whole_contents None len bytes told is = is ∙ ap (λ l. take (unwrap_or l 0) []) told
-whole_contents (Some file) len bytes told is = is ∙ ap (λ l. take (unwrap_or l 0) file) told ∙ take_all (length file) file (omega arith)
 
 -- from a place on
 unfoldable pub damage_here : (ℕ → Option (List ℕ)) → List ℕ → ℕ → Option Damage
@@ -100,6 +96,3 @@ read_end there lengths i images le is = sym is ∙ ap (λ (xs : List (Option (Li
 pub lengths_step : (lengths : List ℕ) (i : ℕ) (images : List (List ℕ)) (image : List ℕ) → i < length lengths → map length images ≡ take i lengths → length image ≡ get_or lengths i 0 → map length (images ++ image ∷ []) ≡ take (i + 1) lengths
 lengths_step lengths i images image lt so_far is =
     map_push length images image ∙ (λ k. so_far k ++ is k ∷ []) ∙ sym (take_more lengths i 0 lt)
-
-pub lengths_end : (lengths : List ℕ) (i : ℕ) (images : List (List ℕ)) → length lengths ≤ i → map length images ≡ take i lengths → map length images ≡ lengths
-lengths_end lengths i images le is = is ∙ take_all i lengths le

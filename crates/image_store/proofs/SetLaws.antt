@@ -2,14 +2,14 @@
 --     last_info          the set that counts has the slot and the generation of `last`
 --     one_set, apart, one_damage      what a folder's set is, is so in one way
 --     broken_answer      a set that is damaged is read as that damage
-use Rattle.std.proofs.Common.{◌≡◌, ◌⊎◌, ℕ, suc, inl, inr, List, [], ◌∷◌, length, refl, sym, ap, subst, ◌∙◌}
+use Rattle.std.proofs.Common.{◌≡◌, ℕ, inl, inr, List, length, refl, sym, ap, subst, ◌∙◌}
 use Rattle.std.specs.Prelude.{Option, Some, None, map, option_map, Result, Ok, Err, IfOk, IfErr}
 use Rattle.std.proofs.lemmas.Option.{same_Some}
 use Rattle.set_disk.specs.Files.{Files}
 use Rattle.image_codec.specs.declared.damage.Damage.{Damage as Place}
 use Rattle.image_codec.specs.declared.manifest.Manifest.{Manifest}
 use Rattle.image_codec.specs.declared.set_bytes.SetBytes.{SetBytes}
-use Rattle.image_codec.specs.Manifests.{SpellsManifest, DamagedManifest}
+use Rattle.image_codec.specs.Manifests.{SpellsManifest}
 use Rattle.image_codec.proofs.ManifestLaws.{laws}
 use Rattle.image_store.specs.Slots.{last}
 use Rattle.image_store.specs.FoundSets.{FoundSet, IsSet, HasSet, set_of, last_set}

@@ -2,9 +2,8 @@
 --     only_manifest, damaged_manifest      at a manifest that was not read
 --     only_lengths, damaged_lengths        at a length that is another
 --     found_set, only_set                  at the end
-use Rattle.std.proofs.Common.{◌≡◌, ◌⊎◌, ℕ, suc, inl, inr, List, [], ◌∷◌, length, refl, sym, ap, subst, ◌∙◌, arith}
-use Rattle.std.specs.Prelude.{Bool, true, false, if◌then◌else◌, ◌==◌, Option, Some, None, map, Result, Ok, Err}
-use Rattle.std.proofs.lemmas.Option.{same_Some}
+use Rattle.std.proofs.Common.{◌≡◌, ℕ, suc, inl, inr, List, [], ◌∷◌, length, refl, sym, ap, subst, ◌∙◌, arith}
+use Rattle.std.specs.Prelude.{Bool, true, false, if◌then◌else◌, ◌==◌, Option, Some, None, map, Result, Err}
 use Rattle.std.proofs.lemmas.Bool.Decides.{nat_tests}
 use Rattle.std.specs.Option.{option_or}
 use Rattle.set_disk.specs.Files.{Files}
@@ -15,7 +14,7 @@ use Rattle.image_codec.specs.Manifests.{SpellsManifest, DamagedManifest}
 use Rattle.image_store.specs.Slots.{manifest_of, generation_of, count_of}
 use Rattle.image_store.specs.FoundSets.{file_at, files_from, set_of, IsSet}
 use Rattle.image_store.specs.SetDamages.{damage_at, damage_from, IsFirstDamage}
-use Rattle.image_store.specs.StoreCauses.{IsOutside, IsOfReading, IsOrOutside, IsManifestOrOutside, TellsDamage}
+use Rattle.image_store.specs.StoreCauses.{IsOutside, IsOfReading, IsOrOutside, TellsDamage}
 use Rattle.image_store.specs.declared.set_info.SetInfo.{SetInfo}
 use Rattle.image_store.specs.declared.store_fault.StoreFault.{StoreFault}
 use Rattle.image_store.specs.declared.store_fault.StoreFault.TheVariants.{DiskFault, NoSet, Damaged, Memory}

@@ -2,7 +2,7 @@
 --     insert_over, written_file      a file cut to nothing and written
 --     written_body                   the manifest behind its gate
 --     images_keep, images_there      the images of a slot
-use Rattle.std.proofs.Common.{◌≡◌, ◌≢◌, ◌⊎◌, ℕ, zero, suc, ◌+◌, ◌-◌, ◌<◌, ◌≤◌, inl, inr, List, [], ◌∷◌, ◌++◌, length, take, drop, refl, sym, ap, subst, ◌∙◌, arith, length-take, length-append, length-drop, append-nil, add-one, get_or}
+use Rattle.std.proofs.Common.{◌≡◌, ◌≢◌, ◌⊎◌, ℕ, suc, ◌+◌, ◌<◌, ◌≤◌, inl, inr, List, [], ◌∷◌, ◌++◌, length, take, drop, refl, sym, ap, ◌∙◌, arith, length-take, length-append, length-drop, append-nil, add-one, get_or}
 use Rattle.std.specs.Prelude.{Option, Some, None, unwrap_or, option_map, map}
 use Rattle.std.specs.FinMap as files_by_name
 use Rattle.std.proofs.lemmas.List.{take_at, drop_all, drop_more}
@@ -57,6 +57,7 @@ images_keep slot index (image ∷ images) files q before =
     further : (q.slot ≢ slot) ⊎ (q.index < index) → (q.slot ≢ slot) ⊎ (q.index < suc index)
     further (inl other) = inl other
     further (inr lt) = inr (omega arith)
+
     differs : (q.slot ≢ slot) ⊎ (q.index < index) → q ≢ record { slot = slot; index = index }
     differs (inl other) same = other (ap (λ n. n.slot) same)
     differs (inr lt) same = let i : q.index ≡ index = ap (λ n. n.index) same in absurd (omega arith)
@@ -83,7 +84,6 @@ images_more slot i images image a b lt is written =
   where
     split : drop i images ≡ image ∷ drop (i + 1) images
     split = drop_more images i image lt ∙ ap (λ x. x ∷ drop (i + 1) images) (sym is)
-
 
     at_files : (a : Option Files) → option_map (with_images slot (i + 1 + 1) (drop (i + 1) images)) (option_map (λ files. files_by_name.insert files (record { slot = slot; index = i + 1 }) image) a) ≡ option_map (with_images slot (i + 1) (drop i images)) a
     at_files None = refl

@@ -1,14 +1,13 @@
 -- What each step of a `put_set` may change.
---     only_torn, only_cut, only_same, only_then      one file
---     manifest_only, manifest_same, manifest_then    the files of a slot but its manifest
+--     only_torn, only_cut, only_then                one file
+--     manifest_only, manifest_same, manifest_then   the files of a slot but its manifest
 --     gate_manifest, gate_torn, gate_cut, gate_same, gate_then      the files of a slot but the first byte of its manifest
---     others_torn, others_gate, others_then          the files of other slots stay
-use Rattle.std.proofs.Common.{◌≡◌, ◌≢◌, ◌⊎◌, ℕ, ◌+◌, ◌<◌, ◌≤◌, inl, inr, List, [], length, take, refl, sym, ap, subst, ◌∙◌, arith, length-take}
-use Rattle.std.specs.Prelude.{Option, Some, None, unwrap_or}
+use Rattle.std.proofs.Common.{◌≡◌, ◌≢◌, ◌⊎◌, ℕ, ◌<◌, inl, inr, List, [], length, take, refl, ap, ◌∙◌, arith, length-take}
+use Rattle.std.specs.Prelude.{unwrap_or}
 use Rattle.std.specs.FinMap as files_by_name
 use Rattle.std.proofs.lemmas.List.{take-take}
-use Rattle.set_disk.specs.Files.{Files, contents, with_cut}
-use Rattle.set_disk.specs.Crash.{CutOrNot, Torn, Same}
+use Rattle.set_disk.specs.Files.{Files}
+use Rattle.set_disk.specs.Crash.{CutOrNot, Torn}
 use Rattle.set_disk.specs.declared.file_name.FileName.{FileName}
 use Rattle.set_disk.proofs.FilesAfter.{contents-cut, get-cut_other}
 use Rattle.set_disk.proofs.TornFiles.{front_stays}
@@ -79,6 +78,3 @@ gate_then slot a b c first second = record {
   others = λ q other. second.others q other ∙ first.others q other;
   gate = λ some. second.gate (some_front (manifest_of a slot) (manifest_of b slot) some (first.gate some)) ∙ first.gate some;
 }
-
-pub gate_stays : (slot : ℕ) (old new : Files) → KeepsGate slot old new → 0 < length (manifest_of old slot) → 0 < length (manifest_of new slot)
-gate_stays slot old new keeps some = some_front (manifest_of old slot) (manifest_of new slot) some (keeps.gate some)

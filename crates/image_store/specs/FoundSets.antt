@@ -3,11 +3,9 @@
 --     last_set files                  the set that counts
 --     IsSet found generation files    it is whole: its manifest spells this generation and the lengths of these files, and these files are there
 --     HasSet found generation files   there is one, and it is that
-use Rattle.std.specs.Prelude.{◌≡◌, ℕ, zero, suc, List, [], ◌∷◌, length, map, Option, Some, None, option_map}
+use Rattle.std.specs.Prelude.{◌≡◌, ℕ, zero, suc, List, [], ◌∷◌, length, map, Option, Some, option_map}
 use Rattle.std.specs.FinMap as files_by_name
 use Rattle.set_disk.specs.Files.{Files}
-use Rattle.set_disk.specs.declared.file_name.FileName.{FileName}
-use Rattle.image_codec.specs.declared.manifest.Manifest.{Manifest}
 use Rattle.image_codec.specs.Manifests.{SpellsManifest}
 use Rattle.image_store.specs.Slots.{manifest_of, count_of, last}
 use Rattle.image_store.specs.declared.set_info.SetInfo.{SetInfo}

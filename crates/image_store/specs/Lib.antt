@@ -8,3 +8,4 @@ pub mod StoreCauses
 pub mod SlotWrites
 pub mod SlotImages
 pub mod StoreLaws
+pub mod StoreRuns

@@ -3,7 +3,7 @@
 --     damage_from index lengths files       the first such file
 --     HasDamage found damage                there is such a set, and it is damaged there
 --     IsFirstDamage found damage              the manifest is damaged there, or it is spelled and this is the first file whose length is another
-use Rattle.std.specs.Prelude.{◌≡◌, ◌⊎◌, ℕ, zero, suc, min, if◌then◌else◌, ◌==◌, List, [], ◌∷◌, length, Option, Some, None}
+use Rattle.std.specs.Prelude.{◌≡◌, ◌⊎◌, ℕ, suc, min, if◌then◌else◌, ◌==◌, List, [], ◌∷◌, length, Option, Some, None}
 use Rattle.std.specs.Option.{option_or}
 use Rattle.image_codec.specs.declared.damage.Damage.{Damage}
 use Rattle.image_codec.specs.declared.manifest.Manifest.{Manifest}

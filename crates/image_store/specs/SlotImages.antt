@@ -3,7 +3,7 @@
 --     IsBeforePut slot files image        and the slot has no complete set, or the same as before
 --     IsPut slot files manifest images image      and the slot has this manifest and these images
 --     IsInPut                             one or the other
-use Rattle.std.specs.Prelude.{◌≡◌, ◌≢◌, ◌⊎◌, ℕ, List, length, map, Option, Some, None}
+use Rattle.std.specs.Prelude.{◌≡◌, ◌≢◌, ◌⊎◌, ℕ, List, length, map, Some, None}
 use Rattle.std.specs.FinMap as files_by_name
 use Rattle.set_disk.specs.Files.{Files}
 use Rattle.set_disk.specs.declared.file_name.FileName.{FileName}

@@ -6,7 +6,7 @@
 --     OnlyFile name                     a step that may change one file
 --     KeepsOthers, KeepsManifest slot   a step that may change the files of one slot, and that but its manifest
 --     KeepsGate slot                    a step that may change the files of one slot, but not the first byte of a manifest that has one
-use Rattle.std.specs.Prelude.{◌≡◌, ◌≢◌, ◌⊎◌, ℕ, zero, suc, ◌<◌, ◌≤◌, if◌then◌else◌, ◌==◌, List, [], ◌∷◌, ◌++◌, length, take, drop, Option, Some, None}
+use Rattle.std.specs.Prelude.{◌≡◌, ◌≢◌, ◌⊎◌, ℕ, suc, ◌<◌, if◌then◌else◌, ◌==◌, List, [], ◌∷◌, ◌++◌, length, take, drop, Option, Some, None}
 use Rattle.std.specs.FinMap as files_by_name
 use Rattle.set_disk.specs.Files.{Files, with_write}
 use Rattle.set_disk.specs.Crash.{Torn}

@@ -14,5 +14,4 @@ pub fn store_laws()
     ensures one { (found : Option FoundSet) → IsOneSet found }
     ensures apart { (found : Option FoundSet) → IsApart found }
     ensures place { (found : Option FoundSet) → IsOnePlace found }
-{
-}
+{}

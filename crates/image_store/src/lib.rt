@@ -17,6 +17,7 @@ mod gate;
 mod head;
 pub mod laws;
 mod reading;
+mod runs;
 pub mod set_info;
 pub mod store;
 pub mod store_fault;
@@ -24,6 +25,7 @@ mod writing;
 
 pub use image_codec::{Damage, SetBytes};
 pub use laws::store_laws;
+pub use runs::put_all;
 pub use set_info::SetInfo;
 pub use store::Store;
 pub use store_fault::StoreFault;

@@ -1,5 +1,5 @@
-use crate::{Damage, SetBytes, SetInfo, Store, StoreFault};
-use set_disk::{FileName, Folder, MemFolder};
+use crate::{Damage, SetBytes, Store, StoreFault};
+use set_disk::{DiskFault, FileName, Folder, MemFolder};
 use std::alloc::{AllocError, Global};
 use std::process::Abort;
 use std::test::Fail;
@@ -39,7 +39,11 @@ fn compare(
         assert!(rt; allowed.contains(&0), "{place}: none");
         return Ok(());
     };
-    assert!(rt; allowed.contains(&info.generation), "{place}: {}", info.generation);
+    assert!(rt;
+        allowed.contains(&info.generation),
+        "{place}: {}",
+        info.generation
+    );
     let set = store.get_set(alloc, folder)?;
     let texts = if info.generation == 1 {
         FIRST.as_slice()
@@ -48,23 +52,6 @@ fn compare(
     };
     assert!(rt; has_files(&set, texts), "{place}: files");
     Ok(())
-}
-
-/// A folder with both sets, put by the calls 4 to 14 and 15 to 27.
-#[tactic(auto, unfolding(crate::specs::StoreStates::generation_after))]
-fn with_both_sets(rt: &(impl Abort + AllocGlobal)) -> Result<MemFolder, Fail> {
-    let alloc = rt.alloc();
-    let mut folder = MemFolder::new(alloc, &[])?;
-    let store = Store::open_store(alloc, &mut folder, 0)?;
-    assert!(rt; store.last().is_none());
-    let first = set_of(alloc, &FIRST)?;
-    let second = set_of(alloc, &SECOND)?;
-    assert!(rt; first.files.len() == 2 && second.files.len() == 3);
-    let (store, one) = store.put_set(alloc, &mut folder, &first)?;
-    assert_eq!(rt; (one, folder.calls()), (1, 14));
-    let (_store, two) = store.put_set(alloc, &mut folder, &second)?;
-    assert_eq!(rt; (two, folder.calls()), (2, 27));
-    Ok(folder)
 }
 
 /// Compares the set that a crash right after the call leaves.
@@ -79,20 +66,6 @@ fn compare_image(
     let mut image = folder.crash_image(rt.alloc(), call, pattern)?;
     let place = format!(in rt.alloc(); "call {call}, pattern {pattern}")?;
     compare(rt, &mut image, allowed, place.as_str())
-}
-
-#[test]
-fn a_crash_leaves_the_old_set_or_the_new(rt: HostRuntime) -> Result<(), Fail> {
-    let folder = with_both_sets(&rt)?;
-    for pattern in 0..3 {
-        for call in 14..26 {
-            compare_image(&rt, &folder, call, pattern, &[1])?;
-        }
-        // The write that opens the gate has begun.
-        compare_image(&rt, &folder, 26, pattern, &[1, 2])?;
-        compare_image(&rt, &folder, 27, pattern, &[2])?;
-    }
-    Ok(())
 }
 
 /// Opens the folder, puts both sets and reads the second one. Counts the sets that were put.
@@ -113,6 +86,25 @@ fn run(
     *done = two;
     let set = store.get_set(alloc, folder)?;
     assert!(rt; has_files(&set, &SECOND));
+    Ok(())
+}
+
+#[test]
+fn a_crash_leaves_the_old_set_or_the_new(rt: HostRuntime) -> Result<(), Fail> {
+    let alloc = rt.alloc();
+    let sets = [set_of(alloc, &FIRST)?, set_of(alloc, &SECOND)?];
+    let mut done = 0;
+    let mut folder = MemFolder::new(alloc, &[])?;
+    run(&rt, &mut folder, &sets, &mut done)?;
+    // The sets are put by the calls 4 to 14 and 15 to 27.
+    for pattern in 0..3 {
+        for call in 14..26 {
+            compare_image(&rt, &folder, call, pattern, &[1])?;
+        }
+        // The write that opens the gate has begun.
+        compare_image(&rt, &folder, 26, pattern, &[1, 2])?;
+        compare_image(&rt, &folder, 27, pattern, &[2])?;
+    }
     Ok(())
 }
 
@@ -156,7 +148,10 @@ fn which_set_counts(rt: HostRuntime) -> Result<(), Fail> {
         ([FIVE, b"\x01DMTSET1\x06\0\0\0\0\0\0\0"], Some((1, 6))),
         ([FIVE, b"\xA5DMTSET1\x06\0\0\0\0\0\0\0"], Some((0, 5))),
         ([FIVE, b"\x01DMTSET1\x06\0\0\0\0\0\0"], Some((0, 5))),
-        ([FIVE, b"\x01any way\0\x01\0\0\0\0\0\0 more"], Some((1, 256))),
+        (
+            [FIVE, b"\x01any way\0\x01\0\0\0\0\0\0 more"],
+            Some((1, 256)),
+        ),
         ([b"\0DMTSET1\x05\0\0\0\0\0\0\0", b"\x01"], None),
     ];
     for (i, (fronts, counts)) in rows.iter().enumerate() {
@@ -177,51 +172,55 @@ enum Change {
     Cut(u32, u64),
 }
 
-#[test]
-#[tactic(auto, unfolding(crate::specs::StoreStates::generation_after))]
-fn where_a_set_is_damaged(rt: HostRuntime) -> Result<(), Fail> {
-    let alloc = rt.alloc();
-    let rows = [
-        (Change::Write(0, 1, "d"), (0, 1)),
-        (Change::Cut(0, 35), (0, 35)),
-        (Change::Write(0, 36, "x"), (0, 36)),
-        (Change::Write(0, 16, "\x03"), (0, 36)),
-        (Change::Write(1, 6, "s"), (1, 6)),
-        (Change::Cut(1, 5), (1, 5)),
-        (Change::Cut(2, 6), (2, 6)),
-    ];
-    for (i, (change, (file, offset))) in rows.iter().enumerate() {
-        let mut folder = MemFolder::new(alloc, &[])?;
-        let store = Store::open_store(alloc, &mut folder, 0)?;
-        assert!(&rt; store.last().is_none());
-        let set = set_of(alloc, &FIRST)?;
-        assert!(&rt; set.files.len() == 2);
-        store.put_set(alloc, &mut folder, &set)?;
-        match change {
-            Change::Write(index, at, text) => folder.write_at(
-                FileName {
-                    slot: 0,
-                    index: *index,
-                },
-                *at,
-                text.as_bytes(),
-            )?,
-            Change::Cut(index, len) => folder.cut(
-                FileName {
-                    slot: 0,
-                    index: *index,
-                },
-                *len,
-            )?,
+fn make(folder: &mut MemFolder, change: &Change) -> Result<(), DiskFault> {
+    match change {
+        Change::Write(index, at, text) => {
+            let index = *index;
+            folder.write_at(FileName { slot: 0, index }, *at, text.as_bytes())
         }
-        let store = Store::open_store(alloc, &mut folder, 0)?;
-        assert_eq!(&rt; store.last(), Some(SetInfo { slot: 0, generation: 1 }));
-        let damaged = store.get_set(alloc, &mut folder).err();
-        let expected = StoreFault::Damaged(Damage {
+        Change::Cut(index, len) => {
+            let index = *index;
+            folder.cut(FileName { slot: 0, index }, *len)
+        }
+    }
+}
+
+/// Puts the first set and makes the change, and gives why the set is refused then.
+#[tactic(auto, unfolding(crate::specs::StoreStates::generation_after))]
+fn refusal_after(
+    rt: &(impl Abort + AllocGlobal),
+    change: &Change,
+) -> Result<Option<StoreFault>, Fail> {
+    let alloc = rt.alloc();
+    let mut folder = MemFolder::new(alloc, &[])?;
+    let store = Store::open_store(alloc, &mut folder, 0)?;
+    assert!(rt; store.last().is_none());
+    let set = set_of(alloc, &FIRST)?;
+    assert!(rt; set.files.len() == 2);
+    store.put_set(alloc, &mut folder, &set)?;
+    make(&mut folder, change)?;
+    let store = Store::open_store(alloc, &mut folder, 0)?;
+    Ok(store.get_set(alloc, &mut folder).err())
+}
+
+#[test]
+fn where_a_set_is_damaged(rt: HostRuntime) -> Result<(), Fail> {
+    let rows = [
+        (Change::Write(0, 1, "d"), 0, 1),
+        (Change::Cut(0, 35), 0, 35),
+        (Change::Write(0, 36, "x"), 0, 36),
+        (Change::Write(0, 16, "\x03"), 0, 36),
+        (Change::Write(1, 6, "s"), 1, 6),
+        (Change::Cut(1, 5), 1, 5),
+        (Change::Cut(2, 6), 2, 6),
+    ];
+    for (i, (change, file, offset)) in rows.iter().enumerate() {
+        let damage = Damage {
             file: *file,
             offset: *offset,
-        });
-        assert_eq!(&rt; damaged, Some(expected), "row {i}");
+        };
+        let refusal = refusal_after(&rt, change)?;
+        assert_eq!(&rt; refusal, Some(StoreFault::Damaged(damage)), "row {i}");
     }
     Ok(())
 }
@@ -237,6 +236,9 @@ fn a_missing_file_and_no_set(rt: HostRuntime) -> Result<(), Fail> {
     folder.write_at(FileName { slot: 1, index: 0 }, 0, manifest)?;
     let store = Store::open_store(alloc, &mut folder, 0)?;
     let missing = store.get_set(alloc, &mut folder).err();
-    assert_eq!(&rt; missing, Some(StoreFault::Damaged(Damage { file: 1, offset: 0 })));
+    assert_eq!(&rt;
+        missing,
+        Some(StoreFault::Damaged(Damage { file: 1, offset: 0 }))
+    );
     Ok(())
 }

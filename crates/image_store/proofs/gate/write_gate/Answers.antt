@@ -1,4 +1,4 @@
-use Rattle.std.proofs.Common.{◌≡◌, sym, subst}
+use Rattle.std.proofs.Common.{sym, subst}
 use Rattle.set_disk.specs.Crash.{Torn}
 use Rattle.image_store.specs.Slots.{manifest_name}
 use Rattle.image_store.proofs.Passing.{passes_then}

@@ -1,5 +1,4 @@
 use Rattle.std.proofs.Common.{refl, ◌∙◌, sym}
-use Rattle.std.specs.Prelude.{option_map, length}
 use Rattle.image_store.specs.FoundSets.{file_at}
 use Rattle.image_store.proofs.Causes.{counts_none, counts_of, counts_then}
 use Rattle.image_store.proofs.Passing.{nothing_none, nothing_call, nothing_then, told_at}

@@ -1,9 +1,9 @@
-use Rattle.std.proofs.Common.{◌≡◌, ◌∙◌, ℕ, List, ◌+◌, ◌++◌, take, length, ap, sym, refl, subst}
-use Rattle.std.specs.Prelude.{Some, None, map}
+use Rattle.std.proofs.Common.{◌∙◌, ℕ, List, ◌+◌, ◌++◌, length, ap, sym}
+use Rattle.std.specs.Prelude.{Some, map}
 use Rattle.image_store.specs.FoundSets.{file_at}
 use Rattle.image_store.proofs.Causes.{counts, counts_none, counts_then}
 use Rattle.image_store.proofs.Passing.{nothing_none, nothing_then}
-use Rattle.image_store.proofs.Readings.{damage_start, damage_here, files_left, fits_here, left_start, read_step, read_end, lengths_step, lengths_end}
+use Rattle.image_store.proofs.Readings.{damage_start, files_left, fits_here, left_start, read_step, read_end, lengths_step}
 use Rattle.image_store.proofs.reading.read_images.Goals as goal
 
 pub returns-in_err-images-clause-nothing : goal.returns-in_err-images-clause-nothing

@@ -1,5 +1,5 @@
 use Rattle.std.proofs.Common.{◌≡◌, ◌∙◌, ap, sym, subst, List, ℕ, length}
-use Rattle.std.specs.Prelude.{Err, Ok, Some, map}
+use Rattle.std.specs.Prelude.{Err, Some, map}
 use Rattle.std.proofs.lemmas.Result.{err_from_is_err_and}
 use Rattle.image_store.specs.FoundSets.{file_at, files_from}
 use Rattle.image_store.specs.SetDamages.{damage_from}

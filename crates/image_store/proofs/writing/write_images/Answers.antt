@@ -1,4 +1,4 @@
-use Rattle.std.proofs.Common.{◌≡◌, ℕ, List, ◌+◌, ◌∙◌, ap, arith, refl, sym}
+use Rattle.std.proofs.Common.{◌≡◌, ℕ, List, ◌+◌, ◌∙◌, ap, arith, refl}
 use Rattle.std.specs.Prelude.{option_map}
 use Rattle.std.specs.FinMap as files_by_name
 use Rattle.set_disk.specs.Files.{Files}

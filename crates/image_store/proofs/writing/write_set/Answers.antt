@@ -1,5 +1,5 @@
 use Rattle.std.proofs.Common.{◌≡◌, ◌<◌, [], ◌∷◌, ap, ◌∙◌, sym, subst, length}
-use Rattle.std.specs.Prelude.{Some, Option, option_map}
+use Rattle.std.specs.Prelude.{option_map}
 use Rattle.std.proofs.lemmas.Option.{same_Some}
 use Rattle.set_disk.specs.Files.{Files, with_write}
 use Rattle.set_disk.proofs.FilesAfter.{on_ok_then}

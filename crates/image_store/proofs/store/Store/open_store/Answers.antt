@@ -1,7 +1,6 @@
 use Rattle.std.proofs.Common.{◌≡◌, sym, ◌∙◌}
 use Rattle.std.specs.Prelude.{Some}
-use Rattle.set_disk.specs.Crash.{Same}
-use Rattle.image_store.proofs.Passing.{nothing_call, nothing_then, passes_then, settled_at, settled_same}
+use Rattle.image_store.proofs.Passing.{nothing_call, nothing_then, settled_at, settled_same}
 use Rattle.image_store.proofs.Openings.{opened_last, passed_last}
 use Rattle.image_store.proofs.store.Store.open_store.Goals as goal
 

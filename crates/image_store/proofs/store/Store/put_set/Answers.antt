@@ -1,16 +1,13 @@
-use Rattle.std.proofs.Common.{◌≡◌, ◌<◌, ℕ, List, length, inl, refl, ap, sym, subst, ◌∙◌, arith}
-use Rattle.std.specs.Prelude.{Some, Option, slice_index}
+use Rattle.std.proofs.Common.{length, inl, refl, ap, sym, subst, ◌∙◌, arith}
+use Rattle.std.specs.Prelude.{slice_index}
 use Rattle.set_disk.specs.Files.{Files}
 use Rattle.set_disk.specs.Crash.{Same}
 use Rattle.set_disk.proofs.Stretches.{told_then as where_told, weakens}
-use Rattle.image_store.specs.Slots.{gate_of, manifest_of}
 use Rattle.image_store.specs.FoundSets.{last_set, HasSet}
-use Rattle.image_store.specs.SlotImages.{IsInPut}
-use Rattle.image_store.specs.StoreStates.{FitsFiles, Known, next_generation, with_set}
+use Rattle.image_store.specs.StoreStates.{FitsFiles, Known, next_generation}
 use Rattle.image_store.specs.StoreCrashes.{OldOrNew}
-use Rattle.image_store.specs.declared.set_info.SetInfo.{SetInfo}
 use Rattle.image_store.proofs.Passing.{leaves_only, on_err, passes_none, settled_at, told_before, told_still}
-use Rattle.image_store.proofs.Puts.{ready_of, ready_image, ready_set, put_fits, gate_is, small_slot, next_next, text_some, text_open}
+use Rattle.image_store.proofs.Puts.{ready_of, ready_image, ready_set, put_fits, gate_is, small_slot, next_next}
 use Rattle.image_store.proofs.ManifestFronts.{spelled_gate, spelled_length}
 use Rattle.image_store.proofs.store.Store.put_set.Goals as goal
 

@@ -1,0 +1,64 @@
+ghost use Rattle.std.specs.Prelude.{◌≡◌, ◌+◌, suc, ◌-◌, ◌^◌, ◌<◌, ◌≤◌, All, length, IfOk, OnOk};
+ghost use Rattle.std.specs.Option.{ForSome};
+ghost use Rattle.set_disk.specs.Moments.{LeavesOnly};
+ghost use Rattle.image_store.specs.FoundSets.{last_set};
+ghost use Rattle.image_store.specs.StoreRuns.{IsOneOf, IsSmall};
+ghost use Rattle.image_store.specs.StoreStates.{FitsFolder, next_generation};
+ghost use Rattle.image_store.specs.StoreCrashes.{OldOrNew, SameTold};
+
+use crate::store::Store;
+use crate::store_fault::StoreFault;
+use image_codec::SetBytes;
+use set_disk::Folder;
+use std::alloc::Global;
+
+/// Puts a set. Where it is refused the folder is opened again, and the set may be there or not.
+fn put_or_open<F: Folder>(
+    store: Store,
+    alloc: Global,
+    disk: &mut F,
+    set: &SetBytes,
+) -> Result<Store, StoreFault>
+    requires fits { FitsFolder store (F.reads disk.old) (F.may_leave disk.old) }
+    requires room { next_generation store < 2 ^ 64 - 1 }
+    requires small { IsSmall set.now }
+
+    ensures fits { IfOk result (λ after. FitsFolder after (F.reads disk.new) (F.may_leave disk.new)) }
+    ensures next { IfOk result (λ after. next_generation after ≡ suc (next_generation store)) }
+    ensures crash { ForSome (F.reads disk.old) (λ files.
+        LeavesOnly F.moment F.left_since disk.old disk.new (OldOrNew (last_set files) (next_generation store) set.now.files)) }
+    ensures reads { ForSome (F.reads disk.old) (λ files. ForSome (F.reads disk.new)
+        (OldOrNew (last_set files) (next_generation store) set.now.files)) }
+    ensures told { SameTold (F.reads disk.old) (F.reads disk.new) }
+{
+    let generation = store.next();
+    match store.put_set(alloc, disk, set) {
+        Ok((after, _generation)) => Ok(after),
+        Err(_refused) => Store::open_store(alloc, disk, generation),
+    }
+}
+
+/// Puts sets one after another. Where one is refused the folder is opened again, and the next one is
+/// put with the generation that follows.
+pub fn put_all<F: Folder>(
+    store: Store,
+    alloc: Global,
+    disk: &mut F,
+    sets: &[SetBytes],
+) -> Result<Store, StoreFault>
+    requires fits { FitsFolder store (F.reads disk.old) (F.may_leave disk.old) }
+    requires room { next_generation store + length sets.now < 2 ^ 64 - 1 }
+    requires small { All IsSmall sets.now }
+
+    ensures fits { IfOk result (λ after. FitsFolder after (F.reads disk.new) (F.may_leave disk.new)) }
+
+    // A crash at any moment leaves the set that counted before, or one of these.
+    ensures crash { ForSome (F.reads disk.old) (λ files.
+        LeavesOnly F.moment F.left_since disk.old disk.new (λ image. IsOneOf (last_set files) (next_generation store) sets.now (last_set image))) }
+{
+    let mut store = store;
+    for set in sets {
+        store = put_or_open(store, alloc, disk, set)?;
+    }
+    Ok(store)
+}
