@@ -1,9 +1,11 @@
 use crate::programs::hello;
 use crate::session::{Failing, NONE_FAIL, run, run_hello};
 use dmtcp_top::Status;
-use std::alloc::AllocError;
+use std::alloc::{AllocError, Global};
 use std::process::Abort;
+use std::sync::Wait;
 use std::test::Fail;
+use std::thread::Threads;
 
 #[test]
 fn a_missing_program_is_named(rt: HostRuntime) -> Result<(), Fail> {
@@ -63,6 +65,82 @@ fn a_program_with_compressed_code_is_refused(rt: HostRuntime) -> Result<(), Fail
         left.log.bytes(),
         b"bad program: a.elf: flags at 36\n".as_slice()
     );
+    Ok(())
+}
+
+/// Runs a file as `a.elf`, which is refused with this line.
+fn refused<R: Abort + Wait + Threads + Sync>(
+    rt: &R,
+    alloc: Global,
+    file: &[u8],
+    line: &str,
+) -> Result<(), AllocError> {
+    let left = run(
+        rt,
+        alloc,
+        &["launch", "0:a.elf"],
+        ("a.elf", file),
+        NONE_FAIL,
+    )?;
+    assert_eq!(rt; left.status, Status::BadElf);
+    assert_eq!(rt; left.status.code(), 13);
+    assert_eq!(rt; left.log.bytes(), line.as_bytes());
+    assert_eq!(rt; left.out.bytes(), b"".as_slice());
+    assert_eq!(rt; left.records().len(), 0);
+    Ok(())
+}
+
+#[test]
+fn a_program_with_wrong_headers_is_refused_at_their_places(rt: HostRuntime) -> Result<(), Fail> {
+    let mut file = hello(rt.alloc())?;
+    assert!(rt; 84 <= file.len());
+
+    // A program header of 31 bytes, in a file that ends before it; then none, then one at 0xFFF.
+    file[42] = 31;
+    refused(
+        &rt,
+        rt.alloc(),
+        &file.as_slice()[..52],
+        "bad program: a.elf: segment at 42\n",
+    )?;
+    file[42] = 32;
+    refused(
+        &rt,
+        rt.alloc(),
+        &file.as_slice()[..52],
+        "bad program: a.elf: short at 52\n",
+    )?;
+    file[44] = 0;
+    refused(
+        &rt,
+        rt.alloc(),
+        file.as_slice(),
+        "bad program: a.elf: segment at 44\n",
+    )?;
+    file[44] = 1;
+    file[60] = 0xFF;
+    file[61] = 0x0F;
+    file[62] = 0;
+    refused(
+        &rt,
+        rt.alloc(),
+        file.as_slice(),
+        "bad program: a.elf: segment at 52\n",
+    )?;
+
+    // The same header twice.
+    let good = hello(rt.alloc())?;
+    assert!(rt; 84 <= good.len());
+    let mut twice = Vec::from_slice(rt.alloc(), &good.as_slice()[..84])?;
+    twice.extend_from_slice(&good.as_slice()[52..])?;
+    assert!(rt; 44 < twice.len());
+    twice[44] = 2;
+    refused(
+        &rt,
+        rt.alloc(),
+        twice.as_slice(),
+        "bad program: a.elf: overlap at 84\n",
+    )?;
     Ok(())
 }
 
