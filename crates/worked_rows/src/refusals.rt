@@ -1,4 +1,4 @@
-use crate::programs::hello;
+use crate::programs::{STORED_HELLO, hello};
 use crate::session::{Failing, NONE_FAIL, run, run_hello};
 use dmtcp_top::Status;
 use std::alloc::{AllocError, Global};
@@ -92,53 +92,47 @@ fn refused<R: Abort + Wait + Threads + Sync>(
 
 #[test]
 fn a_program_with_wrong_headers_is_refused_at_their_places(rt: HostRuntime) -> Result<(), Fail> {
-    let mut file = hello(rt.alloc())?;
-    assert!(rt; 84 <= file.len());
-
     // A program header of 31 bytes, in a file that ends before it; then none, then one at 0xFFF.
+    let mut file = STORED_HELLO;
     file[42] = 31;
     refused(
         &rt,
         rt.alloc(),
-        &file.as_slice()[..52],
+        &file[0..52],
         "bad program: a.elf: segment at 42\n",
     )?;
     file[42] = 32;
     refused(
         &rt,
         rt.alloc(),
-        &file.as_slice()[..52],
+        &file[0..52],
         "bad program: a.elf: short at 52\n",
     )?;
     file[44] = 0;
     refused(
         &rt,
         rt.alloc(),
-        file.as_slice(),
+        &file,
         "bad program: a.elf: segment at 44\n",
     )?;
-    file[44] = 1;
-    file[60] = 0xFF;
-    file[61] = 0x0F;
-    file[62] = 0;
+    let mut file = STORED_HELLO;
+    file[60..63].copy_from_slice(&[0xFF, 0x0F, 0]);
     refused(
         &rt,
         rt.alloc(),
-        file.as_slice(),
+        &file,
         "bad program: a.elf: segment at 52\n",
     )?;
 
     // The same header twice.
-    let good = hello(rt.alloc())?;
-    assert!(rt; 84 <= good.len());
-    let mut twice = Vec::from_slice(rt.alloc(), &good.as_slice()[..84])?;
-    twice.extend_from_slice(&good.as_slice()[52..])?;
-    assert!(rt; 44 < twice.len());
+    let mut twice = [0; 158];
+    twice[0..84].copy_from_slice(&STORED_HELLO[0..84]);
+    twice[84..158].copy_from_slice(&STORED_HELLO[52..126]);
     twice[44] = 2;
     refused(
         &rt,
         rt.alloc(),
-        twice.as_slice(),
+        &twice,
         "bad program: a.elf: overlap at 84\n",
     )?;
     Ok(())
