@@ -4,9 +4,17 @@
 //! its folder `dmtcp_set`, the console is standard output, the log standard error. The trace is written to `dmtcp.trace`
 //! where it has a record; that this fails changes nothing else. The exit status is that of the top call.
 //!
-//! The promise is the top call's, in the crate `dmtcp_top`. What is left here, and not proved, is that these arguments,
-//! files and streams are the ones handed in. A sole word `--help` or `--version` is answered here.
+//! The promise is the top call's, in the crate `dmtcp_top`. Proved here: the program ends with the status's number, and
+//! the trace is empty when it is handed in. What is left, and shown by the stored run alone, is that these arguments, files
+//! and streams are the ones handed in, and that the trace is written: no clause can tell one stream of the host from
+//! another. A sole word `--help` or `--version` is answered here.
 #![tactic(auto)]
+
+ghost use Rattle.std.specs.Prelude.{◌≡◌, ◌⊎◌, length, IsSome};
+ghost use Rattle.std.specs.Process.{exit_status};
+ghost use Rattle.views.specs.Faults.{Rose};
+ghost use Rattle.edge_io.specs.Sink.{appended};
+ghost use Rattle.dmtcp_top.specs.Statuses.{number_of};
 
 use dmtcp_top::{Status, dmtcp};
 use edge_io::{HostInputs, HostSink, Sink};
@@ -34,13 +42,13 @@ fn main(rt: HostRuntime) -> ExitCode {
     let mut log = HostSink::new(rt.stderr());
     let words = match words_after_name(&rt) {
         Ok(words) => words,
-        Err(error) => return ExitCode::from(unreadable(&error, &mut log).code()),
+        Err(error) => return exit_code(unreadable(&error, &mut log)),
     };
     if let Some(text) = greeting(words.as_slice()) {
-        return ExitCode::from(said(text, &mut out).code());
+        return exit_code(said(text, Status::Done, &mut out));
     }
     let Ok(mut disk) = HostFolder::new(&rt, rt.alloc(), SET_FOLDER) else {
-        return ExitCode::from(ended("memory\n", Status::Memory, &mut log).code());
+        return exit_code(said("memory\n", Status::Memory, &mut log));
     };
     let mut inputs = HostInputs::new(&rt);
     let mut trace = Trace::new(rt.alloc());
@@ -55,6 +63,13 @@ fn main(rt: HostRuntime) -> ExitCode {
         &mut trace,
     );
     write_trace(&rt, &trace);
+    exit_code(status)
+}
+
+/// What the program ends with.
+fn exit_code(status: Status) -> ExitCode
+    ensures { exit_status result ≡ number_of status }
+{
     ExitCode::from(status.code())
 }
 
@@ -68,24 +83,20 @@ fn words_after_name<R: Env + Alloc<A = Global>>(rt: &R) -> io::Result<Vec<String
 }
 
 /// The status where the words could not be read: those that are no text are none of the command line's.
-fn unreadable<L: Sink>(error: &io::Error, log: &mut L) -> Status {
+fn unreadable<L: Sink>(error: &io::Error, log: &mut L) -> Status
+    ensures { (result ≡ Status.Usage) ⊎ (result ≡ Status.Memory) ⊎ (result ≡ Status.SinkFault) }
+{
     if error.kind() == io::ErrorKind::OutOfMemory {
-        ended("memory\n", Status::Memory, log)
+        said("memory\n", Status::Memory, log)
     } else {
-        ended("usage\n", Status::Usage, log)
-    }
-}
-
-/// The status of a call that ends with this last line.
-fn ended<L: Sink>(line: &str, status: Status, log: &mut L) -> Status {
-    match log.put(line.as_bytes()) {
-        Ok(()) => status,
-        Err(_) => Status::SinkFault,
+        said("usage\n", Status::Usage, log)
     }
 }
 
 /// What to say where the words ask for nothing but help or the version.
-fn greeting(words: &[String]) -> Option<&'static str> {
+fn greeting(words: &[String]) -> Option<&'static str>
+    ensures { IsSome result → length words.now ≡ 1 }
+{
     match words {
         [word] => match word.as_str() {
             "--help" => Some(HELP),
@@ -96,9 +107,13 @@ fn greeting(words: &[String]) -> Option<&'static str> {
     }
 }
 
-fn said<O: Sink>(text: &str, out: &mut O) -> Status {
-    match out.put(text.as_bytes()) {
-        Ok(()) => Status::Done,
+/// Puts a text on a sink: the status, where it was taken whole.
+fn said<O: Sink>(text: &str, status: Status, sink: &mut O) -> Status
+    ensures { ((result ≡ status) × (O.taken sink.new ≡ appended (O.taken sink.old) text.now))
+        ⊎ ((result ≡ Status.SinkFault) × Rose (O.faults sink.old) (O.faults sink.new)) }
+{
+    match sink.put(text.as_bytes()) {
+        Ok(()) => status,
         Err(_) => Status::SinkFault,
     }
 }

@@ -2,7 +2,8 @@
 --     get-with_pages_other, len-with_pages        zeroed pages at numbers where there were none
 --     zeroed_page                                 what each of them holds
 --     without_none, without_more, without-with    pages taken away, one more, and those that were just put there
-use Rattle.std.proofs.Common.{◌≡◌, ◌≢◌, ℕ, zero, suc, ◌+◌, ◌*◌, ◌≤◌, ◌<◌, Bool, true, false, cond, ◌&&◌, List, [], ◌∷◌, take, drop, refl, sym, ap, ◌∙◌, arith, ⊎_elim, inl, inr, add-zero, add-one}
+--     without_skip, without_next                  more of them, where none of these is there, or only the last one is
+use Rattle.std.proofs.Common.{◌≡◌, ◌≢◌, ℕ, zero, suc, ◌+◌, ◌-◌, ◌*◌, ◌≤◌, ◌<◌, Bool, true, false, cond, ◌&&◌, List, [], ◌∷◌, take, drop, refl, sym, ap, ◌∙◌, arith, ⊎_elim, inl, inr, add-zero, add-one}
 use Rattle.std.specs.Prelude.{None, ◌⊎◌, is_some, not, nat_le, nat_lt, replicate}
 use Rattle.std.specs.Cmp.{nat_cmp_total}
 use Rattle.std.specs.FinMap as map
@@ -112,6 +113,29 @@ without_more m page n = map.same_map nat_cmp_total map.nat_cmp-IsAntisymmetric _
         ∙ sym (get_inside m page (n + 1) q (omega arith) (omega arith)))
         (λ (differ : q ≡ page + n → ⊥). beside q differ (place page n q))
         (cases_eq q (page + n))
+
+pub without_skip : (m : Memory) (page n k : ℕ) → n ≤ k → ((q : ℕ) → page + n ≤ q → q < page + k → map.get (without_pages m page n) q ≡ None)
+    → without_pages m page n ≡ without_pages m page k
+without_skip m page n k more none = map.same_map nat_cmp_total map.nat_cmp-IsAntisymmetric _ _ (λ q. same q (place page k q))
+  where
+    before : (q : ℕ) → page ≤ q → q < page + k → map.get (without_pages m page n) q ≡ None
+    before q from below =
+        ⊎_elim (λ (taken : q < page + n). get_inside m page n q from taken) (λ (left : page + n ≤ q). none q left below) (cases_lt q (page + n))
+
+    same : (q : ℕ) → ((page ≤ q) × (q < page + k)) ⊎ ((q < page) ⊎ (page + k ≤ q)) → map.get (without_pages m page n) q ≡ map.get (without_pages m page k) q
+    same q (inl among) = before q among.0 among.1 ∙ sym (get_inside m page k q among.0 among.1)
+    same q (inr (inl below)) = get_outside m page n q (inl below) ∙ sym (get_outside m page k q (inl below))
+    same q (inr (inr above)) = get_outside m page n q (inr (omega arith)) ∙ sym (get_outside m page k q (inr above))
+
+pub without_next : (m : Memory) (page n next k : ℕ) → page + n ≤ next → page + k ≡ next + 1
+    → ((q : ℕ) → page + n ≤ q → q < next → map.get (without_pages m page n) q ≡ None) → map.remove (without_pages m page n) next ≡ without_pages m page k
+without_next m page n next k from last none =
+    let at : next ≡ page + (next - page) = omega arith in
+    let count : (next - page) + 1 ≡ k = omega arith in
+    ap (λ (w : Memory). map.remove w next) (without_skip m page n (next - page) (omega arith) (λ q start below. none q start (omega arith)))
+    ∙ ap (map.remove (without_pages m page (next - page))) at
+    ∙ without_more m page (next - page)
+    ∙ ap (without_pages m page) count
 
 pub without-with : (m : Memory) (page n rights : ℕ) (content : List ℕ) → IsFree m page n → without_pages (with_pages m page n rights content) page n ≡ m
 without-with m page n rights content free = map.same_map nat_cmp_total map.nat_cmp-IsAntisymmetric _ _ (λ q. same q (place page n q))

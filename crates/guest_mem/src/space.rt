@@ -8,7 +8,7 @@ ghost use Rattle.plain_machine.specs.Start.{with_pages};
 ghost use Rattle.sys_abi.specs.declared.transfer.TheConstants.{TRANSFER_LIMIT};
 ghost use Rattle.views.specs.NumberMap.{is_above};
 ghost use Rattle.guest_mem.specs.Refusals.{granted, refusal, stored, IsRoomFault};
-ghost use Rattle.guest_mem.specs.FrameTable.{start_of};
+ghost use Rattle.guest_mem.specs.FrameTable.{start_of, IsNextPage};
 ghost use Rattle.guest_mem.specs.Pages.{IsFree, without_pages};
 
 use crate::access::{allows, number_at, room_in_page};
@@ -394,14 +394,26 @@ impl Space {
         Ok(())
     }
 
-    /// Takes the pages of so many numbers from one on away (`man 2 munmap`); those that are missing are passed over.
+    /// Takes the pages of so many numbers from one on away (`man 2 munmap`); those that are missing are passed over, in
+    /// time that is bounded by what the table holds and not by the count.
     pub fn unmap(&mut self, page: u32, count: u32)
         requires { page + count ≤ 2 ^ 20 }
         ensures { self.new ≡ without_pages self.old page count }
     {
-        for number in 0..count {
-            self.remove_page(page + number);
+        let mut done = 0;
+        while let Some(next) = self.next_from((page + done) as usize) {
+            if next >= (page + count) as usize {
+                return;
+            }
+            self.remove_page(next as u32);
+            done = next as u32 + 1 - page;
         }
+    }
+
+    fn next_from(&self, start: usize) -> Option<usize>
+        ensures { IsNextPage self.now start result }
+    {
+        self.frames.next_from(start)
     }
 
     /// A space with the same contents, in memory of its own.

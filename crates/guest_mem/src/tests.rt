@@ -49,6 +49,11 @@ fn a_space_has_room_for_2048_pages(rt: HostRuntime) -> Result<(), Fail> {
     assert_eq!(rt; space.next_page(Some(7)), Some(0xFF801));
     space.remove_page(7);
     assert!(rt; !space.contains_page(7));
+    assert!(rt; space.is_free(7, 2));
+    assert_eq!(rt; space.map(7, 2, 6), Err(MemFault::Full));
+    assert!(rt; space.is_free(7, 1));
+    space.map(7, 1, 6)?;
+    assert_eq!(rt; space.len(), 2048);
     assert_eq!(rt; space.load(0xFFFF_FFFC, 4), Ok(0));
     Ok(())
 }
@@ -70,5 +75,45 @@ fn copies_meet_many_pages(rt: HostRuntime) -> Result<(), Fail> {
     assert!(rt; transfer.as_slice() == piece.as_slice());
     assert_eq!(rt; clone.load(0x22386, 2), Ok(0x5A));
     assert!(rt; clone.page(0x23).is_none());
+    Ok(())
+}
+
+#[test]
+fn a_range_is_owned_up_to_its_last_byte(rt: HostRuntime) -> Result<(), Fail> {
+    // Pages 0x20 and 0x21 may be written, page 0x22 only read, and the last page of all may be written.
+    let mut space = Space::new(rt.alloc());
+    for (number, rights) in [(0x20, 6), (0x21, 2), (0x22, 4), (0xFFFFF, 6)] {
+        let page = Page::zeroed(rt.alloc())?;
+        space.insert_page(number, Frame { rights, page })?;
+    }
+    for (address, n, want) in [
+        (0x20000, 0x1000, Ok(())),
+        (0x20000, 0x2000, Ok(())),
+        (0x20FFF, 1, Ok(())),
+        (0x20FFF, 2, Ok(())),
+        (0x21FFF, 1, Ok(())),
+        (0x30000, 0, Ok(())),
+        (0xFFFF_F000, 0x1000, Ok(())),
+        (0xFFFF_FFFF, 1, Ok(())),
+        (0x20000, 0x2001, Err(MemFault::Rights)),
+        (0x21FFF, 2, Err(MemFault::Rights)),
+        (0x22000, 1, Err(MemFault::Rights)),
+        (0x22FFF, 1, Err(MemFault::Rights)),
+        (0x22FFF, 2, Err(MemFault::Unmapped)),
+        (0x20000, 0x3001, Err(MemFault::Unmapped)),
+        (0x1FFFF, 1, Err(MemFault::Unmapped)),
+        (0x1FFFF, 2, Err(MemFault::Unmapped)),
+        (0xFFFF_FFFF, 2, Err(MemFault::Unmapped)),
+        (0xFFFF_F000, 0x1001, Err(MemFault::Unmapped)),
+        (0x20000, 0xFFFF_FFFF, Err(MemFault::Unmapped)),
+        (1, 0xFFFF_FFFF, Err(MemFault::Unmapped)),
+    ] {
+        assert_eq!(rt; space.own_pages(address, n), want, "{n} at {address:x}");
+    }
+    assert_eq!(rt; space.store(0xFFFF_FFFD, 4, 1), Err(MemFault::Unmapped));
+    assert_eq!(rt; space.load(0xFFFF_FFFC, 4), Ok(0));
+    assert_eq!(rt; space.load(0xFFFF_FFFD, 4), Err(MemFault::Unmapped));
+    space.unmap(0, 1 << 20);
+    assert!(rt; space.is_empty());
     Ok(())
 }

@@ -1,7 +1,7 @@
 pub mod Exclusive
 pub mod Fields
 pub mod InsnEquality
-pub mod OneByteMemory
+pub mod ShortPage
 pub mod Products
 pub mod Rows
 pub mod Shifts

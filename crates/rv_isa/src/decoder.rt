@@ -10,7 +10,7 @@ use crate::operands::{
 use plain_machine::{Insn, Op};
 
 /// The instruction of a word, or none where the table has no row for it.
-#[inline]
+#[inline(always)]
 pub fn decode(word: u32) -> Option<Insn>
     ensures instruction { result ≡ decoded word }
 

@@ -1,4 +1,4 @@
-use crate::programs::{hello, program};
+use crate::programs::{STORED_HELLO, hello, program};
 use crate::session::{Failing, NONE_FAIL, run, run_hello};
 use dmtcp_top::Status;
 use std::test::Fail;
@@ -7,14 +7,6 @@ use sys_abi::{Record, Signal, Tid, VPid};
 const P: VPid = VPid(40000);
 
 const T: Tid = Tid(40000);
-
-const STORED_HELLO: [u8; 126] = [
-    0x7F, 0x45, 0x4C, 0x46, 1, 1, 1, 0, 0, 0, 0, 0, 0, 0, 0, 0, 2, 0, 0xF3, 0, 1, 0, 0, 0, 0x54, 0,
-    1, 0, 0x34, 0, 0, 0, 0, 0, 0, 0, 0, 0, 0, 0, 0x34, 0, 0x20, 0, 1, 0, 0, 0, 0, 0, 0, 0, 1, 0, 0,
-    0, 0, 0, 0, 0, 0, 0, 1, 0, 0, 0, 1, 0, 0x7E, 0, 0, 0, 0x7E, 0, 0, 0, 5, 0, 0, 0, 0, 0x10, 0, 0,
-    0x13, 5, 0x10, 0, 0x97, 5, 0, 0, 0x93, 0x85, 5, 2, 0x13, 6, 0x60, 0, 0x93, 8, 0, 4, 0x73, 0, 0,
-    0, 0x13, 5, 0, 0, 0x93, 8, 0xE0, 5, 0x73, 0, 0, 0, 0x68, 0x65, 0x6C, 0x6C, 0x6F, 0x0A,
-];
 
 #[test]
 fn hello_runs_to_its_end(rt: HostRuntime) -> Result<(), Fail> {

@@ -1,9 +1,11 @@
 //! Worked runs: what the top call does with small programs, over inputs and sinks in memory.
 //!
 //! Each test is named by what it shows. Its program is a list of instruction words behind the headers of the stored
-//! `hello.elf`. Nothing is proved here but that the tests are safe and end.
+//! `hello.elf`, or a stored file of `examples/`. Nothing is proved here but that the tests are safe and end.
 #![tactic(auto)]
 
+#[cfg(test)]
+mod compiled;
 #[cfg(test)]
 mod launches;
 #[cfg(test)]
@@ -14,3 +16,5 @@ mod programs;
 mod refusals;
 #[cfg(test)]
 mod session;
+#[cfg(test)]
+mod starts;

@@ -1,9 +1,11 @@
-use crate::programs::hello;
+use crate::programs::{STORED_HELLO, hello};
 use crate::session::{Failing, NONE_FAIL, run, run_hello};
 use dmtcp_top::Status;
-use std::alloc::AllocError;
+use std::alloc::{AllocError, Global};
 use std::process::Abort;
+use std::sync::Wait;
 use std::test::Fail;
+use std::thread::Threads;
 
 #[test]
 fn a_missing_program_is_named(rt: HostRuntime) -> Result<(), Fail> {
@@ -63,6 +65,76 @@ fn a_program_with_compressed_code_is_refused(rt: HostRuntime) -> Result<(), Fail
         left.log.bytes(),
         b"bad program: a.elf: flags at 36\n".as_slice()
     );
+    Ok(())
+}
+
+/// Runs a file as `a.elf`, which is refused with this line.
+fn refused<R: Abort + Wait + Threads + Sync>(
+    rt: &R,
+    alloc: Global,
+    file: &[u8],
+    line: &str,
+) -> Result<(), AllocError> {
+    let left = run(
+        rt,
+        alloc,
+        &["launch", "0:a.elf"],
+        ("a.elf", file),
+        NONE_FAIL,
+    )?;
+    assert_eq!(rt; left.status, Status::BadElf);
+    assert_eq!(rt; left.status.code(), 13);
+    assert_eq!(rt; left.log.bytes(), line.as_bytes());
+    assert_eq!(rt; left.out.bytes(), b"".as_slice());
+    assert_eq!(rt; left.records().len(), 0);
+    Ok(())
+}
+
+#[test]
+fn a_program_with_wrong_headers_is_refused_at_their_places(rt: HostRuntime) -> Result<(), Fail> {
+    // A program header of 31 bytes, in a file that ends before it; then none, then one at 0xFFF.
+    let mut file = STORED_HELLO;
+    file[42] = 31;
+    refused(
+        &rt,
+        rt.alloc(),
+        &file[0..52],
+        "bad program: a.elf: segment at 42\n",
+    )?;
+    file[42] = 32;
+    refused(
+        &rt,
+        rt.alloc(),
+        &file[0..52],
+        "bad program: a.elf: short at 52\n",
+    )?;
+    file[44] = 0;
+    refused(
+        &rt,
+        rt.alloc(),
+        &file,
+        "bad program: a.elf: segment at 44\n",
+    )?;
+    let mut file = STORED_HELLO;
+    file[60..63].copy_from_slice(&[0xFF, 0x0F, 0]);
+    refused(
+        &rt,
+        rt.alloc(),
+        &file,
+        "bad program: a.elf: segment at 52\n",
+    )?;
+
+    // The same header twice.
+    let mut twice = [0; 158];
+    twice[0..84].copy_from_slice(&STORED_HELLO[0..84]);
+    twice[84..158].copy_from_slice(&STORED_HELLO[52..126]);
+    twice[44] = 2;
+    refused(
+        &rt,
+        rt.alloc(),
+        &twice,
+        "bad program: a.elf: overlap at 84\n",
+    )?;
     Ok(())
 }
 

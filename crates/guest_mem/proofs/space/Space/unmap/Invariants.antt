@@ -1,7 +1,10 @@
-use Rattle.std.proofs.Common.{◌≡◌}
+use Rattle.std.proofs.Common.{◌≡◌, ◌-◌, ◌≤◌}
 use Rattle.guest_mem.specs.Pages.{without_pages}
 use Rattle.guest_mem.proofs.space.Space.unmap.Given as goal
 
 -- the pages so far are gone
-abbrev pub invariant-loop-number : goal.invariant-loop-number
-invariant-loop-number l = l.self ≡ without_pages l.initial.self l.page l.number
+abbrev pub invariant-loop-next : goal.invariant-loop-next
+invariant-loop-next l = record { gone : l.self ≡ without_pages l.initial.self l.page l.done; within : l.done ≤ l.count }
+
+abbrev pub decreases-loop-next : goal.decreases-loop-next
+decreases-loop-next l = l.count - l.done
