@@ -5,3 +5,6 @@ pub mod TableViews
 pub mod Ranges
 pub mod IndexLaws
 pub mod DescriptionViews
+pub mod RetainLaws
+pub mod CountLaws
+pub mod BookLaws

@@ -2,9 +2,9 @@
 --     holders_of found        the number of a description that is there, 0 of none
 --     after_retain, after_release      one descriptor more, one less; at none the description is gone
 --     lost_by_release         the description whose last descriptor that was
---     after_retains           one descriptor more for each that stands at a place
+--     after_place, after_retains       one descriptor more, where one stands at the place;  at each place
 --     IsCounted               each number is that of the descriptors that refer to the description, and is above 0
-use Rattle.std.specs.Prelude.{◌≡◌, ℕ, ◌+◌, ◌-◌, ◌<◌, ◌==◌, cond, List, [], ◌∷◌, Option, Some, None, count_by}
+use Rattle.std.specs.Prelude.{◌≡◌, ℕ, ◌+◌, ◌-◌, ◌<◌, ◌==◌, cond, List, Option, Some, None, count_by, fold}
 use Rattle.std.specs.FinMap as map
 use Rattle.std.specs.FinMap.{FinMap}
 use Rattle.sys_abi.specs.declared.identity.DescId.{DescId}
@@ -43,10 +43,12 @@ lost_of id (Some o) = cond (o.holders == 1) (Some id) None
 unfoldable pub lost_by_release : FinMap desc_cmp Open → DescId → Option DescId
 lost_by_release m id = lost_of id (map.get m id)
 
+abbrev pub after_place : FinMap desc_cmp Open → Option Descriptor → FinMap desc_cmp Open
+after_place m None = m
+after_place m (Some d) = after_retain m d.desc
+
 abbrev pub after_retains : FinMap desc_cmp Open → List (Option Descriptor) → FinMap desc_cmp Open
-after_retains m [] = m
-after_retains m (None ∷ places) = after_retains m places
-after_retains m (Some d ∷ places) = after_retains (after_retain m d.desc) places
+after_retains m places = fold after_place m places
 
 pub record IsCounted (descriptors : FinMap real_slot_cmp Descriptor) (descriptions : FinMap desc_cmp Open) : Type 0 where
   pub counts : (id : DescId) → holders_of (map.get descriptions id) ≡ count_by (refers_to id) (map.values descriptors)

@@ -1,4 +1,4 @@
-ghost use Rattle.std.specs.Prelude.{◌≡◌, ◌≢◌, ℕ, ◌+◌, ◌^◌, ◌<◌, None, Some, length, find, is_some, count_by, IsSome, OnOk, OnErr};
+ghost use Rattle.std.specs.Prelude.{◌≡◌, ◌+◌, ◌^◌, ◌<◌, cond, None, Some, length, find, is_some, count_by, IsSome, OnOk, OnErr};
 ghost use Rattle.std.specs.Option.{option_copied};
 ghost use Rattle.std.specs.FinMap as map;
 ghost use Rattle.sys_abi.specs.declared.identity.DescId.{DescId};
@@ -6,7 +6,7 @@ ghost use Rattle.fd_book.specs.declared.description.Descriptor.{Descriptor};
 ghost use Rattle.fd_book.specs.declared.open.Open.{Open};
 ghost use Rattle.slab.specs.Slab.{get, Updates};
 ghost use Rattle.fd_book.specs.Books.{is_after, bound_above};
-ghost use Rattle.fd_book.specs.Counts.{after_retain, after_release, lost_by_release, after_retains};
+ghost use Rattle.fd_book.specs.Counts.{after_retain, after_release, lost_by_release, after_place, after_retains};
 
 use crate::description::Descriptor;
 use crate::open::Open;
@@ -149,12 +149,24 @@ impl Descriptions {
     {
         let mut count = 0;
         for place in places {
-            if let Some(descriptor) = place {
-                self.retain(descriptor.desc);
-                count += 1;
-            }
+            count += self.retain_place(place);
         }
         count
+    }
+
+    /// Counts one descriptor more, if one stands at the place, and tells how many that are.
+    fn retain_place(&mut self, place: &Option<Descriptor>) -> u64
+        requires { (id : DescId) (o : Open) → map.get self.old id ≡ Some o → o.holders + 1 < 2 ^ 64 }
+        ensures retained { self.new ≡ after_place self.old place.now }
+        ensures number { result ≡ cond (is_some place.now) 1 0 }
+    {
+        match place {
+            Some(descriptor) => {
+                self.retain(descriptor.desc);
+                1
+            }
+            None => 0,
+        }
     }
 }
 
