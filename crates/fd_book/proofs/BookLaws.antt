@@ -8,8 +8,8 @@ use Rattle.std.specs.FinMap as map
 use Rattle.std.specs.FinMap.{FinMap}
 use Rattle.std.proofs.lemmas.Bool.Decides.{nat_tests}
 use Rattle.views.specs.Maps.{map_values}
-use Rattle.views.proofs.MapLaws.{true_false, key_tied, other_key, same_or_other, get_insert_same, get_insert_other, get_remove_same, get_remove_other, insert_same, values-empty}
-use Rattle.views.proofs.MapValues.{get-map_values, map_values-insert, map_values-remove}
+use Rattle.views.proofs.MapLaws.{true_false, key_tied, other_key, same_or_other, get_insert_same, get_insert_other, get_remove_same, get_remove_other, insert_same, insert_remove, values-empty}
+use Rattle.views.proofs.MapValues.{get-map_values, map_values-insert, map_values-remove, some_among-values}
 use Rattle.sys_abi.specs.declared.identity.DescId.{DescId}
 use Rattle.sys_abi.specs.Orders.{desc_cmp}
 use Rattle.sys_abi.proofs.OrderLaws.{desc_total, desc_exact}
@@ -240,3 +240,103 @@ descs-empty = map.same_map desc_total desc_exact _ _ (λ id.
 pub new_seen : (m : Slots) (opens : Opens) → m ≡ map.empty → opens ≡ map.empty
     → ◌≡◌ {A = Books} (record { descriptions = descs opens; descriptors = m }) (record { descriptions = map.empty; descriptors = map.empty })
 new_seen m opens no_slots no_opens = λ i. record { descriptions = (ap descs no_opens ∙ descs-empty) i; descriptors = no_slots i }
+
+-- another descriptor of the same description in a descriptor's place
+count-replaced : (m : Slots) (at : RealSlot) (d e : Descriptor) (id : DescId) → map.get m at ≡ Some d → e.desc ≡ d.desc → count id (map.insert m at e) ≡ count id m
+count-replaced m at d e id there same =
+    ap (count id) (sym (insert_remove real_slot_total real_slot_exact m at e))
+    ∙ count-added (map.remove m at) at e id (refers_to id d) (get_remove_same real_slot_total real_slot_exact m at) (ap (λ i. eq_by_cmp desc_cmp id i) same)
+    ∙ sym (count-taken m at d id (refers_to id d) there refl)
+
+pub replaced_book : (m : Slots) (opens : Opens) (n : ℕ) (at : RealSlot) (d e : Descriptor) → IsBook m opens n → map.get m at ≡ Some d → e.desc ≡ d.desc → IsBook (map.insert m at e) opens n
+replaced_book m opens n at d e good there same = record {
+  counted = record {
+    counts = λ id. good.counted.counts id ∙ sym (count-replaced m at d e id there same);
+    held = good.counted.held;
+  };
+  in_all = good.in_all ∙ sym (map.len-insert real_slot_total m at e ∙ ap (λ found. cond (is_some found) (map.len m) (map.len m + 1)) there);
+}
+
+-- a description with another content
+pub changed_book : (m : Slots) (opens : Opens) (n : ℕ) (id : DescId) (before after : Open) → IsBook m opens n → map.get opens id ≡ Some before → after.holders ≡ before.holders
+    → IsBook m (map.insert opens id after) n
+changed_book m opens n id before after good is same = record {
+  counted = record {
+    counts = λ i. elim (same_or_other desc_total desc_exact i id) [
+      | inl same_id ↦
+          ap (λ k. holders_of (map.get (map.insert opens id after) k)) same_id ∙ ap holders_of (get_insert_same desc_total desc_exact opens id after) ∙ same
+          ∙ ap holders_of (sym is) ∙ ap (λ k. holders_of (map.get opens k)) (sym same_id) ∙ good.counted.counts i
+      | inr differ ↦ ap holders_of (get_insert_other desc_total desc_exact opens id after i differ) ∙ good.counted.counts i
+    ];
+    held = λ i o at. elim (same_or_other desc_total desc_exact i id) [
+      | inl same_id ↦
+          let o_is : after ≡ o = the_open after o (sym (get_insert_same desc_total desc_exact opens id after) ∙ ap (map.get (map.insert opens id after)) (sym same_id) ∙ at) in
+          let holders : after.holders ≡ o.holders = ap (λ x. x.holders) o_is in
+          let low = good.counted.held id before is in
+          omega arith
+      | inr differ ↦ good.counted.held i o (sym (get_insert_other desc_total desc_exact opens id after i differ) ∙ at)
+    ];
+  };
+  in_all = good.in_all;
+}
+
+pub descs-insert : (opens : Opens) (id : DescId) (o : Open) → descs (map.insert opens id o) ≡ map.insert (descs opens) id o.desc
+descs-insert opens id o = map_values-insert desc_total desc_exact desc_of opens id o
+
+pub get-descs : (opens : Opens) (id : DescId) → map.get (descs opens) id ≡ option_map desc_of (map.get opens id)
+get-descs opens id = get-map_values desc_of opens id
+
+-- what is described, once more than none, is there
+pub held_there : (m : Slots) (opens : Opens) (id : DescId) (found : Option Open) → IsCounted m opens → map.get opens id ≡ found → is_held m id ≡ true → is_some found ≡ true
+unfolding is_held
+held_there m opens id None good is some =
+    let here : 0 ≡ count id m = ap holders_of (sym is) ∙ good.counts id in
+    let up = some_counted (refers_to id) (map.values m) some in
+    absurd (omega arith)
+held_there m opens id (Some o) good is some = refl
+
+pub there_held : (m : Slots) (opens : Opens) (id : DescId) (o : Open) → IsCounted m opens → map.get opens id ≡ Some o → is_held m id ≡ true
+unfolding is_held
+there_held m opens id o good is =
+    let here : o.holders ≡ count id m = ap holders_of (sym is) ∙ good.counts id in
+    let up = good.held id o is in
+    elim (list_any (refers_to id) (map.values m)) as (λ b. list_any (refers_to id) (map.values m) ≡ b → b ≡ true) [
+      | true ↦ λ some. refl
+      | false ↦ λ none. let zero = none_counted (refers_to id) (map.values m) none in absurd (omega arith)
+    ] refl
+
+-- a descriptor refers to what it refers to
+pub other_held : (m : Slots) (at from : RealSlot) (d : Descriptor) → map.get m from ≡ Some d → from ≢ at → is_held (map.remove m at) d.desc ≡ true
+unfolding is_held
+other_held m at from d there differ =
+    some_among-values real_slot_total real_slot_exact (refers_to d.desc) (map.remove m at) from d (get_remove_other real_slot_total real_slot_exact m at from differ ∙ there) (hit d.desc d refl)
+
+-- where there is a descriptor, there are some
+pub not_empty : (m : Slots) (opens : Opens) (n : ℕ) (at : RealSlot) (d : Descriptor) → IsBook m opens n → map.get m at ≡ Some d → 0 < n
+not_empty m opens n at d good there =
+    let some = count-taken m at d d.desc true there (hit d.desc d refl) in
+    let few = count-le-len real_slot_total real_slot_exact (refers_to d.desc) m in
+    let all = good.in_all in
+    omega arith
+
+pub moved_book : (m next : Slots) (opens after : Opens) (n : ℕ) → IsBook m opens n → next ≡ m → after ≡ opens → IsBook next after n
+moved_book m next opens after n good slots_are opens_are =
+    subst (λ (w : Opens). IsBook next w n) (sym opens_are) (subst (λ (w : Slots). IsBook w opens n) (sym slots_are) good)
+
+-- what is described has a number, and what is not has none
+pub undescribed : (opens : Opens) (id : DescId) (found : Option Open) → map.get opens id ≡ found → map.get (descs opens) id ≡ None → map.get opens id ≡ None
+undescribed opens id None is none = is
+undescribed opens id (Some o) is none = true_false (ap is_some (sym (ap (option_map desc_of) is) ∙ sym (get-descs opens id) ∙ none))
+
+pub described : (opens : Opens) (id : DescId) (o : Open) → map.get opens id ≡ Some o → map.get (descs opens) id ≡ Some o.desc
+described opens id o is = get-descs opens id ∙ ap (option_map desc_of) is
+
+pub described_none : (opens : Opens) (id : DescId) → map.get opens id ≡ None → map.get (descs opens) id ≡ None
+described_none opens id none = get-descs opens id ∙ ap (option_map desc_of) none
+
+mapped_some : (found : Option Open) → is_some (option_map desc_of found) ≡ is_some found
+mapped_some None = refl
+mapped_some (Some o) = refl
+
+pub described_there : (opens : Opens) (id : DescId) → is_some (map.get (descs opens) id) ≡ is_some (map.get opens id)
+described_there opens id = ap is_some (get-descs opens id) ∙ mapped_some (map.get opens id)

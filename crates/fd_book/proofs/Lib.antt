@@ -8,3 +8,5 @@ pub mod DescriptionViews
 pub mod RetainLaws
 pub mod CountLaws
 pub mod BookLaws
+pub mod BookViews
+pub mod ForkLaws

@@ -1,5 +1,5 @@
 -- Which numbers of a process are free or open, read off its places.
-use Rattle.std.proofs.Common.{◌≡◌, ◌<◌, ◌≤◌, ◌+◌, ℕ, zero, suc, cond, List, refl, sym, ap, subst, ◌∙◌, arith}
+use Rattle.std.proofs.Common.{◌≡◌, ◌<◌, ◌≤◌, ◌+◌, min, ℕ, zero, suc, cond, List, refl, sym, ap, subst, ◌∙◌, arith}
 use Rattle.std.specs.Prelude.{Option, Some, None, is_some, IsSome, IfSome, IfNone}
 use Rattle.std.specs.FinMap as map
 use Rattle.std.specs.FinMap.{FinMap}
@@ -26,10 +26,10 @@ module _ (now : FinMap real_slot_cmp Descriptor) (p : RealPid) (places : List (O
   all_used_seen from (Some fd) told = told
 
   pub lowest_open_seen : (from : ℕ) (r : Option ℕ)
-      → IfSome r (λ fd. (from ≤ fd) × IsSome (at_place places fd) × ((q : ℕ) → from ≤ q → q < fd → at_place places q ≡ None))
+      → IfSome r (λ fd. (from ≤ fd) × (fd < 256) × IsSome (at_place places fd) × ((q : ℕ) → from ≤ q → q < fd → at_place places q ≡ None))
       → IfSome r (λ fd. IsLowestOpen now p from fd)
   lowest_open_seen from None told = told
-  lowest_open_seen from (Some fd) told = record { open_there = some_there fd told.1; from_on = told.0; lowest = λ q after before. at q ∙ told.2 q after before }
+  lowest_open_seen from (Some fd) told = record { open_there = some_there fd told.2; from_on = told.0; in_range = told.1; lowest = λ q after before. at q ∙ told.3 q after before }
 
   pub none_open_seen : (from : ℕ) (r : Option ℕ) → IfNone r ((q : ℕ) → from ≤ q → at_place places q ≡ None) → IfNone r (NoneOpen now p from)
   none_open_seen from None told = λ q after. at q ∙ told q after
@@ -48,3 +48,14 @@ module _ (now : FinMap real_slot_cmp Descriptor) (p : RealPid) (none : (fd : ℕ
   unfolding free_below
   free_none zero = refl
   free_none (suc n) = (λ i. free_none n i + cond (is_some (none n i)) 0 1) ∙ omega arith
+
+-- the numbers above the greatest one are as those from it on
+pub none_above : (now : FinMap real_slot_cmp Descriptor) (p : RealPid) (from first top : ℕ) (r : Option ℕ) → from ≡ min first top → IfNone r (NoneOpen now p from) → IfNone r (NoneOpen now p first)
+none_above now p from first top None is told = λ q after. told q (omega arith)
+none_above now p from first top (Some fd) is told = told
+
+pub open_above : (now : FinMap real_slot_cmp Descriptor) (p : RealPid) (from first top : ℕ) (r : Option ℕ) → from ≡ min first top → 256 ≤ top → IfSome r (λ fd. IsLowestOpen now p from fd) → IfSome r (λ fd. IsLowestOpen now p first fd)
+open_above now p from first top None is high told = told
+open_above now p from first top (Some fd) is high told =
+    let after = told.from_on in let within = told.in_range in
+    record { open_there = told.open_there; from_on = omega arith; in_range = within; lowest = λ q from_on before. told.lowest q (omega arith) before }

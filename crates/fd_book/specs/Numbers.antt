@@ -30,6 +30,7 @@ NoneOpen m p from = (fd : ℕ) → from ≤ fd → map.get m (slot p fd) ≡ Non
 pub record IsLowestOpen (m : FinMap real_slot_cmp Descriptor) (p : RealPid) (from fd : ℕ) : Type 0 where
   pub open_there : IsSome (map.get m (slot p fd))
   pub from_on : from ≤ fd
+  pub in_range : fd < 256
   pub lowest : (lower : ℕ) → from ≤ lower → lower < fd → map.get m (slot p lower) ≡ None
 
 unfoldable pub free_below : FinMap real_slot_cmp Descriptor → RealPid → ℕ → ℕ

@@ -1,4 +1,4 @@
-ghost use Rattle.std.specs.Prelude.{◌≡◌, ◌≢◌, ℕ, Some, None, IfSome, IfNone, OnOk, OnErr, MatchOption, option_map};
+ghost use Rattle.std.specs.Prelude.{◌≡◌, ◌≢◌, ◌<◌, ℕ, Some, None, IfSome, IfNone, OnOk, OnErr, MatchOption, option_map};
 ghost use Rattle.std.specs.Option.{ok_or};
 ghost use Rattle.std.specs.FinMap as map;
 ghost use Rattle.fd_book.specs.declared.real_slot.RealSlot.{RealSlot};
@@ -71,7 +71,8 @@ impl Book {
 
     /// Closes a descriptor that is open.
     fn close_open(&mut self, p: RealPid, fd: u32, descriptor: Descriptor) -> Option<DescId>
-        requires { map.get self.old.descriptors (slot p fd) ≡ Some descriptor }
+        requires there { map.get self.old.descriptors (slot p fd) ≡ Some descriptor }
+        requires in_range { fd < 256 }
         ensures closed { self.new ≡ after_close self.old (slot p fd) }
         ensures lost { result ≡ lost_by_close self.old (slot p fd) }
     {

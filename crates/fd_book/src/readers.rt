@@ -1,4 +1,4 @@
-ghost use Rattle.std.specs.Prelude.{◌≡◌, ◌↔◌, find, IfOk, IfSome, OnSome, Contains, MatchOption, IsSome, IsTrue, option_map, option_and_then};
+ghost use Rattle.std.specs.Prelude.{◌≡◌, ◌↔◌, ◌-◌, ◌^◌, ◌<◌, min, find, IfOk, IfSome, OnSome, Contains, MatchOption, IsSome, IsTrue, option_map, option_and_then};
 ghost use Rattle.std.specs.Option.{option_copied};
 ghost use Rattle.std.specs.List.Sorted.{IsStrictlySortedBy};
 ghost use Rattle.std.specs.FinMap as map;
@@ -17,6 +17,7 @@ impl Book {
     pub fn get(&self, p: RealPid, fd: Fd) -> Option<DescId>
         ensures at { result ≡ option_map (λ d. d.desc) (map.get self.now.descriptors (slot p fd.0)) }
         ensures there { IfSome result (λ id. IsSome (map.get self.now.descriptions id)) }
+        ensures in_range { OnSome result (fd.0 < 256) }
     {
         match self.tables.get(p, fd.0) {
             Some(descriptor) => Some(descriptor.desc),
@@ -83,14 +84,18 @@ impl Book {
         ensures { MatchOption result (NoneOpen self.now.descriptors p (first_above above))
             (λ fd. IsLowestOpen self.now.descriptors p (first_above above) fd.0) }
     {
-        let from = match above {
-            None => 0,
-            Some(Fd(u32::MAX)) => return None,
-            Some(Fd(fd)) => fd + 1,
-        };
-        match self.tables.next_open(p, from) {
+        match self.tables.next_open(p, start_above(above)) {
             Some(fd) => Some(Fd(fd)),
             None => None,
         }
+    }
+}
+
+fn start_above(above: Option<Fd>) -> u32
+    ensures { result ≡ min (first_above above) (2 ^ 32 - 1) }
+{
+    match above {
+        None => 0,
+        Some(fd) => fd.0.saturating_add(1),
     }
 }

@@ -1,4 +1,4 @@
-ghost use Rattle.std.specs.Prelude.{◌≡◌, ◌≢◌, ◌↔◌, ℕ, ◌≤◌, ◌<◌, Some, None, length, IsSome, IsTrue, IfOk, IfSome, IfNone};
+ghost use Rattle.std.specs.Prelude.{◌≡◌, ◌≢◌, ◌↔◌, ℕ, ◌≤◌, ◌<◌, Some, None, length, IsSome, IsTrue, IfOk, IfSome, IfNone, OnSome};
 ghost use Rattle.fd_book.specs.Tables.{at_place, free_places, HoldsAt};
 
 use crate::description::Descriptor;
@@ -42,7 +42,8 @@ impl Table {
     }
 
     pub fn get(&self, fd: u32) -> Option<Descriptor>
-        ensures { result ≡ at_place self.now fd }
+        ensures at { result ≡ at_place self.now fd }
+        ensures in_range { OnSome result (fd < 256) }
     {
         match self.places.get(fd as usize) {
             Some(place) => *place,
@@ -67,7 +68,7 @@ impl Table {
 
     /// The lowest place from a number on that has a descriptor.
     pub fn next_open(&self, from: u32) -> Option<u32>
-        ensures some { IfSome result (λ fd. (from ≤ fd) × IsSome (at_place self.now fd)
+        ensures some { IfSome result (λ fd. (from ≤ fd) × (fd < 256) × IsSome (at_place self.now fd)
             × ((q : ℕ) → from ≤ q → q < fd → at_place self.now q ≡ None)) }
         ensures none { IfNone result ((q : ℕ) → from ≤ q → at_place self.now q ≡ None) }
     {

@@ -1,4 +1,4 @@
-ghost use Rattle.std.specs.Prelude.{◌≡◌, ◌≢◌, ◌↔◌, ℕ, ◌≤◌, ◌<◌, cond, Some, None, length, IsSome, IfOk, IfSome, IfNone, OnOk, OnErr, Contains, option_and_then};
+ghost use Rattle.std.specs.Prelude.{◌≡◌, ◌≢◌, ◌↔◌, ℕ, ◌≤◌, ◌<◌, cond, Some, None, length, IsSome, IfOk, IfSome, IfNone, OnOk, OnErr, OnSome, Contains, option_and_then};
 ghost use Rattle.std.specs.Bool.{OnTrue, OnFalse};
 ghost use Rattle.std.specs.List.Sorted.{IsStrictlySortedBy};
 ghost use Rattle.std.specs.Ordering.{eq_by_cmp};
@@ -75,7 +75,8 @@ impl Tables {
     }
 
     pub fn get(&self, p: RealPid, fd: u32) -> Option<Descriptor>
-        ensures { result ≡ map.get self.now (slot p fd) }
+        ensures at { result ≡ map.get self.now (slot p fd) }
+        ensures in_range { OnSome result (fd < 256) }
     {
         match self.tables.get(&p) {
             Some(table) => table.get(fd),
