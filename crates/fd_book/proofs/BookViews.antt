@@ -1,7 +1,7 @@
 -- What contracts see of a book after a change of its parts.
 use Rattle.std.proofs.Common.{◌≡◌, ◌≢◌, ◌+◌, ◌-◌, ◌<◌, ◌≤◌, ℕ, Bool, true, false, cond, refl, sym, ap, subst, ◌∙◌, arith}
-use Rattle.std.specs.Prelude.{Option, Some, None, is_some, IsSome}
-use Rattle.std.specs.Option.{option_map}
+use Rattle.std.specs.Prelude.{Option, Some, None, is_some, IsSome, Result, Ok, Err, OnOk}
+use Rattle.std.specs.Option.{option_map, unwrap_or}
 use Rattle.std.specs.FinMap as map
 use Rattle.views.proofs.MapLaws.{true_false, insert_remove, get_remove_same}
 use Rattle.sys_abi.specs.declared.identity.DescId.{DescId}
@@ -9,10 +9,10 @@ use Rattle.fd_book.specs.declared.real_slot.RealSlot.{RealSlot}
 use Rattle.fd_book.specs.declared.description.Desc.{Desc}
 use Rattle.fd_book.specs.declared.description.Descriptor.{Descriptor}
 use Rattle.fd_book.specs.declared.open.Open.{Open}
-use Rattle.fd_book.specs.Books.{Books, is_held, with_descriptor, without_descriptor, lost_without, after_close, lost_by_close, changed_or_same, with_changed}
+use Rattle.fd_book.specs.Books.{Books, is_held, with_descriptor, without_descriptor, lost_without, after_close, lost_by_close, changed_or_same, with_changed, new_or_same, with_new}
 use Rattle.fd_book.specs.Counts.{after_retain, after_release, lost_by_release, desc_of, IsCounted, IsBook}
 use Rattle.fd_book.proofs.OrderLaws.{real_slot_total, real_slot_exact}
-use Rattle.fd_book.proofs.BookLaws.{Slots, Opens, descs, is_there, held_there, released_book, lost-released, descs-released, after_retain_book, descs-after_retain, descs-insert, get-descs, holders_few, not_empty}
+use Rattle.fd_book.proofs.BookLaws.{Slots, Opens, descs, is_there, held_there, released_book, lost-released, descs-released, after_retain_book, descs-after_retain, descs-insert, get-descs, holders_few, not_empty, described_there}
 
 abbrev pub seen : Slots → Opens → Books
 seen m opens = record { descriptions = descs opens; descriptors = m }
@@ -90,3 +90,25 @@ changed_seen f m opens id o after is same =
 pub changed_none : (f : Desc → Desc) (m : Slots) (opens : Opens) (id : DescId) → map.get opens id ≡ None → seen m opens ≡ with_changed f (seen m opens) id
 unfolding with_changed
 changed_none f m opens id none = ap (changed_or_same f (seen m opens) id) (sym (get-descs opens id ∙ ap (option_map desc_of) none))
+
+-- a descriptor's description is there
+pub refers_there : (m : Slots) (opens : Opens) (n : ℕ) (now : Books) (at : RealSlot) (d : Descriptor) → IsBook m opens n → seen m opens ≡ now → Some d ≡ map.get m at → IsSome (map.get now.descriptions d.desc)
+refers_there m opens n now at d good same there =
+    ap (λ b. is_some (map.get b.descriptions d.desc)) (sym same) ∙ described_there opens d.desc ∙ is_there m opens at d (map.get opens d.desc) good.counted (sym there) refl
+
+-- a description that is there stays as it is
+pub same_there : (b : Books) (id : DescId) (d : Desc) (found : Option Desc) → map.get b.descriptions id ≡ found → is_some found ≡ true → with_new b id d ≡ b
+unfolding with_new
+same_there b id d None is there = true_false (sym there)
+same_there b id d (Some before) is there = ap (new_or_same b id d) is
+
+pub new_there : (b : Books) (id : DescId) (d : Desc) → map.get b.descriptions id ≡ None → with_new b id d ≡ record { descriptions = map.insert b.descriptions id d; descriptors = b.descriptors }
+unfolding with_new
+new_there b id d none = ap (new_or_same b id d) none
+
+pub on_ok_along : {A E : Type 0} {P Q : Type 0} (r : Result A E) → (P → Q) → OnOk r P → OnOk r Q
+on_ok_along (Ok v) f p = f p
+on_ok_along (Err e) f p = tt
+
+pub the_descriptor : (d e : Descriptor) → Some d ≡ Some e → d ≡ e
+the_descriptor d e is = ap (λ o. unwrap_or o d) is

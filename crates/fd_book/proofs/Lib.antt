@@ -10,3 +10,4 @@ pub mod CountLaws
 pub mod BookLaws
 pub mod BookViews
 pub mod ForkLaws
+pub mod Holders

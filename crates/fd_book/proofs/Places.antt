@@ -10,19 +10,10 @@ use Rattle.sys_abi.specs.Orders.{desc_cmp}
 use Rattle.sys_abi.proofs.OrderLaws.{desc_total, desc_exact}
 use Rattle.fd_book.specs.declared.description.Descriptor.{Descriptor}
 use Rattle.fd_book.specs.Books.{refers_to}
-use Rattle.fd_book.specs.Tables.{at_place, HoldsAt}
+use Rattle.fd_book.specs.Tables.{at_place}
 
 pub past_places : (places : List (Option Descriptor)) (fd : ℕ) → length places ≤ fd → at_place places fd ≡ None
 past_places places fd past = get_or_past places fd None past
-
--- no place holds the description where none of the first n does and there are no more
-pub holds_none : (places : List (Option Descriptor)) (id : DescId) (n : ℕ) → length places ≤ n
-    → ((q : ℕ) (d : Descriptor) → q < n → at_place places q ≡ Some d → refers_to id d ≡ false) → HoldsAt places id → ⊥
-holds_none places id n size none held =
-    elim (cases_lt held.0 n) [
-      | inl within ↦ true_false (sym (key_tied desc_total desc_exact id) ∙ ap (λ i. eq_by_cmp desc_cmp id i) (sym held.3) ∙ none held.0 held.1 within held.2)
-      | inr past ↦ true_false (ap is_some (sym held.2 ∙ past_places places held.0 (omega arith)))
-    ]
 
 -- a list of empty places
 pub empty_places : (items slice : List (Option Descriptor)) (n : ℕ) → items ≡ slice → slice ≡ replicate n None → (fd : ℕ) → at_place items fd ≡ None

@@ -2,8 +2,8 @@
 --     at_place places fd      what stands at a place
 --     descriptors_of tables   the descriptors of all tables, by process and number
 --     free_places places n    how many of the first n places are free
---     HoldsAt places id       a place holds a descriptor of the description
-use Rattle.std.specs.Prelude.{◌≡◌, ℕ, zero, suc, ◌+◌, cond, List, [], ◌∷◌, ◌++◌, Option, Some, None, is_some, slice_index_or}
+--     place_refers id place   the place holds a descriptor of the description
+use Rattle.std.specs.Prelude.{ℕ, zero, suc, ◌+◌, Bool, false, cond, List, [], ◌∷◌, ◌++◌, Option, Some, None, is_some, slice_index_or}
 use Rattle.std.specs.FinMap as map
 use Rattle.std.specs.FinMap.{FinMap}
 use Rattle.sys_abi.specs.declared.identity.RealPid.{RealPid}
@@ -11,7 +11,7 @@ use Rattle.sys_abi.specs.declared.identity.DescId.{DescId}
 use Rattle.fd_book.specs.declared.real_slot.RealSlot.{RealSlot}
 use Rattle.fd_book.specs.declared.description.Descriptor.{Descriptor}
 use Rattle.fd_book.specs.Orders.{real_pid_cmp, real_slot_cmp}
-use Rattle.fd_book.specs.Books.{slot}
+use Rattle.fd_book.specs.Books.{slot, refers_to}
 
 abbrev pub at_place : List (Option Descriptor) → ℕ → Option Descriptor
 at_place places fd = slice_index_or places fd None
@@ -34,6 +34,7 @@ unfoldable pub free_places : List (Option Descriptor) → ℕ → ℕ
 free_places places zero = 0
 free_places places (suc n) = free_places places n + cond (is_some (at_place places n)) 0 1
 
--- a place holds a descriptor of the description
-abbrev pub HoldsAt : List (Option Descriptor) → DescId → Type 0
-HoldsAt places id = (fd : ℕ) × (d : Descriptor) × (at_place places fd ≡ Some d) × (d.desc ≡ id)
+-- the place holds a descriptor of the description
+abbrev pub place_refers : DescId → Option Descriptor → Bool
+place_refers id None = false
+place_refers id (Some d) = refers_to id d

@@ -54,10 +54,10 @@ impl Book {
         ensures ok { OnOk result (self.new ≡ with_descriptor (with_new self.old id desc) (slot p fd.0) id cloexec) }
         ensures err { OnErr result (self.new ≡ self.old) }
     {
-        if self.descriptions.get(id).is_some() {
-            return self.put_same(p, fd.0, id, cloexec);
+        match self.descriptions.get(id) {
+            Some(_) => self.put_same(p, fd.0, id, cloexec),
+            None => self.put_new(p, fd.0, id, desc, cloexec),
         }
-        self.put_new(p, fd.0, id, desc, cloexec)
     }
 
     /// Puts a second descriptor of the same description at the lowest free number, without close-on-exec (`man 2 dup`).

@@ -1,5 +1,6 @@
-ghost use Rattle.std.specs.Prelude.{◌≡◌, ◌≢◌, ◌↔◌, ℕ, ◌≤◌, ◌<◌, Some, None, length, IsSome, IsTrue, IfOk, IfSome, IfNone, OnSome};
-ghost use Rattle.fd_book.specs.Tables.{at_place, free_places, HoldsAt};
+ghost use Rattle.std.specs.Prelude.{◌≡◌, ◌≢◌, ℕ, ◌≤◌, ◌<◌, None, length, IsSome, IfOk, IfSome, IfNone, OnSome};
+ghost use Rattle.std.specs.List.{list_any};
+ghost use Rattle.fd_book.specs.Tables.{at_place, free_places, place_refers};
 
 use crate::description::Descriptor;
 use std::alloc::{AllocError, Global};
@@ -112,16 +113,17 @@ impl Table {
 
     /// Whether some place holds a descriptor of the description.
     pub fn holds(&self, id: DescId) -> bool
-        ensures { IsTrue result ↔ HoldsAt self.now id }
+        ensures { result ≡ list_any (place_refers id) self.now }
     {
-        let _full = &self.places;
-        for fd in 0..256 {
-            if let Some(descriptor) = self.get(fd) {
-                if id.cmp(&descriptor.desc).is_eq() {
-                    return true;
-                }
-            }
-        }
-        false
+        self.places.iter().any(|place| refers(place, id))
+    }
+}
+
+fn refers(place: &Option<Descriptor>, id: DescId) -> bool
+    ensures { result ≡ place_refers id place.now }
+{
+    match place {
+        Some(descriptor) => id.cmp(&descriptor.desc).is_eq(),
+        None => false,
     }
 }
