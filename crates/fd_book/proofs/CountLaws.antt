@@ -1,8 +1,8 @@
 -- How many values of a finite map pass a test, after an insert of a new key and after a removal.
-use Rattle.std.proofs.Common.{◌≡◌, ◌≢◌, ◌+◌, ◌<◌, ◌≤◌, ℕ, Ordering, Less, Equal, Greater, Bool, true, false, cond, ◌||◌, List, [], ◌∷◌, map as mapped, refl, sym, ap, subst, ◌∙◌, arith}
-use Rattle.std.specs.Prelude.{Option, Some, None, is_some, count_by, length}
+use Rattle.std.proofs.Common.{◌≡◌, ◌+◌, ◌<◌, ◌≤◌, ℕ, Ordering, Less, Equal, Greater, Bool, true, false, cond, ◌||◌, List, [], ◌∷◌, map as mapped, refl, sym, ap, ◌∙◌, arith}
+use Rattle.std.specs.Prelude.{Some, None, is_some, count_by, length}
 use Rattle.std.specs.List.{list_any}
-use Rattle.std.specs.Ordering.{is_eq, eq_by_cmp}
+use Rattle.std.specs.Ordering.{is_eq}
 use Rattle.std.specs.Cmp.{IsTotalOrder}
 use Rattle.std.specs.FinMap as map
 use Rattle.std.specs.FinMap.{FinMap, IsAntisymmetric, find}

@@ -14,10 +14,9 @@ use Rattle.std.specs.BTreeMap.Range.{range_contains, entries_between}
 use Rattle.std.specs.Map.{keys_of}
 use Rattle.std.specs.Map.Iter.{TakesFirst, deref_pair}
 use Rattle.slab.specs.Slab.{Slab, get, Updates, ContainsKey}
-use Rattle.views.specs.Maps.{map_values}
 use Rattle.views.proofs.TreeMaps.{view, get-view, keys-view}
 use Rattle.views.proofs.MapLaws.{true_false, remove_absent}
-use Rattle.views.proofs.MapValues.{get-map_values, keys-map_values}
+use Rattle.views.proofs.MapValues.{keys-map_values}
 use Rattle.sys_abi.specs.declared.identity.DescId.{DescId}
 use Rattle.sys_abi.specs.Orders.{desc_cmp}
 use Rattle.sys_abi.proofs.OrderLaws.{desc_total, desc_exact}

@@ -1,12 +1,12 @@
 -- A look-up among the descriptors of all processes is one at a place of the process's table, and what a change of one place does to them.
 use Rattle.std.proofs.Common.{◌≡◌, ◌≢◌, ◌<◌, ◌+◌, ℕ, zero, suc, Ordering, Less, Equal, Greater, Bool, true, false, cond, T, ◌&&◌, List, [], ◌∷◌, ◌++◌, refl, sym, ap, subst, ◌∙◌, arith, inl, inr, zero-add}
-use Rattle.std.specs.Prelude.{Option, Some, None, ◌⊎◌, option_and_then}
+use Rattle.std.specs.Prelude.{Option, Some, None, option_and_then}
 use Rattle.std.specs.Option.{option_or}
 use Rattle.std.specs.Ordering.{is_eq, is_lt, eq_by_cmp}
 use Rattle.std.specs.FinMap as map
 use Rattle.std.specs.FinMap.{FinMap, find, is_sorted}
 use Rattle.std.specs.FinMap.Entries.{below_all}
-use Rattle.views.proofs.MapLaws.{key_tied, same_key, other_key, same_or_other}
+use Rattle.views.proofs.MapLaws.{key_tied, other_key, same_or_other}
 use Rattle.sys_abi.specs.declared.identity.RealPid.{RealPid}
 use Rattle.fd_book.specs.declared.real_slot.RealSlot.{RealSlot}
 use Rattle.fd_book.specs.declared.description.Descriptor.{Descriptor}

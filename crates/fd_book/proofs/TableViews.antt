@@ -7,7 +7,7 @@ use Rattle.std.specs.FinMap as map
 use Rattle.std.specs.FinMap.{FinMap}
 use Rattle.std.specs.BTreeMap as tree
 use Rattle.std.specs.BTreeMap.{BTreeMap}
-use Rattle.views.proofs.TreeMaps.{view, get-view, entries-empty, view-insert, view-remove}
+use Rattle.views.proofs.TreeMaps.{view, get-view, entries-empty}
 use Rattle.views.proofs.MapLaws.{true_false, get_inserted, get_beside_inserted, remove_absent, get_removed, get_beside_removed, same_or_other}
 use Rattle.sys_abi.specs.declared.identity.RealPid.{RealPid}
 use Rattle.fd_book.specs.declared.real_slot.RealSlot.{RealSlot}

@@ -11,7 +11,7 @@
 --     IsHolder                    the process has a descriptor of the description
 --     is_after above id           a description that comes after this one; each does after none
 --     bound_above above           the start of the range of these names
-use Rattle.std.specs.Prelude.{◌≡◌, ℕ, Bool, true, false, cond, Option, Some, None, refl}
+use Rattle.std.specs.Prelude.{◌≡◌, ℕ, Bool, true, cond, Option, Some, None, refl}
 use Rattle.std.specs.List.{list_any}
 use Rattle.std.specs.Ordering.{eq_by_cmp, is_lt}
 use Rattle.std.specs.declared.ops.Bound.{Bound}

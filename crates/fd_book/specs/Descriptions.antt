@@ -2,7 +2,7 @@
 --     kept_at slab key          the description under a key of the slab, where it has one
 --     descriptions_of index slab     each description under its name
 --     IsIndex index slab        each key of the index has a description, and no two names have one key
-use Rattle.std.specs.Prelude.{◌≡◌, ℕ, Option, Some, None, unwrap_or}
+use Rattle.std.specs.Prelude.{◌≡◌, ℕ, Some, None, unwrap_or}
 use Rattle.std.specs.FinMap as map
 use Rattle.std.specs.FinMap.{FinMap}
 use Rattle.slab.specs.Slab.{Slab, get, ContainsKey}

@@ -15,7 +15,8 @@ use sys_abi::{DescId, Fd, RealPid};
 pub struct Book {
     pub(crate) tables: Tables,
     pub(crate) descriptions: Descriptions,
-    /// How many descriptors there are.
+    /// How many descriptors there are. At the greatest number of 64 bits a further one is answered as want of memory,
+    /// which no machine has.
     pub(crate) count: u64,
 }
 

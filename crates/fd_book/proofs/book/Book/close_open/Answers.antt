@@ -1,4 +1,4 @@
-use Rattle.std.proofs.Common.{◌-◌, sym, ap, ◌∙◌, arith}
+use Rattle.std.proofs.Common.{◌-◌, ap, ◌∙◌}
 use Rattle.std.specs.FinMap as map
 use Rattle.fd_book.specs.Books.{slot, after_close, lost_by_close}
 use Rattle.fd_book.specs.Counts.{after_release}
