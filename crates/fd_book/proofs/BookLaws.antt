@@ -84,9 +84,9 @@ is_there m opens at d (Some o) good there is = refl
 last_or_not : (m : Slots) (id : DescId) (n : ℕ) → n ≡ count id m + 1 → is_held m id ≡ not (n == 1)
 unfolding is_held
 last_or_not m id n is = elim (list_any (refers_to id) (map.values m)) as (λ b. list_any (refers_to id) (map.values m) ≡ b → b ≡ not (n == 1)) [
-    | true ↦ λ some. let up = some_counted (refers_to id) (map.values m) some in grind (arith, nat_tests)
-    | false ↦ λ none. let zero = none_counted (refers_to id) (map.values m) none in grind (arith, nat_tests)
-  ] refl
+  | true ↦ λ some. let up = some_counted (refers_to id) (map.values m) some in grind (arith, nat_tests)
+  | false ↦ λ none. let zero = none_counted (refers_to id) (map.values m) none in grind (arith, nat_tests)
+] refl
 
 taken_counted : (m : Slots) (opens : Opens) (at : RealSlot) (d : Descriptor) (o : Open) (last : Bool) → IsCounted m opens → map.get m at ≡ Some d → map.get opens d.desc ≡ Some o → (o.holders == 1) ≡ last
     → IsCounted (map.remove m at) (cond last (map.remove opens d.desc) (map.insert opens d.desc (with_holders o (o.holders - 1))))
@@ -226,8 +226,8 @@ pub new_book : (m : Slots) (opens : Opens) → m ≡ map.empty → opens ≡ map
 new_book m opens no_slots no_opens = record {
   counted = record {
     counts = λ id.
-      ap (λ (w : Opens). holders_of (map.get w id)) no_opens ∙ ap holders_of (map.get-empty {X = Open} desc_cmp id)
-      ∙ sym (ap (λ (w : Slots). count id w) no_slots ∙ ap (λ values. count_by (refers_to id) values) (values-empty real_slot_total real_slot_exact));
+        ap (λ (w : Opens). holders_of (map.get w id)) no_opens ∙ ap holders_of (map.get-empty {X = Open} desc_cmp id)
+        ∙ sym (ap (λ (w : Slots). count id w) no_slots ∙ ap (λ values. count_by (refers_to id) values) (values-empty real_slot_total real_slot_exact));
     held = λ id o is. true_false (ap is_some (sym is ∙ ap (λ (w : Opens). map.get w id) no_opens ∙ map.get-empty {X = Open} desc_cmp id));
   };
   in_all = sym (ap (λ (w : Slots). map.len w) no_slots ∙ map.len-empty real_slot_cmp Descriptor);

@@ -44,7 +44,7 @@ put_same_seen m opens at id cloexec = λ i. record { descriptions = descs-after_
 
 pub put_new_seen : (m : Slots) (opens : Opens) (at : RealSlot) (id : DescId) (o : Open) (cloexec : Bool)
     → seen (map.insert m at (record { desc = id; cloexec = cloexec })) (map.insert opens id o)
-      ≡ with_descriptor (record { descriptions = map.insert (descs opens) id o.desc; descriptors = m }) at id cloexec
+    ≡ with_descriptor (record { descriptions = map.insert (descs opens) id o.desc; descriptors = m }) at id cloexec
 put_new_seen m opens at id o cloexec = λ i. record { descriptions = descs-insert opens id o i; descriptors = map.insert m at (record { desc = id; cloexec = cloexec }) }
 
 -- a descriptor in another's place

@@ -76,9 +76,9 @@ get-placed m child fd (suc k) (place ∷ places) free =
 retained_there : (opens : Opens) (id j : DescId) (found : Option Open) → IsSome (map.get opens j) → IsSome (map.get (retained opens id found) j)
 retained_there opens id j None there = there
 retained_there opens id j (Some o) there = elim (same_or_other desc_total desc_exact j id) [
-    | inl same ↦ ap is_some (ap (map.get (map.insert opens id (with_holders o (o.holders + 1)))) same ∙ get_insert_same desc_total desc_exact opens id (with_holders o (o.holders + 1)))
-    | inr differ ↦ ap is_some (get_insert_other desc_total desc_exact opens id (with_holders o (o.holders + 1)) j differ) ∙ there
-  ]
+  | inl same ↦ ap is_some (ap (map.get (map.insert opens id (with_holders o (o.holders + 1)))) same ∙ get_insert_same desc_total desc_exact opens id (with_holders o (o.holders + 1)))
+  | inr differ ↦ ap is_some (get_insert_other desc_total desc_exact opens id (with_holders o (o.holders + 1)) j differ) ∙ there
+]
 
 after_place_there : (opens : Opens) (place : Option Descriptor) (j : DescId) → IsSome (map.get opens j) → IsSome (map.get (after_place opens place) j)
 unfolding after_retain
@@ -113,20 +113,20 @@ module _ (m n : Slots) (opens : Opens) (count : ℕ) (p child : RealPid) (good :
     (same : (fd : ℕ) → map.get n (slot child fd) ≡ map.get m (slot p fd)) (others : (q : RealSlot) → q.pid ≢ child → map.get n q ≡ map.get m q) where
   as_placed : (places : List (Option Descriptor)) → ((fd : ℕ) → map.get n (slot child fd) ≡ at_place places fd) → placed m child 0 places ≡ n
   as_placed places at = map.same_map real_slot_total real_slot_exact (placed m child 0 places) n (λ q. elim (same_or_other real_pid_total real_pid_exact q.pid child) [
-      | inl is ↦
-          ap (λ k. map.get (placed m child 0 places) (slot k q.fd)) is
-          ∙ ap (λ k. map.get (placed m child 0 places) (slot child k)) (sym (zero-add q.fd)) ∙ get-placed m child 0 q.fd places free
-          ∙ sym (at q.fd) ∙ ap (λ k. map.get n (slot k q.fd)) (sym is)
-      | inr differ ↦ get-placed_other m child 0 places q differ ∙ sym (others q differ)
-    ])
+    | inl is ↦
+        ap (λ k. map.get (placed m child 0 places) (slot k q.fd)) is
+        ∙ ap (λ k. map.get (placed m child 0 places) (slot child k)) (sym (zero-add q.fd)) ∙ get-placed m child 0 q.fd places free
+        ∙ sym (at q.fd) ∙ ap (λ k. map.get n (slot k q.fd)) (sym is)
+    | inr differ ↦ get-placed_other m child 0 places q differ ∙ sym (others q differ)
+  ])
 
   pub forked_book : (places : List (Option Descriptor)) (more : ℕ) → ((fd : ℕ) → map.get n (slot child fd) ≡ at_place places fd) → more ≡ count_by is_some places
       → IsBook n (after_retains opens places) (count + more)
   forked_book places more at is =
       subst (λ (w : Slots). IsBook w (after_retains opens places) (count + more)) (as_placed places at)
       (placed_book m opens count (count + more) child 0 places good free
-        (λ k d here. is_there m opens (slot p k) d (map.get opens d.desc) good.counted (sym (same k) ∙ at k ∙ here) refl)
-        (ap (λ j. count + j) (sym is)))
+      (λ k d here. is_there m opens (slot p k) d (map.get opens d.desc) good.counted (sym (same k) ∙ at k ∙ here) refl)
+      (ap (λ j. count + j) (sym is)))
 
   -- the parent has none
   pub forked_none : ((fd : ℕ) → map.get n (slot child fd) ≡ None) → IsBook n opens count

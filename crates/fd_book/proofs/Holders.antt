@@ -116,19 +116,23 @@ listed_holders m now id listed ordered is all p = (there, back)
   where
     shown : map.entries (view real_pid_cmp m) ≡ m.entries
     shown = entries-view real_pid_total m ordered
+
     found : (fd : ℕ) → map.get now (slot p fd) ≡ option_and_then (λ places. at_place places fd) (map.get (view real_pid_cmp m) p)
     found fd = ap (λ w. map.get w (slot p fd)) (sym is) ∙ get-descriptors_of (view real_pid_cmp m) p fd
+
     there : Contains listed p → IsHolder now id p
     there among =
         let in_all : Contains (holders_in id (map.entries (view real_pid_cmp m))) p = subst (λ xs. Contains xs p) (all ∙ ap (holders_in id) (sym shown)) among in
         let table = from_listed (view real_pid_cmp m) id p (map.entries (view real_pid_cmp m)) (each_entry real_pid_total real_pid_exact _ (view real_pid_cmp m) (λ q v at. at)) in_all in
         let place = some_place id table.0 table.2 in
         (place.0, place.1, found place.0 ∙ ap (λ f. option_and_then (λ places. at_place places place.0) f) table.1 ∙ place.2, place.3)
+
     in_table : (table : Option Places) (fd : ℕ) (d : Descriptor) → map.get (view real_pid_cmp m) p ≡ table → option_and_then (λ places. at_place places fd) table ≡ Some d → d.desc ≡ id → Contains listed p
     in_table None fd d at none same = true_false (sym (ap is_some none))
     in_table (Some places) fd d at here same =
         subst (λ xs. Contains xs p) (ap (holders_in id) shown ∙ sym all)
         (at_entry real_pid_total real_pid_exact (IsListed id (map.entries (view real_pid_cmp m))) (view real_pid_cmp m) p places (each_listed id (map.entries (view real_pid_cmp m))) at
-          (place_holds id places fd d here same))
+        (place_holds id places fd d here same))
+
     back : IsHolder now id p → Contains listed p
     back holder = in_table (map.get (view real_pid_cmp m) p) holder.0 holder.1 refl (sym (found holder.0) ∙ holder.2) holder.3

@@ -52,16 +52,16 @@ alike index next slab after id same_keys same_values j differ =
 pub add_seen : (index : FinMap desc_cmp ℕ) (slab after : Slab Open) (id : DescId) (key : ℕ) (o : Open) → IsIndex index slab → map.get index id ≡ None → get slab key ≡ None
     → Updates slab after key (Some o) → descriptions_of (map.insert index id key) after ≡ map.insert (descriptions_of index slab) id o
 add_seen index slab after id key o good new vacant updates = map.same_map desc_total desc_exact _ _ (λ j. elim (same_or_other desc_total desc_exact j id) [
-    | inl same ↦
-        ap (map.get (descriptions_of (map.insert index id key) after)) same
-        ∙ get-descriptions_of (map.insert index id key) after id ∙ ap (option_map (kept_at after)) (get_insert_same desc_total desc_exact index id key)
-        ∙ ap (λ f. Some (unwrap_or f nothing_kept)) updates.changed
-        ∙ sym (get_insert_same desc_total desc_exact (descriptions_of index slab) id o) ∙ ap (map.get (map.insert (descriptions_of index slab) id o)) (sym same)
-    | inr differ ↦
-        alike index (map.insert index id key) slab after id (λ i apart. get_insert_other desc_total desc_exact index id key i apart)
-        (λ i k apart at. updates.others k (λ same. true_false (sym (good.there i k at) ∙ ap is_some (ap (get slab) same ∙ vacant)))) j differ
-        ∙ sym (get_insert_other desc_total desc_exact (descriptions_of index slab) id o j differ)
-  ])
+  | inl same ↦
+      ap (map.get (descriptions_of (map.insert index id key) after)) same
+      ∙ get-descriptions_of (map.insert index id key) after id ∙ ap (option_map (kept_at after)) (get_insert_same desc_total desc_exact index id key)
+      ∙ ap (λ f. Some (unwrap_or f nothing_kept)) updates.changed
+      ∙ sym (get_insert_same desc_total desc_exact (descriptions_of index slab) id o) ∙ ap (map.get (map.insert (descriptions_of index slab) id o)) (sym same)
+  | inr differ ↦
+      alike index (map.insert index id key) slab after id (λ i apart. get_insert_other desc_total desc_exact index id key i apart)
+      (λ i k apart at. updates.others k (λ same. true_false (sym (good.there i k at) ∙ ap is_some (ap (get slab) same ∙ vacant)))) j differ
+      ∙ sym (get_insert_other desc_total desc_exact (descriptions_of index slab) id o j differ)
+])
 
 the_key : (k j : ℕ) → Some k ≡ Some j → k ≡ j
 the_key k j e = ap (λ o. unwrap_or o k) e
@@ -72,15 +72,19 @@ add_good index slab after id key o good new vacant updates = record { there = th
   where
     key_of_new : (i : DescId) (k : ℕ) → i ≡ id → map.get (map.insert index id key) i ≡ Some k → k ≡ key
     key_of_new i k same at = the_key k key (sym at ∙ ap (map.get (map.insert index id key)) same ∙ get_insert_same desc_total desc_exact index id key)
+
     key_of_old : (i : DescId) (k : ℕ) → i ≢ id → map.get (map.insert index id key) i ≡ Some k → map.get index i ≡ Some k
     key_of_old i k differ at = sym (get_insert_other desc_total desc_exact index id key i differ) ∙ at
+
     old_is_other : (i : DescId) (k : ℕ) → map.get index i ≡ Some k → k ≢ key
     old_is_other i k at same = true_false (sym (good.there i k at) ∙ ap is_some (ap (get slab) same ∙ vacant))
+
     there : (i : DescId) (k : ℕ) → map.get (map.insert index id key) i ≡ Some k → ContainsKey after k
     there i k at = elim (same_or_other desc_total desc_exact i id) [
       | inl same ↦ ap is_some (ap (get after) (key_of_new i k same at) ∙ updates.changed)
       | inr differ ↦ let before = key_of_old i k differ at in ap is_some (updates.others k (old_is_other i k before)) ∙ good.there i k before
     ]
+
     apart : (i j : DescId) (k : ℕ) → map.get (map.insert index id key) i ≡ Some k → map.get (map.insert index id key) j ≡ Some k → i ≡ j
     apart i j k at_i at_j = elim (same_or_other desc_total desc_exact i id) [
       | inl same_i ↦ elim (same_or_other desc_total desc_exact j id) [
@@ -100,14 +104,14 @@ other_than index slab id i key k good at at_i differ same = differ (good.apart i
 pub set_seen : (index : FinMap desc_cmp ℕ) (slab after : Slab Open) (id : DescId) (key : ℕ) (o : Open) → IsIndex index slab → map.get index id ≡ Some key
     → Updates slab after key (Some o) → descriptions_of index after ≡ map.insert (descriptions_of index slab) id o
 set_seen index slab after id key o good at updates = map.same_map desc_total desc_exact _ _ (λ j. elim (same_or_other desc_total desc_exact j id) [
-    | inl same ↦
-        ap (map.get (descriptions_of index after)) same ∙ get-descriptions_of index after id ∙ ap (option_map (kept_at after)) at
-        ∙ ap (λ f. Some (unwrap_or f nothing_kept)) updates.changed
-        ∙ sym (get_insert_same desc_total desc_exact (descriptions_of index slab) id o) ∙ ap (map.get (map.insert (descriptions_of index slab) id o)) (sym same)
-    | inr differ ↦
-        alike index index slab after id (λ i apart. refl) (λ i k apart at_i. updates.others k (other_than index slab id i key k good at at_i apart)) j differ
-        ∙ sym (get_insert_other desc_total desc_exact (descriptions_of index slab) id o j differ)
-  ])
+  | inl same ↦
+      ap (map.get (descriptions_of index after)) same ∙ get-descriptions_of index after id ∙ ap (option_map (kept_at after)) at
+      ∙ ap (λ f. Some (unwrap_or f nothing_kept)) updates.changed
+      ∙ sym (get_insert_same desc_total desc_exact (descriptions_of index slab) id o) ∙ ap (map.get (map.insert (descriptions_of index slab) id o)) (sym same)
+  | inr differ ↦
+      alike index index slab after id (λ i apart. refl) (λ i k apart at_i. updates.others k (other_than index slab id i key k good at at_i apart)) j differ
+      ∙ sym (get_insert_other desc_total desc_exact (descriptions_of index slab) id o j differ)
+])
 
 pub set_good : (index : FinMap desc_cmp ℕ) (slab after : Slab Open) (id : DescId) (key : ℕ) (o : Open) → IsIndex index slab → map.get index id ≡ Some key
     → Updates slab after key (Some o) → IsIndex index after
@@ -124,15 +128,15 @@ set_good index slab after id key o good at updates = record {
 pub take_seen : (index : FinMap desc_cmp ℕ) (slab after : Slab Open) (id : DescId) (key : ℕ) → IsIndex index slab → map.get index id ≡ Some key
     → Updates slab after key None → descriptions_of (map.remove index id) after ≡ map.remove (descriptions_of index slab) id
 take_seen index slab after id key good at updates = map.same_map desc_total desc_exact _ _ (λ j. elim (same_or_other desc_total desc_exact j id) [
-    | inl same ↦
-        ap (map.get (descriptions_of (map.remove index id) after)) same
-        ∙ get-descriptions_of (map.remove index id) after id ∙ ap (option_map (kept_at after)) (get_remove_same desc_total desc_exact index id)
-        ∙ sym (get_remove_same desc_total desc_exact (descriptions_of index slab) id) ∙ ap (map.get (map.remove (descriptions_of index slab) id)) (sym same)
-    | inr differ ↦
-        alike index (map.remove index id) slab after id (λ i apart. get_remove_other desc_total desc_exact index id i apart)
-        (λ i k apart at_i. updates.others k (other_than index slab id i key k good at at_i apart)) j differ
-        ∙ sym (get_remove_other desc_total desc_exact (descriptions_of index slab) id j differ)
-  ])
+  | inl same ↦
+      ap (map.get (descriptions_of (map.remove index id) after)) same
+      ∙ get-descriptions_of (map.remove index id) after id ∙ ap (option_map (kept_at after)) (get_remove_same desc_total desc_exact index id)
+      ∙ sym (get_remove_same desc_total desc_exact (descriptions_of index slab) id) ∙ ap (map.get (map.remove (descriptions_of index slab) id)) (sym same)
+  | inr differ ↦
+      alike index (map.remove index id) slab after id (λ i apart. get_remove_other desc_total desc_exact index id i apart)
+      (λ i k apart at_i. updates.others k (other_than index slab id i key k good at at_i apart)) j differ
+      ∙ sym (get_remove_other desc_total desc_exact (descriptions_of index slab) id j differ)
+])
 
 pub take_good : (index : FinMap desc_cmp ℕ) (slab after : Slab Open) (id : DescId) (key : ℕ) → IsIndex index slab → map.get index id ≡ Some key
     → Updates slab after key None → IsIndex (map.remove index id) after
@@ -140,8 +144,10 @@ take_good index slab after id key good at updates = record { there = there; apar
   where
     not_it : (i : DescId) (k : ℕ) → map.get (map.remove index id) i ≡ Some k → i ≢ id
     not_it i k at_i same = true_false (ap is_some (sym at_i ∙ ap (map.get (map.remove index id)) same ∙ get_remove_same desc_total desc_exact index id))
+
     was : (i : DescId) (k : ℕ) → map.get (map.remove index id) i ≡ Some k → map.get index i ≡ Some k
     was i k at_i = sym (get_remove_other desc_total desc_exact index id i (not_it i k at_i)) ∙ at_i
+
     there : (i : DescId) (k : ℕ) → map.get (map.remove index id) i ≡ Some k → ContainsKey after k
     there i k at_i =
         ap is_some (updates.others k (other_than index slab id i key k good at (was i k at_i) (not_it i k at_i))) ∙ good.there i k (was i k at_i)

@@ -25,15 +25,15 @@ room_less m more limit room id o at = let low = room id o at in omega arith
 room_retained : (m : FinMap desc_cmp Open) (id : DescId) (found : Option Open) (more limit : ℕ) → map.get m id ≡ found → HasRoom m (more + 1) limit → HasRoom (retained m id found) more limit
 room_retained m id None more limit is room = room_less m more limit room
 room_retained m id (Some before) more limit is room = λ j o at. elim (same_or_other desc_total desc_exact j id) [
-    | inl same ↦
-        let o_is : with_holders before (before.holders + 1) ≡ o =
-        the_open _ o (sym (get_insert_same desc_total desc_exact m id (with_holders before (before.holders + 1)))
-          ∙ ap (map.get (map.insert m id (with_holders before (before.holders + 1)))) (sym same) ∙ at) in
-        let up : before.holders + 1 ≡ o.holders = ap (λ x. x.holders) o_is in
-        let low = room id before is in
-        omega arith
-    | inr differ ↦ let low = room j o (sym (get_insert_other desc_total desc_exact m id (with_holders before (before.holders + 1)) j differ) ∙ at) in omega arith
-  ]
+  | inl same ↦
+      let o_is : with_holders before (before.holders + 1) ≡ o =
+      the_open _ o (sym (get_insert_same desc_total desc_exact m id (with_holders before (before.holders + 1)))
+      ∙ ap (map.get (map.insert m id (with_holders before (before.holders + 1)))) (sym same) ∙ at) in
+      let up : before.holders + 1 ≡ o.holders = ap (λ x. x.holders) o_is in
+      let low = room id before is in
+      omega arith
+  | inr differ ↦ let low = room j o (sym (get_insert_other desc_total desc_exact m id (with_holders before (before.holders + 1)) j differ) ∙ at) in omega arith
+]
 
 room_place : (m : FinMap desc_cmp Open) (place : Option Descriptor) (more limit : ℕ) → HasRoom m (more + 1) limit → HasRoom (after_place m place) more limit
 unfolding after_retain

@@ -65,7 +65,11 @@ impl Descriptions {
     pub fn next_above(&self, above: Option<DescId>) -> Option<DescId>
         ensures { result ≡ find (is_after above) (map.keys self.now) }
     {
-        match self.index.range((start_above(above), Bound::Unbounded)).next() {
+        match self
+            .index
+            .range((start_above(above), Bound::Unbounded))
+            .next()
+        {
             Some((id, _)) => Some(*id),
             None => None,
         }

@@ -18,7 +18,7 @@ invariant_of-self-in-Some c =
     let free : NoneOpen c.self.inside.tables c.args.child 0 = λ fd after. ap (λ b. map.get b.descriptors (slot c.args.child fd)) c.self.view_is ∙ c.requires fd after in
     moved_book c.copy.new.self c.copy.new.self (after_retains c.self.inside.descriptions c.in-Some.places.now) c.retain_all.new.self (c.self.inside.count + c.retain_all.result)
     (forked_book c.self.inside.tables c.copy.new.self c.self.inside.descriptions c.self.inside.count c.args.p c.args.child c.self.invariant free c.in_ok-copy.ensures.same c.in_ok-copy.ensures.others
-      c.in-Some.places.now c.retain_all.result c.in-Some.ensures.at c.retain_all.ensures.number)
+    c.in-Some.places.now c.retain_all.result c.in-Some.ensures.at c.retain_all.ensures.number)
     refl c.retain_all.ensures.retained
 
 pub invariant_of-self-in_default : goal.invariant_of-self-in_default

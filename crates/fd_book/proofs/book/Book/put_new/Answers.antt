@@ -20,8 +20,8 @@ invariant_of-self-in_default c =
 pub returns-in_default-clause-err : goal.returns-in_default-clause-err
 returns-in_default-clause-err c =
     (λ i. seen
-      ((c.clear.ensures ∙ ap (λ w. map.remove w (slot c.args.p c.args.fd)) c.in_ok-put.ensures.ok ∙ remove_insert_new real_slot_total real_slot_exact c.self.inside.tables (slot c.args.p c.args.fd) (record { desc = c.args.id; cloexec = c.args.cloexec }) (ap (λ b. map.get b.descriptors (slot c.args.p c.args.fd)) c.self.view_is ∙ c.requires.free)) i)
-      (c.in_default.ensures.err i))
+    ((c.clear.ensures ∙ ap (λ w. map.remove w (slot c.args.p c.args.fd)) c.in_ok-put.ensures.ok ∙ remove_insert_new real_slot_total real_slot_exact c.self.inside.tables (slot c.args.p c.args.fd) (record { desc = c.args.id; cloexec = c.args.cloexec }) (ap (λ b. map.get b.descriptors (slot c.args.p c.args.fd)) c.self.view_is ∙ c.requires.free)) i)
+    (c.in_default.ensures.err i))
     ∙ c.self.view_is
 
 pub invariant_of-self-2 : goal.invariant_of-self-2

@@ -9,7 +9,7 @@ pub returns-in-Some : goal.returns-in-Some
 returns-in-Some c =
     c.get-in-Some.ensures
     ∙ sym (found_there (view desc_cmp c.self.inside.index) c.self.inside.slab c.args.self.now c.args.id c.in-Some.key.now c.self.invariant
-      (get-view desc_total c.self.inside.index c.args.id ∙ sym c.in-Some.ensures.value) c.self.view_is)
+    (get-view desc_total c.self.inside.index c.args.id ∙ sym c.in-Some.ensures.value) c.self.view_is)
 
 pub returns-in-None : goal.returns-in-None
 returns-in-None c =
