@@ -1,0 +1,10 @@
+use Rattle.std.proofs.Common.{sym, ap, ◌∙◌}
+use Rattle.std.specs.Prelude.{find}
+use Rattle.std.specs.FinMap as map
+use Rattle.views.proofs.MapValues.{keys-map_values}
+use Rattle.fd_book.specs.Books.{is_after}
+use Rattle.fd_book.specs.Counts.{desc_of}
+use Rattle.fd_book.proofs.book.Book.next_desc.Goals as goal
+
+pub returns : goal.returns
+returns c = c.next_above.ensures ∙ ap (λ keys. find (is_after c.args.above) keys) (sym (keys-map_values desc_of c.self.inside.descriptions) ∙ ap (λ b. map.keys b.descriptions) c.self.view_is)

@@ -1,0 +1,7 @@
+use Rattle.fd_book.proofs.TableViews.{put_over}
+use Rattle.fd_book.proofs.tables.Tables.replace.Goals as goal
+
+pub returns : goal.returns
+returns c =
+    put_over c.set_place.result c.self.inside.tables c.set_place.new.tables c.args.self.now c.args.p c.args.fd c.args.descriptor
+    c.set_place.ensures.set c.set_place.ensures.no_table c.self.view_is c.requires.there

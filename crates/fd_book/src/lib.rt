@@ -1,0 +1,33 @@
+//! The descriptors of all processes, and the open descriptions that they refer to.
+//!
+//! A [`Book`] holds for each real process a table of up to 256 descriptors, each of which refers to an open
+//! description (`man 2 open`) that other descriptors, also of other processes, may share. A description without a
+//! descriptor is gone, and the call that takes its last one tells its name.
+//!
+//! A contract sees a `Book` as two finite maps, whole after every call: descriptions by their names, and descriptors
+//! by process and number. New descriptors take the lowest free number. Each refusal comes exactly where its call says,
+//! and leaves all as it was. To look up, to close and to change a description or a flag takes no memory. A look-up
+//! goes down a tree to the process's table and is an index there; the descriptions stand in a slab.
+//!
+//! Proved: all of that. Not proved: how long a call takes. `man 2 dup`, `man 2 close` and `man 2 fcntl` are the
+//! standards that the words restate.
+#![tactic(auto)]
+
+pub mod book;
+pub mod book_fault;
+mod closing;
+pub mod description;
+mod descriptions;
+mod open;
+mod placing;
+mod readers;
+pub mod real_slot;
+mod table;
+mod tables;
+#[cfg(test)]
+mod tests;
+
+pub use book::Book;
+pub use book_fault::BookFault;
+pub use description::{Desc, Descriptor, Object};
+pub use real_slot::RealSlot;

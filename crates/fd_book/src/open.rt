@@ -1,0 +1,8 @@
+use crate::description::Desc;
+
+/// An open description, and how many descriptors refer to it.
+#[derive(Clone, Copy, Debug, PartialEq, Eq)]
+pub struct Open {
+    pub desc: Desc,
+    pub holders: u64,
+}

@@ -1,0 +1,8 @@
+use sys_abi::RealPid;
+
+/// A descriptor of a process that a node runs.
+#[derive(Clone, Copy, Debug, PartialEq, Eq, PartialOrd, Ord)]
+pub struct RealSlot {
+    pub pid: RealPid,
+    pub fd: u32,
+}

@@ -1,0 +1,23 @@
+//! Pairs of virtual and real numbers.
+//!
+//! A guest keeps its virtual process and thread numbers and its virtual addresses over a restart, while the nodes
+//! hand out new real ones. [`Ids`] holds which is paired with which, and is asked on either side.
+//!
+//! A contract sees an `Ids` as two finite maps, from virtual numbers and from virtual addresses to the real ones,
+//! both one to one. `add_pid` and `add_addr` refuse exactly where either side is in a pair already, and a look-up
+//! exactly where there is no pair. To take a pair out needs no memory, and neither does a look-up, which goes down a
+//! tree.
+//!
+//! Proved: all of that, and that after any refusal all is as before. Not proved: how long a call takes. Nothing here
+//! restates a standard.
+#![tactic(auto)]
+
+mod by_real_address;
+mod by_real_pid;
+pub mod id_fault;
+pub mod ids;
+#[cfg(test)]
+mod tests;
+
+pub use id_fault::IdFault;
+pub use ids::Ids;
