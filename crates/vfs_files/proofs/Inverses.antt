@@ -92,7 +92,7 @@ pub inverse-insert_both : {E : Type 0} (r : Result (Unit {0}) E) (files now file
     → ((other : List ℕ) → map.get now other ≢ Some file) → OnOk r (filed ≡ map.insert files name file) → OnOk r (named ≡ map.insert names file name) → OnErr r (filed ≡ files) → OnErr r (named ≡ names) → AreInverse filed named
 inverse-insert_both (Ok done) files now filed names named name file inverse seen new none filed_is named_is same same_too =
     let both : AreInverse (map.insert files name file) (map.insert names file name) =
-        inverse-insert files names name file inverse (ap (λ m. map.get m name) seen ∙ new) (λ other at. none other (ap (λ m. map.get m other) (sym seen) ∙ at)) in
+    inverse-insert files names name file inverse (ap (λ m. map.get m name) seen ∙ new) (λ other at. none other (ap (λ m. map.get m other) (sym seen) ∙ at)) in
     inverse-same _ filed _ named filed_is named_is both
 inverse-insert_both (Err e) files now filed names named name file inverse seen new none filed_is named_is same same_too =
     inverse-same files filed names named same same_too inverse

@@ -88,7 +88,14 @@ impl Files {
         }
         let file = self.next_file;
         let empty = FileBytes::new(self.alloc);
-        add_file(&mut self.names, &mut self.files, self.alloc, name, file, empty)?;
+        add_file(
+            &mut self.names,
+            &mut self.files,
+            self.alloc,
+            name,
+            file,
+            empty,
+        )?;
         self.next_file = file + 1;
         Ok(file)
     }
@@ -199,7 +206,14 @@ impl Files {
         ensures err { OnErr result (self.new ≡ self.old) }
     {
         let copy = FileBytes::from_slice(self.alloc, bytes)?;
-        put_back(&mut self.names, &mut self.files, self.alloc, name, file, copy)?;
+        put_back(
+            &mut self.names,
+            &mut self.files,
+            self.alloc,
+            name,
+            file,
+            copy,
+        )?;
         self.total += bytes.len() as u64;
         Ok(())
     }

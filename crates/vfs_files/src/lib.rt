@@ -21,3 +21,6 @@ mod store;
 
 pub use file_fault::FileFault;
 pub use files::Files;
+
+#[cfg(test)]
+mod tests;
