@@ -1,15 +1,15 @@
 -- The maps from names to files and from files to names stay inverse.
-use Rattle.std.proofs.Common.{◌≡◌, ◌≢◌, ℕ, Ordering, Bool, true, false, not, cond, List, [], refl, sym, ap, subst, ◌∙◌, inl, inr, arith}
+use Rattle.std.proofs.Common.{◌≡◌, ◌≢◌, ℕ, Ordering, true, false, not, cond, List, [], refl, sym, ap, subst, ◌∙◌, inl, inr, arith}
 use Rattle.std.specs.Prelude.{◌==◌, Option, Some, None, Result, Ok, Err, OnOk, OnErr}
 use Rattle.std.specs.Option.{option_map_or}
-use Rattle.std.specs.Ordering.{nat_cmp, eq_by_cmp}
+use Rattle.std.specs.Ordering.{nat_cmp}
 use Rattle.std.specs.Cmp.{IsTotalOrder, nat_cmp_total}
 use Rattle.std.specs.FinMap as map
 use Rattle.std.specs.FinMap.{FinMap, IsAntisymmetric, nat_cmp-IsAntisymmetric}
 use Rattle.std.proofs.lemmas.Option.{same_Some, none-some}
 use Rattle.std.proofs.lemmas.Bool.Decides.{nat_tests}
-use Rattle.views.specs.Maps.{retain, option_filter}
-use Rattle.views.proofs.MapLaws.{true_false, same_or_other, get_insert_same, get_insert_other, get_remove_same, get_remove_other, remove_absent}
+use Rattle.views.specs.Maps.{option_filter}
+use Rattle.views.proofs.MapLaws.{same_or_other, get_insert_same, get_insert_other, get_remove_same, get_remove_other, remove_absent}
 use Rattle.views.proofs.MapValues.{get-retained}
 use Rattle.sys_abi.specs.Names.{name_cmp}
 use Rattle.sys_abi.proofs.OrderLaws.{name_total, name_exact}

@@ -7,6 +7,22 @@ use std::test::Fail;
 use sys_abi::Transfer;
 use sys_abi::flags::{O_CREAT, O_EXCL};
 
+/// Whether the file has these bytes.
+fn holds(files: &Files, file: u32, bytes: &[u8]) -> bool {
+    match files.bytes(file) {
+        Some(held) => held == bytes,
+        None => false,
+    }
+}
+
+/// Whether the file is there and has this name.
+fn is_called(files: &Files, file: u32, name: &[u8]) -> bool {
+    match files.name(file) {
+        Some(own) => own == name,
+        None => false,
+    }
+}
+
 /// Files with one of this content under the number 1 and the name `a`.
 fn one_file(alloc: Global, bytes: &[u8]) -> Result<Files, FileFault> {
     let mut files = Files::new(alloc);
@@ -31,8 +47,8 @@ fn files_are_opened_and_made(rt: HostRuntime) -> Result<(), Fail> {
     assert_eq!(rt; files.open_file(b"b", O_CREAT), Ok(2));
     assert_eq!(rt; files.open_file(b"b", 0), Ok(2));
     assert_eq!(rt; files.next_file(), 3);
-    assert_eq!(rt; files.name(2), Some(b"b".as_slice()));
-    assert_eq!(rt; files.name(3), None);
+    assert!(rt; is_called(&files, 2, b"b"));
+    assert!(rt; files.name(3).is_none());
     assert_eq!(rt; files.next_above(0), Some(1));
     assert_eq!(rt; files.next_above(2), None);
     Ok(())
@@ -42,10 +58,12 @@ fn files_are_opened_and_made(rt: HostRuntime) -> Result<(), Fail> {
 fn bytes_are_written_and_read(rt: HostRuntime) -> Result<(), Fail> {
     let mut files = one_file(rt.alloc(), b"hello")?;
     let mut xfer = Transfer::new(rt.alloc())?;
-    assert_eq!(rt; files.bytes(1), Some(b"hello".as_slice()));
+    assert!(rt; holds(&files, 1, b"hello"));
+    assert!(rt; files.bytes(1).is_some());
     assert_eq!(rt; files.write_at(1, 3, b"p me"), Ok(()));
+    assert!(rt; files.bytes(1).is_some());
     assert_eq!(rt; files.write_at(1, 9, b"!"), Ok(()));
-    assert_eq!(rt; files.bytes(1), Some(b"help me\0\0!".as_slice()));
+    assert!(rt; holds(&files, 1, b"help me\0\0!"));
     assert_eq!(rt; files.len(1), Some(10));
     files.read_at(1, 5, 2, &mut xfer);
     assert_eq!(rt; xfer.as_slice(), b"me".as_slice());
@@ -62,11 +80,13 @@ fn bytes_are_written_and_read(rt: HostRuntime) -> Result<(), Fail> {
 fn no_byte_past_the_limits(rt: HostRuntime) -> Result<(), Fail> {
     let mut files = one_file(rt.alloc(), b"x")?;
     let end = TOTAL_LIMIT as u32;
-    assert_eq!(rt; files.bytes(1).is_some(), true);
+    assert!(rt; files.bytes(1).is_some());
     assert_eq!(rt; files.write_at(1, end, b"y"), Err(FileFault::Space));
+    assert!(rt; files.bytes(1).is_some());
     assert_eq!(rt; files.write_at(1, 0x7FFF_FFFF, b"y"), Err(FileFault::Space));
+    assert!(rt; files.bytes(1).is_some());
     assert_eq!(rt; files.write_at(1, 0xFFFF_FFFF, b""), Ok(()));
-    assert_eq!(rt; files.bytes(1), Some(b"x".as_slice()));
+    assert!(rt; holds(&files, 1, b"x"));
     Ok(())
 }
 
@@ -76,32 +96,33 @@ fn a_name_goes_while_its_file_is_open(rt: HostRuntime) -> Result<(), Fail> {
     assert_eq!(rt; files.unlink(b"b"), Err(FileFault::NoEntry));
     assert_eq!(rt; files.unlink(b"a"), Ok(1));
     assert_eq!(rt; files.unlink(b"a"), Err(FileFault::NoEntry));
-    assert_eq!(rt; files.bytes(1), Some(b"kept".as_slice()));
-    assert_eq!(rt; files.name(1), Some(b"".as_slice()));
+    assert!(rt; holds(&files, 1, b"kept"));
+    assert!(rt; is_called(&files, 1, b""));
     assert_eq!(rt; files.open_file(b"a", O_CREAT), Ok(2));
     files.forget(1);
-    assert_eq!(rt; files.bytes(1), None);
+    assert!(rt; files.bytes(1).is_none());
     assert_eq!(rt; files.len(2), Some(0));
     Ok(())
 }
 
-/// Puts files back, the last one without a name, and sets the next number to the last one.
-fn restored(alloc: Global) -> Result<Files, AllocError> {
+/// Puts a file back under the number 7, and sets the next number to the last one.
+fn put_back(alloc: Global, name: &[u8]) -> Result<Files, AllocError> {
     let mut files = Files::new(alloc);
     files.set_next(8);
-    files.restore(3, b"three", b"tres")?;
-    files.restore(7, b"", b"siete")?;
+    files.restore(7, name, b"siete")?;
     files.set_next(0xFFFF_FFFF);
     Ok(files)
 }
 
 #[test]
 fn files_are_put_back_and_numbers_end(rt: HostRuntime) -> Result<(), Fail> {
-    let mut files = restored(rt.alloc())?;
-    assert_eq!(rt; files.open_file(b"three", 0), Ok(3));
-    assert_eq!(rt; files.bytes(7), Some(b"siete".as_slice()));
-    assert_eq!(rt; files.name(7), Some(b"".as_slice()));
+    let nameless = put_back(rt.alloc(), b"")?;
+    assert!(rt; holds(&nameless, 7, b"siete"));
+    assert!(rt; is_called(&nameless, 7, b""));
+    let mut files = put_back(rt.alloc(), b"seven")?;
+    assert!(rt; is_called(&files, 7, b"seven"));
     assert_eq!(rt; files.next_above(3), Some(7));
+    assert_eq!(rt; files.open_file(b"seven", 0), Ok(7));
     assert_eq!(rt; files.open_file(b"new", O_CREAT), Err(FileFault::Space));
     Ok(())
 }

@@ -1,4 +1,4 @@
-use Rattle.std.proofs.Common.{ap, subst, sym, ◌∙◌, arith}
+use Rattle.std.proofs.Common.{ap, ◌∙◌}
 use Rattle.std.specs.FinMap as map
 use Rattle.vfs_files.proofs.Kept.{nameless, kept-made}
 use Rattle.vfs_files.proofs.files.Files.make_file.Goals as goal

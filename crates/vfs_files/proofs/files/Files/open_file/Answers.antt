@@ -1,5 +1,5 @@
-use Rattle.std.proofs.Common.{◌≡◌, false, sym, ap, subst, ◌∙◌}
-use Rattle.std.specs.Prelude.{Option, Some, Err, IfSome, IfNone, IsOkUnless}
+use Rattle.std.proofs.Common.{◌≡◌, sym, ap, subst, ◌∙◌}
+use Rattle.std.specs.Prelude.{Some, Err, IfSome, IfNone, IsOkUnless}
 use Rattle.std.specs.FinMap as map
 use Rattle.sys_abi.specs.declared.flags.TheConstants.{O_CREAT, O_EXCL}
 use Rattle.vfs_files.specs.declared.file_fault.FileFault.TheVariants.{Memory}

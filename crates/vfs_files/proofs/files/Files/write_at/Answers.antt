@@ -1,7 +1,7 @@
-use Rattle.std.proofs.Common.{sym, ap, subst, ◌∙◌}
+use Rattle.std.proofs.Common.{sym, subst}
 use Rattle.std.specs.Prelude.{IsSome}
 use Rattle.std.specs.FinMap as map
-use Rattle.vfs_files.specs.FileTable.{FileTable, bytes_of}
+use Rattle.vfs_files.specs.FileTable.{FileTable}
 use Rattle.vfs_files.proofs.Kept.{kept-write}
 use Rattle.vfs_files.proofs.files.Files.write_at.Goals as goal
 
