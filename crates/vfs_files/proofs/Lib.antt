@@ -1,0 +1,4 @@
+pub mod Inverses
+pub mod Sums
+pub mod Changes
+pub mod Kept
