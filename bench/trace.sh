@@ -1,6 +1,6 @@
 #!/usr/bin/env bash
 # Times how a trace of 4,000,000 records is written as the bytes of its file and read back, beside a plain copy of those 64 MB: the
-# processor's time, of the least of five runs. The program is bench/trace_speed.rt, proved and built by LLVM in a copy of the crates that
+# processor's time, of the least of five runs. The program is bench/trace_speed.rs, proved and built by LLVM in a copy of the crates that
 # it stands on.
 set -eu
 top=$(cd "$(dirname "$0")/.." && pwd)
@@ -12,7 +12,7 @@ for crate in views sys_abi elf32 plain_machine trace_log; do
     grep "^$crate:" "$top/crates.txt" >>"$folder/crates.txt"
 done
 echo 'trace_speed: sys_abi trace_log' >>"$folder/crates.txt"
-cp "$top/bench/trace_speed.rt" "$folder/crates/trace_speed/src/main.rt"
+cp "$top/bench/trace_speed.rs" "$folder/crates/trace_speed/src/main.rt"
 cd "$folder/crates/trace_speed"
 rt run >"$folder/log" 2>&1 || { cat "$folder/log"; exit 1; }
 
