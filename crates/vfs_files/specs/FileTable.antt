@@ -58,8 +58,11 @@ refusal_by t (Some file) true true = Some Exists
 refusal_by t (Some file) true false = None
 refusal_by t (Some file) false exclusive = None
 
+abbrev pub refusal_at : FileTable → ℕ → Option ℕ → Option FileFault
+refusal_at t flags found = refusal_by t found (has_flag flags O_CREAT) (has_flag flags O_EXCL)
+
 abbrev pub open_refusal : FileTable → List ℕ → ℕ → Option FileFault
-open_refusal t name flags = refusal_by t (map.get t.names name) (has_flag flags O_CREAT) (has_flag flags O_EXCL)
+open_refusal t name flags = refusal_at t flags (map.get t.names name)
 
 abbrev pub number_of : FileTable → List ℕ → ℕ
 number_of t name = unwrap_or (map.get t.names name) t.next_file

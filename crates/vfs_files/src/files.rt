@@ -2,7 +2,6 @@ ghost use Rattle.std.specs.Prelude.{◌≡◌, ◌⊎◌, ◌+◌, ◌≤◌, �
 ghost use Rattle.std.specs.Option.{option_copied};
 ghost use Rattle.std.specs.FinMap as map;
 ghost use Rattle.views.specs.NumberMap.{is_above};
-ghost use Rattle.sys_abi.specs.declared.flags.TheConstants.{O_CREAT, O_EXCL};
 ghost use Rattle.vfs_files.specs.declared.limits.TheConstants.{FILE_LIMIT, TOTAL_LIMIT};
 ghost use Rattle.vfs_files.specs.Bytes.{read_from};
 ghost use Rattle.vfs_files.specs.Names.{IsNameOf};
@@ -74,8 +73,8 @@ impl Files {
 
     fn make_file(&mut self, name: &[u8], flags: u32) -> Result<u32, FileFault>
         requires { map.get self.old.names name.now ≡ None }
-        ensures refused { IfSome (table.refusal_by self.old None (table.has_flag flags O_CREAT) (table.has_flag flags O_EXCL)) (λ fault. result ≡ Err fault) }
-        ensures granted { IfNone (table.refusal_by self.old None (table.has_flag flags O_CREAT) (table.has_flag flags O_EXCL)) (IsOkUnless result FileFault.Memory) }
+        ensures refused { IfSome (table.refusal_at self.old flags None) (λ fault. result ≡ Err fault) }
+        ensures granted { IfNone (table.refusal_at self.old flags None) (IsOkUnless result FileFault.Memory) }
         ensures number { IfOk result (λ file. file ≡ self.old.next_file) }
         ensures made { OnOk result (self.new ≡ table.with_file self.old name.now) }
         ensures err { OnErr result (self.new ≡ self.old) }
@@ -115,9 +114,12 @@ impl Files {
     /// Writes the piece at an offset, over what is there and past the end. Zeros fill a gap before it.
     pub fn write_at(&mut self, file: u32, at: u32, piece: &[u8]) -> Result<(), FileFault>
         requires { IsSome (map.get self.old.files file) }
-        ensures refused { IsTrue (table.is_too_big self.old.files file at piece.now) → result ≡ Err FileFault.Space }
-        ensures granted { table.is_too_big self.old.files file at piece.now ≡ false → IsOkUnless result FileFault.Memory }
-        ensures ok { OnOk result (self.new ≡ record self.old { files = table.with_write self.old.files file at piece.now }) }
+        ensures refused { IsTrue (table.is_too_big self.old.files file at piece.now)
+            → result ≡ Err FileFault.Space }
+        ensures granted { table.is_too_big self.old.files file at piece.now ≡ false
+            → IsOkUnless result FileFault.Memory }
+        ensures ok { OnOk result
+            (self.new ≡ record self.old { files = table.with_write self.old.files file at piece.now }) }
         ensures err { OnErr result (self.new ≡ self.old) }
     {
         self.total = write_file(&mut self.files, self.total, file, at, piece)?;
@@ -188,9 +190,10 @@ impl Files {
         self.files.next_above(Some(file))
     }
 
-    /// The number that the next new file gets.
+    /// The number that the next new file gets, above those of all files.
     pub fn next_file(&self) -> u32
-        ensures { result ≡ self.now.next_file }
+        ensures number { result ≡ self.now.next_file }
+        ensures above { table.AllBelow self.now.files result }
     {
         self.next_file
     }

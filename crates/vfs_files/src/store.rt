@@ -1,7 +1,6 @@
 //! Changes of the maps that hold the names and the bytes of all files.
 ghost use Rattle.std.specs.Prelude.{◌≡◌, ◌≢◌, ◌⊎◌, ◌+◌, ◌≤◌, ℕ, List, [], None, Some, Err, false, IsTrue, length, IsSome, IfSome, IfNone, IfOk, OnOk, OnErr, IsOkUnless};
 ghost use Rattle.std.specs.FinMap as map;
-ghost use Rattle.sys_abi.specs.declared.flags.TheConstants.{O_CREAT, O_EXCL};
 ghost use Rattle.vfs_files.specs.declared.limits.TheConstants.{TOTAL_LIMIT};
 ghost use Rattle.vfs_files.specs.Bytes.{read_from};
 ghost use Rattle.vfs_files.specs.FileTable as table;
@@ -15,8 +14,10 @@ use views::number_map::NumberMap;
 
 /// Opens a file that is there.
 pub(crate) fn existing(file: u32, flags: u32) -> Result<u32, FileFault>
-    ensures refused { (t : table.FileTable) → IfSome (table.refusal_by t (Some file) (table.has_flag flags O_CREAT) (table.has_flag flags O_EXCL)) (λ fault. result ≡ Err fault) }
-    ensures granted { (t : table.FileTable) → IfNone (table.refusal_by t (Some file) (table.has_flag flags O_CREAT) (table.has_flag flags O_EXCL)) (IsOkUnless result FileFault.Memory) }
+    ensures refused { (t : table.FileTable)
+        → IfSome (table.refusal_at t flags (Some file)) (λ fault. result ≡ Err fault) }
+    ensures granted { (t : table.FileTable)
+        → IfNone (table.refusal_at t flags (Some file)) (IsOkUnless result FileFault.Memory) }
     ensures number { IfOk result (λ number. number ≡ file) }
 {
     if flags / O_CREAT % 2 == 1 && flags / O_EXCL % 2 == 1 {

@@ -1,0 +1,7 @@
+pub mod Changes
+pub mod Ends
+pub mod LentProcess
+pub mod Processes
+pub mod Procs
+pub mod RealOrder
+pub mod Signals

@@ -1,0 +1,80 @@
+//! The end of a process.
+ghost use Rattle.std.specs.Prelude.{◌≡◌};
+ghost use Rattle.proc_book.specs.Changes.{at_key};
+ghost use Rattle.proc_book.specs.Processes as process;
+ghost use Rattle.proc_book.specs.Ends as words;
+
+use crate::limits::CHILD_ENDED;
+use crate::process_map::ProcessMap;
+use std::alloc::Global;
+use sys_abi::{RealPid, Signal};
+
+pub(crate) fn is_live_at(processes: &ProcessMap, p: RealPid) -> bool
+    ensures { result ≡ words.is_live_at processes.now p }
+{
+    match processes.get(p) {
+        None => false,
+        Some(process) => process.is_live(),
+    }
+}
+
+/// Makes the signal pending for a process, or for this thread of it, if it is there.
+pub(crate) fn raise_at(processes: &mut ProcessMap, p: RealPid, t: Option<u32>, s: Signal)
+    ensures { processes.new ≡ at_key processes.old p (process.raised t s.0) }
+{
+    if let Some(process) = processes.get_mut(p) {
+        process.raise(t, s);
+    }
+}
+
+fn make_zombie(processes: &mut ProcessMap, alloc: Global, p: RealPid, status: u32)
+    ensures { processes.new ≡ at_key processes.old p (process.zombie status) }
+{
+    if let Some(process) = processes.get_mut(p) {
+        process.end(alloc, status);
+    }
+}
+
+fn orphan(processes: &mut ProcessMap, p: RealPid)
+    ensures { processes.new ≡ words.orphaned p processes.old }
+{
+    processes.drop_zombies_of(p);
+    processes.orphan_children_of(p);
+}
+
+/// Leaves the process as a zombie for its live parent, which gets a signal; without one it is gone.
+fn leave(
+    processes: &mut ProcessMap,
+    alloc: Global,
+    p: RealPid,
+    status: u32,
+    parent: Option<RealPid>,
+)
+    ensures { processes.new ≡ words.left_by p status parent processes.old }
+{
+    let Some(parent) = parent else {
+        processes.remove(p);
+        return;
+    };
+    if !is_live_at(processes, parent) {
+        processes.remove(p);
+        return;
+    }
+    raise_at(processes, parent, None, Signal(CHILD_ENDED));
+    make_zombie(processes, alloc, p, status);
+}
+
+/// The process ends, if it lives.
+pub(crate) fn end(processes: &mut ProcessMap, alloc: Global, p: RealPid, status: u32)
+    ensures { processes.new ≡ words.after_end processes.old p status }
+{
+    let Some(process) = processes.get(p) else {
+        return;
+    };
+    if !process.is_live() {
+        return;
+    }
+    let parent = process.parent;
+    orphan(processes, p);
+    leave(processes, alloc, p, status, parent);
+}
