@@ -22,6 +22,7 @@ pub mod Stillness
 pub mod Safety
 pub mod Checkpoints
 pub mod ImagedKernels
+pub mod MachineImages
 pub mod Served
 pub mod Turning
 pub mod Loads

@@ -2,8 +2,9 @@
 --     looks_none, looks_then           no call of the folder, and two stretches that only look
 --     whole_unbegun, whole_begun       what a crash leaves of a call that began no run, and of one that did
 --     kept                             what a keeper knows whose sets follow those of a store
-use Rattle.std.proofs.Common.{◌≡◌, ◌≢◌, ℕ, zero, suc, ◌+◌, ◌^◌, ◌<◌, ◌≤◌, List, [], Option, Some, None, inl, inr, refl, sym, ap, subst, ◌∙◌, arith}
-use Rattle.std.specs.Prelude.{◌⊎◌, IfSome, max}
+use Rattle.std.proofs.Common.{Fits, w8, get_or, length, ◌≡◌, ◌≢◌, ℕ, zero, suc, ◌+◌, ◌^◌, ◌<◌, ◌≤◌, List, [], ◌∷◌, Option, Some, None, inl, inr, refl, sym, ap, subst, ◌∙◌, arith}
+use Rattle.std.specs.Prelude.{◌⊎◌, IfSome, All, Result, Ok, Err, max, option_map}
+use Rattle.std.proofs.lemmas.List.{get_or_default}
 use Rattle.std.proofs.Math.Nat.{zero-max}
 use Rattle.std.specs.List.{Contains}
 use Rattle.std.specs.Option.{ForSome, option_map_or}
@@ -17,15 +18,23 @@ use Rattle.plain_machine.specs.declared.plain.Plain.{Plain}
 use Rattle.trace_log.specs.Requests.{first_tally}
 use Rattle.image_store.specs.declared.set_info.SetInfo.{SetInfo}
 use Rattle.image_store.specs.Slots.{last}
-use Rattle.image_store.specs.FoundSets.{last_set}
+use Rattle.image_codec.specs.declared.damage.Damage.{Damage}
+use Rattle.image_codec.specs.Sets.{DamagedFiles}
+use Rattle.plain_machine.specs.Valid.{IsByte}
+use Rattle.image_store.specs.SetDamages.{HasDamage}
+use Rattle.image_store.specs.FoundSets.{FoundSet, set_of, last_set, IsSet, HasSet}
 use Rattle.image_store.specs.StoreStates.{Known, FitsFolder, next_generation, generation_after}
 use Rattle.image_store.specs.StoreCrashes.{ChangesNothing}
 use Rattle.image_store.proofs.Passing.{passes_then}
 use Rattle.dmtcp_top.specs.declared.keeper.Keeper.{Keeper}
+use Rattle.dmtcp_top.specs.declared.ending.Ending.{Ending}
+use Rattle.dmtcp_top.specs.declared.ending.Ending.TheVariants.{Done, Usage, InputFault, Missing, BadElf, SinkFault, DiskFault, NoSet, Damaged, Budget, Memory}
+use Rattle.dmtcp_top.specs.declared.machine.Machine.{Machine}
+use Rattle.dmtcp_top.specs.Sets.{SpoilsSet}
 use Rattle.dmtcp_top.specs.declared.settings.Settings.{Settings}
 use Rattle.dmtcp_top.specs.Keeping.{IsOpening, SpellsCut, CountsFaults, IsKept, IsSafe}
 use Rattle.dmtcp_top.specs.Launches.{schedule_of}
-use Rattle.dmtcp_top.specs.Loads.{IsFresh, OnlyLooks}
+use Rattle.dmtcp_top.specs.Loads.{IsMachineOf, OnlyLooks, Restored}
 use Rattle.dmtcp_top.specs.Promise.{SpellsCutOf, StaysWhole}
 use Rattle.dmtcp_top.proofs.Safety.{if_some}
 
@@ -121,3 +130,69 @@ kept keeper settings store told images stored tallied none fits = record {
   where
     greatest : keeper.tally.greatest ≡ generation_of store.last
     greatest = ap (λ tally. tally.greatest) tallied
+
+-- bytes are bytes
+pub all_bytes : (bytes : List ℕ) → ((k : ℕ) → Fits w8 (get_or bytes k 0)) → All IsByte bytes
+all_bytes bytes fits k d inside = rw (get_or_default bytes k d 0 inside) (omega (arith, fits k))
+
+pub zero_byte : All IsByte (0 ∷ [])
+zero_byte = all_bytes (0 ∷ []) zeros
+  where
+    zeros : (k : ℕ) → Fits w8 (get_or (0 ∷ []) k 0)
+    zeros zero = omega arith
+    zeros (suc k) = omega arith
+
+pub one_more : (P : ℕ → Type 0) (n : ℕ) → ((k : ℕ) → k < n → P k) → P n → (k : ℕ) → k < suc n → P k
+one_more P zero before here zero below = here
+one_more P zero before here (suc k) below = absurd (omega arith)
+one_more P (suc n) before here zero below = before zero (omega arith)
+one_more P (suc n) before here (suc k) below = one_more (λ m. P (suc m)) n (λ m less. before (suc m) (omega arith)) here k (omega arith)
+
+module _ (told : Option Folder) (images : Folder → Type 0) (store : Known) (info : SetInfo) (known : store.last ≡ Some info) (fits : FitsFolder store told images) where
+  -- the set that counts is the one that the store knows
+  found_set : (files : Folder) → told ≡ Some files → last_set files ≡ Some (set_of files info)
+  unfolding last_set
+  found_set files is = ap (option_map (set_of files)) ((fits files is).last ∙ known)
+
+  slot_is : (files : Folder) → (set_of files info).slot ≡ info.slot
+  unfolding set_of
+  slot_is files = refl
+
+  pub damage_found : (damage : Damage) → ForSome told (λ files. HasDamage (last_set files) damage) → IfSome told (λ files. SpoilsSet files info.slot damage)
+  damage_found damage damaged = if_some told (λ files is.
+      let found = damaged files is in
+      record {
+        found = found.0;
+        counts = found.1;
+        place = let same : found.0 ≡ set_of files info = let here = found_set files is in let there = found.1 in cc in ap (λ (set : FoundSet). set.slot) same ∙ slot_is files;
+        damaged = inl found.2;
+      })
+
+  pub damage_spelled : (bytes : List (List ℕ)) (damage : Damage) → ForSome told (λ files. HasSet (last_set files) info.generation bytes) → DamagedFiles bytes damage.file damage.offset → IfSome told (λ files. SpoilsSet files info.slot damage)
+  damage_spelled bytes damage has damaged = if_some told (λ files is.
+      let found = has files is in
+      record {
+        found = found.0;
+        counts = found.1;
+        place = let same : found.0 ≡ set_of files info = let here = found_set files is in let there = found.1 in cc in ap (λ (set : FoundSet). set.slot) same ∙ slot_is files;
+        damaged = inr (bytes, (subst (λ n. IsSet found.0 n bytes) (sym found.2.generation) found.2, damaged));
+      })
+
+  pub restored : (result : Result Machine Ending) (bytes : List (List ℕ)) → ForSome told (λ files. HasSet (last_set files) info.generation bytes) → IsMachineOf result info.slot bytes → Restored result info told
+  restored (Ok m) bytes has of = record {
+    images = bytes;
+    spelled = of.0;
+    counted = if_some told (λ files is. record { images = bytes; counts = has files is; state = of.0 });
+    ready = of.1;
+  }
+  restored (Err (Damaged at damage)) bytes has of = subst (λ slot. IfSome told (λ files. SpoilsSet files slot damage)) (sym of.0) (damage_spelled bytes damage has of.1)
+  restored (Err Memory) bytes has of = tt
+  restored (Err Done) bytes has of = absurd of
+  restored (Err Usage) bytes has of = absurd of
+  restored (Err (InputFault who)) bytes has of = absurd of
+  restored (Err (Missing who)) bytes has of = absurd of
+  restored (Err (BadElf who fault)) bytes has of = absurd of
+  restored (Err SinkFault) bytes has of = absurd of
+  restored (Err DiskFault) bytes has of = absurd of
+  restored (Err NoSet) bytes has of = absurd of
+  restored (Err (Budget records)) bytes has of = absurd of

@@ -104,7 +104,7 @@ pub if_some : {A : Type 0} (o : Option A) {P : A → Type 0} → ((x : A) → o 
 if_some None each = tt
 if_some (Some x) each = each x refl
 
-at_some : {A : Type 0} (P : A → Type 0) (o : Option A) (x : A) → o ≡ Some x → IfSome o P → P x
+pub at_some : {A : Type 0} (P : A → Type 0) (o : Option A) (x : A) → o ≡ Some x → IfSome o P → P x
 at_some P o x is holds = subst (λ q. IfSome q P) is holds
 
 -- a bound on the generation of the set that counts

@@ -1,5 +1,6 @@
--- The start of one program is the plain state of a machine with one process, which lives with one thread.
-use Rattle.std.proofs.Common.{◌≡◌, ◌≢◌, ℕ, true, false, List, [], ◌∷◌, refl, sym, ap, ◌∙◌}
+-- The start of one program is the plain state of a machine with one process, which lives with one thread; it is a valid one, and its kernel
+-- part has an image.
+use Rattle.std.proofs.Common.{◌≡◌, ◌≢◌, ℕ, zero, suc, All, arith, lit<, true, false, List, [], ◌∷◌, refl, sym, ap, ◌∙◌}
 use Rattle.std.specs.FinMap as map
 use Rattle.sys_abi.specs.declared.identity.VPid.{VPid}
 use Rattle.sys_abi.specs.Orders.{vpid_cmp}
@@ -10,7 +11,13 @@ use Rattle.plain_machine.specs.declared.kernel.PlainKernel.{PlainKernel}
 use Rattle.plain_machine.specs.declared.plain.Plain.{Plain}
 use Rattle.plain_machine.specs.declared.process.Process.{Process}
 use Rattle.plain_machine.specs.Kernel.{pid, is_live, is_live_process}
-use Rattle.plain_machine.specs.Start.{start, start_kernel, with_processes, with_process, with_files, with_users, empty_kernel, start_user, start_thread, start_regs, start_process}
+use Rattle.plain_machine.specs.Launches.{IsLaunched}
+use Rattle.plain_machine.specs.Valid.{IsValid}
+use Rattle.plain_machine.proofs.StartKernels.{start_is_valid}
+use Rattle.image_codec.specs.KernelImages.{HasImage}
+use Rattle.image_codec.specs.StartImages.{start_image}
+use Rattle.image_codec.proofs.StartImages.{start_has_image}
+use Rattle.plain_machine.specs.Start.{Launched, start, start_kernel, with_processes, with_process, with_files, with_users, empty_kernel, start_user, start_thread, start_regs, start_process}
 use Rattle.dmtcp_top.specs.Machines.{only, single, OneThread}
 use Rattle.dmtcp_top.proofs.OneProcess.{users_while_live}
 
@@ -38,3 +45,17 @@ pub start_is_single : (program : Program) (arguments : List ℕ) → single (wit
 start_is_single program arguments =
     ap (λ users. let g : Plain = record { kernel = with_process empty_kernel 40000 0; users = users } in g) (users_while_live (with_process empty_kernel 40000 0) (pid 40000) (start_user program arguments 40000) first_lives)
     ∙ sym (started program arguments)
+
+abbrev one_job : Program → List ℕ → Launched
+one_job program arguments = record { host = 0; program = program; arguments = arguments }
+
+pub start_valid : (program : Program) (arguments : List ℕ) → IsLaunched (one_job program arguments) → IsValid (start (one_job program arguments ∷ []) [])
+start_valid program arguments is = start_is_valid (one_job program arguments ∷ []) [] (omega arith) (one_of (one_job program arguments) is)
+  where
+    one_of : (job : Launched) → IsLaunched job → All IsLaunched (job ∷ [])
+    one_of job is zero x low = is
+    one_of job is (suc i) x low = absurd (omega arith)
+
+pub first_image : (program : Program) (arguments : List ℕ) → HasImage (with_process empty_kernel 40000 0)
+unfolding start_kernel with_processes with_files
+first_image program arguments = (start_image 0, start_has_image (one_job program arguments) (lit< tt))

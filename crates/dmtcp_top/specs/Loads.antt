@@ -13,6 +13,7 @@ use Rattle.dmtcp_top.specs.Keeping.{Counts}
 use Rattle.edge_io.specs.Inputs.{Files}
 use Rattle.set_disk.specs.Files.{Files as Folder}
 use Rattle.plain_machine.specs.declared.plain.Plain.{Plain}
+use Rattle.image_codec.specs.Sets.{DamagedFiles}
 use Rattle.dmtcp_top.specs.Sets.{SpellsState}
 use Rattle.image_store.specs.Slots.{last}
 use Rattle.trace_log.specs.LogText.{at_start}
@@ -95,6 +96,13 @@ IsQuiet (Restart settings) = ⊥
 abbrev pub IsGoodProgram : Program → Type 0
 IsGoodProgram program = (arguments : List ℕ) → All IsByte arguments → CanLaunch (record { host = 0; program = program; arguments = arguments })
 
+-- the program that a file describes, or why it describes none
+abbrev pub IsProgramIn : Result Program Ending → List ℕ → List ℕ → Type 0
+IsProgramIn (Ok program) name file = (first_fault file ≡ None) × (program ≡ program_of file) × IsGoodProgram program
+IsProgramIn (Err (BadElf who fault)) name file = (who.now ≡ name) × (first_fault file ≡ Some fault)
+IsProgramIn (Err Memory) name file = Unit {0}
+IsProgramIn (Err _) name file = ⊥
+
 -- the program in the input of this name, or why there is none
 abbrev pub IsReadProgram : Result Program Ending → Option Files → List ℕ → Type 0
 IsReadProgram (Ok program) files name =
@@ -111,6 +119,13 @@ Reopened (Ok store) folder = (store.floor ≡ 0) × IfSome folder (λ files. las
 Reopened (Err DiskFault) folder = Unit {0}
 Reopened (Err Memory) folder = Unit {0}
 Reopened (Err _) folder = ⊥
+
+-- the machine at the state that the files of a set in this slot spell, or why there is none
+abbrev pub IsMachineOf : Result Machine Ending → ℕ → List (List ℕ) → Type 0
+IsMachineOf (Ok m) slot images = SpellsState images (plain_of m) × IsReady m
+IsMachineOf (Err (Damaged at damage)) slot images = (at ≡ slot) × DamagedFiles images damage.file damage.offset
+IsMachineOf (Err Memory) slot images = Unit {0}
+IsMachineOf (Err _) slot images = ⊥
 
 -- the machine at the state of the set that counts, or why there is none
 pub record IsRestored (info : SetInfo) (folder : Option Folder) (m : Machine) : Type 0 where

@@ -1,12 +1,11 @@
 ghost use Rattle.std.specs.Prelude.{◌≡◌, ◌<◌, ◌≤◌, true, length, IfOk};
-ghost use Rattle.image_codec.specs.Sets.{SpellsFiles, IsStateOf};
 ghost use Rattle.dmtcp_top.specs.Machines.{plain_of, lives, IsReady};
 ghost use Rattle.dmtcp_top.specs.Sets.{SpellsState};
 
 use crate::machine::Machine;
-use image_codec::SetBytes;
-use rebuild::Decoded;
+use image_codec::{SetBytes, shared_image, write_process, write_shared};
 use std::alloc::{AllocError, Global};
+use views::list_of::ListOf;
 
 impl Machine {
     /// The files of a set that spells the machine's state.
@@ -17,7 +16,13 @@ impl Machine {
         ensures some { IfOk result (λ set. 0 < length set.files) }
         ensures few { IfOk result (λ set. length set.files ≤ 129) }
     {
-        let _ = alloc;
-        Err(AllocError)
+        let shared = shared_image(alloc, &self.kernel)?;
+        let first = write_shared(alloc, &shared)?;
+        let image = self.guest.image(alloc)?;
+        let second = write_process(alloc, &image)?;
+        let mut files = ListOf::new(alloc);
+        files.push(ListOf::from_vec(first))?;
+        files.push(ListOf::from_vec(second))?;
+        Ok(SetBytes::of_files(files))
     }
 }

@@ -6,13 +6,14 @@ ghost use Rattle.elf32.specs.Programs.{IsWellPlaced, program_of};
 ghost use Rattle.elf32.specs.Rules.{first_fault};
 ghost use Rattle.plain_machine.specs.Launches.{IsLaunched};
 ghost use Rattle.plain_machine.specs.Start.{start};
+ghost use Rattle.plain_machine.specs.Valid.{IsByte};
 ghost use Rattle.image_store.specs.FoundSets.{last_set, HasSet};
 ghost use Rattle.image_store.specs.StoreStates.{FitsFolder};
 ghost use Rattle.dmtcp_top.specs.Endings.{status_of};
 ghost use Rattle.dmtcp_top.specs.Jobs.{IsAsked};
 ghost use Rattle.dmtcp_top.specs.Keeping.{IsKept};
 ghost use Rattle.dmtcp_top.specs.Launches.{arguments_of};
-ghost use Rattle.dmtcp_top.specs.Loads.{Begins, IsFresh, IsQuiet, IsReadProgram, Launches, OnlyLooks, Reopened, Restarts, Restored};
+ghost use Rattle.dmtcp_top.specs.Loads.{Begins, IsFresh, IsMachineOf, IsProgramIn, IsQuiet, IsReadProgram, Launches, OnlyLooks, Reopened, Restarts, Restored};
 ghost use Rattle.dmtcp_top.specs.Machines.{plain_of, IsReady};
 ghost use Rattle.dmtcp_top.specs.Words.{IsName};
 
@@ -25,11 +26,12 @@ use crate::start::Start;
 use crate::status::Status;
 use edge_io::{InputFault, Inputs};
 use elf32::{ElfReason, Program, read_elf};
-use image_codec::ReadFault;
+use image_codec::{ReadFault, SetBytes};
 use image_store::{SetInfo, Store, StoreFault};
 use rebuild::decode_set;
 use set_disk::Folder;
 use std::alloc::{AllocError, Global};
+use views::list_of::ListOf;
 
 /// The start of the run that the words ask for.
 pub(crate) fn begin<'a, I: Inputs, F: Folder>(
@@ -98,7 +100,14 @@ fn read_program<'a, I: Inputs>(
         Err(InputFault::Failed) => return Err(Ending::InputFault(name)),
         Err(InputFault::Memory) => return Err(Ending::Memory),
     };
-    match read_elf(alloc, bytes.as_slice()) {
+    program_in(alloc, name, bytes.as_slice())
+}
+
+/// The program that the bytes of a file describe.
+fn program_in<'a>(alloc: Global, name: &'a str, file: &[u8]) -> Result<Program, Ending<'a>>
+    ensures { IsProgramIn result name.now file.now }
+{
+    match read_elf(alloc, file) {
         Ok(program) => Ok(program),
         Err(fault) => {
             if fault.reason == ElfReason::Memory {
@@ -190,13 +199,35 @@ fn restore<'a, F: Folder>(
         Err(StoreFault::Damaged(damage)) => return Err(Ending::Damaged(info.slot, damage)),
         Err(StoreFault::Memory) => return Err(Ending::Memory),
     };
-    let decoded = match decode_set(alloc, &set) {
+    machine_of(alloc, info.slot, &set)
+}
+
+/// The machine at the state that the files of a set in this slot spell.
+fn machine_of<'a>(alloc: Global, slot: u32, set: &SetBytes) -> Result<Machine, Ending<'a>>
+    ensures { IsMachineOf result slot set.now.files }
+{
+    look_at_files(set.files.as_slice());
+    let decoded = match decode_set(alloc, set) {
         Ok(decoded) => decoded,
-        Err(ReadFault::Damaged(damage)) => return Err(Ending::Damaged(info.slot, damage)),
+        Err(ReadFault::Damaged(damage)) => return Err(Ending::Damaged(slot, damage)),
         Err(ReadFault::Memory) => return Err(Ending::Memory),
     };
     match Machine::restore(alloc, decoded) {
         Ok(machine) => Ok(machine),
         Err(AllocError) => Err(Ending::Memory),
     }
+}
+
+/// Looks at each file, so that it is known to be one of bytes.
+fn look_at_files(files: &[ListOf<u8>])
+    ensures { All (λ file. All IsByte file) files.now }
+{
+    for file in files {
+        look_at_bytes(file.as_slice());
+    }
+}
+
+fn look_at_bytes(bytes: &[u8])
+    ensures { All IsByte bytes.now }
+{
 }

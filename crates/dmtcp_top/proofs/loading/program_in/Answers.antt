@@ -1,0 +1,18 @@
+use Rattle.std.proofs.Common.{ℕ, List, ◌≤◌, sym, subst}
+use Rattle.std.specs.Prelude.{All}
+use Rattle.elf32.specs.declared.program.Program.{Program}
+use Rattle.elf32.specs.Pages.{page_count}
+use Rattle.elf32.specs.Programs.{IsWellPlaced}
+use Rattle.plain_machine.specs.Launches.{IsLaunched}
+use Rattle.plain_machine.proofs.StartUsers.{read_is_launched}
+use Rattle.dmtcp_top.proofs.Loads.{all_bytes}
+use Rattle.dmtcp_top.proofs.loading.program_in.Goals as goal
+
+pub returns-in-Ok : goal.returns-in-Ok
+returns-in-Ok c =
+    let read = c.in-Ok.ensures.program in
+    let placed = subst (λ (p : Program). All IsWellPlaced p.segments) read c.in-Ok.ensures.placed in
+    let pages = subst (λ (p : Program). page_count p.segments ≤ 1536) read c.in-Ok.ensures.pages in
+    (c.in-Ok.ensures.rules, read, λ arguments bytes.
+      subst (λ (p : Program). IsLaunched (record { host = 0; program = p; arguments = arguments })) (sym read)
+      (read_is_launched 0 c.args.file.now arguments (all_bytes c.args.file.now c.type_inv.file) bytes placed pages))

@@ -1,0 +1,52 @@
+<<<<<<< HEAD
+use Rattle.std.proofs.Common.{rules, ◌≡◌, ◌≢◌, ℕ, ◌+◌, ◌<◌, ◌≤◌, [], ◌∷◌, true, false, if◌then◌else◌, None, Some, All, length, Err, IsErrOf, IfOk, OnOk, OnErr, ◌-◌, ◌*◌, ◌/◌, ◌%◌, Bool, nat_eq, nat_lt, List, ◌++◌, slice_index_or, slice_set, bit_and, bit_or, Fits, w8, w32, w64, Bor, MutBor}
+use Rattle.views.specs.Faults.{Rose, IsFaultOf}
+use Rattle.plain_machine.specs.Launches.{IsLaunched}
+use Rattle.plain_machine.specs.Buffers.{lent}
+use Rattle.plain_machine.specs.Start.{start}
+use Rattle.plain_machine.specs.Steps.{user_step, Asks, Trapped}
+use Rattle.sys_abi.specs.Requests.{is_local}
+use Rattle.dmtcp_top.specs.Sessions.{sunk, Took, TookFront}
+use Rattle.dmtcp_top.specs.Machines.{plain_of, lives, IsSingle, IsReady, IsSame, Notes, Spoils}
+use Rattle.dmtcp_top.proofs.machine.Machine.start.Goals as goal
+
+-- src/machine.rt:55:5
+pub returns-clause-state : goal.returns-clause-state
+returns-clause-state c = ?
+
+-- src/machine.rt:55:5
+pub returns-clause-ready : goal.returns-clause-ready
+returns-clause-ready c = ?
+=======
+use Rattle.std.proofs.Common.{◌≡◌, ◌≢◌, sym, ap, subst, ◌∙◌, false}
+use Rattle.guest_proc.specs.Guests.{GuestPart}
+use Rattle.plain_machine.specs.declared.kernel.PlainKernel.{PlainKernel}
+use Rattle.plain_machine.specs.Kernel.{pid, is_live}
+use Rattle.plain_machine.specs.Start.{with_process, empty_kernel}
+use Rattle.plain_machine.specs.Valid.{IsValid}
+use Rattle.image_codec.specs.KernelImages.{HasImage}
+use Rattle.dmtcp_top.specs.Machines.{single, OneThread}
+use Rattle.dmtcp_top.proofs.Starts.{start_is_single, start_valid, first_image, first_is_alone, one_thread_at_start}
+use Rattle.dmtcp_top.proofs.machine.Machine.start.Goals as goal
+
+pub returns-clause-state : goal.returns-clause-state
+returns-clause-state c =
+    let kernel = c.in_ok-add_process.ensures.ok ∙ ap (λ (k : PlainKernel). with_process k 40000 0) c.empty-kernel.ensures in
+    ap (λ (k : PlainKernel). single k c.in_ok-guest.guest.pid c.in_ok-guest.guest.user) kernel
+    ∙ ap (λ (h : GuestPart). single (with_process empty_kernel 40000 0) h.pid h.user) c.in_ok-guest.ensures
+    ∙ start_is_single c.args.program.now c.args.arguments.now
+
+pub returns-clause-ready : goal.returns-clause-ready
+returns-clause-ready c =
+    let kernel = c.in_ok-add_process.ensures.ok ∙ ap (λ (k : PlainKernel). with_process k 40000 0) c.empty-kernel.ensures in
+    record {
+      single = record {
+        alone = λ q differ.
+            let apart : q ≢ pid 40000 = λ is. differ (is ∙ sym (ap (λ (h : GuestPart). h.pid) c.in_ok-guest.ensures)) in
+            subst (λ (k : PlainKernel). is_live k q ≡ false) (sym kernel) (first_is_alone q apart);
+        one = subst (λ (h : GuestPart). OneThread h.user 40000) (sym c.in_ok-guest.ensures) (one_thread_at_start c.args.program.now c.args.arguments.now 40000);
+      };
+      valid = subst IsValid (sym (returns-clause-state c)) (start_valid c.args.program.now c.args.arguments.now c.requires.launched);
+      imaged = λ alive. subst HasImage (sym kernel) (first_image c.args.program.now c.args.arguments.now);
+    }
+>>>>>>> 37d928f3d3e197c9308056852268e616a6008957
