@@ -1,23 +1,3 @@
-<<<<<<< HEAD
-use Rattle.std.proofs.Common.{rules, ◌≡◌, ◌≢◌, ℕ, ◌+◌, ◌<◌, ◌≤◌, [], ◌∷◌, true, false, if◌then◌else◌, None, Some, All, length, Err, IsErrOf, IfOk, OnOk, OnErr, ◌-◌, ◌*◌, ◌/◌, ◌%◌, Bool, nat_eq, nat_lt, List, ◌++◌, slice_index_or, slice_set, bit_and, bit_or, Fits, w8, w32, w64, Bor, MutBor}
-use Rattle.views.specs.Faults.{Rose, IsFaultOf}
-use Rattle.plain_machine.specs.Launches.{IsLaunched}
-use Rattle.plain_machine.specs.Buffers.{lent}
-use Rattle.plain_machine.specs.Start.{start}
-use Rattle.plain_machine.specs.Steps.{user_step, Asks, Trapped}
-use Rattle.sys_abi.specs.Requests.{is_local}
-use Rattle.dmtcp_top.specs.Sessions.{sunk, Took, TookFront}
-use Rattle.dmtcp_top.specs.Machines.{plain_of, lives, IsSingle, IsReady, IsSame, Notes, Spoils}
-use Rattle.dmtcp_top.proofs.machine.Machine.start.Goals as goal
-
--- src/machine.rt:55:5
-pub returns-clause-state : goal.returns-clause-state
-returns-clause-state c = ?
-
--- src/machine.rt:55:5
-pub returns-clause-ready : goal.returns-clause-ready
-returns-clause-ready c = ?
-=======
 use Rattle.std.proofs.Common.{◌≡◌, ◌≢◌, sym, ap, subst, ◌∙◌, false}
 use Rattle.guest_proc.specs.Guests.{GuestPart}
 use Rattle.plain_machine.specs.declared.kernel.PlainKernel.{PlainKernel}
@@ -49,4 +29,3 @@ returns-clause-ready c =
       valid = subst IsValid (sym (returns-clause-state c)) (start_valid c.args.program.now c.args.arguments.now c.requires.launched);
       imaged = λ alive. subst HasImage (sym kernel) (first_image c.args.program.now c.args.arguments.now);
     }
->>>>>>> 37d928f3d3e197c9308056852268e616a6008957
