@@ -26,3 +26,4 @@ pub mod MachineImages
 pub mod Served
 pub mod Turning
 pub mod Loads
+pub mod RestoredKernels

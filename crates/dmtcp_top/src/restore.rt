@@ -4,8 +4,11 @@ ghost use Rattle.image_codec.specs.Sets.{SpellsFiles, IsStateOf};
 ghost use Rattle.dmtcp_top.specs.Machines.{plain_of, IsReady};
 
 use crate::machine::Machine;
+use guest_proc::Guest;
+use image_codec::restored_kernel;
 use rebuild::Decoded;
 use std::alloc::{AllocError, Global};
+use sys_abi::{Tid, Transfer};
 
 impl Machine {
     /// The machine whose state the values of a set stand for. It takes the pages as they are.
@@ -14,7 +17,23 @@ impl Machine {
         ensures ready { IfOk result (λ m. IsReady m) }
         ensures state { IfOk result (λ m. IsStateOf decoded.shared decoded.procs (plain_of m)) }
     {
-        let _ = alloc;
-        Err(AllocError)
+        let Decoded { shared, procs } = decoded;
+        let kernel = restored_kernel(alloc, &shared)?;
+        let mut images = procs.into_vec();
+        let Some(image) = images.pop() else {
+            unreachable!();
+        };
+        let Some(first) = image.threads.as_slice().first() else {
+            unreachable!();
+        };
+        let thread = Tid(first.tid);
+        let guest = Guest::of_image(alloc, image)?;
+        let transfer = Transfer::new(alloc)?;
+        Ok(Machine {
+            kernel,
+            guest,
+            thread,
+            transfer,
+        })
     }
 }
