@@ -27,3 +27,4 @@ pub mod Served
 pub mod Turning
 pub mod Loads
 pub mod RestoredKernels
+pub mod Restored

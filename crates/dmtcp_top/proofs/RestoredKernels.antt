@@ -118,10 +118,10 @@ module _ (s : Shared) (one : OnlyProcess s) where
   process_is =
       let count : map.len (process_entry one.process).1.threads ≡ 1 = ap map.len thread_found ∙ few_threads one.thread.tid one.thread.pending in
       let IsPending = λ (t signals : ℕ). IsGivenOut s.next_id t × IsSignalSet signals in
-      let tid : IsGivenOut s.next_id one.thread.tid = number_given s.next_id one.thread.tid _ _ one.thread_fits.number.1 in
+      let tid : IsGivenOut s.next_id one.thread.tid = number_given s.next_id one.thread.tid true true one.thread_fits.number.1 in
       let signals : IsSignalSet one.thread.pending = from_lt one.thread.pending (2 ^ 31) one.thread_fits.pending.1 in
       record {
-        number = number_given s.next_id one.process.pid.0 _ _ one.fits.number.1;
+        number = number_given s.next_id one.process.pid.0 true true one.fits.number.1;
         pending = from_lt one.process.pending (2 ^ 31) (and_first (field.is_signals one.process.pending) _ one.fits.pending.1);
         life = subst (λ (l : Life). FitsLife l (process_entry one.process).1.threads one.process.pending) (sym one.life) (omega arith, omega arith);
         threads = subst (λ (ts : List ThreadEntry). Each (map.from_entries {R = nat_cmp} (each signals_entry ts)) IsPending) (sym one.threads)
@@ -158,17 +158,16 @@ refers_by id descriptor pair = ap (λ k. eq_by_cmp desc_cmp k descriptor.desc) (
 held_among : (id : DescId) (p : VPid) (es : List (Slot × Descriptor)) → list_any (field.refers_to id) (each descriptor_image (filter (is_of p) es)) ≡ true
     → list_any (refers_to id) (each (λ (e : Slot × Descriptor). e.1) es) ≡ true
 held_among id p [] is = cc
-held_among id p (e ∷ es) is = kept (is_of p e) is
+held_among id p (e ∷ es) is = kept (is_of p e) (λ there. held_among id p es there) is
   where
-    later : list_any (field.refers_to id) (each descriptor_image (filter (is_of p) es)) ≡ true → (refers_to id e.1 || list_any (refers_to id) (each (λ (e : Slot × Descriptor). e.1) es)) ≡ true
-    later is = or_second (refers_to id e.1) _ (held_among id p es is)
-    kept : (b : Bool) → list_any (field.refers_to id) (each descriptor_image (cond b (e ∷ filter (is_of p) es) (filter (is_of p) es))) ≡ true
+    kept : (b : Bool) → (list_any (field.refers_to id) (each descriptor_image (filter (is_of p) es)) ≡ true → list_any (refers_to id) (each (λ (e : Slot × Descriptor). e.1) es) ≡ true)
+        → list_any (field.refers_to id) (each descriptor_image (cond b (e ∷ filter (is_of p) es) (filter (is_of p) es))) ≡ true
         → (refers_to id e.1 || list_any (refers_to id) (each (λ (e : Slot × Descriptor). e.1) es)) ≡ true
-    kept true is = ⊎_elim
+    kept true later is = ⊎_elim
         (λ here. ap (λ b. b || list_any (refers_to id) (each (λ (e : Slot × Descriptor). e.1) es)) (refers_by id e.1 here))
-        (λ there. later there)
+        (λ there. or_second (refers_to id e.1) _ (later there))
         (one_of_two (field.is_pair id.pid.0 id.num e.1.desc) (list_any (field.refers_to id) (each descriptor_image (filter (is_of p) es))) is)
-    kept false is = later is
+    kept false later is = or_second (refers_to id e.1) _ (later is)
 
 module _ (s : Shared) (is : IsShared s) (one : OnlyProcess s) where
   abbrev k : PlainKernel
