@@ -2,7 +2,7 @@
 --     IsOneImage      the files are two, and the images one
 --     image_thread    the image's one thread, which no handler interrupted, and nobody waits
 --     restored_is_ready, restored_state_is      the machine
-use Rattle.std.proofs.Common.{◌≡◌, ◌≢◌, ℕ, suc, zero, Bool, true, false, cond, ◌&&◌, List, [], ◌∷◌, ◌++◌, length, refl, sym, ap, subst, ◌∙◌, ⊎_elim, arith}
+use Rattle.std.proofs.Common.{◌≡◌, ◌≢◌, ℕ, ◌-◌, ◌<◌, slice_index_or, Bool, true, false, cond, ◌&&◌, List, [], ◌∷◌, ◌++◌, length, refl, sym, ap, subst, ◌∙◌, ⊎_elim, arith}
 use Rattle.std.specs.Prelude.{◌==◌, All, IsTrue, Option, Some, None, is_some, filter, count_by, slice_get, map as each}
 use Rattle.std.specs.Option.{option_map, option_map_or}
 use Rattle.std.specs.Cmp.{nat_cmp_total}
@@ -186,6 +186,10 @@ module _ (s : Shared) (is : IsShared s) (one : OnlyProcess s) (user : UserPart) 
     threads = threads;
   })
 
+-- the process of an image
+abbrev pub guest_of : ProcImage → GuestPart
+guest_of image = record { pid = image.pid; user = user_of image }
+
 module _ (s : Shared) (images : List ProcImage) (is : IsOneImage s images) where
   pub the_process : OnlyProcess s
   the_process = only_process s is.shared
@@ -193,8 +197,16 @@ module _ (s : Shared) (images : List ProcImage) (is : IsOneImage s images) where
   pub the_thread : ImageThread the_process.thread.tid is.image
   the_thread = image_thread s the_process is.image is.text is.process
 
-  abbrev pub guest_of : ProcImage → GuestPart
-  guest_of image = record { pid = image.pid; user = user_of image }
+  -- the last of the images, and the first of its threads
+  pub last_image : (items : List ProcImage) (len : ℕ) (popped : Option ProcImage) → items ≡ images → len ≡ length items
+      → ((d : ProcImage) → 0 < len → popped ≡ Some (slice_index_or items (len - 1) d)) → popped ≡ Some is.image
+  last_image items len popped all count last =
+      let one : len ≡ 1 = count ∙ ap length (all ∙ is.images_are) in
+      last is.image (omega arith) ∙ ap (λ (n : ℕ). Some (slice_index_or items (n - 1) is.image)) one
+      ∙ ap (λ (list : List ProcImage). Some (slice_index_or list 0 is.image)) (all ∙ is.images_are)
+
+  pub first_thread : (image : ProcImage) (threads : List ThreadImage) → image ≡ is.image → threads ≡ image.threads → slice_get threads 0 ≡ Some the_thread.thread
+  first_thread image threads same all = ap (λ (list : List ThreadImage). slice_get list 0) (all ∙ ap (λ (i : ProcImage). i.threads) same ∙ the_thread.threads)
 
   module _ (m : Machine) (kernel : m.kernel ≡ kernel_of s) (guest : m.guest ≡ guest_of is.image) where
     part : m.guest.user ≡ user_of is.image
