@@ -2,7 +2,7 @@
 --     IsOneImage      the files are two, and the images one
 --     image_thread    the image's one thread, which no handler interrupted, and nobody waits
 --     restored_is_ready, restored_state_is      the machine
-use Rattle.std.proofs.Common.{◌≡◌, ◌≢◌, ℕ, ◌-◌, ◌<◌, slice_index_or, Bool, true, false, cond, ◌&&◌, List, [], ◌∷◌, ◌++◌, length, refl, sym, ap, subst, ◌∙◌, ⊎_elim, arith}
+use Rattle.std.proofs.Common.{◌≡◌, ℕ, ◌-◌, ◌<◌, slice_index_or, true, cond, List, [], ◌∷◌, length, refl, sym, ap, subst, ◌∙◌, ⊎_elim, arith}
 use Rattle.std.specs.Prelude.{◌==◌, All, IsTrue, Option, Some, None, is_some, filter, count_by, slice_get, map as each}
 use Rattle.std.specs.Option.{option_map, option_map_or}
 use Rattle.std.specs.Cmp.{nat_cmp_total}
@@ -18,17 +18,14 @@ use Rattle.plain_machine.specs.declared.plain.Plain.{Plain}
 use Rattle.plain_machine.specs.declared.process.Process.{Process}
 use Rattle.plain_machine.specs.declared.process.Life.{Life}
 use Rattle.plain_machine.specs.declared.user_part.UserPart.{UserPart}
-use Rattle.plain_machine.specs.declared.user_part.ThreadPart.{ThreadPart}
 use Rattle.plain_machine.specs.Kernel.{lives as lives_in, is_live}
-use Rattle.plain_machine.specs.Valid.{IsByte, IsKernel, IsUser, IsValid, SameThreads}
+use Rattle.plain_machine.specs.Valid.{IsByte, IsUser, IsValid, SameThreads}
 use Rattle.image_codec.specs.declared.process_image.ProcImage.{ProcImage}
 use Rattle.image_codec.specs.declared.thread_image.ThreadImage.{ThreadImage}
-use Rattle.image_codec.specs.declared.shared.ThreadEntry.{ThreadEntry}
 use Rattle.image_codec.specs.declared.shared.ProcessEntry.{ProcessEntry}
 use Rattle.image_codec.specs.declared.shared.Shared.{Shared}
 use Rattle.image_codec.specs.Texts.{EachFrom}
 use Rattle.image_codec.specs.SharedFits.{IsShared}
-use Rattle.image_codec.specs.SharedFormat.{SpellsShared}
 use Rattle.image_codec.specs.KernelParts.{kernel_of, process_entry}
 use Rattle.image_codec.specs.KernelImages.{HasImage}
 use Rattle.image_codec.specs.ProcessTests.{is_number}
@@ -36,7 +33,7 @@ use Rattle.image_codec.specs.ProcessImages.{IsThreadImage, SpellsProcess, proces
 use Rattle.image_codec.specs.UserParts.{user_of, thread_entry}
 use Rattle.image_codec.specs.Sets.{SpellsFiles, SpellsImages, IsStateOf, live_count, user_entry}
 use Rattle.guest_proc.specs.Guests.{GuestPart}
-use Rattle.guest_proc.proofs.FittingImages.{from_eq, and_first, and_second, first_of, rest_of}
+use Rattle.guest_proc.proofs.FittingImages.{from_eq, and_first, first_of, rest_of}
 use Rattle.dmtcp_top.specs.declared.machine.Machine.{Machine}
 use Rattle.dmtcp_top.specs.Machines.{IsReady, OneThread, only, plain_of, single}
 use Rattle.dmtcp_top.proofs.OneProcess.{users_while_live}

@@ -1,15 +1,14 @@
 -- The kernel part of a shared image that can be spelled is a valid one, with one process, which lives with one thread.
 --     OnlyProcess s, only_process      the process and its thread      only_is_live, others_are_none      nobody else lives
 --     restored_kernel_is      the kernel part is a valid one
-use Rattle.std.proofs.Common.{◌≡◌, ◌≢◌, ℕ, ◌≤◌, ◌<◌, ◌^◌, Bool, true, false, cond, ◌&&◌, ◌||◌, List, [], ◌∷◌, ◌++◌, length, refl, sym, ap, subst, ◌∙◌, inl, inr, ⊎_elim, arith}
-use Rattle.std.specs.Prelude.{◌==◌, ◌⊎◌, IsTrue, Option, Some, None, is_some, nat_le, nat_lt, filter, map as each}
+use Rattle.std.proofs.Common.{◌≡◌, ◌≢◌, ℕ, ◌^◌, Bool, true, false, cond, ◌&&◌, ◌||◌, List, [], ◌∷◌, ◌++◌, length, refl, sym, ap, subst, ◌∙◌, inl, inr, ⊎_elim, arith}
+use Rattle.std.specs.Prelude.{◌==◌, ◌⊎◌, IsTrue, Some, is_some, nat_le, nat_lt, filter, map as each}
 use Rattle.std.specs.List.{list_any, list_all, flat_map}
 use Rattle.std.specs.declared.cmp.Ordering.{Ordering}
 use Rattle.std.specs.Ordering.{nat_cmp, eq_by_cmp}
 use Rattle.std.specs.Cmp.{IsTotalOrder, nat_cmp_total}
 use Rattle.std.specs.FinMap as map
 use Rattle.std.specs.FinMap.{nat_cmp-IsAntisymmetric}
-use Rattle.std.proofs.lemmas.Bool.Decides.{nat_tests}
 use Rattle.views.proofs.MapLaws.{get_insert_same, get_insert_other, same_or_other, key_tied, other_key, entries-single}
 use Rattle.views.proofs.MapValues.{EachEntry}
 use Rattle.sys_abi.specs.declared.identity.VPid.{VPid}
@@ -32,7 +31,7 @@ use Rattle.image_codec.specs.declared.shared.ProcessEntry.{ProcessEntry}
 use Rattle.image_codec.specs.declared.shared.Shared.{Shared}
 use Rattle.image_codec.specs.Texts.{EachFrom}
 use Rattle.image_codec.specs.SharedTests as field
-use Rattle.image_codec.specs.SharedFits.{IsShared, SharedFits, ProcessFits, ThreadFits, DescriptorFits, state_of}
+use Rattle.image_codec.specs.SharedFits.{IsShared, ProcessFits, ThreadFits, DescriptorFits, state_of}
 use Rattle.image_codec.specs.KernelParts.{kernel_of, process_entry, maker_entry, signals_entry, descriptor_entry, descriptor_entries, description_entry, direction_entries}
 use Rattle.image_codec.specs.KernelImages.{shared_of, process_image, descriptor_image, is_of}
 use Rattle.image_codec.proofs.KernelLaws.{shared_of-kernel_of}

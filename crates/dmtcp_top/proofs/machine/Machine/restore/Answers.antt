@@ -1,11 +1,11 @@
-use Rattle.std.proofs.Common.{◌≡◌, ℕ, ◌<◌, ◌≤◌, ◌^◌, List, [], ◌∷◌, Some, None, length, sym, ap, subst, ◌∙◌}
+use Rattle.std.proofs.Common.{◌≡◌, ◌<◌, ◌≤◌, ◌^◌, Some, length, sym, ap, subst, ◌∙◌}
 use Rattle.std.specs.Prelude.{All}
 use Rattle.image_codec.specs.declared.process_image.ProcImage.{ProcImage}
 use Rattle.image_codec.specs.declared.thread_image.ThreadImage.{ThreadImage}
 use Rattle.image_codec.specs.ProcessImages.{SpellsProcess, pid_at, tids_at}
 use Rattle.guest_proc.proofs.FittingImages.{image_numbers, image_few}
 use Rattle.dmtcp_top.specs.declared.machine.Machine.{Machine}
-use Rattle.dmtcp_top.proofs.Restored.{IsOneImage, the_image, the_thread, last_image, first_thread, guest_of, restored_state_is, restored_is_ready}
+use Rattle.dmtcp_top.proofs.Restored.{the_image, last_image, first_thread, guest_of, restored_state_is, restored_is_ready}
 use Rattle.dmtcp_top.proofs.machine.Machine.restore.Goals as goal
 
 one_value : {X : Type 0} (x y : X) → Some x ≡ Some y → x ≡ y
