@@ -27,3 +27,5 @@ pub mod Served
 pub mod Turning
 pub mod Loads
 pub mod Carried
+pub mod RestoredKernels
+pub mod Restored
