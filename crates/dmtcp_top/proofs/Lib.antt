@@ -27,5 +27,6 @@ pub mod Served
 pub mod Turning
 pub mod Loads
 pub mod Carried
+pub mod RoundTrips
 pub mod RestoredKernels
 pub mod Restored

@@ -2,6 +2,7 @@
 --     SpellsCutOf start trace image      the set that counts in the image spells the state of the run at one of its cuts
 --     StaysWhole ..                      what a crash leaves, what stays complete, and how often the folder failed
 --     IsPromised ..                      both
+--     RoundTrip                          what a restart goes on from
 use Rattle.std.specs.Prelude.{◌≡◌, ◌⊎◌, ℕ, List, Option, Some}
 use Rattle.std.specs.Option.{ForSome}
 use Rattle.sys_abi.specs.declared.record.Record.{Record}
@@ -10,7 +11,9 @@ use Rattle.set_disk.specs.Moments.{LeavesOnly}
 use Rattle.plain_machine.specs.declared.plain.Plain.{Plain}
 use Rattle.dmtcp_top.specs.declared.status.Status.{Status}
 use Rattle.dmtcp_top.specs.Sessions.{Sunk, Session}
+use Rattle.trace_log.specs.Requests.{CutAt}
 use Rattle.dmtcp_top.specs.Ends.{Ends}
+use Rattle.dmtcp_top.specs.Sets.{SpellsSet}
 use Rattle.dmtcp_top.specs.Keeping.{IsOpening, SpellsCut, KeepsComplete, CountsFaults}
 
 pub record SpellsCutOf (start : Option Plain) (trace : List Record) (image : Folder) : Type 0 where
@@ -28,3 +31,13 @@ pub record StaysWhole {D : Type 0} (reads : D → Option Folder) (moment : D →
 pub record IsPromised {D : Type 0} (reads : D → Option Folder) (moment : D → ℕ) (may_leave : D → Folder → Type 0) (left_since : D → ℕ → Folder → Type 0) (faults : D → ℕ) (status : Status) (session : Session) (log : Sunk) (old new : D) : Type 0 where
   pub ends : Ends status session log
   pub whole : StaysWhole reads moment may_leave left_since faults session.start session.trace old new
+
+-- a folder's set spells one state of one generation
+abbrev pub OneState : Type 0
+OneState = (files : Folder) (generation other : ℕ) (g h : Plain) → SpellsSet files generation g → SpellsSet files other h → (generation ≡ other) × (g ≡ h)
+
+-- where the set that counts is one of a run's cuts, a restart goes on from exactly the state at that cut
+abbrev pub RoundTrip : Type 0
+RoundTrip =
+    (g : Plain) (records : List Record) (files : Folder) (generation : ℕ) (state : Plain)
+    → SpellsCut g records files → SpellsSet files generation state → CutAt g records generation state

@@ -6,6 +6,7 @@ mod ending;
 mod images;
 mod job;
 mod keeper;
+pub mod laws;
 mod loading;
 mod machine;
 mod restore;
