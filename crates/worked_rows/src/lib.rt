@@ -5,7 +5,13 @@
 #![tactic(auto)]
 
 #[cfg(test)]
+mod checkpoints;
+#[cfg(test)]
 mod compiled;
+#[cfg(test)]
+mod crashes;
+#[cfg(test)]
+mod disk_faults;
 #[cfg(test)]
 mod launches;
 #[cfg(test)]
@@ -13,7 +19,11 @@ mod pieces;
 #[cfg(test)]
 mod programs;
 #[cfg(test)]
+mod records;
+#[cfg(test)]
 mod refusals;
+#[cfg(test)]
+mod restarts;
 #[cfg(test)]
 mod session;
 #[cfg(test)]

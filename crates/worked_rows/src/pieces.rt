@@ -1,4 +1,5 @@
-use crate::programs::program;
+use crate::programs::{THREE_WRITES, program};
+use crate::records::{CALL, user};
 use crate::session::{Failing, Left, NONE_FAIL, run, run_hello};
 use dmtcp_top::Status;
 use std::alloc::{AllocError, Global};
@@ -6,38 +7,6 @@ use std::sync::Wait;
 use std::test::Fail;
 use std::thread::Threads;
 use sys_abi::{Record, Signal, Tid, VPid};
-
-const CALL: Record = Record::Call {
-    p: VPid(40000),
-    t: Tid(40000),
-};
-
-fn user(n: u32) -> Record {
-    Record::User {
-        p: VPid(40000),
-        t: Tid(40000),
-        n,
-    }
-}
-
-/// Writes `a`, `b` and `c` on descriptor 1, each by a call of its own, and exits with 0.
-const THREE_WRITES: [u32; 15] = [
-    0x0010_0513,
-    0x0000_0597,
-    0x0385_8593,
-    0x0010_0613,
-    0x0400_0893,
-    0x0000_0073,
-    0x0010_0513,
-    0x0015_8593,
-    0x0000_0073,
-    0x0010_0513,
-    0x0015_8593,
-    0x0000_0073,
-    0x0000_0513,
-    0x05E0_0893,
-    0x0000_0073,
-];
 
 fn run_three_writes<R: Wait + Threads + Sync>(
     rt: &R,

@@ -55,3 +55,41 @@ pub const STORED_HELLO: [u8; 126] = [
     0x13, 5, 0x10, 0, 0x97, 5, 0, 0, 0x93, 0x85, 5, 2, 0x13, 6, 0x60, 0, 0x93, 8, 0, 4, 0x73, 0, 0,
     0, 0x13, 5, 0, 0, 0x93, 8, 0xE0, 5, 0x73, 0, 0, 0, 0x68, 0x65, 0x6C, 0x6C, 0x6F, 0x0A,
 ];
+
+/// Writes `a`, `b` and `c` on descriptor 1, each by a call of its own, and exits with 0.
+pub const THREE_WRITES: [u32; 15] = [
+    0x0010_0513,
+    0x0000_0597,
+    0x0385_8593,
+    0x0010_0613,
+    0x0400_0893,
+    0x0000_0073,
+    0x0010_0513,
+    0x0015_8593,
+    0x0000_0073,
+    0x0010_0513,
+    0x0015_8593,
+    0x0000_0073,
+    0x0000_0513,
+    0x05E0_0893,
+    0x0000_0073,
+];
+
+/// Writes `a` to `z` on descriptor 1, each by a call of its own, and exits with 0. The letter stands on the stack.
+pub const LETTERS: [u32; 15] = [
+    0x0610_0293,
+    0xFE51_2E23,
+    0x0010_0513,
+    0xFFC1_0593,
+    0x0010_0613,
+    0x0400_0893,
+    0x0000_0073,
+    0xFFC1_2283,
+    0x0012_8293,
+    0xFE51_2E23,
+    0x07B0_0313,
+    0xFC62_9EE3,
+    0x0000_0513,
+    0x05E0_0893,
+    0x0000_0073,
+];

@@ -140,10 +140,9 @@ fn a_program_with_wrong_headers_is_refused_at_their_places(rt: HostRuntime) -> R
 
 #[test]
 fn other_words_are_usage(rt: HostRuntime) -> Result<(), Fail> {
-    let cases: [&[&str]; 14] = [
+    let cases: [&[&str]; 13] = [
         &[],
         &["launch"],
-        &["restart"],
         &["launch", "0:hello.elf", "extra"],
         &["launch", "1:hello.elf"],
         &["launch", "0:"],
@@ -175,5 +174,85 @@ fn a_name_has_at_most_255_bytes(rt: HostRuntime) -> Result<(), Fail> {
     word.push('n')?;
     let left = run_hello(&rt, rt.alloc(), &["launch", word.as_str()], NONE_FAIL)?;
     assert_eq!(rt; left.status, Status::Usage);
+    Ok(())
+}
+
+#[test]
+fn options_out_of_form_are_usage(rt: HostRuntime) -> Result<(), Fail> {
+    let numbers = [
+        "0",
+        "00",
+        "01",
+        "4000001",
+        "40000000",
+        "-1",
+        "+1",
+        "1 ",
+        "",
+        "x",
+        "4294967297",
+    ];
+    for number in numbers {
+        for option in ["--every", "--records"] {
+            usage(&rt, rt.alloc(), &["launch", option, number, "0:hello.elf"])?;
+            usage(&rt, rt.alloc(), &["restart", option, number])?;
+        }
+    }
+    let cases: [&[&str]; 12] = [
+        &["restart", "0:x"],
+        &["restart", "--every"],
+        &["restart", "--records"],
+        &["restart", "--every", "1", "0:x"],
+        &["restart", "--every", "1", "--every", "1"],
+        &["restart", "--every", "1", "--records"],
+        &["restart", "--each", "1"],
+        &["launch", "--every"],
+        &["launch", "--every", "0:hello.elf"],
+        &["launch", "--every", "1"],
+        &["launch", "--every", "1", "--every", "1", "0:hello.elf"],
+        &["launch", "--every=1", "0:hello.elf"],
+    ];
+    for words in cases {
+        usage(&rt, rt.alloc(), words)?;
+    }
+    Ok(())
+}
+
+/// Runs words that are none of the command line.
+fn usage<R: Abort + Wait + Threads + Sync>(
+    rt: &R,
+    alloc: Global,
+    words: &[&str],
+) -> Result<(), AllocError> {
+    let left = run_hello(rt, alloc, words, NONE_FAIL)?;
+    assert_eq!(rt; left.status, Status::Usage);
+    assert_eq!(rt; left.status.code(), 10);
+    assert_eq!(rt; left.log.bytes(), b"usage\n".as_slice());
+    assert_eq!(rt; left.records().len(), 0);
+    Ok(())
+}
+
+#[test]
+fn options_stand_in_any_order_up_to_their_greatest_numbers(rt: HostRuntime) -> Result<(), Fail> {
+    let cases: [&[&str]; 4] = [
+        &["restart", "--every", "4000000"],
+        &["restart", "--records", "1"],
+        &["restart", "--records", "4000000", "--every", "1"],
+        &["restart", "--every", "1", "--records", "1"],
+    ];
+    for words in cases {
+        let left = run_hello(&rt, rt.alloc(), words, NONE_FAIL)?;
+        assert_eq!(rt; left.status, Status::NoSet);
+    }
+    let words = [
+        "launch",
+        "--records",
+        "1",
+        "--every",
+        "4000000",
+        "0:none.elf",
+    ];
+    let left = run_hello(&rt, rt.alloc(), &words, NONE_FAIL)?;
+    assert_eq!(rt; left.status, Status::Missing);
     Ok(())
 }

@@ -37,7 +37,7 @@ pub const NONE_FAIL: Failing<'static> = Failing {
     log: &[],
 };
 
-/// Runs the top call with one file among the inputs.
+/// Runs the top call with one file among the inputs, and an empty folder.
 pub fn run<R: Wait + Threads + Sync>(
     rt: &R,
     alloc: Global,
@@ -45,11 +45,23 @@ pub fn run<R: Wait + Threads + Sync>(
     file: (&str, &[u8]),
     failing: Failing,
 ) -> Result<Left, AllocError> {
+    let mut disk = MemFolder::new(alloc, &[])?;
+    run_in(rt, alloc, words, file, failing, &mut disk)
+}
+
+/// The same in a folder with what earlier calls left there.
+pub fn run_in<R: Wait + Threads + Sync>(
+    rt: &R,
+    alloc: Global,
+    words: &[&str],
+    file: (&str, &[u8]),
+    failing: Failing,
+    disk: &mut MemFolder,
+) -> Result<Left, AllocError> {
     let mut inputs = MemInputs::new(alloc, failing.inputs)?;
     inputs.add(file.0, file.1)?;
     let mut out = MemSink::new(alloc, failing.out)?;
     let mut log = MemSink::new(alloc, failing.log)?;
-    let mut disk = MemFolder::new(alloc, &[])?;
     let mut trace = Trace::new(alloc);
     let mut owned = Vec::new(alloc);
     for word in words {
@@ -62,7 +74,7 @@ pub fn run<R: Wait + Threads + Sync>(
         &mut inputs,
         &mut out,
         &mut log,
-        &mut disk,
+        disk,
         &mut trace,
     );
     Ok(Left {
@@ -82,4 +94,26 @@ pub fn run_hello<R: Wait + Threads + Sync>(
 ) -> Result<Left, AllocError> {
     let file = hello(alloc)?;
     run(rt, alloc, words, ("hello.elf", file.as_slice()), failing)
+}
+
+/// The same in a folder with what earlier calls left there.
+pub fn run_hello_in<R: Wait + Threads + Sync>(
+    rt: &R,
+    alloc: Global,
+    words: &[&str],
+    disk: &mut MemFolder,
+) -> Result<Left, AllocError> {
+    let file = hello(alloc)?;
+    let named = ("hello.elf", file.as_slice());
+    run_in(rt, alloc, words, named, NONE_FAIL, disk)
+}
+
+/// Runs the top call in a folder with what earlier calls left there, with no program among the inputs.
+pub fn restart_in<R: Wait + Threads + Sync>(
+    rt: &R,
+    alloc: Global,
+    words: &[&str],
+    disk: &mut MemFolder,
+) -> Result<Left, AllocError> {
+    run_in(rt, alloc, words, ("other", b""), NONE_FAIL, disk)
 }
