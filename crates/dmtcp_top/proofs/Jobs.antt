@@ -27,7 +27,6 @@ NoLaunch words = (name : List ℕ) (settings : Settings) → IsLaunch words name
 
 -- what stands before the last word is no options
 pub no_launch : (options : List (List ℕ)) (program : List ℕ) → NoOptions options → NoLaunch (codes "launch" ∷ (options ++ program ∷ []))
-
 no_launch options program none name settings launch =
     let same : options ++ program ∷ [] ≡ launch.options ++ program_word name ∷ [] = same_rests _ _ (codes "launch") (codes "launch") launch.form in
     none settings (subst (λ words. AreOptions words settings) (sym (same_fronts options launch.options program (program_word name) same)) launch.set)
@@ -45,7 +44,6 @@ restart_fails rest none = record {
 }
 
 pub launch_fails : (rest : List (List ℕ)) → NoLaunch (codes "launch" ∷ rest) → AskNothing (codes "launch" ∷ rest)
-
 launch_fails rest none = record {
   launch = none;
   restart = λ settings restart. launch_is_no_restart _ _ restart.form;

@@ -103,6 +103,7 @@ module _ {D : Type 0} {reads : D → Option Folder} {moment : D → ℕ} {may_le
       good : (image : Folder) → IsOpening (may_leave mid) image ⊎ SpellsCut g trace image → IsOpening (may_leave old) image ⊎ SpellsCutOf (Some g) trace image
       good image (inl opening) = inl (opening_before old mid image looks.nothing opening)
       good image (inr cut) = inr (record { g = g; began = refl; cut = cut })
+
       counted : CountsFaults trace (faults mid) (faults new) → CountsFaults trace (faults old) (faults new)
       counted (inl counts) = inl (let later = looks.counts.later in omega arith)
       counted (inr full) = inr full

@@ -124,8 +124,8 @@ new_below image generation most images has enough = if_some (last image) (λ inf
 pub none_above : (told : Option Folder) (most : ℕ) → ForSome told (λ files. IfSome (last files) (λ info. info.generation ≤ most)) → ForSome told (NoneAbove most)
 none_above told most above = λ files is some.
     if_some (last_set files) (λ set at.
-      let found = counts_as files set at in
-      let bound = at_some (λ info. info.generation ≤ most) (last files) found.info found.counts (above files is) in let same = found.generation in omega arith)
+    let found = counts_as files set at in
+    let bound = at_some (λ info. info.generation ≤ most) (last files) found.info found.counts (above files is) in let same = found.generation in omega arith)
 
 -- counts of faults
 count_one : (records : List Record) (r : Record) → count_by is_disk_fault (records ++ r ∷ []) ≡ count_by is_disk_fault records + cond (is_disk_fault r) 1 0
@@ -218,8 +218,8 @@ module _ {D : Type 0} {reads : D → Option Folder} {moment : D → ℕ} {may_le
         let good_here = good_now g records old mid files here.0 counts_now safe is (reads_left mid here.0 here.1) in
         joins old mid new (IsGood (may_leave old) g records) (safe.crash files is)
         (weakens mid new (OldOrNew (last_set here.0) generation images) (IsGood (may_leave old) g records) (put here.0 here.1) (λ image either_way.
-          either either_way (λ same. good_same (may_leave old) g records here.0 image same good_here)
-          (λ has. inr (record { generation = generation; state = state; cut = cut; set = record { images = images; counts = has; state = spelled } }))));
+        either either_way (λ same. good_same (may_leave old) g records here.0 image same good_here)
+        (λ has. inr (record { generation = generation; state = state; cut = cut; set = record { images = images; counts = has; state = spelled } }))));
     complete = λ files is least image there left.
         let here = some_there (reads old) (reads mid) files safe.told is in
         let stretch = put here.0 here.1 in

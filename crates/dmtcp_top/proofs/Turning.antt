@@ -106,18 +106,21 @@ pub starting : {D : Type 0} (reads : D → Option Folder) (moment : D → ℕ) (
     → (now : IsUnderWay reads moment may_leave left_since faults keeper.schedule (plain_of m) m keeper trace (sunk taken taken) (sunk logged logged) disk disk) × (now.running.requests.phase ≡ NoRequest)
 unfolding running_start
 starting reads moment may_leave left_since faults m keeper trace taken logged disk empty tally lines only_now =
-    let whole : (now : IsUnderWay reads moment may_leave left_since faults keeper.schedule (plain_of m) m keeper (record { records = []; room = trace.room }) (sunk taken taken) (sunk logged logged) disk disk) × (now.running.requests.phase ≡ NoRequest) = (record {
-      running = running_start keeper.schedule m taken;
-      noted = record {
-        scheduled = refl;
-        tallied = tally;
-        lined = lines;
-        logged = took_nothing logged;
-        few = let one = ap (λ (l : Progress). l.request) lines in omega arith;
-        dry = ap (λ (l : Progress). l.drained) lines;
-      };
-      safe = safe_start (plain_of m) disk only_now;
-    }, refl) in
+    let whole : (now : IsUnderWay reads moment may_leave left_since faults keeper.schedule (plain_of m) m keeper (record { records = []; room = trace.room }) (sunk taken taken) (sunk logged logged) disk disk) × (now.running.requests.phase ≡ NoRequest) = (
+      record {
+        running = running_start keeper.schedule m taken;
+        noted = record {
+          scheduled = refl;
+          tallied = tally;
+          lined = lines;
+          logged = took_nothing logged;
+          few = let one = ap (λ (l : Progress). l.request) lines in omega arith;
+          dry = ap (λ (l : Progress). l.drained) lines;
+        };
+        safe = safe_start (plain_of m) disk only_now;
+      },
+      refl,
+    ) in
     subst (λ rs. (now : IsUnderWay reads moment may_leave left_since faults keeper.schedule (plain_of m) m keeper (record { records = rs; room = trace.room }) (sunk taken taken) (sunk logged logged) disk disk) × (now.running.requests.phase ≡ NoRequest)) (sym empty) whole
 
 -- no more work was counted than there are records

@@ -83,7 +83,7 @@ impl Keeper {
             (before : IsUnderWay F.reads F.moment F.may_leave F.left_since F.faults self.old.schedule g machine.now self.old trace.old sink (sunk had (L.taken log.old)) first disk.old)
             → IsDue self.old.schedule before.running.requests
             → (after : IsUnderWay F.reads F.moment F.may_leave F.left_since F.faults self.old.schedule g machine.now self.new trace.new sink (sunk had (L.taken log.new)) first disk.new)
-                × IsSettled after.running.requests trace.new) }
+            × IsSettled after.running.requests trace.new) }
         ensures kept { OnOk result (self.old.schedule.every ≢ None → IsKept self.new (F.reads disk.new) (F.may_leave disk.new)) }
         ensures err { OnErr result ((g : Plain) (sink : Sunk) (had : Option (List ℕ)) (first : F) →
             (before : IsUnderWay F.reads F.moment F.may_leave F.left_since F.faults self.old.schedule g machine.now self.old trace.old sink (sunk had (L.taken log.old)) first disk.old)
@@ -130,7 +130,7 @@ impl Keeper {
             (before : IsUnderWay F.reads F.moment F.may_leave F.left_since F.faults self.old.schedule g machine.now self.old trace.old sink (sunk had (L.taken log.old)) first disk.old)
             → before.running.requests.phase ≡ Requested []
             → (after : IsUnderWay F.reads F.moment F.may_leave F.left_since F.faults self.old.schedule g machine.now self.new trace.new sink (sunk had (L.taken log.new)) first disk.new)
-                × IsSettled after.running.requests trace.new) }
+            × IsSettled after.running.requests trace.new) }
         ensures kept { OnOk result (IsKept self.new (F.reads disk.new) (F.may_leave disk.new)) }
         ensures err { OnErr result ((g : Plain) (sink : Sunk) (had : Option (List ℕ)) (first : F) →
             (before : IsUnderWay F.reads F.moment F.may_leave F.left_since F.faults self.old.schedule g machine.now self.old trace.old sink (sunk had (L.taken log.old)) first disk.old)
@@ -209,8 +209,8 @@ impl Keeper {
         requires drained { self.old.lines.drained + 2 ^ 32 ≤ 2 ^ 128 }
         ensures trace { trace.new ≡ with_record trace.old outcome }
         ensures keeper { OnOk result (self.new ≡ record self.old {
-            tally = tally_after self.old.tally outcome;
-            lines = after self.old.lines outcome;
+          tally = tally_after self.old.tally outcome;
+          lines = after self.old.lines outcome;
         }) }
         ensures schedule { self.new.schedule ≡ self.old.schedule }
         ensures ok { OnOk result (Took (sunk (L.taken log.old) (L.taken log.new)) (line_of self.old.lines outcome)) }

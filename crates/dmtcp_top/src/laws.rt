@@ -5,5 +5,4 @@ ghost use Rattle.dmtcp_top.specs.Promise.{OneState, RoundTrip};
 pub fn restart_laws()
     ensures one { OneState }
     ensures round_trip { RoundTrip }
-{
-}
+{}

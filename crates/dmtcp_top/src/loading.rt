@@ -229,5 +229,4 @@ fn look_at_files(files: &[ListOf<u8>])
 
 fn look_at_bytes(bytes: &[u8])
     ensures { All IsByte bytes.now }
-{
-}
+{}

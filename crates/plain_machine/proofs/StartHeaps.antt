@@ -77,7 +77,7 @@ pub start_heap : (program : Program) (arguments : List ℕ) → IsHeap (start_me
 unfolding start_memory
 start_heap program arguments place from below =
     let absent = page_before _ RETURN_PAGE 1 5 return_code place (omega arith) ∙ page_before (segment_pages program.segments PROGRAM_PAGES) STACK_PAGE STACK_PAGES 6 (start_stack arguments) place (omega arith)
-        ∙ segment_page_absent program.segments PROGRAM_PAGES place (free_above program.segments place from) in
+    ∙ segment_page_absent program.segments PROGRAM_PAGES place (free_above program.segments place from) in
     let past : nat_lt (4096 * place) (break_of program.segments) ≡ false = grind (arith, nat_tests, from) in
     ap is_some absent ∙ sym past
 

@@ -164,11 +164,11 @@ fewer threads [] there apart = omega arith
 fewer threads (waiter ∷ rest) there apart =
     let left = map.remove threads waiter.tid in
     let later = fewer left rest (λ k d inside.
-        ap is_some (get_remove_other nat_cmp_total map.nat_cmp-IsAntisymmetric threads waiter.tid _ (λ same. apart 0 (suc k) d (omega arith) (omega arith) (sym same))) ∙ there (suc k) d (omega arith))
-        (λ i j d before inside. apart (suc i) (suc j) d (omega arith) (omega arith)) in
+    ap is_some (get_remove_other nat_cmp_total map.nat_cmp-IsAntisymmetric threads waiter.tid _ (λ same. apart 0 (suc k) d (omega arith) (omega arith) (sym same))) ∙ there (suc k) d (omega arith))
+    (λ i j d before inside. apart (suc i) (suc j) d (omega arith) (omega arith)) in
     let one : is_some (map.get threads waiter.tid) ≡ true = there 0 waiter (omega arith) in
     let counted : map.len left ≡ map.len threads - 1 =
-        map.len-remove nat_cmp_total threads waiter.tid ∙ ap (λ b. cond b (map.len threads - 1) (map.len threads)) one in
+    map.len-remove nat_cmp_total threads waiter.tid ∙ ap (λ b. cond b (map.len threads - 1) (map.len threads)) one in
     let some : 0 < map.len threads = some_entry threads waiter.tid one in
     omega arith
 

@@ -13,30 +13,42 @@ use Rattle.dmtcp_top.proofs.carry_out.carry_out.Goals as goal
 pub returns-in_default-clause-promise : goal.returns-in_default-clause-promise
 returns-in_default-clause-promise g c =
     let console = sunk (g.O.Sink.taken c.args.out.now) (g.O.Sink.taken c.args.out.now) in
-    let log = sunk (g.L.Sink.taken c.args.log.now) (g.L.Sink.taken c.args.log.now) in
-    (None, (usage_arrives (map string_bytes c.args.words.now) (g.I.Inputs.held c.args.inputs.now) (g.F.Folder.reads c.args.disk.now) c.args.trace.now.records console log c.requires
-      (took_nothing (g.O.Sink.taken c.args.out.now)) (took_nothing (g.L.Sink.taken c.args.log.now)) c.in_default.ensures.none,
-      whole_unbegun c.args.trace.now.records c.args.disk.now c.args.disk.now c.requires (looks_none c.args.disk.now (g.met.F.Folder.only_now c.args.disk.now))))
+    let log = sunk (g.L.Sink.taken c.args.log.now) (g.L.Sink.taken c.args.log.now) in (
+      None,
+      (
+        usage_arrives (map string_bytes c.args.words.now) (g.I.Inputs.held c.args.inputs.now) (g.F.Folder.reads c.args.disk.now) c.args.trace.now.records console log c.requires
+            (took_nothing (g.O.Sink.taken c.args.out.now)) (took_nothing (g.L.Sink.taken c.args.log.now)) c.in_default.ensures.none,
+        whole_unbegun c.args.trace.now.records c.args.disk.now c.args.disk.now c.requires (looks_none c.args.disk.now (g.met.F.Folder.only_now c.args.disk.now)),
+      ),
+    )
 
 pub returns-then-is_err-clause-promise : goal.returns-then-is_err-clause-promise
 returns-then-is_err-clause-promise g c =
     let console = sunk (g.O.Sink.taken c.args.out.now) (g.O.Sink.taken c.args.out.now) in
     let log = sunk (g.L.Sink.taken c.args.log.now) (g.L.Sink.taken c.args.log.now) in
     let same = from_err c.reserve.result c.if-is_err.ensures.value c.reserve.ensures.err in
-    let none : c.reserve.new.self.records ≡ [] = ap (λ (t : TraceState). t.records) same ∙ c.requires in
-    (None, (refused_memory (map string_bytes c.args.words.now) (g.I.Inputs.held c.args.inputs.now) (g.F.Folder.reads c.args.disk.now) c.reserve.new.self.records console log c.in-Some.job
-      c.in-Some.ensures.some none (took_nothing (g.O.Sink.taken c.args.out.now)) (took_nothing (g.L.Sink.taken c.args.log.now)),
-      whole_unbegun c.reserve.new.self.records c.args.disk.now c.args.disk.now none (looks_none c.args.disk.now (g.met.F.Folder.only_now c.args.disk.now))))
+    let none : c.reserve.new.self.records ≡ [] = ap (λ (t : TraceState). t.records) same ∙ c.requires in (
+      None,
+      (
+        refused_memory (map string_bytes c.args.words.now) (g.I.Inputs.held c.args.inputs.now) (g.F.Folder.reads c.args.disk.now) c.reserve.new.self.records console log c.in-Some.job
+            c.in-Some.ensures.some none (took_nothing (g.O.Sink.taken c.args.out.now)) (took_nothing (g.L.Sink.taken c.args.log.now)),
+        whole_unbegun c.reserve.new.self.records c.args.disk.now c.args.disk.now none (looks_none c.args.disk.now (g.met.F.Folder.only_now c.args.disk.now)),
+      ),
+    )
 
 pub returns-in-Err-clause-promise : goal.returns-in-Err-clause-promise
 returns-in-Err-clause-promise g c =
     let console = sunk (g.O.Sink.taken c.args.out.now) (g.O.Sink.taken c.args.out.now) in
     let log = sunk (g.L.Sink.taken c.args.log.now) (g.L.Sink.taken c.args.log.now) in
     let reserved = from_ok c.reserve.result c.if-is_err.ensures.negation c.reserve.ensures.ok in
-    let none : c.reserve.new.self.records ≡ [] = ap (λ (t : TraceState). t.records) reserved ∙ c.requires in
-    (None, (begun_refused (map string_bytes c.args.words.now) (g.I.Inputs.held c.args.inputs.now) (g.F.Folder.reads c.args.disk.now) c.reserve.new.self.records console log c.in-Some.job c.in-Err.ending
-      c.in-Some.ensures.some c.in-Err.ensures.begins none (took_nothing (g.O.Sink.taken c.args.out.now)) (took_nothing (g.L.Sink.taken c.args.log.now)),
-      whole_unbegun c.reserve.new.self.records c.args.disk.now c.begin.new.disk none c.begin.ensures.looks))
+    let none : c.reserve.new.self.records ≡ [] = ap (λ (t : TraceState). t.records) reserved ∙ c.requires in (
+      None,
+      (
+        begun_refused (map string_bytes c.args.words.now) (g.I.Inputs.held c.args.inputs.now) (g.F.Folder.reads c.args.disk.now) c.reserve.new.self.records console log c.in-Some.job c.in-Err.ending
+            c.in-Some.ensures.some c.in-Err.ensures.begins none (took_nothing (g.O.Sink.taken c.args.out.now)) (took_nothing (g.L.Sink.taken c.args.log.now)),
+        whole_unbegun c.reserve.new.self.records c.args.disk.now c.begin.new.disk none c.begin.ensures.looks,
+      ),
+    )
 
 pub run-requires-clause-every : goal.run-requires-clause-every
 run-requires-clause-every g c =
@@ -47,41 +59,57 @@ returns-in-Done-clause-promise g c =
     let console = sunk (g.O.Sink.taken c.args.out.now) (g.O.Sink.taken c.run.new.out) in
     let log = sunk (g.L.Sink.taken c.args.log.now) (g.L.Sink.taken c.run.new.log) in
     let reserved = from_ok c.reserve.result c.if-is_err.ensures.negation c.reserve.ensures.ok in
-    let room : c.reserve.new.self.room ≡ c.settings-records.result.records = ap (λ (t : TraceState). t.room) reserved in
-    (Some (plain_of c.in-Ok.start.machine), (begun_arrives (map string_bytes c.args.words.now) (g.I.Inputs.held c.args.inputs.now) (g.F.Folder.reads c.args.disk.now) c.run.new.trace.records console log RunDone
-      c.run.result c.in-Ok.start c.in-Some.job c.reserve.new.self.room c.settings-records.result.records c.in-Some.ensures.some c.in-Ok.ensures.begins room (ap (λ (s : Settings). s.records) c.settings-records.ensures)
-      c.in-Done.is c.run.ensures.ends,
-      whole_begun (plain_of c.in-Ok.start.machine) c.run.new.trace.records c.args.disk.now c.begin.new.disk c.run.new.disk c.begin.ensures.looks c.run.ensures.safe))
+    let room : c.reserve.new.self.room ≡ c.settings-records.result.records = ap (λ (t : TraceState). t.room) reserved in (
+      Some (plain_of c.in-Ok.start.machine),
+      (
+        begun_arrives (map string_bytes c.args.words.now) (g.I.Inputs.held c.args.inputs.now) (g.F.Folder.reads c.args.disk.now) c.run.new.trace.records console log RunDone
+            c.run.result c.in-Ok.start c.in-Some.job c.reserve.new.self.room c.settings-records.result.records c.in-Some.ensures.some c.in-Ok.ensures.begins room (ap (λ (s : Settings). s.records) c.settings-records.ensures)
+            c.in-Done.is c.run.ensures.ends,
+        whole_begun (plain_of c.in-Ok.start.machine) c.run.new.trace.records c.args.disk.now c.begin.new.disk c.run.new.disk c.begin.ensures.looks c.run.ensures.safe,
+      ),
+    )
 
 pub returns-in-Budget-clause-promise : goal.returns-in-Budget-clause-promise
 returns-in-Budget-clause-promise g c =
     let console = sunk (g.O.Sink.taken c.args.out.now) (g.O.Sink.taken c.run.new.out) in
     let log = sunk (g.L.Sink.taken c.args.log.now) (g.L.Sink.taken c.run.new.log) in
     let reserved = from_ok c.reserve.result c.if-is_err.ensures.negation c.reserve.ensures.ok in
-    let room : c.reserve.new.self.room ≡ c.settings-records.result.records = ap (λ (t : TraceState). t.room) reserved in
-    (Some (plain_of c.in-Ok.start.machine), (begun_arrives (map string_bytes c.args.words.now) (g.I.Inputs.held c.args.inputs.now) (g.F.Folder.reads c.args.disk.now) c.run.new.trace.records console log RunBudget
-      c.run.result c.in-Ok.start c.in-Some.job c.reserve.new.self.room c.settings-records.result.records c.in-Some.ensures.some c.in-Ok.ensures.begins room (ap (λ (s : Settings). s.records) c.settings-records.ensures)
-      c.in-Budget.is c.run.ensures.ends,
-      whole_begun (plain_of c.in-Ok.start.machine) c.run.new.trace.records c.args.disk.now c.begin.new.disk c.run.new.disk c.begin.ensures.looks c.run.ensures.safe))
+    let room : c.reserve.new.self.room ≡ c.settings-records.result.records = ap (λ (t : TraceState). t.room) reserved in (
+      Some (plain_of c.in-Ok.start.machine),
+      (
+        begun_arrives (map string_bytes c.args.words.now) (g.I.Inputs.held c.args.inputs.now) (g.F.Folder.reads c.args.disk.now) c.run.new.trace.records console log RunBudget
+            c.run.result c.in-Ok.start c.in-Some.job c.reserve.new.self.room c.settings-records.result.records c.in-Some.ensures.some c.in-Ok.ensures.begins room (ap (λ (s : Settings). s.records) c.settings-records.ensures)
+            c.in-Budget.is c.run.ensures.ends,
+        whole_begun (plain_of c.in-Ok.start.machine) c.run.new.trace.records c.args.disk.now c.begin.new.disk c.run.new.disk c.begin.ensures.looks c.run.ensures.safe,
+      ),
+    )
 
 pub returns-in-SinkFault-clause-promise : goal.returns-in-SinkFault-clause-promise
 returns-in-SinkFault-clause-promise g c =
     let console = sunk (g.O.Sink.taken c.args.out.now) (g.O.Sink.taken c.run.new.out) in
     let log = sunk (g.L.Sink.taken c.args.log.now) (g.L.Sink.taken c.run.new.log) in
     let reserved = from_ok c.reserve.result c.if-is_err.ensures.negation c.reserve.ensures.ok in
-    let room : c.reserve.new.self.room ≡ c.settings-records.result.records = ap (λ (t : TraceState). t.room) reserved in
-    (Some (plain_of c.in-Ok.start.machine), (begun_arrives (map string_bytes c.args.words.now) (g.I.Inputs.held c.args.inputs.now) (g.F.Folder.reads c.args.disk.now) c.run.new.trace.records console log RunSinkFault
-      c.run.result c.in-Ok.start c.in-Some.job c.reserve.new.self.room c.settings-records.result.records c.in-Some.ensures.some c.in-Ok.ensures.begins room (ap (λ (s : Settings). s.records) c.settings-records.ensures)
-      c.in-SinkFault.is c.run.ensures.ends,
-      whole_begun (plain_of c.in-Ok.start.machine) c.run.new.trace.records c.args.disk.now c.begin.new.disk c.run.new.disk c.begin.ensures.looks c.run.ensures.safe))
+    let room : c.reserve.new.self.room ≡ c.settings-records.result.records = ap (λ (t : TraceState). t.room) reserved in (
+      Some (plain_of c.in-Ok.start.machine),
+      (
+        begun_arrives (map string_bytes c.args.words.now) (g.I.Inputs.held c.args.inputs.now) (g.F.Folder.reads c.args.disk.now) c.run.new.trace.records console log RunSinkFault
+            c.run.result c.in-Ok.start c.in-Some.job c.reserve.new.self.room c.settings-records.result.records c.in-Some.ensures.some c.in-Ok.ensures.begins room (ap (λ (s : Settings). s.records) c.settings-records.ensures)
+            c.in-SinkFault.is c.run.ensures.ends,
+        whole_begun (plain_of c.in-Ok.start.machine) c.run.new.trace.records c.args.disk.now c.begin.new.disk c.run.new.disk c.begin.ensures.looks c.run.ensures.safe,
+      ),
+    )
 
 pub returns-clause-promise : goal.returns-clause-promise
 returns-clause-promise g c =
     let console = sunk (g.O.Sink.taken c.args.out.now) (g.O.Sink.taken c.run.new.out) in
     let log = sunk (g.L.Sink.taken c.args.log.now) (g.L.Sink.taken c.run.new.log) in
     let reserved = from_ok c.reserve.result c.if-is_err.ensures.negation c.reserve.ensures.ok in
-    let room : c.reserve.new.self.room ≡ c.settings-records.result.records = ap (λ (t : TraceState). t.room) reserved in
-    (Some (plain_of c.in-Ok.start.machine), (begun_arrives (map string_bytes c.args.words.now) (g.I.Inputs.held c.args.inputs.now) (g.F.Folder.reads c.args.disk.now) c.run.new.trace.records console log RunMemory
-      c.run.result c.in-Ok.start c.in-Some.job c.reserve.new.self.room c.settings-records.result.records c.in-Some.ensures.some c.in-Ok.ensures.begins room (ap (λ (s : Settings). s.records) c.settings-records.ensures)
-      c.in-Memory.is c.run.ensures.ends,
-      whole_begun (plain_of c.in-Ok.start.machine) c.run.new.trace.records c.args.disk.now c.begin.new.disk c.run.new.disk c.begin.ensures.looks c.run.ensures.safe))
+    let room : c.reserve.new.self.room ≡ c.settings-records.result.records = ap (λ (t : TraceState). t.room) reserved in (
+      Some (plain_of c.in-Ok.start.machine),
+      (
+        begun_arrives (map string_bytes c.args.words.now) (g.I.Inputs.held c.args.inputs.now) (g.F.Folder.reads c.args.disk.now) c.run.new.trace.records console log RunMemory
+            c.run.result c.in-Ok.start c.in-Some.job c.reserve.new.self.room c.settings-records.result.records c.in-Some.ensures.some c.in-Ok.ensures.begins room (ap (λ (s : Settings). s.records) c.settings-records.ensures)
+            c.in-Memory.is c.run.ensures.ends,
+        whole_begun (plain_of c.in-Ok.start.machine) c.run.new.trace.records c.args.disk.now c.begin.new.disk c.run.new.disk c.begin.ensures.looks c.run.ensures.safe,
+      ),
+    )

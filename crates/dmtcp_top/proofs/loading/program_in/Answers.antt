@@ -12,7 +12,10 @@ pub returns-in-Ok : goal.returns-in-Ok
 returns-in-Ok c =
     let read = c.in-Ok.ensures.program in
     let placed = subst (λ (p : Program). All IsWellPlaced p.segments) read c.in-Ok.ensures.placed in
-    let pages = subst (λ (p : Program). page_count p.segments ≤ 1536) read c.in-Ok.ensures.pages in
-    (c.in-Ok.ensures.rules, read, λ arguments bytes.
-      subst (λ (p : Program). IsLaunched (record { host = 0; program = p; arguments = arguments })) (sym read)
-      (read_is_launched 0 c.args.file.now arguments (all_bytes c.args.file.now c.type_inv.file) bytes placed pages))
+    let pages = subst (λ (p : Program). page_count p.segments ≤ 1536) read c.in-Ok.ensures.pages in (
+      c.in-Ok.ensures.rules,
+      read,
+      λ arguments bytes.
+          subst (λ (p : Program). IsLaunched (record { host = 0; program = p; arguments = arguments })) (sym read)
+          (read_is_launched 0 c.args.file.now arguments (all_bytes c.args.file.now c.type_inv.file) bytes placed pages),
+    )

@@ -122,8 +122,8 @@ returns-in-Ok-put-clause-ok g c = on_ok2 c.conclude-in-Ok-put.result c.conclude-
     let above : ForSome (g.F.Folder.reads c.open.new.disk) (λ files. IfSome (last files) (λ info. info.generation ≤ c.next-generation.result)) =
     λ files is. raised files k.tally.greatest c.next-generation.result (omega arith) (c.requires.kept.above files (sym c.open.ensures.nothing.same ∙ is)) in
     let safe_with : IsPut g.F.Folder.reads g.F.Folder.moment g.F.Folder.may_leave g.F.Folder.left_since (plain_of m) (next_generation c.in-Ok.store) c.put.result c.open.new.disk c.put.new.disk → _ = λ put.
-      safe_put_complete g' (plain_of m) c.mark.new.trace.records c.next-generation.result c.put.result c.in-Ok-put.store first c.open.new.disk c.put.new.disk g.met.F.Folder.counts_now g.met.F.Folder.reads_left at.now.safe at.at above c.in-Ok-put.is
-      (subst (λ n. IsPut g.F.Folder.reads g.F.Folder.moment g.F.Folder.may_leave g.F.Folder.left_since (plain_of m) n c.put.result c.open.new.disk c.put.new.disk) (sym c.next-generation.ensures) put) c.put.ensures.counts in
+    safe_put_complete g' (plain_of m) c.mark.new.trace.records c.next-generation.result c.put.result c.in-Ok-put.store first c.open.new.disk c.put.new.disk g.met.F.Folder.counts_now g.met.F.Folder.reads_left at.now.safe at.at above c.in-Ok-put.is
+    (subst (λ n. IsPut g.F.Folder.reads g.F.Folder.moment g.F.Folder.may_leave g.F.Folder.left_since (plain_of m) n c.put.result c.open.new.disk c.put.new.disk) (sym c.next-generation.ensures) put) c.put.ensures.counts in
     let safe = either c.put.ensures.put safe_with (λ none. absurd (let ok = c.in-Ok-put.is in let failed = none.0 in cc)) in
     completed_ok k.schedule g' m c.mark.new.self c.conclude-in-Ok-put.new.self c.mark.new.trace c.conclude-in-Ok-put.new.trace sink had (g.L.Sink.taken c.args.log.now) (g.L.Sink.taken c.conclude-in-Ok-put.new.log) c.next-generation.result first c.open.new.disk c.put.new.disk at
     c.conclude-in-Ok-put.ensures.trace c.conclude-in-Ok-put.ensures.schedule (ap (λ (x : Keeper). x.lines) keeper) (ap (λ (x : Keeper). x.tally) keeper) took safe)
@@ -141,8 +141,8 @@ returns-in-Ok-put-clause-err g c = OnErr-map c.conclude-in-Ok-put.result (λ fro
     let above : ForSome (g.F.Folder.reads c.open.new.disk) (λ files. IfSome (last files) (λ info. info.generation ≤ c.next-generation.result)) =
     λ files is. raised files k.tally.greatest c.next-generation.result (omega arith) (c.requires.kept.above files (sym c.open.ensures.nothing.same ∙ is)) in
     let safe_with : IsPut g.F.Folder.reads g.F.Folder.moment g.F.Folder.may_leave g.F.Folder.left_since (plain_of m) (next_generation c.in-Ok.store) c.put.result c.open.new.disk c.put.new.disk → _ = λ put.
-      safe_put_complete g' (plain_of m) c.mark.new.trace.records c.next-generation.result c.put.result c.in-Ok-put.store first c.open.new.disk c.put.new.disk g.met.F.Folder.counts_now g.met.F.Folder.reads_left at.now.safe at.at above c.in-Ok-put.is
-      (subst (λ n. IsPut g.F.Folder.reads g.F.Folder.moment g.F.Folder.may_leave g.F.Folder.left_since (plain_of m) n c.put.result c.open.new.disk c.put.new.disk) (sym c.next-generation.ensures) put) c.put.ensures.counts in
+    safe_put_complete g' (plain_of m) c.mark.new.trace.records c.next-generation.result c.put.result c.in-Ok-put.store first c.open.new.disk c.put.new.disk g.met.F.Folder.counts_now g.met.F.Folder.reads_left at.now.safe at.at above c.in-Ok-put.is
+    (subst (λ n. IsPut g.F.Folder.reads g.F.Folder.moment g.F.Folder.may_leave g.F.Folder.left_since (plain_of m) n c.put.result c.open.new.disk c.put.new.disk) (sym c.next-generation.ensures) put) c.put.ensures.counts in
     let safe = either c.put.ensures.put safe_with (λ none. absurd (let ok = c.in-Ok-put.is in let failed = none.0 in cc)) in
     completed_broken k.schedule g' m c.mark.new.self c.mark.new.trace c.conclude-in-Ok-put.new.trace sink had (g.L.Sink.taken c.args.log.now) (g.L.Sink.taken c.conclude-in-Ok-put.new.log) c.next-generation.result first c.open.new.disk c.put.new.disk at
     c.conclude-in-Ok-put.ensures.trace front safe) c.conclude-in-Ok-put.ensures.err
@@ -156,9 +156,9 @@ returns-in-Ok-put-clause-kept g c = OnOk-map c.conclude-in-Ok-put.result (λ kee
     let numbered : c.next-generation.result ≡ suc k.tally.greatest = c.next-generation.ensures ∙ c.in-Ok.ensures.ok.1 in
     let greatest : c.mark.new.self.tally.greatest ≡ c.next-generation.result = ap (λ (x : Keeper). x.tally.greatest) marked ∙ cut_tally c.open.new.self.tally c.next-generation.result in
     let with_put = λ (put : IsPut g.F.Folder.reads g.F.Folder.moment g.F.Folder.may_leave g.F.Folder.left_since (plain_of m) (next_generation c.in-Ok.store) c.put.result c.open.new.disk c.put.new.disk).
-      kept_complete c.conclude-in-Ok-put.new.self c.in-Ok-put.store (next_generation c.in-Ok.store) put.images (g.F.Folder.reads c.put.new.disk) (g.F.Folder.may_leave c.put.new.disk) (ap (λ (x : Keeper). x.store) keeper)
-      (ap (λ (x : Keeper). x.tally.greatest) keeper ∙ tally_complete c.mark.new.self.tally c.next-generation.result ∙ greatest ∙ c.next-generation.ensures) c.in-Ok-put.ensures.ok.0 c.in-Ok-put.ensures.ok.1
-      (subst (λ (r : Result Known Cause). OnOk r (ForSome (g.F.Folder.reads c.put.new.disk) (λ files. HasSet (last_set files) (next_generation c.in-Ok.store) put.images))) c.in-Ok-put.is put.stored) in
+    kept_complete c.conclude-in-Ok-put.new.self c.in-Ok-put.store (next_generation c.in-Ok.store) put.images (g.F.Folder.reads c.put.new.disk) (g.F.Folder.may_leave c.put.new.disk) (ap (λ (x : Keeper). x.store) keeper)
+    (ap (λ (x : Keeper). x.tally.greatest) keeper ∙ tally_complete c.mark.new.self.tally c.next-generation.result ∙ greatest ∙ c.next-generation.ensures) c.in-Ok-put.ensures.ok.0 c.in-Ok-put.ensures.ok.1
+    (subst (λ (r : Result Known Cause). OnOk r (ForSome (g.F.Folder.reads c.put.new.disk) (λ files. HasSet (last_set files) (next_generation c.in-Ok.store) put.images))) c.in-Ok-put.is put.stored) in
     either c.put.ensures.put with_put (λ none. absurd (let ok = c.in-Ok-put.is in let failed = none.0 in cc))) c.conclude-in-Ok-put.ensures.keeper
 
 pub returns-in-Err-put-clause-ok : goal.returns-in-Err-put-clause-ok
@@ -174,11 +174,11 @@ returns-in-Err-put-clause-ok g c = on_ok2 c.conclude-in-Err-put.result c.conclud
     let above : ForSome (g.F.Folder.reads c.open.new.disk) (λ files. IfSome (last files) (λ info. info.generation ≤ c.next-generation.result)) =
     λ files is. raised files k.tally.greatest c.next-generation.result (omega arith) (c.requires.kept.above files (sym c.open.ensures.nothing.same ∙ is)) in
     let safe_with : IsPut g.F.Folder.reads g.F.Folder.moment g.F.Folder.may_leave g.F.Folder.left_since (plain_of m) (next_generation c.in-Ok.store) c.put.result c.open.new.disk c.put.new.disk → _ = λ put.
-      safe_put_refused g' (plain_of m) c.mark.new.trace.records c.next-generation.result c.put.result c.in-Err-put.cause first c.open.new.disk c.put.new.disk g.met.F.Folder.counts_now g.met.F.Folder.reads_left at.now.safe at.at above c.in-Err-put.ensures.kind
-      (subst (λ n. IsPut g.F.Folder.reads g.F.Folder.moment g.F.Folder.may_leave g.F.Folder.left_since (plain_of m) n c.put.result c.open.new.disk c.put.new.disk) (sym c.next-generation.ensures) put) c.put.ensures.counts
-      (λ is. c.put.ensures.cause (c.in-Err-put.is ∙ ap Err is)) in
+    safe_put_refused g' (plain_of m) c.mark.new.trace.records c.next-generation.result c.put.result c.in-Err-put.cause first c.open.new.disk c.put.new.disk g.met.F.Folder.counts_now g.met.F.Folder.reads_left at.now.safe at.at above c.in-Err-put.ensures.kind
+    (subst (λ n. IsPut g.F.Folder.reads g.F.Folder.moment g.F.Folder.may_leave g.F.Folder.left_since (plain_of m) n c.put.result c.open.new.disk c.put.new.disk) (sym c.next-generation.ensures) put) c.put.ensures.counts
+    (λ is. c.put.ensures.cause (c.in-Err-put.is ∙ ap Err is)) in
     let safe = either c.put.ensures.put safe_with (λ none. let memory : Memory ≡ c.in-Err-put.cause = let failed = none.0 in let is = c.in-Err-put.is in cc in
-      subst (λ cause. IsSafe g.F.Folder.reads g.F.Folder.moment g.F.Folder.may_leave g.F.Folder.left_since g.F.Folder.faults g' (c.mark.new.trace.records ++ Refused cause ∷ []) first c.put.new.disk) memory (safe_no_images g' c.mark.new.trace.records first c.open.new.disk c.put.new.disk at.now.safe none.1)) in
+    subst (λ cause. IsSafe g.F.Folder.reads g.F.Folder.moment g.F.Folder.may_leave g.F.Folder.left_since g.F.Folder.faults g' (c.mark.new.trace.records ++ Refused cause ∷ []) first c.put.new.disk) memory (safe_no_images g' c.mark.new.trace.records first c.open.new.disk c.put.new.disk at.now.safe none.1)) in
     late_ok k.schedule g' m c.mark.new.self c.conclude-in-Err-put.new.self c.mark.new.trace c.conclude-in-Err-put.new.trace sink had (g.L.Sink.taken c.args.log.now) (g.L.Sink.taken c.conclude-in-Err-put.new.log) c.next-generation.result c.in-Err-put.cause first c.open.new.disk c.put.new.disk at c.in-Err-put.ensures.kind
     c.conclude-in-Err-put.ensures.trace c.conclude-in-Err-put.ensures.schedule (ap (λ (x : Keeper). x.lines) keeper) (ap (λ (x : Keeper). x.tally) keeper) took safe)
 
@@ -195,11 +195,11 @@ returns-in-Err-put-clause-err g c = OnErr-map c.conclude-in-Err-put.result (λ f
     let above : ForSome (g.F.Folder.reads c.open.new.disk) (λ files. IfSome (last files) (λ info. info.generation ≤ c.next-generation.result)) =
     λ files is. raised files k.tally.greatest c.next-generation.result (omega arith) (c.requires.kept.above files (sym c.open.ensures.nothing.same ∙ is)) in
     let safe_with : IsPut g.F.Folder.reads g.F.Folder.moment g.F.Folder.may_leave g.F.Folder.left_since (plain_of m) (next_generation c.in-Ok.store) c.put.result c.open.new.disk c.put.new.disk → _ = λ put.
-      safe_put_refused g' (plain_of m) c.mark.new.trace.records c.next-generation.result c.put.result c.in-Err-put.cause first c.open.new.disk c.put.new.disk g.met.F.Folder.counts_now g.met.F.Folder.reads_left at.now.safe at.at above c.in-Err-put.ensures.kind
-      (subst (λ n. IsPut g.F.Folder.reads g.F.Folder.moment g.F.Folder.may_leave g.F.Folder.left_since (plain_of m) n c.put.result c.open.new.disk c.put.new.disk) (sym c.next-generation.ensures) put) c.put.ensures.counts
-      (λ is. c.put.ensures.cause (c.in-Err-put.is ∙ ap Err is)) in
+    safe_put_refused g' (plain_of m) c.mark.new.trace.records c.next-generation.result c.put.result c.in-Err-put.cause first c.open.new.disk c.put.new.disk g.met.F.Folder.counts_now g.met.F.Folder.reads_left at.now.safe at.at above c.in-Err-put.ensures.kind
+    (subst (λ n. IsPut g.F.Folder.reads g.F.Folder.moment g.F.Folder.may_leave g.F.Folder.left_since (plain_of m) n c.put.result c.open.new.disk c.put.new.disk) (sym c.next-generation.ensures) put) c.put.ensures.counts
+    (λ is. c.put.ensures.cause (c.in-Err-put.is ∙ ap Err is)) in
     let safe = either c.put.ensures.put safe_with (λ none. let memory : Memory ≡ c.in-Err-put.cause = let failed = none.0 in let is = c.in-Err-put.is in cc in
-      subst (λ cause. IsSafe g.F.Folder.reads g.F.Folder.moment g.F.Folder.may_leave g.F.Folder.left_since g.F.Folder.faults g' (c.mark.new.trace.records ++ Refused cause ∷ []) first c.put.new.disk) memory (safe_no_images g' c.mark.new.trace.records first c.open.new.disk c.put.new.disk at.now.safe none.1)) in
+    subst (λ cause. IsSafe g.F.Folder.reads g.F.Folder.moment g.F.Folder.may_leave g.F.Folder.left_since g.F.Folder.faults g' (c.mark.new.trace.records ++ Refused cause ∷ []) first c.put.new.disk) memory (safe_no_images g' c.mark.new.trace.records first c.open.new.disk c.put.new.disk at.now.safe none.1)) in
     late_broken k.schedule g' m c.mark.new.self c.mark.new.trace c.conclude-in-Err-put.new.trace sink had (g.L.Sink.taken c.args.log.now) (g.L.Sink.taken c.conclude-in-Err-put.new.log) c.next-generation.result c.in-Err-put.cause first c.open.new.disk c.put.new.disk at c.in-Err-put.ensures.kind
     c.conclude-in-Err-put.ensures.trace front safe) c.conclude-in-Err-put.ensures.err
 
@@ -214,9 +214,9 @@ returns-in-Err-put-clause-kept g c = OnOk-map c.conclude-in-Err-put.result (λ k
     let gone = ap (λ (x : Keeper). x.store) keeper ∙ ap (λ (x : Keeper). x.store) marked ∙ ap (λ (x : Keeper). x.store) opened in
     let last_greatest = ap (λ (x : Keeper). x.tally.greatest) keeper ∙ tally_same c.mark.new.self.tally c.in-Err-put.cause ∙ greatest in
     let with_put = λ (put : IsPut g.F.Folder.reads g.F.Folder.moment g.F.Folder.may_leave g.F.Folder.left_since (plain_of m) (next_generation c.in-Ok.store) c.put.result c.open.new.disk c.put.new.disk).
-      kept_put c.conclude-in-Err-put.new.self (next_generation c.in-Ok.store) k.tally.greatest put.images (g.F.Folder.reads c.open.new.disk) (g.F.Folder.reads c.put.new.disk) (g.F.Folder.may_leave c.put.new.disk) gone
-      (last_greatest ∙ c.next-generation.ensures) (let n = c.in-Ok.ensures.ok.1 in omega arith) (let n = c.in-Ok.ensures.ok.1 in omega arith)
-      (λ files is. c.requires.kept.above files (sym c.open.ensures.nothing.same ∙ is)) put.told
-      (subst (λ (r : Result Known Cause). OnErr r (ForSome (g.F.Folder.reads c.open.new.disk) (λ before. ForSome (g.F.Folder.reads c.put.new.disk) (OldOrNew (last_set before) (next_generation c.in-Ok.store) put.images)))) c.in-Err-put.is put.refused) in
+    kept_put c.conclude-in-Err-put.new.self (next_generation c.in-Ok.store) k.tally.greatest put.images (g.F.Folder.reads c.open.new.disk) (g.F.Folder.reads c.put.new.disk) (g.F.Folder.may_leave c.put.new.disk) gone
+    (last_greatest ∙ c.next-generation.ensures) (let n = c.in-Ok.ensures.ok.1 in omega arith) (let n = c.in-Ok.ensures.ok.1 in omega arith)
+    (λ files is. c.requires.kept.above files (sym c.open.ensures.nothing.same ∙ is)) put.told
+    (subst (λ (r : Result Known Cause). OnErr r (ForSome (g.F.Folder.reads c.open.new.disk) (λ before. ForSome (g.F.Folder.reads c.put.new.disk) (OldOrNew (last_set before) (next_generation c.in-Ok.store) put.images)))) c.in-Err-put.is put.refused) in
     either c.put.ensures.put with_put (λ none. kept_cut k c.conclude-in-Err-put.new.self (g.F.Folder.reads c.args.disk.now) (g.F.Folder.reads c.put.new.disk) (g.F.Folder.may_leave c.args.disk.now) (g.F.Folder.may_leave c.put.new.disk) c.requires.kept gone (last_greatest ∙ numbered)
-      (ap g.F.Folder.reads none.1 ∙ c.open.ensures.nothing.same))) c.conclude-in-Err-put.ensures.keeper
+    (ap g.F.Folder.reads none.1 ∙ c.open.ensures.nothing.same))) c.conclude-in-Err-put.ensures.keeper

@@ -60,9 +60,10 @@ returns-in-Err-Sink-clause-ends g c =
     let some : 0 < c.loop-turn.trace.room = let room = c.room.ensures in let not_none = c.if-room-eq0.false in omega arith in
     let free = free_of inv.under.0.running.requests c.loop-turn.trace inv.under.1 some in
     let spoils = c.in-Err-Sink.ensures.failed (cc) in
-    let fits : length c.loop-turn.trace.records + 1 ≤ c.args.trace.now.room = let room = c.room-room.ensures in let size = inv.size in omega arith in
-    (running_spoils c.args.self.now.keeper.schedule (plain_of c.args.self.now.machine) m c.loop-turn.trace c.take_turn.new.trace c.args.trace.now.room (g.O.Sink.taken c.args.out.now) (g.O.Sink.taken c.loop-turn.out) (g.O.Sink.taken c.take_turn.new.out) inv.under.0.running free inv.ready.single alive spoils fits,
-      spoils_log c.args.self.now.keeper.schedule inv.under.0.running.requests c.loop-turn.self.keeper m c.loop-turn.trace c.take_turn.new.trace _ _ inv.under.0.noted spoils)
+    let fits : length c.loop-turn.trace.records + 1 ≤ c.args.trace.now.room = let room = c.room-room.ensures in let size = inv.size in omega arith in (
+      running_spoils c.args.self.now.keeper.schedule (plain_of c.args.self.now.machine) m c.loop-turn.trace c.take_turn.new.trace c.args.trace.now.room (g.O.Sink.taken c.args.out.now) (g.O.Sink.taken c.loop-turn.out) (g.O.Sink.taken c.take_turn.new.out) inv.under.0.running free inv.ready.single alive spoils fits,
+      spoils_log c.args.self.now.keeper.schedule inv.under.0.running.requests c.loop-turn.self.keeper m c.loop-turn.trace c.take_turn.new.trace _ _ inv.under.0.noted spoils,
+    )
 
 pub returns-in-Err-Sink-clause-safe : goal.returns-in-Err-Sink-clause-safe
 returns-in-Err-Sink-clause-safe g c =
