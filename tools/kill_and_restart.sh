@@ -1,0 +1,63 @@
+#!/usr/bin/env bash
+# Kills a counting guest at twenty random moments, restarts it each time, and at last lets it end.
+#
+# Usage: tools/kill_and_restart.sh [DMTCP]
+#
+# DMTCP is a built program, else crates/dmtcp/out/dmtcp, which `cd crates/dmtcp && rt run -- --version` proves and builds.
+# The variable KILLS gives another number of kills, LONGEST the longest time before one, in milliseconds.
+#
+# It fails where a restart answers 16 (no set) or 17 (a damaged set) once the log has told of a complete set, where
+# another status than 0 comes without a kill, where a line after a kill is neither one further than the last nor one
+# that was written already, or where the last line isn't the greatest.
+set -u
+here=$(cd "$(dirname "$0")/.." && pwd)
+dmtcp=${1:-$here/crates/dmtcp/out/dmtcp}
+kills=${KILLS:-20}
+longest=${LONGEST:-2000}
+if [ ! -x "$dmtcp" ]; then
+    echo "no program at $dmtcp: build it by 'cd crates/dmtcp && rt run -- --version', or give the path of one" >&2
+    exit 2
+fi
+dmtcp=$(cd "$(dirname "$dmtcp")" && pwd)/$(basename "$dmtcp")
+folder=$(mktemp -d) || exit 2
+trap 'rm -rf "$folder"' EXIT
+cp "$here/examples/count.elf" "$folder/" && cd "$folder" || exit 2
+
+fail() {
+    echo "FAILED: $*; the log's end: $(tail -n 1 log)" >&2
+    exit 1
+}
+
+killed=0
+ended=0
+early=0
+command=(launch --every 1 0:count.elf)
+: > console
+: > log
+while [ "$killed" -lt "$kills" ] && [ "$ended" -eq 0 ]; do
+    "$dmtcp" "${command[@]}" >> console 2>> log &
+    run=$!
+    pause=$(((RANDOM * 32768 + RANDOM) % longest))
+    sleep "$(printf '%d.%03d' $((pause / 1000)) $((pause % 1000)))"
+    if kill -KILL "$run" 2> /dev/null; then killed=$((killed + 1)); fi
+    wait "$run" 2> /dev/null
+    status=$?
+    case $status in
+        137) ;;
+        0) ended=1 ;;
+        16 | 17) grep -q complete log && fail "a restart answered $status after a complete set"; early=$((early + 1)) ;;
+        *) fail "status $status" ;;
+    esac
+    if grep -q complete log; then command=(restart --every 1); else command=(launch --every 1 0:count.elf); fi
+done
+if [ "$ended" -eq 0 ]; then
+    "$dmtcp" "${command[@]}" >> console 2>> log
+    status=$?
+    [ "$status" -eq 0 ] || fail "the last run answered $status"
+fi
+
+awk 'BEGIN { last = 0 } !/^[0-9]+$/ || $1 > last + 1 { exit 1 } $1 > last { last = $1 } END { if (last != 500) exit 1 }' console ||
+    fail "the console misses a line"
+[ "$(tail -n 1 console)" = 500 ] || fail "the console does not end with 500"
+again=$(($(wc -l < console) - 500))
+echo "$killed kills, $(grep -c complete log) complete sets, $(grep -c refused log) refused, $again lines written again, none missing, 500 at the end"
