@@ -9,10 +9,6 @@ mod checkpoints;
 #[cfg(test)]
 mod compiled;
 #[cfg(test)]
-mod crashes;
-#[cfg(test)]
-mod disk_faults;
-#[cfg(test)]
 mod launches;
 #[cfg(test)]
 mod pieces;
@@ -22,8 +18,6 @@ mod programs;
 mod records;
 #[cfg(test)]
 mod refusals;
-#[cfg(test)]
-mod restarts;
 #[cfg(test)]
 mod session;
 #[cfg(test)]

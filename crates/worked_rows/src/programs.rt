@@ -74,22 +74,3 @@ pub const THREE_WRITES: [u32; 15] = [
     0x05E0_0893,
     0x0000_0073,
 ];
-
-/// Writes `a` to `z` on descriptor 1, each by a call of its own, and exits with 0. The letter stands on the stack.
-pub const LETTERS: [u32; 15] = [
-    0x0610_0293,
-    0xFE51_2E23,
-    0x0010_0513,
-    0xFFC1_0593,
-    0x0010_0613,
-    0x0400_0893,
-    0x0000_0073,
-    0xFFC1_2283,
-    0x0012_8293,
-    0xFE51_2E23,
-    0x07B0_0313,
-    0xFC62_9EE3,
-    0x0000_0513,
-    0x05E0_0893,
-    0x0000_0073,
-];
