@@ -10,9 +10,9 @@ use Rattle.set_disk.specs.Files.{Files as Folder}
 use Rattle.plain_machine.specs.declared.plain.Plain.{Plain}
 use Rattle.trace_log.specs.LogText.{log_text}
 use Rattle.dmtcp_top.specs.declared.ending.Ending.{Ending}
-use Rattle.dmtcp_top.specs.declared.ending.Ending.TheVariants.{Done, Usage, InputFault, Missing, BadElf, SinkFault, DiskFault, NoSet, Damaged, Budget, Memory}
+use Rattle.dmtcp_top.specs.declared.ending.Ending.TheVariants.{Done, Usage, InputFault, Missing, BadElf, SinkFault, DiskFault, NoSet, Damaged, Budget, Stuck, Memory}
 use Rattle.dmtcp_top.specs.declared.run_end.RunEnd.{RunEnd}
-use Rattle.dmtcp_top.specs.declared.run_end.RunEnd.TheVariants.{Done as RunDone, Budget as RunBudget, SinkFault as RunSinkFault, Memory as RunMemory}
+use Rattle.dmtcp_top.specs.declared.run_end.RunEnd.TheVariants.{Done as RunDone, Budget as RunBudget, Stuck as RunStuck, SinkFault as RunSinkFault, Memory as RunMemory}
 use Rattle.dmtcp_top.specs.declared.settings.Settings.{Settings}
 use Rattle.dmtcp_top.specs.declared.start.Start.{Start}
 use Rattle.dmtcp_top.specs.Words.{IsLaunch, IsRestart, AskNothing}
@@ -30,6 +30,7 @@ use Rattle.dmtcp_top.specs.Loads.{IsLaunched, IsRestarted, RefusesLaunch, Refuse
 abbrev pub ending_by : RunEnd → ℕ → Ending
 ending_by RunDone records = Done
 ending_by RunBudget records = Budget records
+ending_by RunStuck records = Stuck
 ending_by RunSinkFault records = SinkFault
 ending_by RunMemory records = Memory
 
@@ -87,6 +88,7 @@ module _ (words : List (List ℕ)) (files : Option Files) (folder : Option Folde
   launch_refused NoSet name settings launch why = absurd why
   launch_refused (Damaged slot damage) name settings launch why = absurd why
   launch_refused (Budget number) name settings launch why = absurd why
+  launch_refused Stuck name settings launch why = absurd why
 
   pub restart_refused : (ending : Ending) (settings : Settings) → IsRestart words settings → RefusesRestart ending folder → Arrives ending unbegun_call log
   restart_refused DiskFault settings restart why = (record { nothing = unbegun; needs = ToRestart (record { settings = settings; words = restart }); line = refl }, lines)
@@ -101,6 +103,7 @@ module _ (words : List (List ℕ)) (files : Option Files) (folder : Option Folde
   restart_refused (BadElf who fault) settings restart why = absurd why
   restart_refused SinkFault settings restart why = absurd why
   restart_refused (Budget number) settings restart why = absurd why
+  restart_refused Stuck settings restart why = absurd why
 
 module _ (words : List (List ℕ)) (files : Option Files) (folder : Option Folder) (trace : List Record) (console log : Sunk) (g : Plain) where
   abbrev begun_call : Session
@@ -110,6 +113,7 @@ module _ (words : List (List ℕ)) (files : Option Files) (folder : Option Folde
   arrives_by : (end : RunEnd) (begun : Begun begun_call) (records : ℕ) → g ≡ origin begun → (settings_in begun).records ≡ records → EndsRun end (schedule_in begun) (origin begun) (settings_in begun).records trace console log → Arrives (ending_by end records) begun_call log
   arrives_by RunDone begun records from same ends = ((record { begun = begun; start = ap (λ state. Some state) from; run = ends.0 }, refl), ends.1)
   arrives_by RunBudget begun records from same ends = (record { begun = begun; start = ap (λ state. Some state) from; run = ends.0; line = ap budget_line (sym same) }, ends.1)
+  arrives_by RunStuck begun records from same ends = ((record { begun = begun; start = ap (λ state. Some state) from; run = ends.0 }, refl), ends.1)
   arrives_by RunSinkFault begun records from same ends = record { run = record { begun = begun; start = ap (λ state. Some state) from; run = ends.0 }; took = ends.1 }
   arrives_by RunMemory begun records from same ends = ((inr (record { begun = begun; start = ap (λ state. Some state) from; run = ends.0 }), refl), ends.1)
 

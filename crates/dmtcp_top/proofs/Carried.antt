@@ -3,7 +3,7 @@
 --     begun_refused                no run was begun
 --     begun_arrives                a run was begun, and came to its end
 --     every_is_some                a checkpoint is asked for after one record of work or more
-use Rattle.std.proofs.Common.{◌≡◌, ℕ, zero, suc, ◌<◌, ◌≤◌, true, List, [], ◌∷◌, Option, Some, None, refl, sym, ap, subst, ◌∙◌, arith}
+use Rattle.std.proofs.Common.{◌≡◌, ℕ, suc, ◌<◌, true, List, [], ◌∷◌, Option, Some, None, sym, ap, subst, ◌∙◌, arith}
 use Rattle.std.specs.Prelude.{All, fold, IfSome, Result, Ok, Err, OnOk, OnErr, is_ok, is_err}
 use Rattle.sys_abi.specs.declared.record.Record.{Record}
 use Rattle.edge_io.specs.Inputs.{Files}

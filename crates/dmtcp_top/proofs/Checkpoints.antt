@@ -1,32 +1,28 @@
 -- A request served: which marks may stand there, and what is true after each.
-use Rattle.std.proofs.Common.{◌≡◌, ◌≢◌, ℕ, zero, suc, ◌+◌, ◌-◌, ◌^◌, ◌<◌, ◌≤◌, Bool, true, false, cond, List, [], ◌∷◌, ◌++◌, length, Option, Some, None, inl, inr, refl, sym, ap, subst, ◌∙◌, arith, tests}
-use Rattle.std.specs.Prelude.{◌⊎◌, ◌&&◌, nat_lt, max, IfSome, Result, Ok, Err, OnOk, OnErr}
-use Rattle.std.specs.FinMap as map
-use Rattle.std.specs.List.{Contains}
-use Rattle.std.specs.Option.{ForSome, option_map_or}
-use Rattle.std.proofs.lemmas.List.{length-append}
+use Rattle.std.proofs.Common.{◌≡◌, ◌≢◌, ℕ, suc, ◌+◌, ◌-◌, ◌^◌, ◌<◌, ◌≤◌, Bool, true, false, List, [], ◌∷◌, ◌++◌, Option, None, inl, inr, refl, sym, ap, subst, ◌∙◌, arith, tests}
+use Rattle.std.specs.Prelude.{◌⊎◌, ◌&&◌, nat_lt}
 use Rattle.views.proofs.MapLaws.{true_false}
 use Rattle.sys_abi.specs.declared.record.Record.{Record}
 use Rattle.sys_abi.specs.declared.record.Record.TheVariants.{User, Call, Deliver, Arrive, Cut, Drained, Refilled, Complete, Refused, Lapsed}
 use Rattle.sys_abi.specs.declared.record.Cause.{Cause}
-use Rattle.sys_abi.specs.declared.record.Cause.TheVariants.{Unsupported, DiskFault, Memory}
+use Rattle.sys_abi.specs.declared.record.Cause.TheVariants.{DiskFault, Memory}
 use Rattle.set_disk.specs.Files.{Files as Folder}
 use Rattle.plain_machine.specs.declared.plain.Plain.{Plain}
-use Rattle.plain_machine.specs.Tests.{ended, full_arrive, unsupported}
+use Rattle.plain_machine.specs.Tests.{ended, full_arrive}
 use Rattle.trace_log.specs.declared.requests.Schedule.{Schedule}
 use Rattle.trace_log.specs.declared.requests.Tally.{Tally}
-use Rattle.trace_log.specs.declared.log_lines.Progress.{Progress}
 use Rattle.trace_log.specs.Trace.{TraceState}
-use Rattle.trace_log.specs.Requests.{Requests, Phase, NoRequest, Requested, AfterCut, MayStand, MayStandIn, CanBeHeld, CutAt, is_mark, is_multiple_of, asks, cut_marks, tally_after, next_requests, phase_after}
-use Rattle.trace_log.specs.LogText.{line_of, after, log_text}
+use Rattle.trace_log.specs.Requests.{Requests, Phase, NoRequest, Requested, AfterCut, MayStand, MayStandIn, CanBeHeld, is_mark, is_multiple_of, asks, cut_marks, tally_after, next_requests, phase_after}
+use Rattle.trace_log.specs.LogText.{line_of, after}
 use Rattle.dmtcp_top.specs.declared.machine.Machine.{Machine}
 use Rattle.dmtcp_top.specs.declared.keeper.Keeper.{Keeper}
 use Rattle.dmtcp_top.specs.Sessions.{Sunk, sunk, Took, TookFront}
 use Rattle.dmtcp_top.specs.Machines.{plain_of, with_record}
-use Rattle.dmtcp_top.specs.Running.{IsRunning, IsNoted}
+use Rattle.dmtcp_top.specs.Running.{IsNoted}
 use Rattle.dmtcp_top.specs.Keeping.{IsSafe}
-use Rattle.dmtcp_top.specs.UnderWay.{IsUnderWay, IsBrokenOff, IsSettled}
-use Rattle.dmtcp_top.proofs.Running.{running_mark, noted_mark, part_noted, steps_of}
+use Rattle.dmtcp_top.specs.Rounds.{Place}
+use Rattle.dmtcp_top.specs.UnderWay.{IsUnderWay, IsBrokenOff}
+use Rattle.dmtcp_top.proofs.Running.{running_mark, noted_mark, part_noted}
 
 left_true : (a b : Bool) → (a && b) ≡ true → a ≡ true
 left_true true b both = refl
@@ -131,31 +127,31 @@ outcome_tally tally (Arrive dir n) marks other = absurd (cc)
 
 module _ {D : Type 0} {reads : D → Option Folder} {moment : D → ℕ} {may_leave : D → Folder → Type 0} {left_since : D → ℕ → Folder → Type 0} {faults : D → ℕ} where
   -- one more mark, whose line the log took
-  pub marked : (schedule : Schedule) (g : Plain) (m : Machine) (keeper later : Keeper) (from to : TraceState) (sink : Sunk) (had mid has : Option (List ℕ)) (r : Record) (first disk next : D)
-      → (before : IsUnderWay reads moment may_leave left_since faults schedule g m keeper from sink (sunk had mid) first disk) → is_mark r ≡ true → MayStand (plain_of m) before.running.requests r → to ≡ with_record from r
+  pub marked : (schedule : Schedule) (g : Plain) (m : Machine) (place : Option Place) (keeper later : Keeper) (from to : TraceState) (sink : Sunk) (had mid has : Option (List ℕ)) (r : Record) (first disk next : D)
+      → (before : IsUnderWay reads moment may_leave left_since faults schedule g m place keeper from sink (sunk had mid) first disk) → is_mark r ≡ true → MayStand (plain_of m) before.running.requests r → to ≡ with_record from r
       → later.schedule ≡ keeper.schedule → later.lines ≡ after keeper.lines r → later.tally ≡ tally_after keeper.tally r → Took (sunk mid has) (line_of keeper.lines r)
       → later.lines.request ≤ suc keeper.lines.request → later.lines.drained ≡ 0 → IsSafe reads moment may_leave left_since faults g (from.records ++ r ∷ []) first next
-      → (after : IsUnderWay reads moment may_leave left_since faults schedule g m later to sink (sunk had has) first next) × (after.running.requests ≡ next_requests schedule (plain_of m) before.running.requests r)
-  marked schedule g m keeper later from to sink had mid has r first disk next before marks may traced scheduled lined tallied took few dry safe =
-      let running = running_mark schedule g m from.records sink r before.running marks may in
+      → (after : IsUnderWay reads moment may_leave left_since faults schedule g m place later to sink (sunk had has) first next) × (after.running.requests ≡ next_requests schedule (plain_of m) before.running.requests r)
+  marked schedule g m place keeper later from to sink had mid has r first disk next before marks may traced scheduled lined tallied took few dry safe =
+      let running = running_mark schedule g m place from.records sink r before.running marks may in
       let noted = noted_mark schedule (plain_of m) r before.running.requests keeper later from.records had mid has before.noted scheduled lined tallied took few dry in
-      let whole : IsUnderWay reads moment may_leave left_since faults schedule g m later (with_record from r) sink (sunk had has) first next = record {
+      let whole : IsUnderWay reads moment may_leave left_since faults schedule g m place later (with_record from r) sink (sunk had has) first next = record {
         running = running.0;
         noted = subst (λ (q : Requests). IsNoted schedule q later (from.records ++ r ∷ []) (sunk had has)) (sym running.1) noted;
         safe = safe;
       } in
-      subst (λ (t : TraceState). (after : IsUnderWay reads moment may_leave left_since faults schedule g m later t sink (sunk had has) first next) × (after.running.requests ≡ next_requests schedule (plain_of m) before.running.requests r)) (sym traced) (whole, running.1)
+      subst (λ (t : TraceState). (after : IsUnderWay reads moment may_leave left_since faults schedule g m place later t sink (sunk had has) first next) × (after.running.requests ≡ next_requests schedule (plain_of m) before.running.requests r)) (sym traced) (whole, running.1)
 
   -- one more mark, of whose line the log took a first part
-  pub broken : (schedule : Schedule) (g : Plain) (m : Machine) (keeper : Keeper) (from to : TraceState) (sink : Sunk) (had mid has : Option (List ℕ)) (r : Record) (first disk next : D)
-      → (before : IsUnderWay reads moment may_leave left_since faults schedule g m keeper from sink (sunk had mid) first disk) → is_mark r ≡ true → MayStand (plain_of m) before.running.requests r → to ≡ with_record from r
+  pub broken : (schedule : Schedule) (g : Plain) (m : Machine) (place : Option Place) (keeper : Keeper) (from to : TraceState) (sink : Sunk) (had mid has : Option (List ℕ)) (r : Record) (first disk next : D)
+      → (before : IsUnderWay reads moment may_leave left_since faults schedule g m place keeper from sink (sunk had mid) first disk) → is_mark r ≡ true → MayStand (plain_of m) before.running.requests r → to ≡ with_record from r
       → TookFront (sunk mid has) (line_of keeper.lines r) → IsSafe reads moment may_leave left_since faults g (from.records ++ r ∷ []) first next
-      → IsBrokenOff reads moment may_leave left_since faults schedule g m to sink (sunk had has) first next
-  broken schedule g m keeper from to sink had mid has r first disk next before marks may traced front safe =
-      let running = running_mark schedule g m from.records sink r before.running marks may in
-      let whole : IsBrokenOff reads moment may_leave left_since faults schedule g m (with_record from r) sink (sunk had has) first next = record {
+      → IsBrokenOff reads moment may_leave left_since faults schedule g m place to sink (sunk had has) first next
+  broken schedule g m place keeper from to sink had mid has r first disk next before marks may traced front safe =
+      let running = running_mark schedule g m place from.records sink r before.running marks may in
+      let whole : IsBrokenOff reads moment may_leave left_since faults schedule g m place (with_record from r) sink (sunk had has) first next = record {
         running = running.0;
         logged = part_noted before.running.requests keeper schedule r from.records had mid has before.noted front;
         safe = safe;
       } in
-      subst (λ (t : TraceState). IsBrokenOff reads moment may_leave left_since faults schedule g m t sink (sunk had has) first next) (sym traced) whole
+      subst (λ (t : TraceState). IsBrokenOff reads moment may_leave left_since faults schedule g m place t sink (sunk had has) first next) (sym traced) whole

@@ -5,7 +5,7 @@ use Rattle.trace_log.specs.LogText.{log_text}
 use Rattle.dmtcp_top.specs.declared.status.Status.{Status}
 use Rattle.dmtcp_top.specs.declared.status.Status.TheVariants.{SinkFault as IsSinkFault, Memory as IsMemory}
 use Rattle.dmtcp_top.specs.declared.ending.Ending.{Ending}
-use Rattle.dmtcp_top.specs.declared.ending.Ending.TheVariants.{Done, Usage, InputFault, Missing, BadElf, SinkFault, DiskFault, NoSet, Damaged, Budget, Memory}
+use Rattle.dmtcp_top.specs.declared.ending.Ending.TheVariants.{Done, Usage, InputFault, Missing, BadElf, SinkFault, DiskFault, NoSet, Damaged, Budget, Stuck, Memory}
 use Rattle.dmtcp_top.specs.Log.{memory_line}
 use Rattle.dmtcp_top.specs.Sessions.{Sunk, sunk, Session, Took, TookFront}
 use Rattle.dmtcp_top.specs.Ends.{Ends, Reaches, SinkFailed}
@@ -58,6 +58,7 @@ module _ (session : Session) (had mid has : Option (List ℕ)) where
   logged NoSet there took = record { last = line_of NoSet; reached = there.0; took = reached_whole NoSet there.0 there.1 took }
   logged (Damaged slot damage) there took = record { last = line_of (Damaged slot damage); reached = there.0; took = reached_whole (Damaged slot damage) there.0 there.1 took }
   logged (Budget records) there took = record { last = line_of (Budget records); reached = there.0; took = reached_whole (Budget records) there.0 there.1 took }
+  logged Stuck there took = record { last = line_of Stuck; reached = there.0; took = reached_whole Stuck there.0 there.1 took }
   logged Memory there took = record {
     last = memory_line;
     reached = there.0;
@@ -76,6 +77,7 @@ module _ (session : Session) (had mid has : Option (List ℕ)) where
   cut NoSet there front = fails NoSet there.0 there.1 front
   cut (Damaged slot damage) there front = fails (Damaged slot damage) there.0 there.1 front
   cut (Budget records) there front = fails (Budget records) there.0 there.1 front
+  cut Stuck there front = fails Stuck there.0 there.1 front
   cut Memory there front = inr (record {
     status = IsMemory;
     last = memory_line;

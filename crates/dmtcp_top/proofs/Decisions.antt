@@ -10,7 +10,7 @@ use Rattle.plain_machine.specs.declared.plain.Plain.{Plain}
 use Rattle.image_codec.specs.declared.damage.Damage.{Damage}
 use Rattle.image_store.specs.Slots.{last as set_that_counts}
 use Rattle.dmtcp_top.specs.declared.status.Status.{Status}
-use Rattle.dmtcp_top.specs.declared.status.Status.TheVariants.{Done, Usage, InputFault, Missing, BadElf, SinkFault, DiskFault, NoSet, Damaged, Budget, Memory}
+use Rattle.dmtcp_top.specs.declared.status.Status.TheVariants.{Done, Usage, InputFault, Missing, BadElf, SinkFault, DiskFault, NoSet, Damaged, Budget, Stuck, Memory}
 use Rattle.dmtcp_top.specs.declared.settings.Settings.{Settings}
 use Rattle.dmtcp_top.specs.Words.{IsLaunch, IsRestart, AskNothing, program_word}
 use Rattle.dmtcp_top.specs.Sets.{SpellsSet, SpoilsSet}
@@ -93,6 +93,7 @@ module _ (called : Session) (line : List ℕ) where
       to NoSet r is = absurd (cc)
       to Damaged r is = absurd (cc)
       to Budget r is = absurd (cc)
+      to Stuck r is = absurd (cc)
       to Memory r is = absurd (cc)
 
       from : (s : Status) → Reaches s called line → AskNothing called.words → s ≡ Usage
@@ -106,6 +107,7 @@ module _ (called : Session) (line : List ℕ) where
       from NoSet r nothing = none_restarted r.asked nothing
       from Damaged r nothing = none_restarted r.asked nothing
       from Budget r nothing = none_begun r.begun nothing
+      from Stuck r nothing = none_begun r.0.begun nothing
       from Memory (inl unbegun, is) nothing = none_asked unbegun.1 nothing
       from Memory (inr cut, is) nothing = none_begun cut.begun nothing
 
@@ -137,6 +139,7 @@ module _ (called : Session) (line : List ℕ) where
     missing_decided NoSet r fault disk memory = (λ is. absurd (cc), λ none. against_both asked r.asked)
     missing_decided Damaged r fault disk memory = (λ is. absurd (cc), λ none. against_both asked r.asked)
     missing_decided Budget r fault disk memory = (λ is. absurd (cc), λ none. no_file r.begun none)
+    missing_decided Stuck r fault disk memory = (λ is. absurd (cc), λ none. no_file r.0.begun none)
     missing_decided Memory r fault disk memory = absurd (memory refl)
 
     module _ (file : List ℕ) (is : map.get held asked.name ≡ Some file) where
@@ -151,6 +154,7 @@ module _ (called : Session) (line : List ℕ) where
       bad_decided NoSet r fault disk memory = (λ e. absurd (cc), λ breaks. against_both asked r.asked)
       bad_decided Damaged r fault disk memory = (λ e. absurd (cc), λ breaks. against_both asked r.asked)
       bad_decided Budget r fault disk memory = (λ e. absurd (cc), λ breaks. bad_file file r.begun is breaks)
+      bad_decided Stuck r fault disk memory = (λ e. absurd (cc), λ breaks. bad_file file r.0.begun is breaks)
       bad_decided Memory r fault disk memory = absurd (memory refl)
 
       launch_decided : (status : Status) → Reaches status called line → status ≢ InputFault → status ≢ DiskFault → first_fault file ≡ None → RunsOn status
@@ -164,7 +168,8 @@ module _ (called : Session) (line : List ℕ) where
       launch_decided NoSet r fault disk fine = against_both asked r.asked
       launch_decided Damaged r fault disk fine = against_both asked r.asked
       launch_decided Budget r fault disk fine = inr (inl refl)
-      launch_decided Memory r fault disk fine = inr (inr refl)
+      launch_decided Stuck r fault disk fine = inr (inr (inl refl))
+      launch_decided Memory r fault disk fine = inr (inr (inr refl))
 
   module _ (files : Folder) (asked : RestartAsked called) (reads : called.folder ≡ Some files) where
     -- a run began with the state that the folder's set spells
@@ -187,6 +192,7 @@ module _ (called : Session) (line : List ℕ) where
     setless_decided Damaged r disk memory =
         (λ is. absurd (cc), λ none. absurd (none_spoilt files r.slot r.damage none (told (λ there. SpoilsSet there r.slot r.damage) called.folder files reads r.spoilt)))
     setless_decided Budget r disk memory = (λ is. absurd (cc), λ none. no_set r.begun none)
+    setless_decided Stuck r disk memory = (λ is. absurd (cc), λ none. no_set r.0.begun none)
     setless_decided Memory r disk memory = absurd (memory refl)
 
     module _ (laws : SetLaws) where
@@ -202,6 +208,7 @@ module _ (called : Session) (line : List ℕ) where
           absurd (none_spoilt files slot damage (told (λ there. set_that_counts there ≡ None) called.folder files reads r.none) spoils)
       spoilt_decided slot damage spoils Damaged r disk memory = refl
       spoilt_decided slot damage spoils Budget r disk memory = begun_set r.begun (λ generation g spells. absurd (spelled_or_spoilt laws files generation g slot damage spells spoils))
+      spoilt_decided slot damage spoils Stuck r disk memory = begun_set r.0.begun (λ generation g spells. absurd (spelled_or_spoilt laws files generation g slot damage spells spoils))
       spoilt_decided slot damage spoils Memory r disk memory = absurd (memory refl)
 
       restart_decided : (generation : ℕ) (g : Plain) → SpellsSet files generation g → (status : Status) → Reaches status called line → status ≢ DiskFault → RunsOn status
@@ -217,7 +224,8 @@ module _ (called : Session) (line : List ℕ) where
       restart_decided generation g spells Damaged r disk =
           absurd (spelled_or_spoilt laws files generation g r.slot r.damage spells (told (λ there. SpoilsSet there r.slot r.damage) called.folder files reads r.spoilt))
       restart_decided generation g spells Budget r disk = inr (inl refl)
-      restart_decided generation g spells Memory r disk = inr (inr refl)
+      restart_decided generation g spells Stuck r disk = inr (inr (inl refl))
+      restart_decided generation g spells Memory r disk = inr (inr (inr refl))
 
   decided_by : SetLaws → (status : Status) → Reaches status called line → status ≢ InputFault → status ≢ DiskFault → IsDecided status called
   decided_by laws status reached fault disk = record {
@@ -241,6 +249,7 @@ decided laws DiskFault called log ends fault sink disk = absurd (disk refl)
 decided laws NoSet called log ends fault sink disk = decided_by called ends.last laws NoSet ends.reached fault disk
 decided laws Damaged called log ends fault sink disk = decided_by called ends.last laws Damaged ends.reached fault disk
 decided laws Budget called log ends fault sink disk = decided_by called ends.last laws Budget ends.reached fault disk
+decided laws Stuck called log ends fault sink disk = decided_by called ends.last laws Stuck ends.reached fault disk
 decided laws Memory called log ends fault sink disk = decided_by called ends.last laws Memory ends.reached fault disk
 
 -- with whatever state a run began

@@ -1,10 +1,8 @@
 -- The files of a set that spell its values are damaged nowhere.
-use Rattle.std.proofs.Common.{◌≡◌, ◌≢◌, ◌⊎◌, inl, inr, ℕ, ◌+◌, List, [], ◌∷◌, length, sym, ap, subst, ◌∙◌}
+use Rattle.std.proofs.Common.{◌≡◌, inl, inr, ℕ, ◌+◌, List, [], ◌∷◌, sym, ap, subst, ◌∙◌}
 use Rattle.image_codec.specs.declared.process_image.ProcImage.{ProcImage}
 use Rattle.image_codec.specs.declared.shared.Shared.{Shared}
-use Rattle.image_codec.specs.Files.{FileLaws}
-use Rattle.image_codec.specs.ProcessImages.{SpellsProcess, DamagedProcess, pid_at, tids_at}
-use Rattle.image_codec.specs.SharedFormat.{SpellsShared, DamagedShared}
+use Rattle.image_codec.specs.ProcessImages.{pid_at, tids_at}
 use Rattle.image_codec.specs.Sets.{SpellsImages, DamagedImages, SpellsFiles, DamagedFiles, live_count}
 use Rattle.image_codec.proofs.SharedLaws as shared_image
 use Rattle.image_codec.proofs.ProcessFiles as process_image

@@ -1,12 +1,11 @@
 -- What a kernel part with an image has: no channel, and no description of a kind that no image holds.
-use Rattle.std.proofs.Common.{◌≡◌, ℕ, zero, suc, Bool, true, false, cond, List, [], ◌∷◌, ◌++◌, Option, Some, None, refl, sym, ap, subst, ◌∙◌, arith, tests}
-use Rattle.std.specs.Prelude.{◌==◌, IsTrue, is_some, map as each}
+use Rattle.std.proofs.Common.{◌≡◌, ℕ, Bool, true, false, cond, List, [], ◌∷◌, ◌++◌, Option, Some, None, refl, sym, ap, subst, ◌∙◌}
+use Rattle.std.specs.Prelude.{◌==◌, IsTrue, map as each}
 use Rattle.std.specs.List.{flat_map, filter_map, cons_option}
 use Rattle.std.specs.Option.{option_map}
 use Rattle.std.specs.Ordering.{eq_by_cmp}
 use Rattle.std.specs.FinMap as map
 use Rattle.sys_abi.specs.declared.identity.DescId.{DescId}
-use Rattle.sys_abi.specs.declared.identity.Dir.{Dir}
 use Rattle.sys_abi.specs.declared.identity.Slot.{Slot}
 use Rattle.sys_abi.specs.Orders.{desc_cmp, dir_cmp}
 use Rattle.sys_abi.proofs.OrderLaws.{desc_total}
@@ -15,8 +14,6 @@ use Rattle.plain_machine.specs.declared.plain.Plain.{Plain}
 use Rattle.plain_machine.specs.declared.kernel.PlainKernel.{PlainKernel}
 use Rattle.plain_machine.specs.declared.channel.Direction.{Direction}
 use Rattle.plain_machine.specs.declared.description.Description.{Description}
-use Rattle.plain_machine.specs.declared.description.Descriptor.{Descriptor}
-use Rattle.plain_machine.specs.declared.description.Object.{Object}
 use Rattle.plain_machine.specs.declared.description.Object.TheVariants.{Console as TheConsole}
 use Rattle.plain_machine.specs.Tests.{UnsupportedAt, unsupported, unsupported_entry, unsupported_by, unsupported_kind, first_of, full_arrive}
 use Rattle.trace_log.specs.Requests.{cut_marks}
@@ -24,9 +21,8 @@ use Rattle.trace_log.proofs.RequestCuts.{no_channels}
 use Rattle.image_codec.specs.declared.shared.ObjectImage.{ObjectImage}
 use Rattle.image_codec.specs.declared.shared.ObjectImage.TheVariants.{Console, File, Stream, Socket, Listener}
 use Rattle.image_codec.specs.declared.shared.DescriptionImage.{DescriptionImage}
-use Rattle.image_codec.specs.declared.shared.Shared.{Shared}
 use Rattle.image_codec.specs.Texts.{EachFrom}
-use Rattle.image_codec.specs.SharedFits.{IsShared, DescriptionFits, kind_of}
+use Rattle.image_codec.specs.SharedFits.{DescriptionFits, kind_of}
 use Rattle.image_codec.specs.KernelParts.{kernel_of, object_of, description_entry, direction_entries}
 use Rattle.image_codec.specs.KernelImages.{HasImage}
 

@@ -1,8 +1,8 @@
 -- What the words of a command line ask for, from the command and its options.
-use Rattle.std.proofs.Common.{◌≡◌, ◌≢◌, ℕ, List, [], ◌∷◌, ◌++◌, map, string_bytes, get_or, drop, refl, sym, ap, subst, ◌∙◌}
+use Rattle.std.proofs.Common.{◌≡◌, ℕ, List, [], ◌∷◌, ◌++◌, get_or, drop, refl, sym, ap, subst, ◌∙◌}
 use Rattle.std.specs.Prelude.{codes}
 use Rattle.dmtcp_top.specs.declared.settings.Settings.{Settings}
-use Rattle.dmtcp_top.specs.Words.{AreOptions, IsLaunch, IsRestart, AskNothing, program_word}
+use Rattle.dmtcp_top.specs.Words.{AreOptions, IsLaunch, AskNothing, program_word}
 use Rattle.dmtcp_top.proofs.Options.{NoOptions}
 
 front : {A : Type 0} → List A → List A

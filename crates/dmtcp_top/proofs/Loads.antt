@@ -2,7 +2,7 @@
 --     looks_none, looks_then           no call of the folder, and two stretches that only look
 --     whole_unbegun, whole_begun       what a crash leaves of a call that began no run, and of one that did
 --     kept                             what a keeper knows whose sets follow those of a store
-use Rattle.std.proofs.Common.{Fits, w8, get_or, length, ◌≡◌, ◌≢◌, ℕ, zero, suc, ◌+◌, ◌^◌, ◌<◌, ◌≤◌, List, [], ◌∷◌, Option, Some, None, inl, inr, refl, sym, ap, subst, ◌∙◌, arith}
+use Rattle.std.proofs.Common.{Fits, w8, get_or, ◌≡◌, ℕ, zero, suc, ◌<◌, List, [], ◌∷◌, Option, Some, None, inl, inr, refl, sym, ap, subst, ◌∙◌, arith}
 use Rattle.std.specs.Prelude.{◌⊎◌, IfSome, All, Result, Ok, Err, max, option_map}
 use Rattle.std.proofs.lemmas.List.{get_or_default}
 use Rattle.std.proofs.Math.Nat.{zero-max}
@@ -12,7 +12,6 @@ use Rattle.sys_abi.specs.declared.record.Record.{Record}
 use Rattle.sys_abi.specs.declared.record.Record.TheVariants.{Complete}
 use Rattle.set_disk.specs.Files.{Files as Folder}
 use Rattle.set_disk.specs.Crash.{Same}
-use Rattle.set_disk.specs.Moments.{Passes, LeavesOnly}
 use Rattle.set_disk.proofs.Stretches.{joins, weakens}
 use Rattle.plain_machine.specs.declared.plain.Plain.{Plain}
 use Rattle.trace_log.specs.Requests.{first_tally}
@@ -28,7 +27,7 @@ use Rattle.image_store.specs.StoreCrashes.{ChangesNothing}
 use Rattle.image_store.proofs.Passing.{passes_then}
 use Rattle.dmtcp_top.specs.declared.keeper.Keeper.{Keeper}
 use Rattle.dmtcp_top.specs.declared.ending.Ending.{Ending}
-use Rattle.dmtcp_top.specs.declared.ending.Ending.TheVariants.{Done, Usage, InputFault, Missing, BadElf, SinkFault, DiskFault, NoSet, Damaged, Budget, Memory}
+use Rattle.dmtcp_top.specs.declared.ending.Ending.TheVariants.{Done, Usage, InputFault, Missing, BadElf, SinkFault, DiskFault, NoSet, Damaged, Budget, Stuck, Memory}
 use Rattle.dmtcp_top.specs.declared.machine.Machine.{Machine}
 use Rattle.dmtcp_top.specs.Sets.{SpoilsSet}
 use Rattle.dmtcp_top.specs.declared.settings.Settings.{Settings}
@@ -197,3 +196,4 @@ module _ (told : Option Folder) (images : Folder → Type 0) (store : Known) (in
   restored (Err DiskFault) bytes has of = absurd of
   restored (Err NoSet) bytes has of = absurd of
   restored (Err (Budget records)) bytes has of = absurd of
+  restored (Err Stuck) bytes has of = absurd of

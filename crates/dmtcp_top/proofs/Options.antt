@@ -1,11 +1,10 @@
 -- Words of options, and what they set.
 use Rattle.std.specs.Prelude.{◌⊎◌}
-use Rattle.std.proofs.Common.{◌≡◌, ◌≢◌, ◌==◌, Bool, true, false, get_or, inl, inr, ℕ, zero, suc, ◌<◌, List, [], ◌∷◌, ◌++◌, length, All, Option, Some, None, IfSome, IfNone, refl, sym, ap, subst, ◌∙◌, arith}
+use Rattle.std.proofs.Common.{◌≡◌, ◌≢◌, ◌==◌, Bool, true, false, get_or, inl, inr, ℕ, zero, suc, List, [], ◌∷◌, ◌++◌, length, All, Option, Some, None, IfNone, refl, sym, ap, ◌∙◌, arith}
 use Rattle.dmtcp_top.specs.declared.settings.Setting.{Setting}
 use Rattle.dmtcp_top.specs.declared.settings.Setting.TheVariants.{Every, Records}
 use Rattle.dmtcp_top.specs.declared.settings.Settings.{Settings}
 use Rattle.dmtcp_top.specs.Words.{IsCount, AreOptions, IsOnce, Differ, count_of, words_of, words_of_all, with_setting, defaults}
-use Rattle.dmtcp_top.proofs.Decimals.{IfNone-of_any}
 
 pub IfNone-map : {A P Q : Type 0} (o : Option A) → (P → Q) → IfNone o P → IfNone o Q
 IfNone-map None f p = f p

@@ -1,16 +1,13 @@
 -- A folder's set spells one state, and so a restart goes on from the state of a cut.
-use Rattle.std.proofs.Common.{◌≡◌, ℕ, List, map, length, Some, sym, ap, subst, ◌∙◌}
-use Rattle.set_disk.specs.Files.{Files}
-use Rattle.sys_abi.specs.declared.record.Record.{Record}
+use Rattle.std.proofs.Common.{◌≡◌, ℕ, List, Some, sym, subst, ◌∙◌}
 use Rattle.plain_machine.specs.declared.plain.Plain.{Plain}
 use Rattle.image_codec.specs.Sets.{SpellsSet as SpellsFilesSet}
 use Rattle.image_codec.proofs.SetLaws.{one_state_of_set}
 use Rattle.image_store.specs.FoundSets.{FoundSet, IsSet}
 use Rattle.trace_log.specs.Requests.{CutAt}
-use Rattle.dmtcp_top.specs.Keeping.{SpellsCut}
 use Rattle.dmtcp_top.specs.Promise.{OneState, RoundTrip}
-use Rattle.dmtcp_top.specs.Sets.{SpellsState, SpellsSet}
-use Rattle.dmtcp_top.proofs.SetLaws.{SetLaws, set_laws}
+use Rattle.dmtcp_top.specs.Sets.{SpellsState}
+use Rattle.dmtcp_top.proofs.SetLaws.{set_laws}
 
 as_set : (found : FoundSet) (generation : ℕ) (images : List (List ℕ)) (g : Plain) → IsSet found generation images → SpellsState images g → SpellsFilesSet found.manifest images generation g
 as_set found generation images g is state = record {

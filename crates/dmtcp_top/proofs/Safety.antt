@@ -1,6 +1,6 @@
 -- What the folder of sets comes to: as the trace grows, as a store is opened again, and as a set is put.
-use Rattle.std.proofs.Common.{◌≡◌, ◌≢◌, ℕ, zero, suc, ◌+◌, ◌-◌, ◌^◌, ◌<◌, ◌≤◌, Bool, true, false, cond, List, [], ◌∷◌, ◌++◌, Option, Some, None, append_assoc, inl, inr, refl, sym, ap, subst, ◌∙◌, arith}
-use Rattle.std.specs.Prelude.{◌⊎◌, is_some, max, IfSome, Result, Ok, Err, option_map}
+use Rattle.std.proofs.Common.{◌≡◌, ℕ, zero, suc, ◌+◌, ◌^◌, ◌<◌, ◌≤◌, false, cond, List, [], ◌∷◌, ◌++◌, Option, Some, None, append_assoc, inl, inr, refl, sym, ap, subst, ◌∙◌, arith}
+use Rattle.std.specs.Prelude.{◌⊎◌, is_some, IfSome, option_map}
 use Rattle.std.specs.List.{count_by, Contains}
 use Rattle.std.specs.Option.{ForSome, option_map_or}
 use Rattle.std.proofs.lemmas.List.Elements.{Contains-append_cases}
@@ -11,8 +11,7 @@ use Rattle.sys_abi.specs.declared.record.Record.{Record}
 use Rattle.sys_abi.specs.declared.record.Record.TheVariants.{Complete, Refused}
 use Rattle.sys_abi.specs.declared.record.Cause.TheVariants.{DiskFault}
 use Rattle.set_disk.specs.Files.{Files as Folder}
-use Rattle.set_disk.specs.Crash.{Same}
-use Rattle.set_disk.specs.Moments.{Passes, LeavesOnly}
+use Rattle.set_disk.specs.Moments.{LeavesOnly}
 use Rattle.set_disk.proofs.Stretches.{joins, weakens}
 use Rattle.plain_machine.specs.declared.plain.Plain.{Plain}
 use Rattle.trace_log.specs.Requests.{CutAt}
@@ -20,11 +19,10 @@ use Rattle.dmtcp_top.specs.Sets.{SpellsState}
 use Rattle.image_store.specs.declared.set_info.SetInfo.{SetInfo}
 use Rattle.image_store.specs.Slots.{last}
 use Rattle.image_store.specs.FoundSets.{FoundSet, set_of, last_set, HasSet}
-use Rattle.image_store.specs.StoreStates.{Known, FitsFolder, NoneAbove, next_generation}
+use Rattle.image_store.specs.StoreStates.{NoneAbove}
 use Rattle.image_store.specs.StoreCrashes.{OldOrNew, ChangesNothing}
-use Rattle.dmtcp_top.specs.declared.keeper.Keeper.{Keeper}
-use Rattle.dmtcp_top.specs.Sets.{SpellsSet, IsAtLeast}
-use Rattle.dmtcp_top.specs.Keeping.{IsOpening, SpellsCut, IsGood, KeepsComplete, is_disk_fault, CountsFaults, IsKept, IsSafe}
+use Rattle.dmtcp_top.specs.Sets.{IsAtLeast}
+use Rattle.dmtcp_top.specs.Keeping.{IsGood, KeepsComplete, is_disk_fault, CountsFaults, IsSafe}
 
 either : {A B P : Type 0} → A ⊎ B → (A → P) → (B → P) → P
 either (inl a) f h = f a

@@ -1,99 +1,109 @@
--- What each served call keeps: it has an answer, gives its process no bytes, and nobody else lives after it who didn't before.
-use Rattle.std.proofs.Common.{◌≡◌, ◌≢◌, ℕ, Bool, true, false, List, [], Option, Some, None, refl, sym, ap, subst, ◌∙◌}
+-- Each served call has an answer, and gives its process at most 8 bytes.
+use Rattle.std.proofs.Common.{◌≡◌, ℕ, ◌+◌, ◌≤◌, Bool, true, false, List, ◌++◌, length, length-append, Option, Some, None, refl, subst, arith}
+use Rattle.std.specs.Prelude.{is_some}
 use Rattle.sys_abi.specs.declared.identity.VPid.{VPid}
-use Rattle.sys_abi.specs.declared.errors.TheConstants.{EBADF}
+use Rattle.sys_abi.specs.declared.errors.TheConstants.{EAGAIN, EBADF, EINVAL, ESRCH}
+use Rattle.sys_abi.specs.declared.flags.TheConstants.{CLONE_PARENT_SETTID, CLONE_CHILD_SETTID}
+use Rattle.sys_abi.specs.declared.cloning.CloneForm.{CloneForm}
+use Rattle.sys_abi.specs.declared.cloning.CloneForm.TheVariants.{Fork, Thread}
+use Rattle.sys_abi.specs.Clones.{clone_form}
 use Rattle.sys_abi.specs.declared.request.Request.{Request}
-use Rattle.sys_abi.specs.declared.request.Request.TheVariants.{Write, ExitGroup}
-use Rattle.sys_abi.proofs.OrderLaws.{vpid_total, vpid_exact}
-use Rattle.views.proofs.MapLaws.{get_remove_other, get_remove_same, true_false}
+use Rattle.sys_abi.specs.declared.request.Request.TheVariants.{Write, Exit, ExitGroup, Tgkill, Clone}
 use Rattle.plain_machine.specs.declared.kernel.PlainKernel.{PlainKernel}
-use Rattle.plain_machine.specs.declared.description.Description.{Description}
 use Rattle.plain_machine.specs.declared.description.Object.{Object}
-use Rattle.plain_machine.specs.declared.description.Object.TheVariants.{Console, File, Stream, Socket, Listener, Datagram, Counter}
+use Rattle.plain_machine.specs.declared.description.Object.TheVariants.{Console}
+use Rattle.plain_machine.specs.Buffers.{has_flag}
 use Rattle.plain_machine.specs.Attempts.{Try, Fails, NotReady, Gives, Served, and_then, found, need, settled}
-use Rattle.plain_machine.specs.Kernel.{is_live, is_live_process, description_at, may_write, after_end}
+use Rattle.plain_machine.specs.Kernel.{description_at, may_write}
 use Rattle.plain_machine.specs.Rows.Write.{write_row, write_object}
-use Rattle.plain_machine.specs.Rows.End.{exit_group_row}
+use Rattle.plain_machine.specs.Rows.End.{exit_row, exit_group_row}
+use Rattle.plain_machine.specs.Rows.Send.{tgkill_row}
+use Rattle.plain_machine.specs.Rows.Clone.{number_if, number_bytes, clone_thread, clone_by, clone_row}
 use Rattle.plain_machine.specs.Serve.{row, serve}
 
--- who doesn't live before, and isn't p, doesn't live after
-abbrev pub RevivesNobody : PlainKernel → PlainKernel → VPid → Type 0
-RevivesNobody before after p = (q : VPid) → q ≢ p → is_live before q ≡ false → is_live after q ≡ false
+abbrev IsAnswered : Try Served → Type 0
+IsAnswered (Fails e) = Unit {0}
+IsAnswered NotReady = ⊥
+IsAnswered (Gives served) = length served.bytes ≤ 8
 
-pub record IsTame (k : PlainKernel) (p : VPid) (served : Served) : Type 0 where
-  pub bytes : served.bytes ≡ []
-  pub others : RevivesNobody k served.kernel p
-  -- while its process lives, nothing of the kernel part has changed
-  pub still : is_live served.kernel p ≡ true → served.kernel ≡ k
-
-abbrev TameTry : PlainKernel → VPid → Try Served → Type 0
-TameTry k p (Fails e) = Unit {0}
-TameTry k p NotReady = ⊥
-TameTry k p (Gives served) = IsTame k p served
-
-unchanged : (k : PlainKernel) (p : VPid) → RevivesNobody k k p
-unchanged k p q differ dead = dead
-
-object_tame : (k : PlainKernel) (p : VPid) (object : Object) (given : List ℕ) → TameTry k p (write_object k object given)
-unfolding write_object
-object_tame k p Console given = record { bytes = refl; others = unchanged k p; still = λ alive. refl }
-object_tame k p (File number offset) given = tt
-object_tame k p (Stream conn side) given = tt
-object_tame k p (Socket address) given = tt
-object_tame k p (Listener address) given = tt
-object_tame k p (Datagram peer) given = tt
-object_tame k p (Counter value) given = tt
-
-needed_tame : (k : PlainKernel) (p : VPid) (test : Bool) (next : Try Served) → TameTry k p next → TameTry k p (and_then (need test EBADF) (λ _. next))
+-- a test in front refuses, or lets the call through
+tested : (b : Bool) (e : ℕ) (next : Try Served) → IsAnswered next → IsAnswered (and_then (need b e) (λ _. next))
 unfolding and_then need
-needed_tame k p true next tame = tame
-needed_tame k p false next tame = tt
+tested true e next is = is
+tested false e next is = tt
 
-found_tame : (k : PlainKernel) (p : VPid) (description : Option Description) (next : Description → Try Served) → ((d : Description) → TameTry k p (next d)) → TameTry k p (and_then (found description EBADF) next)
+looked_up : {A : Type 0} (there : Option A) (e : ℕ) (next : A → Try Served) → ((a : A) → IsAnswered (next a)) → IsAnswered (and_then (found there e) next)
 unfolding and_then found
-found_tame k p None next tame = tt
-found_tame k p (Some d) next tame = tame d
+looked_up None e next is = tt
+looked_up (Some a) e next is = is a
 
-write_tame : (k : PlainKernel) (p : VPid) (fd : ℕ) (given : List ℕ) → TameTry k p (write_row k p fd given)
+no_bytes : 0 ≤ 8
+no_bytes = omega arith
+
+object_answered : (k : PlainKernel) (object : Object) (given : List ℕ) → IsAnswered (write_object k object given)
+unfolding write_object
+object_answered k Console given = no_bytes
+object_answered k _ given = tt
+
+write_answered : (k : PlainKernel) (p : VPid) (fd : ℕ) (given : List ℕ) → IsAnswered (write_row k p fd given)
 unfolding write_row
-write_tame k p fd given =
-    found_tame k p (description_at k p fd) (λ d. and_then (need (may_write d.flags) EBADF) (λ _. write_object k d.object given)) (λ d. needed_tame k p (may_write d.flags) (write_object k d.object given) (object_tame k p d.object given))
+write_answered k p fd given = looked_up (description_at k p fd) EBADF _ (λ d. tested (may_write d.flags) EBADF _ (object_answered k d.object given))
 
-pub end_revives_nobody : (k : PlainKernel) (p : VPid) → RevivesNobody k (after_end k p) p
-unfolding after_end is_live
-end_revives_nobody k p q differ dead = ap is_live_process (get_remove_other vpid_total vpid_exact k.processes p q differ) ∙ dead
+tgkill_answered : (k : PlainKernel) (p : VPid) (number t s : ℕ) → IsAnswered (tgkill_row k p number t s)
+unfolding tgkill_row
+tgkill_answered k p number t s = tested _ EINVAL _ (tested _ ESRCH _ no_bytes)
 
--- who ended doesn't live
-pub ended_is_dead : (k : PlainKernel) (p : VPid) → is_live (after_end k p) p ≡ false
-unfolding after_end is_live
-ended_is_dead k p = ap is_live_process (get_remove_same vpid_total vpid_exact k.processes p)
+number_fits : (wanted : Bool) (number : ℕ) → length (number_if wanted number) ≤ 4
+number_fits true number = omega arith
+number_fits false number = omega arith
 
-end_tame : (k : PlainKernel) (p : VPid) → TameTry k p (exit_group_row k p)
-unfolding exit_group_row
-end_tame k p = record { bytes = refl; others = end_revives_nobody k p; still = λ alive. true_false (sym alive ∙ ended_is_dead k p) }
+numbers_fit : (flags number : ℕ) → length (number_bytes flags number) ≤ 8
+numbers_fit flags number =
+    let first = number_if (has_flag flags CLONE_PARENT_SETTID) number in
+    let second = number_if (has_flag flags CLONE_CHILD_SETTID) number in
+    let both : length (first ++ second) ≡ length first + length second = length-append first second in
+    let front : length first ≤ 4 = number_fits (has_flag flags CLONE_PARENT_SETTID) number in
+    let back : length second ≤ 4 = number_fits (has_flag flags CLONE_CHILD_SETTID) number in
+    omega arith
 
-row_tame : (k : PlainKernel) (p : VPid) (t : ℕ) (q : Request) (given : List ℕ) → TameTry k p (row k p t q given)
-unfolding row
-row_tame k p t (Write fd buffer count) given = write_tame k p fd given
-row_tame k p t (ExitGroup code) given = end_tame k p
-row_tame k p t _ given = tt
+clone_answered : (k : PlainKernel) (p : VPid) (flags : ℕ) (form : Option CloneForm) → IsAnswered (clone_by k p flags form)
+unfolding clone_thread
+clone_answered k p flags None = tt
+clone_answered k p flags (Some Fork) = tt
+clone_answered k p flags (Some Thread) = tested _ EAGAIN _ (numbers_fit flags k.next_id)
 
-abbrev TameServed : PlainKernel → VPid → Option Served → Type 0
-TameServed k p None = ⊥
-TameServed k p (Some served) = IsTame k p served
+row_answered : (k : PlainKernel) (p : VPid) (t : ℕ) (q : Request) (given : List ℕ) → IsAnswered (row k p t q given)
+unfolding row exit_group_row exit_row clone_row
+row_answered k p t (Write fd buffer count) given = write_answered k p fd given
+row_answered k p t (ExitGroup code) given = no_bytes
+row_answered k p t (Exit code) given = no_bytes
+row_answered k p t (Tgkill number tid s) given = tgkill_answered k p number tid s
+row_answered k p t (Clone flags stack parent_tid tls child_tid) given = clone_answered k p flags (clone_form flags)
+row_answered k p t _ given = tt
 
-settled_tame : (k : PlainKernel) (p : VPid) (m : Try Served) → TameTry k p m → TameServed k p (settled k m)
-settled_tame k p (Fails e) tame = record { bytes = refl; others = unchanged k p; still = λ alive. refl }
-settled_tame k p NotReady tame = tame
-settled_tame k p (Gives served) tame = tame
+abbrev IsServed : Option Served → Type 0
+IsServed None = ⊥
+IsServed (Some served) = length served.bytes ≤ 8
 
-serve_tame : (k : PlainKernel) (p : VPid) (t : ℕ) (q : Request) (given : List ℕ) → TameServed k p (serve k p t q given)
+settled_served : (k : PlainKernel) (attempt : Try Served) → IsAnswered attempt → IsServed (settled k attempt)
+settled_served k (Fails e) is = no_bytes
+settled_served k NotReady is = is
+settled_served k (Gives served) is = is
+
+serve_served : (k : PlainKernel) (p : VPid) (t : ℕ) (q : Request) (given : List ℕ) → IsServed (serve k p t q given)
 unfolding serve
-serve_tame k p t q given = settled_tame k p (row k p t q given) (row_tame k p t q given)
+serve_served k p t q given = settled_served k (row k p t q given) (row_answered k p t q given)
 
-pub served_tame : (k : PlainKernel) (p : VPid) (t : ℕ) (q : Request) (given : List ℕ) (served : Served) → serve k p t q given ≡ Some served → IsTame k p served
-served_tame k p t q given served is = subst (TameServed k p) is (serve_tame k p t q given)
+pub served_bytes : (k : PlainKernel) (p : VPid) (t : ℕ) (q : Request) (given : List ℕ) (served : Served) → serve k p t q given ≡ Some served → length served.bytes ≤ 8
+served_bytes k p t q given served is = subst IsServed is (serve_served k p t q given)
 
 -- no call waits
 pub serve_answers : (k : PlainKernel) (p : VPid) (t : ℕ) (q : Request) (given : List ℕ) → serve k p t q given ≡ None → ⊥
-serve_answers k p t q given is = subst (TameServed k p) is (serve_tame k p t q given)
+serve_answers k p t q given is = subst IsServed is (serve_served k p t q given)
+
+pub serve_is_some : (k : PlainKernel) (p : VPid) (t : ℕ) (q : Request) (given : List ℕ) → is_some (serve k p t q given) ≡ true
+serve_is_some k p t q given = some_if (serve k p t q given) (serve_served k p t q given)
+  where
+    some_if : (served : Option Served) → IsServed served → is_some served ≡ true
+    some_if None is = absurd is
+    some_if (Some served) is = refl

@@ -1,4 +1,4 @@
--- The start of one program is the plain state of a machine with one process, which lives with one thread; it is a valid one, and its kernel
+-- The start of one program is the plain state of a machine with one process, which lives; it is a valid one, and its kernel
 -- part has an image.
 use Rattle.std.proofs.Common.{◌≡◌, ◌≢◌, ℕ, zero, suc, All, arith, lit<, true, false, List, [], ◌∷◌, refl, sym, ap, ◌∙◌}
 use Rattle.std.specs.FinMap as map
@@ -17,9 +17,9 @@ use Rattle.plain_machine.proofs.StartKernels.{start_is_valid}
 use Rattle.image_codec.specs.KernelImages.{HasImage}
 use Rattle.image_codec.specs.StartImages.{start_image}
 use Rattle.image_codec.proofs.StartImages.{start_has_image}
-use Rattle.plain_machine.specs.Start.{Launched, start, start_kernel, with_processes, with_process, with_files, with_users, empty_kernel, start_user, start_thread, start_regs, start_process}
-use Rattle.dmtcp_top.specs.Machines.{only, single, OneThread}
-use Rattle.dmtcp_top.proofs.OneProcess.{users_while_live}
+use Rattle.plain_machine.specs.Start.{Launched, start, start_kernel, with_processes, with_process, with_files, with_users, empty_kernel, start_user, start_process}
+use Rattle.dmtcp_top.specs.Machines.{only, single}
+use Rattle.dmtcp_top.proofs.Outcomes.{users_while_live}
 
 first_kernel : PlainKernel
 first_kernel = with_process empty_kernel 40000 0
@@ -32,10 +32,6 @@ pub first_is_alone : (q : VPid) → q ≢ pid 40000 → is_live (with_process em
 unfolding is_live with_process empty_kernel
 first_is_alone q differ =
     ap is_live_process (get_insert_other vpid_total vpid_exact map.empty (pid 40000) (start_process 40000) q differ ∙ map.get-empty {X = Process} vpid_cmp q)
-
-pub one_thread_at_start : (program : Program) (arguments : List ℕ) (t : ℕ) → OneThread (start_user program arguments t) t
-unfolding start_user
-one_thread_at_start program arguments t = record { thread = start_thread (start_regs program arguments); threads = refl; contexts = refl; waiters = refl }
 
 started : (program : Program) (arguments : List ℕ) → start (record { host = 0; program = program; arguments = arguments } ∷ []) [] ≡ record { kernel = with_process empty_kernel 40000 0; users = only (pid 40000) (start_user program arguments 40000) }
 unfolding start start_kernel with_processes with_files with_users

@@ -1,18 +1,12 @@
 -- One turn of a run: a record of the machine, and what it asks of the keeper.
-use Rattle.std.proofs.Common.{◌≡◌, ◌≢◌, ℕ, zero, suc, ◌+◌, ◌-◌, ◌<◌, ◌≤◌, true, false, cond, List, [], ◌∷◌, ◌++◌, length, Option, Some, None, inl, inr, refl, sym, ap, subst, ◌∙◌, arith}
-use Rattle.std.specs.Prelude.{◌⊎◌, is_some}
-use Rattle.std.specs.List.{Contains, count_by}
-use Rattle.std.specs.Option.{option_map}
+use Rattle.std.proofs.Common.{◌≡◌, ℕ, zero, suc, ◌<◌, ◌≤◌, true, false, List, [], ◌∷◌, ◌++◌, length, Option, Some, inl, inr, refl, sym, ap, subst, ◌∙◌, arith}
+use Rattle.std.specs.List.{Contains}
 use Rattle.sys_abi.specs.declared.record.Record.{Record}
 use Rattle.sys_abi.specs.declared.record.Record.TheVariants.{User, Call, Deliver, Arrive, Cut, Drained, Refilled, Complete, Refused, Lapsed}
 use Rattle.set_disk.specs.Files.{Files as Folder}
 use Rattle.plain_machine.specs.declared.plain.Plain.{Plain}
-use Rattle.plain_machine.specs.declared.kernel.PlainKernel.{PlainKernel}
-use Rattle.plain_machine.specs.Kernel.{is_live}
-use Rattle.plain_machine.specs.Records.{Outcome, outcome, step}
-use Rattle.plain_machine.specs.Valid.{IsValid}
 use Rattle.plain_machine.specs.Tests.{is_work}
-use Rattle.plain_machine.proofs.StepBounds.{step_keeps_valid}
+use Rattle.views.proofs.MapLaws.{true_false}
 use Rattle.trace_log.specs.declared.requests.Schedule.{Schedule}
 use Rattle.trace_log.specs.declared.requests.Tally.{Tally}
 use Rattle.trace_log.specs.declared.log_lines.Progress.{Progress}
@@ -20,93 +14,106 @@ use Rattle.trace_log.specs.Trace.{TraceState}
 use Rattle.trace_log.specs.LogText.{at_start as log_start}
 use Rattle.trace_log.proofs.RequestCounts.{counts_work}
 use Rattle.std.proofs.lemmas.List.Sums.{count_by-le-length}
-use Rattle.trace_log.specs.Requests.{Requests, Reaches, NoRequest, first_tally, Requested, asks, tally_after, next_requests, phase_after}
-use Rattle.image_codec.specs.KernelImages.{HasImage}
+use Rattle.trace_log.specs.Requests.{Requests, Reaches, NoRequest, first_tally, asks, tally_after, next_requests, phase_after}
 use Rattle.dmtcp_top.specs.declared.machine.Machine.{Machine}
 use Rattle.dmtcp_top.specs.declared.keeper.Keeper.{Keeper}
 use Rattle.dmtcp_top.specs.Sessions.{Sunk, sunk}
-use Rattle.dmtcp_top.specs.Machines.{plain_of, lives, IsSingle, IsReady, IsSame, IsOwn, Notes, Spoils}
-use Rattle.dmtcp_top.specs.Running.{IsRunning, IsNoted}
+use Rattle.dmtcp_top.specs.Machines.{plain_of, Notes, Spoils}
+use Rattle.dmtcp_top.specs.Rounds.{Place, new_round}
+use Rattle.dmtcp_top.specs.Running.{IsNoted}
 use Rattle.dmtcp_top.specs.Keeping.{is_disk_fault, IsSafe}
-use Rattle.dmtcp_top.specs.UnderWay.{IsUnderWay, IsDue}
+use Rattle.dmtcp_top.specs.UnderWay.{IsUnderWay, IsDue, IsSettled}
 use Rattle.dmtcp_top.proofs.Sinks.{took_nothing}
 use Rattle.dmtcp_top.proofs.Running.{running_start, running_notes, noted_work}
 use Rattle.dmtcp_top.proofs.Safety.{safe_start, safe_quiet}
-use Rattle.dmtcp_top.proofs.Stillness.{own_leaves_kernel}
 use Rattle.trace_log.specs.Requests.{one_more_work}
 
-own_no_fault : (m : Machine) (r : Record) → IsOwn m r → is_disk_fault r ≡ false
-own_no_fault m (User p t n) own = refl
-own_no_fault m (Call p t) own = refl
-own_no_fault m (Deliver p t s) own = refl
-own_no_fault m (Arrive dir n) own = refl
-own_no_fault m (Cut generation) own = refl
-own_no_fault m (Drained dir n) own = refl
-own_no_fault m (Refilled dir n) own = refl
-own_no_fault m (Complete generation) own = refl
-own_no_fault m (Refused cause) own = absurd own
-own_no_fault m Lapsed own = refl
+work_no_fault : (r : Record) → is_work r ≡ true → is_disk_fault r ≡ false
+work_no_fault (User p t n) work = refl
+work_no_fault (Call p t) work = refl
+work_no_fault (Deliver p t s) work = refl
+work_no_fault (Arrive dir n) work = refl
+work_no_fault (Cut generation) work = refl
+work_no_fault (Drained dir n) work = refl
+work_no_fault (Refilled dir n) work = refl
+work_no_fault (Complete generation) work = refl
+work_no_fault (Refused cause) work = true_false (sym work)
+work_no_fault Lapsed work = refl
 
-own_no_set : (m : Machine) (r : Record) → IsOwn m r → (generation : ℕ) → Contains (r ∷ []) (Complete generation) → ⊥
-own_no_set m r own generation (zero, below, is) = subst (IsOwn m) is own
-own_no_set m r own generation (suc k, below, is) = omega arith
+work_no_set : (r : Record) → is_work r ≡ true → (generation : ℕ) → Contains (r ∷ []) (Complete generation) → ⊥
+work_no_set r work generation (zero, below, is) = true_false (sym work ∙ ap is_work is)
+work_no_set r work generation (suc k, below, is) = omega arith
 
-own_due : (schedule : Schedule) (g : Plain) (m : Machine) (r : Record) (requests : Requests) → requests.phase ≡ NoRequest → IsOwn m r → IsDue schedule (next_requests schedule g requests r)
+work_due : (schedule : Schedule) (g : Plain) (r : Record) (requests : Requests) → requests.phase ≡ NoRequest → is_work r ≡ true → IsDue schedule (next_requests schedule g requests r)
 unfolding next_requests
-own_due schedule g m (User p t n) requests free own = ap (λ phase. phase_after phase (asks schedule (tally_after requests.tally (User p t n))) g (User p t n)) free
-own_due schedule g m (Call p t) requests free own = ap (λ phase. phase_after phase (asks schedule (tally_after requests.tally (Call p t))) g (Call p t)) free
-own_due schedule g m (Deliver p t s) requests free own = ap (λ phase. phase_after phase (asks schedule (tally_after requests.tally (Deliver p t s))) g (Deliver p t s)) free
-own_due schedule g m (Arrive dir n) requests free own = absurd own
-own_due schedule g m (Cut generation) requests free own = absurd own
-own_due schedule g m (Drained dir n) requests free own = absurd own
-own_due schedule g m (Refilled dir n) requests free own = absurd own
-own_due schedule g m (Complete generation) requests free own = absurd own
-own_due schedule g m (Refused cause) requests free own = absurd own
-own_due schedule g m Lapsed requests free own = absurd own
-
-pub ready_after : (m n : Machine) (from to : TraceState) (sink : Sunk) → IsReady m → lives m ≡ true → Notes m n from to sink → IsSame m n → IsSingle n → IsReady n
-ready_after m n from to sink ready alive notes same single = record {
-  single = single;
-  valid = step_keeps_valid (plain_of m) (plain_of n) notes.noted ready.valid (ap (option_map (λ x. x.state)) notes.outcome);
-  imaged = λ still.
-      let o : Outcome = record { state = plain_of n; console = notes.bytes } in
-      let lives_on : is_live n.kernel m.guest.pid ≡ true = ap (is_live n.kernel) (sym same.pid) ∙ still in
-      subst HasImage (sym (own_leaves_kernel m notes.noted o notes.own notes.outcome lives_on)) (ready.imaged alive);
-}
+work_due schedule g (User p t n) requests free work = ap (λ phase. phase_after phase (asks schedule (tally_after requests.tally (User p t n))) g (User p t n)) free
+work_due schedule g (Call p t) requests free work = ap (λ phase. phase_after phase (asks schedule (tally_after requests.tally (Call p t))) g (Call p t)) free
+work_due schedule g (Deliver p t s) requests free work = ap (λ phase. phase_after phase (asks schedule (tally_after requests.tally (Deliver p t s))) g (Deliver p t s)) free
+work_due schedule g (Arrive dir n) requests free work = true_false (sym work)
+work_due schedule g (Cut generation) requests free work = true_false (sym work)
+work_due schedule g (Drained dir n) requests free work = true_false (sym work)
+work_due schedule g (Refilled dir n) requests free work = true_false (sym work)
+work_due schedule g (Complete generation) requests free work = true_false (sym work)
+work_due schedule g (Refused cause) requests free work = true_false (sym work)
+work_due schedule g Lapsed requests free work = true_false (sym work)
 
 -- after a turn's record
 pub record Turned {D : Type 0} (reads : D → Option Folder) (moment : D → ℕ) (may_leave : D → Folder → Type 0) (left_since : D → ℕ → Folder → Type 0) (faults : D → ℕ)
-    (schedule : Schedule) (g : Plain) (m : Machine) (keeper : Keeper) (trace : TraceState) (sink log : Sunk) (first disk : D) : Type 0 where
-  pub now : IsUnderWay reads moment may_leave left_since faults schedule g m keeper trace sink log first disk
+    (schedule : Schedule) (g : Plain) (m : Machine) (place : Option Place) (keeper : Keeper) (trace : TraceState) (sink log : Sunk) (first disk : D) : Type 0 where
+  pub now : IsUnderWay reads moment may_leave left_since faults schedule g m place keeper trace sink log first disk
   pub due : IsDue schedule now.running.requests
 
 pub turned : {D : Type 0} (reads : D → Option Folder) (moment : D → ℕ) (may_leave : D → Folder → Type 0) (left_since : D → ℕ → Folder → Type 0) (faults : D → ℕ)
-    (schedule : Schedule) (g : Plain) (m n : Machine) (keeper later : Keeper) (from to : TraceState) (had mid has : Option (List ℕ)) (log : Sunk) (first disk : D)
-    → (before : IsUnderWay reads moment may_leave left_since faults schedule g m keeper from (sunk had mid) log first disk) → before.running.requests.phase ≡ NoRequest → IsSingle m → lives m ≡ true
-    → Notes m n from to (sunk mid has) → IsSame m n → later ≡ record keeper { tally = one_more_work keeper.tally }
-    → Turned reads moment may_leave left_since faults schedule g n later to (sunk had has) log first disk
-turned reads moment may_leave left_since faults schedule g m n keeper later from to had mid has log first disk before free single alive notes same counted =
+    (schedule : Schedule) (g : Plain) (m n : Machine) (here : Place) (next : Option Place) (keeper later : Keeper) (from to : TraceState) (had mid has : Option (List ℕ)) (log : Sunk) (first disk : D)
+    → (before : IsUnderWay reads moment may_leave left_since faults schedule g m (Some here) keeper from (sunk had mid) log first disk) → before.running.requests.phase ≡ NoRequest
+    → Notes m n here next from to (sunk mid has) → later ≡ record keeper { tally = one_more_work keeper.tally }
+    → Turned reads moment may_leave left_since faults schedule g n next later to (sunk had has) log first disk
+turned reads moment may_leave left_since faults schedule g m n here next keeper later from to had mid has log first disk before free notes counted =
     let r = notes.noted in
-    let running = running_notes schedule g m n from to had mid has before.running free single alive notes same in
-    let noted = noted_work schedule (plain_of m) m r before.running.requests keeper later from.records log before.noted notes.own (ap (λ (k : Keeper). k.schedule) counted) (ap (λ (k : Keeper). k.lines) counted) (ap (λ (k : Keeper). k.tally) counted) in
-    let records : from.records ++ r ∷ [] ≡ to.records = sym (ap (λ (t : TraceState). t.records) notes.trace) in
+    let work = notes.own.work in
+    let running = running_notes schedule g m n here next from to had mid has before.running free notes in
+    let noted = noted_work schedule (plain_of m) r before.running.requests keeper later from.records log before.noted work (ap (λ (k : Keeper). k.schedule) counted) (ap (λ (k : Keeper). k.lines) counted) (ap (λ (k : Keeper). k.tally) counted) in
+    let records : from.records ++ r ∷ [] ≡ to.records = sym (ap (λ (t : TraceState). t.records) notes.took.trace) in
     record {
       now = record {
         running = running.0;
         noted = subst (λ (q : Requests). IsNoted schedule q later to.records log) (sym running.1) (subst (λ rs. IsNoted schedule (next_requests schedule (plain_of m) before.running.requests r) later rs log) records noted);
-        safe = subst (λ rs. IsSafe reads moment may_leave left_since faults g rs first disk) records (safe_quiet g from.records r first disk (own_no_set m r notes.own) (own_no_fault m r notes.own) before.safe);
+        safe = subst (λ rs. IsSafe reads moment may_leave left_since faults g rs first disk) records (safe_quiet g from.records r first disk (work_no_set r work) (work_no_fault r work) before.safe);
       };
-      due = subst (λ (q : Requests). IsDue schedule q) (sym running.1) (own_due schedule (plain_of m) m r before.running.requests free notes.own);
+      due = subst (λ (q : Requests). IsDue schedule q) (sym running.1) (work_due schedule (plain_of m) r before.running.requests free work);
     }
+
+pub free_of : (requests : Requests) (trace : TraceState) → IsSettled requests trace → 0 < trace.room → requests.phase ≡ NoRequest
+free_of requests trace (inl free) some = free
+free_of requests trace (inr none) some = absurd (omega arith)
+
+-- the same at the schedule that the keeper has
+pub turned_at : {D : Type 0} (reads : D → Option Folder) (moment : D → ℕ) (may_leave : D → Folder → Type 0) (left_since : D → ℕ → Folder → Type 0) (faults : D → ℕ)
+    (schedule : Schedule) (g : Plain) (m n : Machine) (here : Place) (next : Option Place) (keeper later : Keeper) (from to : TraceState) (had mid has : Option (List ℕ)) (log : Sunk) (first disk : D)
+    → (before : IsUnderWay reads moment may_leave left_since faults schedule g m (Some here) keeper from (sunk had mid) log first disk) → before.running.requests.phase ≡ NoRequest
+    → Notes m n here next from to (sunk mid has) → later ≡ record keeper { tally = one_more_work keeper.tally } → later.schedule ≡ schedule
+    → Turned reads moment may_leave left_since faults later.schedule g n next later to (sunk had has) log first disk
+turned_at reads moment may_leave left_since faults schedule g m n here next keeper later from to had mid has log first disk before free notes counted at =
+    subst (λ (s : Schedule). Turned reads moment may_leave left_since faults s g n next later to (sunk had has) log first disk) (sym at)
+    (turned reads moment may_leave left_since faults schedule g m n here next keeper later from to had mid has log first disk before free notes counted)
+
+-- where it is somebody's turn, and a mark has room, no request waits
+pub in_turn : {D : Type 0} (reads : D → Option Folder) (moment : D → ℕ) (may_leave : D → Folder → Type 0) (left_since : D → ℕ → Folder → Type 0) (faults : D → ℕ)
+    (schedule : Schedule) (g : Plain) (m : Machine) (place : Option Place) (here : Place) (keeper : Keeper) (trace : TraceState) (sink log : Sunk) (first disk : D) → place ≡ Some here
+    → ((now : IsUnderWay reads moment may_leave left_since faults schedule g m place keeper trace sink log first disk) × IsSettled now.running.requests trace) → 0 < trace.room
+    → (before : IsUnderWay reads moment may_leave left_since faults schedule g m (Some here) keeper trace sink log first disk) × (before.running.requests.phase ≡ NoRequest)
+in_turn reads moment may_leave left_since faults schedule g m place here keeper trace sink log first disk is under some =
+    let both = subst (λ (place : Option Place). (now : IsUnderWay reads moment may_leave left_since faults schedule g m place keeper trace sink log first disk) × IsSettled now.running.requests trace) is under in
+    (both.0, free_of both.0.running.requests trace both.1 some)
 
 -- before the first record
 pub starting : {D : Type 0} (reads : D → Option Folder) (moment : D → ℕ) (may_leave : D → Folder → Type 0) (left_since : D → ℕ → Folder → Type 0) (faults : D → ℕ)
     (m : Machine) (keeper : Keeper) (trace : TraceState) (taken logged : Option (List ℕ)) (disk : D) → trace.records ≡ [] → keeper.tally ≡ first_tally keeper.schedule → keeper.lines ≡ log_start
     → ((image : Folder) → left_since disk (moment disk) image → may_leave disk image)
-    → (now : IsUnderWay reads moment may_leave left_since faults keeper.schedule (plain_of m) m keeper trace (sunk taken taken) (sunk logged logged) disk disk) × (now.running.requests.phase ≡ NoRequest)
+    → (now : IsUnderWay reads moment may_leave left_since faults keeper.schedule (plain_of m) m (new_round (plain_of m)) keeper trace (sunk taken taken) (sunk logged logged) disk disk) × (now.running.requests.phase ≡ NoRequest)
 unfolding running_start
 starting reads moment may_leave left_since faults m keeper trace taken logged disk empty tally lines only_now =
-    let whole : (now : IsUnderWay reads moment may_leave left_since faults keeper.schedule (plain_of m) m keeper (record { records = []; room = trace.room }) (sunk taken taken) (sunk logged logged) disk disk) × (now.running.requests.phase ≡ NoRequest) = (
+    let whole : (now : IsUnderWay reads moment may_leave left_since faults keeper.schedule (plain_of m) m (new_round (plain_of m)) keeper (record { records = []; room = trace.room }) (sunk taken taken) (sunk logged logged) disk disk) × (now.running.requests.phase ≡ NoRequest) = (
       record {
         running = running_start keeper.schedule m taken;
         noted = record {
@@ -121,7 +128,7 @@ starting reads moment may_leave left_since faults m keeper trace taken logged di
       },
       refl,
     ) in
-    subst (λ rs. (now : IsUnderWay reads moment may_leave left_since faults keeper.schedule (plain_of m) m keeper (record { records = rs; room = trace.room }) (sunk taken taken) (sunk logged logged) disk disk) × (now.running.requests.phase ≡ NoRequest)) (sym empty) whole
+    subst (λ rs. (now : IsUnderWay reads moment may_leave left_since faults keeper.schedule (plain_of m) m (new_round (plain_of m)) keeper (record { records = rs; room = trace.room }) (sunk taken taken) (sunk logged logged) disk disk) × (now.running.requests.phase ≡ NoRequest)) (sym empty) whole
 
 -- no more work was counted than there are records
 pub work_is_few : (schedule : Schedule) (g : Plain) (m : Machine) (requests : Requests) (keeper : Keeper) (records : List Record) (log : Sunk) → Reaches schedule g records (plain_of m) requests → IsNoted schedule requests keeper records log → keeper.tally.work ≤ length records
@@ -133,6 +140,6 @@ work_is_few schedule g m requests keeper records log reaches noted =
 
 -- a record of the machine that was cut off
 pub spoilt_safe : {D : Type 0} (reads : D → Option Folder) (moment : D → ℕ) (may_leave : D → Folder → Type 0) (left_since : D → ℕ → Folder → Type 0) (faults : D → ℕ)
-    (g : Plain) (m : Machine) (from to : TraceState) (sink : Sunk) (first disk : D) → IsSafe reads moment may_leave left_since faults g from.records first disk → Spoils m from to sink → IsSafe reads moment may_leave left_since faults g to.records first disk
-spoilt_safe reads moment may_leave left_since faults g m from to sink first disk safe spoils =
-    subst (λ (t : TraceState). IsSafe reads moment may_leave left_since faults g t.records first disk) (sym spoils.trace) (safe_quiet g from.records spoils.noted first disk (own_no_set m spoils.noted spoils.own) (own_no_fault m spoils.noted spoils.own) safe)
+    (g : Plain) (m : Machine) (here : Place) (from to : TraceState) (sink : Sunk) (first disk : D) → IsSafe reads moment may_leave left_since faults g from.records first disk → Spoils m here from to sink → IsSafe reads moment may_leave left_since faults g to.records first disk
+spoilt_safe reads moment may_leave left_since faults g m here from to sink first disk safe spoils =
+    subst (λ (t : TraceState). IsSafe reads moment may_leave left_since faults g t.records first disk) (sym spoils.broke.trace) (safe_quiet g from.records spoils.noted first disk (work_no_set spoils.noted spoils.own.work) (work_no_fault spoils.noted spoils.own.work) safe)

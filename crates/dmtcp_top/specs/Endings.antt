@@ -2,13 +2,13 @@
 --     status_of ending, line_of ending     its status and its last line
 --     Arrives ending session log           what holds there
 --     Concludes ending status log          the status that it gets when the line has been put
-use Rattle.std.specs.Prelude.{◌≡◌, ℕ, ◌⊎◌, List, [], take}
+use Rattle.std.specs.Prelude.{◌≡◌, ℕ, ◌⊎◌, List, []}
 use Rattle.trace_log.specs.LogText.{log_text}
 use Rattle.dmtcp_top.specs.declared.status.Status.{Status}
-use Rattle.dmtcp_top.specs.declared.status.Status.TheVariants.{Done as IsDone, Usage as IsUsage, InputFault as IsInputFault, Missing as IsMissing, BadElf as IsBadElf, SinkFault as IsSinkFault, DiskFault as IsDiskFault, NoSet as IsNoSet, Damaged as IsDamaged, Budget as IsBudget, Memory as IsMemory}
+use Rattle.dmtcp_top.specs.declared.status.Status.TheVariants.{Done as IsDone, Usage as IsUsage, InputFault as IsInputFault, Missing as IsMissing, BadElf as IsBadElf, SinkFault as IsSinkFault, DiskFault as IsDiskFault, NoSet as IsNoSet, Damaged as IsDamaged, Budget as IsBudget, Stuck as IsStuck, Memory as IsMemory}
 use Rattle.dmtcp_top.specs.declared.ending.Ending.{Ending}
-use Rattle.dmtcp_top.specs.declared.ending.Ending.TheVariants.{Done, Usage, InputFault, Missing, BadElf, SinkFault, DiskFault, NoSet, Damaged, Budget, Memory}
-use Rattle.dmtcp_top.specs.Log.{done_line, usage_line, input_fault_line, missing_line, bad_program_line, disk_fault_line, no_set_line, damaged_line, budget_line, memory_line}
+use Rattle.dmtcp_top.specs.declared.ending.Ending.TheVariants.{Done, Usage, InputFault, Missing, BadElf, SinkFault, DiskFault, NoSet, Damaged, Budget, Stuck, Memory}
+use Rattle.dmtcp_top.specs.Log.{done_line, usage_line, input_fault_line, missing_line, bad_program_line, disk_fault_line, no_set_line, damaged_line, budget_line, stuck_line, memory_line}
 use Rattle.dmtcp_top.specs.Sessions.{Sunk, Session, Took, TookFront}
 use Rattle.dmtcp_top.specs.Ends.{Reaches, SinkFailed}
 
@@ -23,6 +23,7 @@ status_of DiskFault = IsDiskFault
 status_of NoSet = IsNoSet
 status_of (Damaged slot damage) = IsDamaged
 status_of (Budget records) = IsBudget
+status_of Stuck = IsStuck
 status_of Memory = IsMemory
 
 abbrev pub line_of : Ending → List ℕ
@@ -36,6 +37,7 @@ line_of DiskFault = disk_fault_line
 line_of NoSet = no_set_line
 line_of (Damaged slot damage) = damaged_line slot damage
 line_of (Budget records) = budget_line records
+line_of Stuck = stuck_line
 line_of Memory = memory_line
 
 abbrev pub Arrives : Ending → Session → Sunk → Type 0

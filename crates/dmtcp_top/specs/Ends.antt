@@ -2,7 +2,7 @@
 --     Reaches status session last     the call came to this status, with which this last line belongs on the log
 --     Ends status session log         the same with what the log took
 --     IsDecided status session        which status comes where nothing outside failed
-use Rattle.std.specs.Prelude.{◌≡◌, ◌≢◌, ℕ, ◌⊎◌, ◌↔◌, true, false, List, [], ◌++◌, length, take, Some, None, IfSome}
+use Rattle.std.specs.Prelude.{◌≡◌, ◌≢◌, ℕ, ◌⊎◌, ◌↔◌, List, [], ◌++◌, take, Some, None, IfSome}
 use Rattle.std.specs.FinMap as map
 use Rattle.elf32.specs.declared.fault.ElfFault.{ElfFault}
 use Rattle.elf32.specs.Rules.{first_fault}
@@ -13,14 +13,13 @@ use Rattle.image_codec.specs.declared.damage.Damage.{Damage}
 use Rattle.image_store.specs.Slots.{last as set_that_counts}
 use Rattle.trace_log.specs.LogText.{log_text}
 use Rattle.dmtcp_top.specs.declared.status.Status.{Status}
-use Rattle.dmtcp_top.specs.declared.status.Status.TheVariants.{Done, Usage, InputFault, Missing, BadElf, SinkFault, DiskFault, NoSet, Damaged, Budget, Memory}
-use Rattle.dmtcp_top.specs.declared.settings.Settings.{Settings}
+use Rattle.dmtcp_top.specs.declared.status.Status.TheVariants.{Done, Usage, InputFault, Missing, BadElf, SinkFault, DiskFault, NoSet, Damaged, Budget, Stuck, Memory}
 use Rattle.dmtcp_top.specs.Words.{AskNothing}
-use Rattle.dmtcp_top.specs.Log.{done_line, usage_line, input_fault_line, missing_line, bad_program_line, disk_fault_line, no_set_line, damaged_line, budget_line, memory_line}
+use Rattle.dmtcp_top.specs.Log.{done_line, usage_line, input_fault_line, missing_line, bad_program_line, disk_fault_line, no_set_line, damaged_line, budget_line, stuck_line, memory_line}
 use Rattle.dmtcp_top.specs.Sessions.{Sunk, Session, Took, TookFront, IsInput}
 use Rattle.dmtcp_top.specs.Sets.{SpellsSet, SpoilsSet}
 use Rattle.dmtcp_top.specs.Launches.{LaunchAsked, RestartAsked, Begun, origin, settings_in, schedule_in}
-use Rattle.dmtcp_top.specs.RunEnds.{RanOut, FilledUp, CutShort}
+use Rattle.dmtcp_top.specs.RunEnds.{RanOut, FilledUp, GotStuck, CutShort}
 
 -- nobody lives at the end of the run that the trace is, and the console took what the run writes
 pub record Finished (session : Session) : Type 0 where
@@ -34,6 +33,12 @@ pub record Spent (session : Session) (last : List ℕ) : Type 0 where
   pub start : session.start ≡ Some (origin begun)
   pub run : FilledUp (schedule_in begun) (origin begun) (settings_in begun).records session.trace session.console
   pub line : last ≡ budget_line (settings_in begun).records
+
+-- somebody lives, nobody can go on, and the console took what the run writes
+pub record Halted (session : Session) : Type 0 where
+  pub begun : Begun session
+  pub start : session.start ≡ Some (origin begun)
+  pub run : GotStuck (schedule_in begun) (origin begun) (settings_in begun).records session.trace session.console
 
 -- the run was cut off, and the console took a first part of what it writes
 pub record CutOff (session : Session) : Type 0 where
@@ -112,6 +117,7 @@ Reaches DiskFault session last = Unopened session last
 Reaches NoSet session last = Setless session last
 Reaches Damaged session last = Spoilt session last
 Reaches Budget session last = Spent session last
+Reaches Stuck session last = Halted session × (last ≡ stuck_line)
 Reaches Memory session last = ((NotBegun session × IsAsked session) ⊎ CutOff session) × (last ≡ memory_line)
 
 -- the log took the lines of the checkpoints, and the last line
@@ -147,7 +153,7 @@ Ends Memory session log = LoggedPart Memory session log
 Ends status session log = Logged status session log
 
 abbrev pub RunsOn : Status → Type 0
-RunsOn status = (status ≡ Done) ⊎ (status ≡ Budget) ⊎ (status ≡ Memory)
+RunsOn status = (status ≡ Done) ⊎ (status ≡ Budget) ⊎ (status ≡ Stuck) ⊎ (status ≡ Memory)
 
 -- where no input, no sink and not the folder failed, the words, the files that the inputs hold and those of the folder decide which status comes, but for
 -- want of memory

@@ -2,7 +2,7 @@
 --     IsSafe ..          a crash at any moment of the call so far leaves a set that was there before or one of the run's
 --     IsKept ..          what the keeper knows of the folder
 --     IsPut ..           a set that was put, or tried
-use Rattle.std.specs.Prelude.{◌≡◌, ◌≢◌, ◌⊎◌, ℕ, suc, ◌+◌, ◌-◌, ◌^◌, ◌<◌, ◌≤◌, Bool, true, false, List, Option, Some, None, is_some, IfSome, Result, OnOk, OnErr}
+use Rattle.std.specs.Prelude.{◌≡◌, ◌⊎◌, ℕ, suc, ◌+◌, ◌-◌, ◌^◌, ◌<◌, ◌≤◌, Bool, true, false, List, Option, Some, None, is_some, IfSome, Result, OnOk, OnErr}
 use Rattle.std.specs.List.{count_by, Contains}
 use Rattle.std.specs.Option.{ForSome}
 use Rattle.sys_abi.specs.declared.record.Record.{Record}

@@ -15,3 +15,4 @@ pub mod Ends
 pub mod Endings
 pub mod Promise
 pub mod Loads
+pub mod Abilities

@@ -12,7 +12,6 @@ use Rattle.image_store.specs.StoreCrashes.{ChangesNothing}
 use Rattle.dmtcp_top.specs.Keeping.{Counts}
 use Rattle.edge_io.specs.Inputs.{Files}
 use Rattle.set_disk.specs.Files.{Files as Folder}
-use Rattle.plain_machine.specs.declared.plain.Plain.{Plain}
 use Rattle.image_codec.specs.Sets.{DamagedFiles}
 use Rattle.dmtcp_top.specs.Sets.{SpellsState}
 use Rattle.image_store.specs.Slots.{last}

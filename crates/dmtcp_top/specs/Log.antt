@@ -30,6 +30,9 @@ bad_program_line name fault = line (codes "bad program: " ++ name ++ codes ": " 
 abbrev pub budget_line : ℕ → List ℕ
 budget_line records = codes "budget spent: " ++ decimal records ++ codes " records\n"
 
+abbrev pub stuck_line : List ℕ
+stuck_line = line (codes "stuck")
+
 abbrev pub memory_line : List ℕ
 memory_line = line (codes "memory")
 

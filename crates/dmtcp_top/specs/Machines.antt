@@ -1,26 +1,32 @@
--- One process with one thread, run by one thread of the host, and what one record of it does.
+-- One process, run by one thread of the host, and what one record of it does.
 --     plain_of m        the plain state for which the machine stands
---     IsSingle m        nobody else lives, and the process has one thread, which doesn't wait
+--     IsSingle m        nobody else lives
+--     placed m turn     the place in the rounds of a thread's turn
 --     IsReady m         it can be checkpointed
---     Notes, Spoils     one more record on the trace, with its bytes on the console, or a first part of them
-use Rattle.std.specs.Prelude.{◌≡◌, ◌≢◌, ℕ, ◌-◌, Bool, true, false, List, [], ◌∷◌, ◌++◌, Some}
+--     Takes, Breaks     a record on the trace, with its bytes on the console, or a first part of them
+--     Notes, Spoils     the same of one that is due
+use Rattle.std.specs.Prelude.{◌≡◌, ◌≢◌, ℕ, ◌-◌, Bool, true, false, List, [], ◌∷◌, ◌++◌, Option, Some, is_some, option_map}
 use Rattle.std.specs.FinMap as map
 use Rattle.sys_abi.specs.declared.identity.VPid.{VPid}
 use Rattle.sys_abi.specs.declared.identity.Tid.{Tid}
+use Rattle.sys_abi.specs.declared.identity.Signal.{Signal}
+use Rattle.sys_abi.specs.declared.delivery.Delivered.{Delivered}
+use Rattle.sys_abi.specs.declared.delivery.Delivered.TheVariants.{Kills}
 use Rattle.sys_abi.specs.Orders.{vpid_cmp}
 use Rattle.sys_abi.specs.declared.record.Record.{Record}
-use Rattle.sys_abi.specs.declared.record.Record.TheVariants.{User, Call, Deliver}
+use Rattle.sys_abi.specs.declared.record.Record.TheVariants.{Deliver}
 use Rattle.trace_log.specs.Trace.{TraceState}
 use Rattle.plain_machine.specs.declared.plain.Plain.{Plain}
 use Rattle.plain_machine.specs.declared.kernel.PlainKernel.{PlainKernel}
 use Rattle.plain_machine.specs.declared.user_part.UserPart.{UserPart}
-use Rattle.plain_machine.specs.declared.user_part.ThreadPart.{ThreadPart}
-use Rattle.plain_machine.specs.Kernel.{is_live}
+use Rattle.plain_machine.specs.Kernel.{is_live, after_end}
 use Rattle.plain_machine.specs.Valid.{IsValid}
 use Rattle.image_codec.specs.KernelImages.{HasImage}
-use Rattle.plain_machine.specs.Steps.{user_step}
-use Rattle.plain_machine.specs.Records.{outcome, living, stands}
+use Rattle.plain_machine.specs.Records.{outcome, living}
+use Rattle.plain_machine.specs.Tests.{is_work}
 use Rattle.dmtcp_top.specs.declared.machine.Machine.{Machine}
+use Rattle.dmtcp_top.specs.declared.turn.Turn.{Turn}
+use Rattle.dmtcp_top.specs.Rounds.{Place, is_due_in, place_after}
 use Rattle.dmtcp_top.specs.Sessions.{Sunk, Took, TookFront}
 
 abbrev pub only : VPid → UserPart → map.FinMap vpid_cmp UserPart
@@ -36,16 +42,8 @@ plain_of m = single m.kernel m.guest.pid m.guest.user
 abbrev pub lives : Machine → Bool
 lives m = is_live m.kernel m.guest.pid
 
--- the part has this one thread, which no handler interrupted, and nobody waits
-pub record OneThread (user : UserPart) (t : ℕ) : Type 0 where
-  pub thread : ThreadPart
-  pub threads : user.threads ≡ map.insert map.empty t thread
-  pub contexts : thread.contexts ≡ []
-  pub waiters : user.waiters ≡ []
-
 pub record IsSingle (m : Machine) : Type 0 where
   pub alone : (q : VPid) → q ≢ m.guest.pid → is_live m.kernel q ≡ false
-  pub one : OneThread m.guest.user m.thread.0
 
 -- nobody else lives, the plain state is a valid one, and there is an image of the kernel part as long as the process lives
 pub record IsReady (m : Machine) : Type 0 where
@@ -53,39 +51,65 @@ pub record IsReady (m : Machine) : Type 0 where
   pub valid : IsValid (plain_of m)
   pub imaged : lives m ≡ true → HasImage m.kernel
 
--- another moment of the same process and thread
+-- another moment of the same process
 pub record IsSame (m n : Machine) : Type 0 where
   pub pid : n.guest.pid ≡ m.guest.pid
-  pub thread : n.thread ≡ m.thread
 
--- the record is of the machine's process and thread, and instructions are run where the thread stands at no call or trap
-abbrev pub IsOf : Machine → VPid → Tid → Type 0
-IsOf m p t = (p ≡ m.guest.pid) × (t.0 ≡ m.thread.0)
+-- the place in the rounds that a turn of one of its threads is, where no other process has one
+abbrev pub place_of : Machine → Turn → Place
+place_of m turn = record {
+  p = m.guest.pid;
+  t = turn.thread.0;
+  signal = option_map (λ s. s.0) turn.signal;
+  has_run = turn.has_run;
+  threads = turn.later;
+  processes = [];
+}
 
-abbrev pub IsOwn : Machine → Record → Type 0
-IsOwn m (User p t n) = IsOf m p t × (stands (user_step m.guest.user m.thread.0) ≡ false)
-IsOwn m (Call p t) = IsOf m p t
-IsOwn m (Deliver p t s) = IsOf m p t
-IsOwn m _ = ⊥
+abbrev pub placed : Machine → Option Turn → Option Place
+placed m turn = option_map (place_of m) turn
 
 abbrev pub with_record : TraceState → Record → TraceState
 with_record trace r = record { records = trace.records ++ r ∷ []; room = trace.room - 1 }
 
--- one more record, whose bytes the console took
-pub record Notes (before after : Machine) (from to : TraceState) (console : Sunk) : Type 0 where
-  pub noted : Record
-  pub bytes : List ℕ
-  pub outcome : outcome (plain_of before) noted ≡ Some (record { state = plain_of after; console = bytes })
-  pub trace : to ≡ with_record from noted
-  pub shown : Took console bytes
-  pub own : IsOwn before noted
+-- the signal is that of the trap at which the thread stands, or it is pending and the thread's mask lets it through
+abbrev pub CanDeliver : Plain → VPid → Tid → Signal → Type 0
+CanDeliver g p t s = is_some (outcome g (Deliver p t s)) ≡ true
 
--- one more record, of whose bytes the console took a first part
-pub record Spoils (before : Machine) (from to : TraceState) (console : Sunk) : Type 0 where
-  pub noted : Record
+-- a signal that kills takes the process away
+abbrev pub kernel_after : PlainKernel → VPid → Delivered → PlainKernel
+kernel_after k p (Kills status) = after_end k p
+kernel_after k p _ = k
+
+-- this record was made, and the console took its bytes
+pub record Takes (before after : Machine) (r : Record) (from to : TraceState) (console : Sunk) : Type 0 where
+  pub bytes : List ℕ
+  pub outcome : outcome (plain_of before) r ≡ Some (record { state = plain_of after; console = bytes })
+  pub trace : to ≡ with_record from r
+  pub shown : Took console bytes
+
+-- this record was made, and the console took a first part of its bytes
+pub record Breaks (before : Machine) (r : Record) (from to : TraceState) (console : Sunk) : Type 0 where
   pub bytes : List ℕ
   pub state : Plain
-  pub outcome : outcome (plain_of before) noted ≡ Some (record { state = state; console = bytes })
-  pub trace : to ≡ with_record from noted
+  pub outcome : outcome (plain_of before) r ≡ Some (record { state = state; console = bytes })
+  pub trace : to ≡ with_record from r
   pub shown : TookFront console bytes
-  pub own : IsOwn before noted
+
+-- a record of work that is due at the place
+pub record IsDueWork (m : Machine) (here : Place) (r : Record) : Type 0 where
+  pub work : is_work r ≡ true
+  pub due : is_due_in (plain_of m) here r ≡ true
+
+-- one more record, which is due at the place and leads to the next one
+pub record Notes (before after : Machine) (here : Place) (next : Option Place) (from to : TraceState) (console : Sunk) : Type 0 where
+  pub noted : Record
+  pub own : IsDueWork before here noted
+  pub took : Takes before after noted from to console
+  pub moves : next ≡ place_after (plain_of after) here noted
+
+-- one more record that is due, which broke off
+pub record Spoils (before : Machine) (here : Place) (from to : TraceState) (console : Sunk) : Type 0 where
+  pub noted : Record
+  pub own : IsDueWork before here noted
+  pub broke : Breaks before noted from to console

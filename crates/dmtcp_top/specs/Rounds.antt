@@ -1,7 +1,8 @@
 -- The order in which one thread of the host runs the threads of all processes: round after round. A round has the processes that live at its start, in
--- rising order. When a process's turn comes, the threads that it has then follow each other in rising order. In its turn a thread runs one quantum,
--- unless it stands at a call or a trap; if it then stands at one, the call is served or the trap is delivered. Who has ended meanwhile is passed over.
--- Marks stand between the records of the rounds, and nobody's turn goes on while a request for a checkpoint waits.
+-- rising order. When a process's turn comes, the threads that it has then follow each other in rising order. In its turn a thread has the least of the
+-- signals delivered that are pending and that its mask lets through, and runs one quantum, unless it stands at a call or a trap; if it then stands at a call
+-- that is ready the call is served, if at a trap that is delivered. Who has ended meanwhile or can do nothing of this is passed over. Marks stand between
+-- the records of the rounds, and nobody's turn goes on while a request for a checkpoint waits.
 --     new_round g                      the first turn of a round that starts at this state
 --     in_rounds schedule g at records  each of the records is due when it comes, from this state and this place on
 use Rattle.std.specs.Prelude.{◌≡◌, ◌==◌, ◌&&◌, ◌||◌, ℕ, Bool, true, false, not, List, [], ◌∷◌, Option, Some, None, is_some, option_and_then, if◌then◌else◌}
@@ -12,15 +13,19 @@ use Rattle.sys_abi.specs.declared.record.Record.{Record}
 use Rattle.sys_abi.specs.declared.record.Record.TheVariants.{User, Call, Deliver}
 use Rattle.plain_machine.specs.declared.plain.Plain.{Plain}
 use Rattle.plain_machine.specs.declared.user_part.UserPart.{UserPart}
-use Rattle.plain_machine.specs.Records.{step, stands}
-use Rattle.plain_machine.specs.Steps.{user_step}
+use Rattle.plain_machine.specs.declared.user_part.ThreadPart.{ThreadPart}
+use Rattle.plain_machine.specs.Deliveries.{traps_with}
+use Rattle.plain_machine.specs.Records.{step, stands, deliverable}
+use Rattle.plain_machine.specs.Steps.{UserStep, Stepped, Asks, Trapped, Waits, NoThread, user_step}
+use Rattle.sys_abi.specs.Signals.{lowest_signal}
 use Rattle.trace_log.specs.declared.requests.Schedule.{Schedule}
 use Rattle.trace_log.specs.Requests.{Phase, Requested, Requests, is_mark, at_start, next_requests}
 
--- a place in the rounds: whose turn it is, and whether that thread has run its quantum
+-- a place in the rounds: whose turn it is, the signal that is delivered first, if one is, and whether the thread has run its quantum
 pub record Place : Type 0 where
   pub p : VPid
   pub t : ℕ
+  pub signal : Option ℕ
   pub has_run : Bool
   pub threads : List ℕ  -- those of p whose turn is still to come
   pub processes : List VPid  -- those of this round whose turn is still to come
@@ -29,24 +34,46 @@ abbrev pub or_else : {A : Type 0} → Option A → Option A → Option A
 or_else None other = other
 or_else (Some a) other = Some a
 
-abbrev pub has_thread : Option UserPart → ℕ → Bool
-has_thread None t = false
-has_thread (Some user) t = is_some (map.get user.threads t)
-
 abbrev pub threads_in : Option UserPart → List ℕ
 threads_in None = []
 threads_in (Some user) = map.keys user.threads
 
--- the turn of the first of these threads of a process that is still there
+-- the least of the pending signals that the thread's mask lets through
+abbrev pub signal_for : Plain → VPid → ℕ → Option ThreadPart → Option ℕ
+signal_for g p t None = None
+signal_for g p t (Some thread) = lowest_signal (deliverable g.kernel p t thread)
+
+unfoldable pub due_signal : Plain → VPid → ℕ → Option UserPart → Option ℕ
+due_signal g p t None = None
+due_signal g p t (Some user) = signal_for g p t (map.get user.threads t)
+
+-- the thread can go on: its next instruction does, or it stands at a trap or at a call that is ready
+abbrev pub goes_on_at : Plain → VPid → ℕ → UserStep → Bool
+goes_on_at g p t (Stepped user) = true
+goes_on_at g p t (Asks q) = is_some (step g (Call p (record { 0 = t })))
+goes_on_at g p t (Trapped s) = true
+goes_on_at g p t Waits = false
+goes_on_at g p t NoThread = false
+
+unfoldable pub goes_on : Plain → VPid → ℕ → Option UserPart → Bool
+goes_on g p t None = false
+goes_on g p t (Some user) = goes_on_at g p t (user_step user t)
+
+abbrev pub turn_with : VPid → ℕ → List ℕ → List VPid → Bool → Option ℕ → Option Place
+turn_with p t threads processes can signal =
+    if is_some signal || can then Some (record { p = p; t = t; signal = signal; has_run = false; threads = threads; processes = processes }) else None
+
+-- a thread's turn, where a signal is to be delivered to it or it can go on
+abbrev pub turn_of : Plain → VPid → ℕ → List ℕ → List VPid → Option Place
+turn_of g p t threads processes =
+    turn_with p t threads processes (goes_on g p t (map.get g.users p)) (due_signal g p t (map.get g.users p))
+
+-- the turn of the first of these threads of a process that has one
 unfoldable pub first_thread : Plain → VPid → List VPid → List ℕ → Option Place
 first_thread g p processes [] = None
-first_thread g p processes (t ∷ threads) =
-    if has_thread (map.get g.users p) t then
-    Some (record { p = p; t = t; has_run = false; threads = threads; processes = processes })
-    else
-    first_thread g p processes threads
+first_thread g p processes (t ∷ threads) = or_else (turn_of g p t threads processes) (first_thread g p processes threads)
 
--- the first turn of the first of these processes that is still there
+-- the first turn of the first of these processes that has one
 unfoldable pub first_turn : Plain → List VPid → Option Place
 first_turn g [] = None
 first_turn g (p ∷ processes) = or_else (first_thread g p processes (threads_in (map.get g.users p))) (first_turn g processes)
@@ -60,29 +87,42 @@ next_turn g here = or_else (first_thread g here.p here.processes here.threads) (
 abbrev pub is_turn_of : Place → VPid → Tid → Bool
 is_turn_of here p t = (here.p.0 == p.0) && (here.t == t.0)
 
-abbrev pub is_due_in : Place → Record → Bool
-is_due_in here (User p t n) = is_turn_of here p t && not here.has_run
-is_due_in here (Call p t) = is_turn_of here p t
-is_due_in here (Deliver p t s) = is_turn_of here p t
-is_due_in here _ = false
+-- a signal that is due is delivered first; later only that of the trap at which the thread stands is
+abbrev pub traps_in : Option UserPart → ℕ → ℕ → Bool
+traps_in None t s = false
+traps_in (Some user) t s = traps_with (user_step user t) s
 
-abbrev pub is_due_at : Option Place → Record → Bool
-is_due_at None r = false
-is_due_at (Some here) r = is_due_in here r
+abbrev pub is_due_signal : Plain → Place → ℕ → Option ℕ → Bool
+is_due_signal g here s (Some due) = due == s
+is_due_signal g here s None = traps_in (map.get g.users here.p) here.t s
+
+abbrev pub is_due_in : Plain → Place → Record → Bool
+is_due_in g here (User p t n) = is_turn_of here p t && not here.has_run && not (is_some here.signal)
+is_due_in g here (Call p t) = is_turn_of here p t && not (is_some here.signal)
+is_due_in g here (Deliver p t s) = is_turn_of here p t && is_due_signal g here s.0 here.signal
+is_due_in g here _ = false
+
+abbrev pub is_due_at : Plain → Option Place → Record → Bool
+is_due_at g None r = false
+is_due_at g (Some here) r = is_due_in g here r
 
 abbrev pub stands_in : Option UserPart → ℕ → Bool
 stands_in None t = false
 stands_in (Some user) t = stands (user_step user t)
 
--- the place after a record, where g is the state after it. A mark moves nobody
-abbrev pub place_after : Plain → Place → Record → Option Place
-place_after g here (User p t n) =
-    if stands_in (map.get g.users here.p) here.t then
-    Some (record { p = here.p; t = here.t; has_run = true; threads = here.threads; processes = here.processes })
+-- the thread goes on with its turn, if it can
+abbrev pub same_turn : Plain → Place → Bool → Option Place
+same_turn g here has_run =
+    if goes_on g here.p here.t (map.get g.users here.p) then
+    Some (record { p = here.p; t = here.t; signal = None; has_run = has_run; threads = here.threads; processes = here.processes })
     else
     next_turn g here
+
+-- the place after a record, where g is the state after it. A mark moves nobody
+abbrev pub place_after : Plain → Place → Record → Option Place
+place_after g here (User p t n) = if stands_in (map.get g.users here.p) here.t then same_turn g here true else next_turn g here
 place_after g here (Call p t) = next_turn g here
-place_after g here (Deliver p t s) = next_turn g here
+place_after g here (Deliver p t s) = if is_some here.signal then same_turn g here false else next_turn g here
 place_after g here _ = Some here
 
 abbrev pub moved : Plain → Option Place → Record → Option Place
@@ -101,8 +141,8 @@ abbrev pub waits : Phase → Bool
 waits (Requested since) = true
 waits _ = false
 
-abbrev pub is_due : Standing → Record → Bool
-is_due at r = is_mark r || (not (waits at.requests.phase) && is_due_at at.place r)
+abbrev pub is_due : Plain → Standing → Record → Bool
+is_due g at r = is_mark r || (not (waits at.requests.phase) && is_due_at g at.place r)
 
 -- after a record that leads from g to next
 abbrev pub standing_after : Schedule → Plain → Plain → Standing → Record → Standing
@@ -110,7 +150,7 @@ standing_after schedule g next at r = record { place = moved next at.place r; re
 
 unfoldable pub in_rounds : Schedule → Plain → Standing → List Record → Bool
 in_rounds schedule g at [] = true
-in_rounds schedule g at (r ∷ records) = is_due at r && then_so (step g r) (λ next. in_rounds schedule next (standing_after schedule g next at r) records)
+in_rounds schedule g at (r ∷ records) = is_due g at r && then_so (step g r) (λ next. in_rounds schedule next (standing_after schedule g next at r) records)
 
 abbrev pub first_standing : Schedule → Plain → Standing
 first_standing schedule g = record { place = new_round g; requests = at_start schedule }

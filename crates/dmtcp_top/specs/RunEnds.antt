@@ -1,15 +1,15 @@
 -- Runs of the plain machine, and how the one that a machine makes may end.
 --     IsRun schedule g room trace state      the trace is a run from g to this state
-use Rattle.std.specs.Prelude.{◌≡◌, ◌⊎◌, ℕ, ◌≤◌, true, false, List, length, Some}
+use Rattle.std.specs.Prelude.{◌≡◌, ◌⊎◌, ℕ, ◌≤◌, ◌<◌, true, false, List, length, Some}
 use Rattle.sys_abi.specs.declared.record.Record.{Record}
 use Rattle.plain_machine.specs.declared.plain.Plain.{Plain}
 use Rattle.plain_machine.specs.Runs.{run, console}
-use Rattle.plain_machine.specs.Tests.{ended}
+use Rattle.plain_machine.specs.Tests.{ended, IsStuck}
 use Rattle.trace_log.specs.declared.requests.Schedule.{Schedule}
 use Rattle.trace_log.specs.Requests.{Requests, Reaches, IsAnswered}
 use Rattle.trace_log.specs.LogText.{log_text}
 use Rattle.dmtcp_top.specs.declared.run_end.RunEnd.{RunEnd}
-use Rattle.dmtcp_top.specs.declared.run_end.RunEnd.TheVariants.{Done, Budget, SinkFault, Memory}
+use Rattle.dmtcp_top.specs.declared.run_end.RunEnd.TheVariants.{Done, Budget, Stuck, SinkFault, Memory}
 use Rattle.dmtcp_top.specs.Rounds.{GoesInRounds}
 use Rattle.dmtcp_top.specs.Sessions.{Sunk, Took, TookFront}
 
@@ -46,9 +46,17 @@ pub record FilledUp (schedule : Schedule) (g : Plain) (room : ℕ) (trace : List
   pub somebody : ended shown.state ≡ false
   pub full : length trace ≡ room
 
+-- somebody lives, and nobody can go on, though each request has its outcome and the trace has room
+pub record GotStuck (schedule : Schedule) (g : Plain) (room : ℕ) (trace : List Record) (sink : Sunk) : Type 0 where
+  pub shown : Shown schedule g room trace sink
+  pub stuck : IsStuck shown.state
+  pub answered : IsAnswered shown.run.requests
+  pub roomy : length trace < room
+
 -- with what the log took of the lines for the checkpoints
 abbrev pub EndsRun : RunEnd → Schedule → Plain → ℕ → List Record → Sunk → Sunk → Type 0
 EndsRun Done schedule g room trace sink log = RanOut schedule g room trace sink × Took log (log_text trace)
 EndsRun Budget schedule g room trace sink log = FilledUp schedule g room trace sink × Took log (log_text trace)
+EndsRun Stuck schedule g room trace sink log = GotStuck schedule g room trace sink × Took log (log_text trace)
 EndsRun SinkFault schedule g room trace sink log = CutShort schedule g room trace sink × TookFront log (log_text trace)
 EndsRun Memory schedule g room trace sink log = CutShort schedule g room trace sink × TookFront log (log_text trace)

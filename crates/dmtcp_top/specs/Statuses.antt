@@ -1,7 +1,7 @@
 -- The numbers of statuses, with which the program ends.
 use Rattle.std.specs.Prelude.{ℕ}
 use Rattle.dmtcp_top.specs.declared.status.Status.{Status}
-use Rattle.dmtcp_top.specs.declared.status.Status.TheVariants.{Done, Usage, InputFault, Missing, BadElf, SinkFault, DiskFault, NoSet, Damaged, Budget, Memory}
+use Rattle.dmtcp_top.specs.declared.status.Status.TheVariants.{Done, Usage, InputFault, Missing, BadElf, SinkFault, DiskFault, NoSet, Damaged, Budget, Stuck, Memory}
 
 abbrev pub number_of : Status → ℕ
 number_of Done = 0
@@ -14,4 +14,5 @@ number_of DiskFault = 15
 number_of NoSet = 16
 number_of Damaged = 17
 number_of Budget = 18
+number_of Stuck = 19
 number_of Memory = 20

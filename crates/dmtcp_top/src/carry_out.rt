@@ -53,6 +53,7 @@ pub(crate) fn carry_out<'a, I: Inputs, O: Sink, L: Sink, F: Folder>(
     match start.run(alloc, out, log, disk, trace) {
         RunEnd::Done => Ending::Done,
         RunEnd::Budget => Ending::Budget(records),
+        RunEnd::Stuck => Ending::Stuck,
         RunEnd::SinkFault => Ending::SinkFault,
         RunEnd::Memory => Ending::Memory,
     }

@@ -30,6 +30,8 @@ pub enum Ending<'a> {
     Damaged(u32, Damage),
     /// The trace has this many records, and room for no more.
     Budget(u32),
+    /// Somebody lives, and nobody can go on.
+    Stuck,
     Memory,
 }
 
@@ -48,6 +50,7 @@ impl Ending<'_> {
             Ending::NoSet => Status::NoSet,
             Ending::Damaged(_, _) => Status::Damaged,
             Ending::Budget(_) => Status::Budget,
+            Ending::Stuck => Status::Stuck,
             Ending::Memory => Status::Memory,
         }
     }
@@ -86,6 +89,7 @@ impl Ending<'_> {
                 let mut number = Buffer::new();
                 put_three(log, "budget spent: ", number.format(records), " records\n")
             }
+            Ending::Stuck => put(log, "stuck\n"),
             Ending::Memory => put(log, "memory\n"),
         }
     }

@@ -1,10 +1,10 @@
 //! The top call of the checkpointer: [`dmtcp`] does what the words of a command line ask for.
 //!
-//! `launch 0:NAME` runs the program in the file NAME, an ELF executable for RV32IM, in one process, and `restart` goes on
-//! from the set that counts in the folder of sets; each ends when nobody lives or the trace is full. With `--every K` a
-//! set of the whole state goes to the folder after every K records of work. `specs/Ends.antt` says in one line for each
-//! status what holds of the trace, the console and the log, `specs/Promise.antt` what a crash at any moment leaves of the
-//! folder, and `specs/Words.antt` which words there are.
+//! `launch 0:NAME` runs the program in the file NAME, an ELF executable for RV32IM, in one process of up to 64 threads, and
+//! `restart` goes on from the set that counts in the folder of sets; each ends when nobody lives, nobody can go on, or the
+//! trace is full. With `--every K` a set of the whole state goes to the folder after every K records of work.
+//! `specs/Ends.antt` says in one line for each status what holds of the trace, the console and the log,
+//! `specs/Promise.antt` what a crash at any moment leaves of the folder, and `specs/Words.antt` which words there are.
 //!
 //! The contract of [`dmtcp`] says all of that for every word list, all inputs, sinks and folders, also where these fail or
 //! tell nothing; which status comes where nothing outside fails; and that an answer of a failure outside comes only where
@@ -28,6 +28,8 @@ mod settings;
 mod start;
 pub mod status;
 pub mod top_call;
+mod turn;
+mod turns;
 
 pub use status::Status;
 pub use top_call::{dmtcp, run_words};

@@ -1,9 +1,15 @@
-ghost use Rattle.std.specs.Prelude.{◌≡◌, ◌≢◌, ℕ, ◌+◌, ◌<◌, ◌≤◌, [], ◌∷◌, true, false, if◌then◌else◌, None, Some, All, length, Err, IsErrOf, IfOk, OnOk, OnErr};
+ghost use Rattle.std.specs.Prelude.{◌≡◌, ◌≢◌, ℕ, ◌<◌, ◌≤◌, [], ◌∷◌, true, false, if◌then◌else◌, Option, None, Some, length, Err, IsErrOf, IfOk, IfSome, OnOk, OnErr};
 ghost use Rattle.views.specs.Faults.{Rose, IsFaultOf};
 ghost use Rattle.plain_machine.specs.Launches.{IsLaunched};
 ghost use Rattle.plain_machine.specs.Buffers.{lent};
 ghost use Rattle.plain_machine.specs.Start.{start};
-ghost use Rattle.plain_machine.specs.Steps.{user_step, Asks, Trapped};
+ghost use Rattle.plain_machine.specs.Kernel.{after_take};
+ghost use Rattle.plain_machine.specs.Deliveries.{traps_with};
+ghost use Rattle.plain_machine.specs.Put.{added_thread};
+ghost use Rattle.plain_machine.specs.Steps.{user_step, waits, Asks};
+ghost use Rattle.guest_proc.specs.Guests.{HasThread};
+ghost use Rattle.sys_abi.specs.declared.record.Record.TheVariants as a_record;
+ghost use Rattle.sys_abi.specs.declared.reply.Reply.{Reply};
 ghost use Rattle.sys_abi.specs.Requests.{is_local};
 ghost use Rattle.dmtcp_top.specs.Sessions.{sunk, Took, TookFront};
 
@@ -13,11 +19,8 @@ use guest_proc::{Guest, LendFault, Ran};
 use plain_machine::{FIRST_PID, PlainKernel};
 use std::alloc::{AllocError, Global};
 use sys_abi::errors::EFAULT;
-use sys_abi::{Errno, Record, Reply, Request, Signal, Tid, Transfer, VPid, is_local};
+use sys_abi::{Delivered, Errno, Record, Reply, Request, Signal, Tid, Transfer, VPid, is_local};
 use trace_log::Trace;
-
-/// How many instructions a thread runs at most in its turn.
-const QUANTUM: u32 = 4_096;
 
 /// Why a turn made no record, or the last one.
 #[derive(Clone, Copy, Debug, PartialEq, Eq)]
@@ -39,17 +42,16 @@ impl From<AllocError> for Stop {
     }
 }
 
-/// One process with one thread: the kernel part, the process's own part, its thread, and the buffer of its calls.
+/// One process: the kernel part, the process's own part, and the buffer of its calls.
 #[derive(Drop)]
 pub struct Machine {
     pub kernel: PlainKernel,
     pub guest: Guest,
-    pub thread: Tid,
     pub transfer: Transfer,
 }
 
 impl Machine {
-    ghost use Rattle.dmtcp_top.specs.Machines.{plain_of, lives, IsSingle, IsReady, IsSame, Notes, Spoils};
+    ghost use Rattle.dmtcp_top.specs.Machines.{plain_of, lives, with_record, IsReady, IsSame, Takes, Breaks, CanDeliver, kernel_after};
 
     /// The start of a program, with these argument strings.
     pub fn start(alloc: Global, program: &Program, arguments: &[u8]) -> Result<Machine, AllocError>
@@ -67,7 +69,6 @@ impl Machine {
         Ok(Machine {
             kernel,
             guest,
-            thread: Tid(FIRST_PID),
             transfer,
         })
     }
@@ -79,102 +80,103 @@ impl Machine {
         self.kernel.is_live(self.guest.pid())
     }
 
-    /// One record of the thread: a quantum of instructions, or the call or the trap at which it stands.
-    pub fn take_turn<O: Sink>(
-        &mut self,
-        alloc: Global,
-        out: &mut O,
-        trace: &mut Trace,
-    ) -> Result<(), Stop>
-        requires single { IsSingle self.old }
+    /// Delivers a signal to a thread: that of the trap at which it stands, or a pending one.
+    pub fn deliver(&mut self, t: Tid, s: Signal, trace: &mut Trace)
+        requires ready { IsReady self.old }
         requires alive { lives self.old ≡ true }
+        requires due { CanDeliver (plain_of self.old) self.old.guest.pid t s }
         requires room { 0 < trace.old.room }
-        ensures ok { OnOk result (Notes self.old self.new trace.old trace.new
-            (sunk (O.taken out.old) (O.taken out.new))) }
-        ensures single { OnOk result (IsSingle self.new) }
-        ensures same { IsSame self.old self.new }
-        ensures failed { IsErrOf result Stop.Sink → Spoils self.old trace.old trace.new
-            (sunk (O.taken out.old) (O.taken out.new)) }
-        ensures memory { IsErrOf result Stop.Memory →
-            (trace.new ≡ trace.old) × (O.taken out.new ≡ O.taken out.old) }
-        ensures cause { IsFaultOf result Stop.Sink (O.faults out.old) (O.faults out.new) }
-        ensures later { O.faults out.old ≤ O.faults out.new }
-    {
-        let p = self.guest.pid();
-        let t = self.thread;
-        let (n, ran) = self.guest.run(t, QUANTUM);
-        if let Ran::Memory = ran {
-            return Err(Stop::Memory);
-        }
-        if 0 < n {
-            trace.append(Record::User { p, t, n });
-            return Ok(());
-        }
-        match ran {
-            Ran::Asks(request) => self.call(alloc, &request, out, trace),
-            Ran::Trapped(signal) => {
-                self.deliver(signal, trace);
-                Ok(())
-            }
-            Ran::Whole => unreachable!(),
-            Ran::Waits => unreachable!(),
-            Ran::Memory => unreachable!(),
-        }
-    }
-
-    /// Delivers the signal of the trap at which the thread stands.
-    fn deliver(&mut self, signal: Signal, trace: &mut Trace)
-        requires single { IsSingle self.old }
-        requires alive { lives self.old ≡ true }
-        requires trap { user_step self.old.guest.user self.old.thread.0 ≡ Trapped signal.0 }
-        requires room { 0 < trace.old.room }
-        ensures noted { (taken : _) → Notes self.old self.new trace.old trace.new (sunk taken taken) }
-        ensures single { IsSingle self.new }
+        ensures took { (taken : _) → Takes self.old self.new (a_record.Deliver self.old.guest.pid t s) trace.old trace.new (sunk taken taken) }
+        ensures ready { IsReady self.new }
         ensures same { IsSame self.old self.new }
     {
         let p = self.guest.pid();
-        self.kernel.end_process(p);
-        trace.append(Record::Deliver {
-            p,
-            t: self.thread,
-            s: signal,
-        });
+        let is_waiting = self.is_waiting(t);
+        self.take_unless_trap(t, s);
+        let delivered = self.guest.deliver(t, s, is_waiting);
+        self.end_if_killed(delivered);
+        trace.append(Record::Deliver { p, t, s });
     }
 
-    /// Serves the call at which the thread stands.
-    fn call<O: Sink>(
+    /// Whether a thread waits on a word.
+    fn is_waiting(&self, t: Tid) -> bool
+        requires { HasThread self.now.guest.user t.0 }
+        ensures { result ≡ waits self.now.guest.user t.0 }
+    {
+        match self.guest.look(t) {
+            Ran::Waits => true,
+            _ => false,
+        }
+    }
+
+    /// Whether a thread traps with this signal.
+    fn is_trapped(&self, t: Tid, s: Signal) -> bool
+        requires { HasThread self.now.guest.user t.0 }
+        ensures { result ≡ traps_with (user_step self.now.guest.user t.0) s.0 }
+    {
+        match self.guest.look(t) {
+            Ran::Trapped(trap) => trap.0 == s.0,
+            _ => false,
+        }
+    }
+
+    /// Takes a pending signal away. That of a trap stays pending where it is.
+    fn take_unless_trap(&mut self, t: Tid, s: Signal)
+        requires { HasThread self.old.guest.user t.0 }
+        ensures kernel { self.new.kernel ≡ if traps_with (user_step self.old.guest.user t.0) s.0 then self.old.kernel
+            else after_take self.old.kernel self.old.guest.pid t.0 s.0 }
+        ensures guest { self.new.guest ≡ self.old.guest }
+    {
+        if !self.is_trapped(t, s) {
+            self.kernel.take(self.guest.pid(), t, s);
+        }
+    }
+
+    /// Ends the process if the signal killed it.
+    fn end_if_killed(&mut self, delivered: Delivered)
+        ensures kernel { self.new.kernel ≡ kernel_after self.old.kernel self.old.guest.pid delivered }
+        ensures guest { self.new.guest ≡ self.old.guest }
+    {
+        match delivered {
+            Delivered::Kills(_) => self.kernel.end_process(self.guest.pid()),
+            _ => {}
+        }
+    }
+
+    /// Serves the call at which a thread stands.
+    pub fn call<O: Sink>(
         &mut self,
         alloc: Global,
+        t: Tid,
         request: &Request,
         out: &mut O,
         trace: &mut Trace,
     ) -> Result<(), Stop>
-        requires single { IsSingle self.old }
+        requires ready { IsReady self.old }
         requires alive { lives self.old ≡ true }
-        requires asks { user_step self.old.guest.user self.old.thread.0 ≡ Asks request.now }
+        requires asks { user_step self.old.guest.user t.0 ≡ Asks request.now }
         requires room { 0 < trace.old.room }
-        ensures ok { OnOk result (Notes self.old self.new trace.old trace.new
+        ensures ok { OnOk result (Takes self.old self.new (a_record.Call self.old.guest.pid t) trace.old trace.new
             (sunk (O.taken out.old) (O.taken out.new))) }
-        ensures single { OnOk result (IsSingle self.new) }
+        ensures ready { OnOk result (IsReady self.new) }
         ensures same { IsSame self.old self.new }
-        ensures failed { IsErrOf result Stop.Sink → Spoils self.old trace.old trace.new
+        ensures failed { IsErrOf result Stop.Sink → Breaks self.old (a_record.Call self.old.guest.pid t) trace.old trace.new
             (sunk (O.taken out.old) (O.taken out.new)) }
         ensures memory { IsErrOf result Stop.Memory →
             (trace.new ≡ trace.old) × (O.taken out.new ≡ O.taken out.old) }
         ensures cause { IsFaultOf result Stop.Sink (O.faults out.old) (O.faults out.new) }
         ensures later { O.faults out.old ≤ O.faults out.new }
     {
-        let t = self.thread;
         match self.guest.lend(t, request, &mut self.transfer) {
             Ok(()) => {
                 if is_local(request) {
-                    self.local_call(alloc, request, trace)
+                    self.local_call(alloc, t, request, trace)
                 } else {
-                    self.kernel_call(alloc, request, out, trace)
+                    self.kernel_call(alloc, t, request, out, trace)
                 }
             }
             Err(LendFault::Fault) => {
-                self.refuse(request, trace);
+                self.refuse(t, request, trace);
                 Ok(())
             }
             Err(LendFault::Memory) => Err(Stop::Memory),
@@ -182,18 +184,17 @@ impl Machine {
     }
 
     /// Answers a call with a buffer that isn't readable or writable as it needs.
-    fn refuse(&mut self, request: &Request, trace: &mut Trace)
-        requires single { IsSingle self.old }
+    fn refuse(&mut self, t: Tid, request: &Request, trace: &mut Trace)
+        requires ready { IsReady self.old }
         requires alive { lives self.old ≡ true }
-        requires asks { user_step self.old.guest.user self.old.thread.0 ≡ Asks request.now }
+        requires asks { user_step self.old.guest.user t.0 ≡ Asks request.now }
         requires fault { lent self.old.guest.user.memory request.now ≡ None }
         requires room { 0 < trace.old.room }
-        ensures noted { (taken : _) → Notes self.old self.new trace.old trace.new (sunk taken taken) }
-        ensures single { IsSingle self.new }
+        ensures took { (taken : _) → Takes self.old self.new (a_record.Call self.old.guest.pid t) trace.old trace.new (sunk taken taken) }
+        ensures ready { IsReady self.new }
         ensures same { IsSame self.old self.new }
     {
         let p = self.guest.pid();
-        let t = self.thread;
         self.transfer.clear();
         self.guest
             .answer(t, request, Reply::Error(Errno(EFAULT)), &self.transfer);
@@ -204,23 +205,23 @@ impl Machine {
     fn local_call(
         &mut self,
         alloc: Global,
+        t: Tid,
         request: &Request,
         trace: &mut Trace,
     ) -> Result<(), Stop>
-        requires single { IsSingle self.old }
+        requires ready { IsReady self.old }
         requires alive { lives self.old ≡ true }
-        requires asks { user_step self.old.guest.user self.old.thread.0 ≡ Asks request.now }
+        requires asks { user_step self.old.guest.user t.0 ≡ Asks request.now }
         requires given { lent self.old.guest.user.memory request.now ≡ Some self.old.transfer }
         requires local { is_local request.now ≡ true }
         requires room { 0 < trace.old.room }
-        ensures ok { OnOk result ((taken : _) → Notes self.old self.new trace.old trace.new (sunk taken taken)) }
-        ensures single { OnOk result (IsSingle self.new) }
+        ensures ok { OnOk result ((taken : _) → Takes self.old self.new (a_record.Call self.old.guest.pid t) trace.old trace.new (sunk taken taken)) }
+        ensures ready { OnOk result (IsReady self.new) }
         ensures same { IsSame self.old self.new }
         ensures memory { OnErr result (trace.new ≡ trace.old) }
         ensures kind { result ≢ Err Stop.Sink }
     {
         let p = self.guest.pid();
-        let t = self.thread;
         self.guest.local(alloc, t, request)?;
         trace.append(Record::Call { p, t });
         Ok(())
@@ -230,21 +231,22 @@ impl Machine {
     fn kernel_call<O: Sink>(
         &mut self,
         alloc: Global,
+        t: Tid,
         request: &Request,
         out: &mut O,
         trace: &mut Trace,
     ) -> Result<(), Stop>
-        requires single { IsSingle self.old }
+        requires ready { IsReady self.old }
         requires alive { lives self.old ≡ true }
-        requires asks { user_step self.old.guest.user self.old.thread.0 ≡ Asks request.now }
+        requires asks { user_step self.old.guest.user t.0 ≡ Asks request.now }
         requires given { lent self.old.guest.user.memory request.now ≡ Some self.old.transfer }
         requires kernels { is_local request.now ≡ false }
         requires room { 0 < trace.old.room }
-        ensures ok { OnOk result (Notes self.old self.new trace.old trace.new
+        ensures ok { OnOk result (Takes self.old self.new (a_record.Call self.old.guest.pid t) trace.old trace.new
             (sunk (O.taken out.old) (O.taken out.new))) }
-        ensures single { OnOk result (IsSingle self.new) }
+        ensures ready { OnOk result (IsReady self.new) }
         ensures same { IsSame self.old self.new }
-        ensures failed { IsErrOf result Stop.Sink → Spoils self.old trace.old trace.new
+        ensures failed { IsErrOf result Stop.Sink → Breaks self.old (a_record.Call self.old.guest.pid t) trace.old trace.new
             (sunk (O.taken out.old) (O.taken out.new)) }
         ensures memory { IsErrOf result Stop.Memory →
             (trace.new ≡ trace.old) × (O.taken out.new ≡ O.taken out.old) }
@@ -252,7 +254,7 @@ impl Machine {
         ensures later { O.faults out.old ≤ O.faults out.new }
     {
         let p = self.guest.pid();
-        let t = self.thread;
+        reserve_for(&mut self.guest, alloc, request)?;
         let Some(answer) = self
             .kernel
             .serve(alloc, p, t, request, self.transfer.as_slice())?
@@ -265,6 +267,17 @@ impl Machine {
         self.transfer.put(answer.bytes.as_slice());
         self.guest.answer(t, request, answer.reply, &self.transfer);
         Ok(())
+    }
+}
+
+/// Makes room for the thread that a clone adds.
+fn reserve_for(guest: &mut Guest, alloc: Global, request: &Request) -> Result<(), AllocError>
+    ensures same { guest.new ≡ record guest.old { spare = guest.new.spare } }
+    ensures spare { OnOk result ((reply : Reply) → IfSome (added_thread request.now reply) (λ _. 1 ≤ guest.new.spare)) }
+{
+    match request {
+        Request::Clone { .. } => guest.reserve_thread(alloc),
+        _ => Ok(()),
     }
 }
 

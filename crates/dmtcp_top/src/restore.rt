@@ -8,7 +8,7 @@ use guest_proc::Guest;
 use image_codec::restored_kernel;
 use rebuild::Decoded;
 use std::alloc::{AllocError, Global};
-use sys_abi::{Tid, Transfer};
+use sys_abi::Transfer;
 
 impl Machine {
     /// The machine whose state the values of a set stand for. It takes the pages as they are.
@@ -23,16 +23,11 @@ impl Machine {
         let Some(image) = images.pop() else {
             unreachable!();
         };
-        let Some(first) = image.threads.as_slice().first() else {
-            unreachable!();
-        };
-        let thread = Tid(first.tid);
         let guest = Guest::of_image(alloc, image)?;
         let transfer = Transfer::new(alloc)?;
         Ok(Machine {
             kernel,
             guest,
-            thread,
             transfer,
         })
     }

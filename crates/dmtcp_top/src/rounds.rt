@@ -10,13 +10,14 @@ ghost use Rattle.dmtcp_top.specs.Sessions.{sunk};
 use crate::machine::Stop;
 use crate::run_end::RunEnd;
 use crate::start::Start;
+use crate::turn::Queue;
 use edge_io::Sink;
 use set_disk::Folder;
 use std::alloc::Global;
 use trace_log::Trace;
 
 impl Start {
-    /// Runs turn after turn, until nobody lives or the trace is full, and makes the checkpoints that the records ask for.
+    /// Runs turn after turn, until nobody lives or can go on, or the trace is full, and makes the checkpoints that the records ask for.
     pub fn run<O: Sink, L: Sink, F: Folder>(
         &mut self,
         alloc: Global,
@@ -39,16 +40,23 @@ impl Start {
         ensures later { O.faults out.old ≤ O.faults out.new }
         ensures log_later { L.faults log.old ≤ L.faults log.new }
     {
+        let Ok(queue) = Queue::new(alloc) else {
+            return RunEnd::Memory;
+        };
         let room = trace.room();
-        for _turn in 0..room {
+        let mut turn = self.machine.new_round(queue);
+        for _record in 0..room {
             if !self.machine.lives() {
                 return RunEnd::Done;
             }
             if trace.room() == 0 {
                 return RunEnd::Budget;
             }
-            match self.machine.take_turn(alloc, out, trace) {
-                Ok(()) => {}
+            let Some(now) = turn else {
+                return RunEnd::Stuck;
+            };
+            match self.machine.take_turn(alloc, now, out, trace) {
+                Ok(next) => turn = next,
                 Err(Stop::Sink) => return RunEnd::SinkFault,
                 Err(Stop::Memory) => return RunEnd::Memory,
             }

@@ -5,6 +5,8 @@ pub enum RunEnd {
     Done,
     /// The trace is full, and somebody lives.
     Budget,
+    /// Somebody lives, and nobody can go on.
+    Stuck,
     /// The console failed.
     SinkFault,
     /// There was no memory.

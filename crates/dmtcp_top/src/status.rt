@@ -25,6 +25,8 @@ pub enum Status {
     Damaged = 17,
     /// The trace is full, and a process lives.
     Budget = 18,
+    /// A process lives, and none can go on.
+    Stuck = 19,
     /// There was no memory.
     Memory = 20,
 }

@@ -17,9 +17,9 @@ use trace_log::Trace;
 
 /// Does what the words of a command line ask for.
 ///
-/// `launch 0:NAME` runs the program in the input NAME to its end, or until the trace has no room. `restart` goes on in
-/// the same way from the last complete set in `disk`. After every so many records of work, where the words ask for it,
-/// a set of the whole state goes to `disk`.
+/// `launch 0:NAME` runs the program in the input NAME to its end, or until nobody can go on or the trace has no room.
+/// `restart` goes on in the same way from the last complete set in `disk`. After every so many records of work, where the
+/// words ask for it, a set of the whole state goes to `disk`.
 ///
 /// The bytes that the program writes go to `out`. `log` gets a line for each checkpoint, and how the call ended in one
 /// last line. `trace` gets a record for each step of the run and a mark for each stage of a checkpoint.

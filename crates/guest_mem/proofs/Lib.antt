@@ -6,3 +6,4 @@ pub mod Copies
 pub mod FrameTables
 pub mod PageRuns
 pub mod NextPages
+pub mod FreeRuns

@@ -1,6 +1,7 @@
 -- Runs of pages.
 --     get-with_pages_other, len-with_pages        zeroed pages at numbers where there were none
 --     zeroed_page                                 what each of them holds
+--     insert_one_more                             a page put adds one at most
 --     without_none, without_more, without-with    pages taken away, one more, and those that were just put there
 --     without_skip, without_next                  more of them, where none of these is there, or only the last one is
 use Rattle.std.proofs.Common.{◌≡◌, ◌≢◌, ℕ, zero, suc, ◌+◌, ◌-◌, ◌*◌, ◌≤◌, ◌<◌, Bool, true, false, cond, ◌&&◌, List, [], ◌∷◌, take, drop, refl, sym, ap, ◌∙◌, arith, ⊎_elim, inl, inr, add-zero, add-one}
@@ -10,6 +11,7 @@ use Rattle.std.specs.FinMap as map
 use Rattle.std.proofs.lemmas.Bool.{cases_eq, cases_lt}
 use borrow.Author.Tests.{le-leb, lt-leb, lt-ltb, le-ltb}
 use Rattle.views.proofs.MapLaws.{get_insert_other, get_remove_same, get_remove_other, get-retain}
+use Rattle.plain_machine.specs.declared.memory.Frame.{Frame}
 use Rattle.plain_machine.specs.Memory.{Memory}
 use Rattle.plain_machine.specs.Start.{with_pages, page_of}
 use Rattle.guest_mem.specs.Pages.{is_among, IsFree, without_pages}
@@ -56,6 +58,12 @@ len-with_pages m page (suc n) rights content free =
     (get-with_pages_other m page n rights content (page + n) (inr (omega arith)) ∙ free (page + n) (omega arith) (omega arith))
     ∙ ap (λ k. k + 1) (len-with_pages m page n rights content (λ number from below. free number from (omega arith)))
     ∙ omega arith
+
+-- one page more at most
+pub insert_one_more : (m : Memory) (page : ℕ) (frame : Frame) (limit : ℕ) → map.len m ≤ limit → map.len (map.insert m page frame) ≤ limit + 1
+insert_one_more m page frame limit within =
+    rw (map.len-insert nat_cmp_total m page frame)
+    (elim (is_some (map.get m page)) as (λ found. cond found (map.len m) (map.len m + 1) ≤ limit + 1) [ true ↦ omega arith | false ↦ omega arith ])
 
 -- pages taken away
 inside : (page n q : ℕ) → page ≤ q → q < page + n → is_among page n q ≡ true

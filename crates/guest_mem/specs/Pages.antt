@@ -2,19 +2,22 @@
 --     IsSpace memory                         no page lies past the addresses of 32 bits, and there are at most 2,048
 --     IsFree memory page count               none of the pages is there
 --     without_pages memory page count        the memory without these pages
-use Rattle.std.specs.Prelude.{◌≡◌, ◌^◌, ℕ, ◌+◌, ◌<◌, ◌≤◌, ◌&&◌, not, nat_le, nat_lt, Bool, None}
+--     IsFirstTaken memory page count taken   the first of the pages that is there, if one is
+use Rattle.std.specs.Prelude.{◌≡◌, ◌^◌, ℕ, ◌+◌, ◌<◌, ◌≤◌, Option, Some, None, is_some, true}
 use Rattle.std.specs.FinMap as map
 use Rattle.plain_machine.specs.Memory.{Memory}
+pub use Rattle.plain_machine.specs.Pages.{is_among, IsFree}
+unfoldable pub use Rattle.plain_machine.specs.Pages.{without_pages}
 
 pub record IsSpace (memory : Memory) : Type 0 where
   pub bounded : (number : ℕ) → 2 ^ 20 ≤ number → map.get memory number ≡ None
   pub small : map.len memory ≤ 2048
 
-abbrev pub is_among : ℕ → ℕ → ℕ → Bool
-is_among page count number = nat_le page number && nat_lt number (page + count)
+pub record IsTaken (memory : Memory) (page count number : ℕ) : Type 0 where
+  pub from : page ≤ number
+  pub below : number < page + count
+  pub held : is_some (map.get memory number) ≡ true
 
-abbrev pub IsFree : Memory → ℕ → ℕ → Type 0
-IsFree memory page count = (number : ℕ) → page ≤ number → number < page + count → map.get memory number ≡ None
-
-unfoldable pub without_pages : Memory → ℕ → ℕ → Memory
-without_pages memory page count = map.retain_keys memory (λ number. not (is_among page count number))
+abbrev pub IsFirstTaken : Memory → ℕ → ℕ → Option ℕ → Type 0
+IsFirstTaken memory page count None = IsFree memory page count
+IsFirstTaken memory page count (Some number) = IsTaken memory page count number

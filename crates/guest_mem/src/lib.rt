@@ -13,6 +13,7 @@ mod access;
 mod frame_block;
 mod frame_table;
 pub mod mem_fault;
+mod runs;
 pub mod space;
 
 pub use mem_fault::MemFault;

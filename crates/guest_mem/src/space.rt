@@ -376,7 +376,7 @@ impl Space {
         Ok(())
     }
 
-    fn insert_zeroed(&mut self, page: u32, rights: u8) -> Result<(), AllocError>
+    pub(crate) fn insert_zeroed(&mut self, page: u32, rights: u8) -> Result<(), AllocError>
         requires number { page < 2 ^ 20 }
         requires room { map.len self.old < PAGE_LIMIT }
         ensures ok { OnOk result (self.new
@@ -410,7 +410,7 @@ impl Space {
         }
     }
 
-    fn next_from(&self, start: usize) -> Option<usize>
+    pub(crate) fn next_from(&self, start: usize) -> Option<usize>
         ensures { IsNextPage self.now start result }
     {
         self.frames.next_from(start)

@@ -1,7 +1,7 @@
--- The image of a valid part that has one thread, which no handler interrupted, has a spelling: each condition on its fields holds.
+-- The image of a valid part that has a thread has a spelling: each condition on its fields holds.
 --     each_entry       a fact of each value of a map is one of each of its entries
 --     image_fits       the whole image      image_numbers, image_few      of the pages of an image that has a spelling
-use Rattle.std.proofs.Common.{◌≡◌, ◌≢◌, ℕ, zero, suc, ◌+◌, ◌-◌, ◌*◌, ◌/◌, ◌%◌, ◌^◌, ◌<◌, ◌≤◌, Bool, true, false, cond, ◌&&◌, ◌||◌, not, List, [], ◌∷◌, ◌++◌, length, map as each, refl, sym, ap, subst, ◌∙◌, arith, ⊎_elim, length-append, T}
+use Rattle.std.proofs.Common.{◌≡◌, ◌≢◌, ℕ, zero, suc, ◌+◌, ◌-◌, ◌*◌, ◌/◌, ◌%◌, ◌^◌, ◌<◌, ◌≤◌, Bool, true, false, cond, ◌&&◌, ◌||◌, not, List, [], ◌∷◌, ◌++◌, length, map as each, refl, sym, ap, subst, ◌∙◌, arith, ⊎_elim, length-append, append_assoc, T}
 use Rattle.std.specs.Prelude.{Option, Some, is_some, nat_lt, nat_le, ◌==◌, All, slice_get}
 use Rattle.std.specs.Str.{bytes_eq}
 use Rattle.std.specs.Ordering.{nat_cmp, eq_by_cmp, is_lt}
@@ -14,9 +14,6 @@ use Rattle.std.proofs.lemmas.List.Elements.{All-nil, All-cons}
 use Rattle.views.proofs.MapLaws.{key_tied, other_key, same_or_other}
 use Rattle.plain_machine.specs.declared.memory.Frame.{Frame}
 use Rattle.plain_machine.specs.declared.user_part.UserPart.{UserPart}
-use Rattle.plain_machine.specs.declared.user_part.ThreadPart.{ThreadPart}
-use Rattle.plain_machine.specs.declared.user_part.Context.{Context}
-use Rattle.plain_machine.specs.declared.user_part.Waiter.{Waiter}
 use Rattle.plain_machine.specs.Start.{RETURN_PAGE, return_bytes, return_frame}
 use Rattle.plain_machine.specs.Valid.{Each, IsFrame, IsThread, IsUser}
 use Rattle.image_codec.specs.declared.page_image.PageImage.{PageImage}
@@ -24,9 +21,10 @@ use Rattle.image_codec.specs.declared.thread_image.ThreadImage.{ThreadImage}
 use Rattle.image_codec.specs.declared.process_image.ProcImage.{ProcImage}
 use Rattle.image_codec.specs.Texts.{EachFrom}
 use Rattle.image_codec.specs.UserParts.{page_entry, thread_entry}
-use Rattle.image_codec.specs.ProcessTests.{BREAK_LIMIT, is_heap_page, is_free_of_break, is_above_page, is_page_number, is_page_content, return_content, has_page, has_pages, has_heap}
-use Rattle.image_codec.specs.ProcessImages.{IsPage, IsWaiter, IsRegisters, IsThreadImage, is_whole, threads_of, IsImage, HasImage}
-use Rattle.guest_proc.specs.Guests.{IsAlone}
+use Rattle.image_codec.specs.ProcessTests.{is_number, is_among, BREAK_LIMIT, is_heap_page, is_free_of_break, is_above_page, is_page_number, is_page_content, return_content, has_page, has_pages, has_heap}
+use Rattle.image_codec.specs.ProcessImages.{IsPage, IsWaiter, IsThreadImage, is_whole, threads_of, IsImage, HasImage}
+use Rattle.image_codec.proofs.DistinctWaiters.{waiters_fit}
+use Rattle.image_codec.proofs.OneProcess.{keys_there, part_keys}
 use Rattle.guest_proc.proofs.Images.{front, back, rising, past_front, lt_true}
 
 -- entries
@@ -203,24 +201,39 @@ heap_there user pages is same =
     in_memory user pages (user.break_start / 4096 + k) same ∙ is.heap (user.break_start / 4096 + k) at.0 at.1 ∙ lt_true _ _ at.2)
 
 -- threads and waiters
-thread_fits : (tid : ℕ) (thread : ThreadPart) → IsThread thread → thread.contexts ≡ [] → IsThreadImage (tid ∷ []) [] (record { tid = tid; part = thread })
-thread_fits tid thread is none = record {
-  tid = eq_true tid tid refl;
+abbrev tids_in : List ThreadImage → List ℕ
+tids_in threads = each (λ (t : ThreadImage). t.tid) threads
+
+thread_fits : (tids : List ℕ) (before : List ThreadImage) (t : ThreadImage) → slice_get tids (length before) ≡ Some t.tid → IsThread t.part → IsThreadImage tids before t
+thread_fits tids before t here is = record {
+  tid = ap (λ number. is_number number t.tid) here ∙ eq_true t.tid t.tid refl;
   registers = record { size = is.regs.count; zero = is.regs.zero };
-  context_count = let empty : length thread.contexts ≡ 0 = ap length none in eq_true (length thread.contexts) 0 empty;
-  contexts = subst (λ (cs : List Context). All (λ context. IsRegisters context.regs.x) cs) (sym none) (All-nil _);
+  context_count = le_true (length t.part.contexts) 64 is.count;
+  contexts = λ k d inside. let context = is.contexts k d inside in record { size = context.0.count; zero = context.0.zero };
 }
 
--- a part with one entry
-threads_fit : (threads : List ThreadImage) → length threads ≡ 1 → All (λ e. IsThread e.1 × (e.1.contexts ≡ [])) (each thread_entry threads) → EachFrom (IsThreadImage (each (λ t. t.tid) threads)) [] threads
-unfolding EachFrom
-threads_fit [] one are = absurd (omega arith)
-threads_fit (t ∷ []) one are = let first = first_of (λ e. IsThread e.1 × (e.1.contexts ≡ [])) (thread_entry t) [] are in (thread_fits t.tid t.part first.0 first.1, tt)
-threads_fit (t ∷ u ∷ rest) one are = absurd (omega arith)
+tid_at : (before : List ThreadImage) (t : ThreadImage) (rest : List ThreadImage) → slice_get (tids_in (before ++ t ∷ rest)) (length before) ≡ Some t.tid
+tid_at [] t rest = refl
+tid_at (u ∷ before) t rest = tid_at before t rest
 
-none_wait : (tids : List ℕ) (waiters : List Waiter) → waiters ≡ [] → EachFrom (IsWaiter tids) [] waiters
+threads_fit : (tids : List ℕ) (before threads : List ThreadImage) → tids ≡ tids_in (before ++ threads) → All (λ e. IsThread e.1) (each thread_entry threads) → EachFrom (IsThreadImage tids) before threads
 unfolding EachFrom
-none_wait tids waiters none = subst (λ ws. EachFrom (IsWaiter tids) [] ws) (sym none) tt
+threads_fit tids before [] all are = tt
+threads_fit tids before (t ∷ threads) all are = (
+  thread_fits tids before t (ap (λ numbers. slice_get numbers (length before)) all ∙ tid_at before t threads) (first_of (λ e. IsThread e.1) (thread_entry t) (each thread_entry threads) are),
+  threads_fit tids (before ++ t ∷ []) threads (all ∙ sym (ap tids_in (append_assoc before (t ∷ []) threads))) (rest_of (λ e. IsThread e.1) (thread_entry t) (each thread_entry threads) are),
+)
+
+-- a thread of the part is one of its image
+among_threads : (image : ProcImage) (user : UserPart) (t : ℕ) → each thread_entry image.threads ≡ map.entries user.threads → is_some (map.get user.threads t) ≡ is_among (threads_of image) t
+among_threads image user t same =
+    ap is_some (map.get-entries user.threads t) ∙ ap (λ es. is_some (map.find nat_cmp t es)) (sym same) ∙ keys_there (each thread_entry image.threads) t
+    ∙ ap (λ numbers. is_among numbers t) (part_keys image.threads)
+
+waiters_fit_all : (image : ProcImage) (user : UserPart) → IsUser user → each thread_entry image.threads ≡ map.entries user.threads → image.waiters ≡ user.waiters → EachFrom (IsWaiter (threads_of image)) [] image.waiters
+waiters_fit_all image user is threads same =
+    subst (λ waiters. EachFrom (IsWaiter (threads_of image)) [] waiters) (sym same)
+    (waiters_fit (threads_of image) user.waiters (λ k d inside. sym (among_threads image user _ threads) ∙ (is.waiters k d inside).thread) is.waiters_apart)
 
 pub record IsImageOf (image : ProcImage) (user : UserPart) : Type 0 where
   pub pages : each page_entry image.pages ≡ map.entries user.memory
@@ -233,14 +246,14 @@ pub record IsImageOf (image : ProcImage) (user : UserPart) : Type 0 where
 as_long : {A B : Type 0} (f : A → B) (xs : List A) (ys : List B) → each f xs ≡ ys → length xs ≡ length ys
 as_long f xs ys is = sym (length-map xs f) ∙ ap length is
 
-pub image_fits : (image : ProcImage) (user : UserPart) → IsImageOf image user → IsUser user → IsAlone user → HasImage image
+pub image_fits : (image : ProcImage) (user : UserPart) → IsImageOf image user → IsUser user → 1 ≤ map.len user.threads → HasImage image
 unfolding is_whole
-image_fits image user of is alone =
+image_fits image user of is some =
     let start = of.break_start in
     let end = of.break_end in
     let page_total : length image.pages ≡ map.len user.memory = as_long page_entry image.pages (map.entries user.memory) of.pages ∙ sym (map.len-entries user.memory) in
-    let thread_total : length image.threads ≡ 1 = as_long thread_entry image.threads (map.entries user.threads) of.threads ∙ sym (map.len-entries user.threads) ∙ alone.threads in
-    let waiter_total : length image.waiters ≡ 0 = ap length (of.waiters ∙ alone.waiters) in
+    let thread_total : length image.threads ≡ map.len user.threads = as_long thread_entry image.threads (map.entries user.threads) of.threads ∙ sym (map.len-entries user.threads) in
+    let few_threads = is.thread_count in
     let whole = is.break_start in
     let order = is.break_order in
     let limit = is.break_limit in
@@ -253,11 +266,10 @@ image_fits image user of is alone =
         page_count = le_true (length image.pages) 2048 (omega arith);
         pages = subst (λ s. EachFrom (IsPage s image.break_end) [] image.pages) (sym start) (subst (λ e. EachFrom (IsPage user.break_start e) [] image.pages) (sym end) (pages_fit_all user image.pages is of.pages));
         actions = ap length of.actions ∙ is.actions;
-        waiter_count = eq_true (length image.waiters) 0 waiter_total;
-        waiters = none_wait (threads_of image) image.waiters (of.waiters ∙ alone.waiters);
-        thread_count = both_true _ _ (eq_true (length image.threads) 1 thread_total) (eq_true (length (threads_of image)) (length image.threads) (length-map image.threads (λ t. t.tid)));
-        threads = threads_fit image.threads thread_total (subst (λ es. All (λ e. IsThread e.1 × (e.1.contexts ≡ [])) es) (sym of.threads)
-            (each_entry (λ t thread. IsThread thread × (thread.contexts ≡ [])) user.threads (λ t thread found. (is.threads t thread found, alone.contexts t thread found))));
+        waiters = waiters_fit_all image user is of.threads of.waiters;
+        thread_count = both_true _ _ (both_true _ _ (le_true 1 (length image.threads) (omega arith)) (le_true (length image.threads) 64 (omega arith)))
+            (eq_true (length (threads_of image)) (length image.threads) (length-map image.threads (λ t. t.tid)));
+        threads = threads_fit (threads_of image) [] image.threads refl (subst (λ es. All (λ e. IsThread e.1) es) (sym of.threads) (each_entry (λ t thread. IsThread thread) user.threads is.threads));
       };
       whole = both_true _ _
           (ap (λ s. has_heap s image.break_end image.pages) start ∙ ap (λ e. has_heap user.break_start e image.pages) end ∙ heap_there user image.pages is of.pages)

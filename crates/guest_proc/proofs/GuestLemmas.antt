@@ -7,24 +7,22 @@ use Rattle.std.specs.FinMap as map
 use Rattle.views.proofs.MapLaws.{get_insert_same}
 use Rattle.elf32.specs.declared.program.Program.{Program}
 use Rattle.plain_machine.specs.Start.{start_user, start_thread, start_regs}
-use Rattle.sys_abi.specs.declared.request.Request.{Request}
-use Rattle.sys_abi.specs.declared.reply.Reply.{Reply}
 use Rattle.plain_machine.specs.declared.regs.Regs.{Regs}
 use Rattle.plain_machine.specs.declared.user_part.UserPart.{UserPart}
 use Rattle.plain_machine.specs.declared.user_part.ThreadPart.{ThreadPart}
 use Rattle.plain_machine.specs.Memory.{Memory}
-use Rattle.plain_machine.specs.Registers.{with_reg, at_pc, next_pc}
 use Rattle.plain_machine.specs.Instructions.{Effect}
 use Rattle.plain_machine.specs.Steps.{Running, effect_at, Waits, waits, with_regs, step_by, step_of, user_step, user_steps}
-use Rattle.plain_machine.specs.Buffers.{written_spans}
-use Rattle.plain_machine.specs.Put.{put, put_by, with_spans, word_of}
 use Rattle.guest_proc.specs.declared.run.Stop.{Stop}
 use Rattle.guest_proc.specs.declared.run.Stop.TheVariants.{Quantum, Call, Trap}
 use Rattle.guest_proc.specs.declared.ran.Ran.{Ran}
-use Rattle.guest_proc.specs.Guests.{Tells, with_parts, Puts}
+use Rattle.guest_proc.specs.Guests.{Tells, with_parts}
 use Rattle.guest_proc.specs.Running.{running, HasRun, IsStop, ran_told}
-use Rattle.guest_proc.specs.Threads.{threads_with_regs}
+use Rattle.guest_proc.specs.Threads.{changed_by}
 use Rattle.guest_proc.proofs.Lift.{lift, run_to, step_at}
+
+abbrev threads_with_regs : map.FinMap nat_cmp ThreadPart → ℕ → Regs → Option ThreadPart → map.FinMap nat_cmp ThreadPart
+threads_with_regs threads t regs found = changed_by threads t (λ thread. with_regs thread regs) found
 
 -- the part of a process after a run of one of its threads
 found_thread : (user : UserPart) (t n : ℕ) (regs regs' : Regs) (memory' : Memory) (found : Option ThreadPart) → map.get user.threads t ≡ found
@@ -81,51 +79,6 @@ waits_on user t there waiting = waits_found user t (map.get user.threads t) ther
 pub no_steps : (user : UserPart) (t : ℕ) → user_steps 0 user t ≡ Some user
 unfolding user_steps
 no_steps user t = refl
-
--- an answer
-abbrev put_found : UserPart → ℕ → Request → Reply → List ℕ → Option ThreadPart → UserPart
-put_found user t q reply bytes found = put_by user t (word_of reply) (with_spans user.memory (written_spans user.memory q) bytes) found
-
-put_is : (user : UserPart) (t : ℕ) (q : Request) (reply : Reply) (bytes : List ℕ) → put user t q reply bytes ≡ put_found user t q reply bytes (map.get user.threads t)
-unfolding put
-put_is user t q reply bytes = refl
-
-none_of : {A : Type 0} (o : Option A) → is_some o ≡ false → o ≡ None
-none_of None is = refl
-none_of (Some a) is = cc
-
-pub put_none : (memory : Memory) (threads : map.FinMap nat_cmp ThreadPart) (t : ℕ) (q : Request) (reply : Reply) (bytes : List ℕ)
-    → is_some (map.get threads t) ≡ false → Puts memory threads t q reply bytes memory threads
-put_none memory threads t q reply bytes none user m ths =
-    let missing = none_of (map.get user.threads t) (ap (λ x. is_some (map.get x t)) ths ∙ none) in
-    put_is user t q reply bytes ∙ ap (put_found user t q reply bytes) missing
-    ∙ ap (λ x. with_parts user x user.threads) m ∙ ap (with_parts user memory) ths
-
-put_some : (user : UserPart) (t : ℕ) (q : Request) (reply : Reply) (bytes : List ℕ) (regs : Regs) (found : Option ThreadPart)
-    → option_map (λ thread. thread.regs) found ≡ Some regs
-    → put_found user t q reply bytes found
-    ≡ with_parts user (with_spans user.memory (written_spans user.memory q) bytes)
-    (threads_with_regs user.threads t (at_pc (with_reg regs 10 (word_of reply)) (next_pc regs)) found)
-put_some user t q reply bytes regs None has = cc
-put_some user t q reply bytes regs (Some thread) has =
-    let same : thread.regs ≡ regs = cc in
-    ap (λ r. with_parts user (with_spans user.memory (written_spans user.memory q) bytes) (map.insert user.threads t (with_regs thread (at_pc (with_reg r 10 (word_of reply)) (next_pc r))))) same
-
-pub put_whole : (memory : Memory) (threads : map.FinMap nat_cmp ThreadPart) (t : ℕ) (q : Request) (reply : Reply) (bytes : List ℕ) (regs regs' : Regs)
-    (memory' : Memory) (threads' : map.FinMap nat_cmp ThreadPart)
-    → option_map (λ thread. thread.regs) (map.get threads t) ≡ Some regs → regs' ≡ at_pc (with_reg regs 10 (word_of reply)) (next_pc regs)
-    → memory' ≡ with_spans memory (written_spans memory q) bytes → threads' ≡ threads_with_regs threads t regs' (map.get threads t)
-    → Puts memory threads t q reply bytes memory' threads'
-put_whole memory threads t q reply bytes regs regs' memory' threads' has after m' ths' user m ths =
-    put_is user t q reply bytes
-    ∙ put_some user t q reply bytes regs (map.get user.threads t) (ap (λ x. option_map (λ thread. thread.regs) (map.get x t)) ths ∙ has)
-    ∙ ap (λ x. with_parts user (with_spans x (written_spans x q) bytes)
-    (threads_with_regs user.threads t (at_pc (with_reg regs 10 (word_of reply)) (next_pc regs)) (map.get user.threads t))) m
-    ∙ ap (λ x. with_parts user (with_spans memory (written_spans memory q) bytes)
-    (threads_with_regs x t (at_pc (with_reg regs 10 (word_of reply)) (next_pc regs)) (map.get x t))) ths
-    ∙ ap (λ r. with_parts user (with_spans memory (written_spans memory q) bytes) (threads_with_regs threads t r (map.get threads t))) (sym after)
-    ∙ ap (λ x. with_parts user (with_spans memory (written_spans memory q) bytes) x) (sym ths')
-    ∙ ap (λ x. with_parts user x threads') (sym m')
 
 -- the one thread of a start
 pub start_has_thread : (program : Program) (arguments : List ℕ) (t : ℕ) → is_some (map.get (start_user program arguments t).threads t) ≡ true

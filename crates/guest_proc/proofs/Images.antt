@@ -16,6 +16,7 @@ use Rattle.plain_machine.specs.declared.memory.Frame.{Frame}
 use Rattle.plain_machine.specs.Memory.{Memory}
 use Rattle.plain_machine.specs.declared.user_part.UserPart.{UserPart}
 use Rattle.plain_machine.specs.declared.user_part.ThreadPart.{ThreadPart}
+use Rattle.plain_machine.specs.declared.user_part.Waiter.{Waiter}
 use Rattle.image_codec.specs.declared.page_image.PageImage.{PageImage}
 use Rattle.image_codec.specs.declared.process_image.ProcImage.{ProcImage}
 use Rattle.image_codec.specs.UserParts.{page_entry, thread_entry, user_of}
@@ -266,8 +267,9 @@ pub pages_few : (m : Memory) (pages : List PageImage) (count : ℕ) → count �
 pages_few m pages count counted few is = let size = map.len-entries m in let same = ap length is in let mapped = length-map pages page_entry in omega arith
 
 -- the part that is made of an image's lists
-pub made_of : (image : ProcImage) (memory : Memory) (threads : map.FinMap nat_cmp ThreadPart) → memory ≡ map.from_entries (each page_entry image.pages) → threads ≡ map.from_entries (each thread_entry image.threads)
-    → user_of image ≡ record { memory = memory; break_start = image.break_start; break_end = image.break_end; threads = threads; actions = image.actions; waiters = image.waiters }
+pub made_of : (image : ProcImage) (memory : Memory) (threads : map.FinMap nat_cmp ThreadPart) (waiters : List Waiter) → memory ≡ map.from_entries (each page_entry image.pages)
+    → threads ≡ map.from_entries (each thread_entry image.threads) → waiters ≡ image.waiters
+    → user_of image ≡ record { memory = memory; break_start = image.break_start; break_end = image.break_end; threads = threads; actions = image.actions; waiters = waiters }
 unfolding user_of
-made_of image memory threads pages running =
-    λ i. record { memory = sym pages i; break_start = image.break_start; break_end = image.break_end; threads = sym running i; actions = image.actions; waiters = image.waiters }
+made_of image memory threads waiters pages running waiting =
+    λ i. record { memory = sym pages i; break_start = image.break_start; break_end = image.break_end; threads = sym running i; actions = image.actions; waiters = sym waiting i }

@@ -1,3 +1,9 @@
+pub mod RowLaws
+pub mod ThreadEnds
+pub mod CloneLaws
+pub mod Putting
+pub mod Entering
+pub mod Waking
 pub mod Texts
 pub mod Runs
 pub mod Lift
@@ -12,3 +18,8 @@ pub mod Breaks
 pub mod StackLemmas
 pub mod Taking
 pub mod LookLemmas
+pub mod LocalReads
+pub mod LocalThreads
+pub mod LocalCalls
+pub mod OtherCalls
+pub mod LocalAnswers

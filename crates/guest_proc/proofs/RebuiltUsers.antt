@@ -14,17 +14,21 @@ use Rattle.std.proofs.lemmas.Slice.Eq.{bytes_eq-Decides}
 use Rattle.std.proofs.lemmas.Bool.{cases_lt}
 use Rattle.views.proofs.MapLaws.{other_key, key_tied, same_or_other, true_false}
 use Rattle.plain_machine.specs.declared.memory.Frame.{Frame}
+use Rattle.plain_machine.specs.declared.user_part.Waiter.{Waiter}
 use Rattle.plain_machine.specs.Memory.{Memory}
 use Rattle.plain_machine.specs.Start.{RETURN_PAGE, return_bytes, return_frame}
-use Rattle.plain_machine.specs.Valid.{Each, IsByte, IsWord, IsFrame, IsThread, IsHeap, IsUser}
+use Rattle.plain_machine.specs.Valid.{Each, IsByte, IsWord, IsFrame, IsThread, IsWaiter, IsHeap, IsUser}
 use Rattle.image_codec.specs.declared.page_image.PageImage.{PageImage}
 use Rattle.image_codec.specs.declared.thread_image.ThreadImage.{ThreadImage}
 use Rattle.image_codec.specs.declared.process_image.ProcImage.{ProcImage}
 use Rattle.image_codec.specs.Format.{bytes_of, n8, n32}
 use Rattle.image_codec.specs.Texts.{EachFrom}
 use Rattle.image_codec.specs.UserParts.{page_entry, thread_entry, user_of}
-use Rattle.image_codec.specs.ProcessTests.{BREAK_LIMIT, is_heap_page, is_free_of_break, is_above_page, is_page_number, is_page_content, return_content, has_page, has_pages, has_heap, has_return_page, heap_pages, is_context_count}
-use Rattle.image_codec.specs.ProcessImages.{IsPage, IsThreadImage, ThreadWords, SpellsProcess, PROCESS_MAGIC, list_text, page_text, action_text, waiter_text, thread_text, process_text, is_whole}
+use Rattle.image_codec.specs.ProcessTests.{BREAK_LIMIT, is_heap_page, is_free_of_break, is_above_page, is_page_number, is_page_content, return_content, has_page, has_pages, has_heap, has_return_page, heap_pages, is_among, is_context_count}
+use Rattle.image_codec.specs.ProcessImages.{IsPage, IsThreadImage, ThreadWords, WaiterWords, SpellsProcess, PROCESS_MAGIC, list_text, page_text, action_text, waiter_text, thread_text, process_text, is_whole}
+use Rattle.image_codec.proofs.DistinctWaiters.{waiters_among, waiters_apart}
+use Rattle.image_codec.proofs.OneProcess.{parts_there}
+use Rattle.image_codec.proofs.Owners.{same_tids}
 use Rattle.guest_proc.proofs.FittingImages.{page_there, image_few, from_eq, from_le, from_lt, and_first, and_second, first_of, rest_of}
 
 -- the bytes of pages in a text
@@ -173,7 +177,7 @@ module _ (start end : ℕ) (pages : List PageImage) (whole : start % 4096 ≡ 0)
 
 -- threads
 few_contexts : (n : ℕ) → is_context_count n ≡ true → n ≤ 64
-few_contexts n is = let none = from_eq n 0 is in omega arith
+few_contexts n is = from_le n 64 is
 
 given_thread : (tids : List ℕ) (before : List ThreadImage) (t : ThreadImage) → IsThreadImage tids before t → ThreadWords t → IsThread t.part
 given_thread tids before t is words = record {
@@ -195,6 +199,10 @@ given_threads tids before (t ∷ threads) are words =
     All-cons (λ e. IsWord e.0 × IsThread e.1) (thread_entry t) (each thread_entry threads) (first.tid, given_thread tids before t are.0 first)
     (given_threads tids (before ++ t ∷ []) threads are.1 (rest_of ThreadWords t threads words))
 
+-- who waits is one of the threads
+given_waiter : (threads : List ThreadImage) (waiter : Waiter) → is_among (each (λ (t : ThreadImage). t.tid) threads) waiter.tid ≡ true → WaiterWords waiter → IsWaiter (map.from_entries (each thread_entry threads)) waiter
+given_waiter threads waiter there words = record { thread = parts_there threads waiter.tid ∙ there; address = words.address }
+
 pub rebuilt_user : (pid : Option ℕ) (tids text : List ℕ) (p : ProcImage) → SpellsProcess pid tids text p → All IsByte text → IsUser (user_of p)
 unfolding user_of is_whole
 rebuilt_user pid tids text p spells bytes =
@@ -210,8 +218,8 @@ rebuilt_user pid tids text p spells bytes =
     let page_total = no_more_than (each page_entry p.pages) in
     let thread_total = no_more_than (each thread_entry p.threads) in
     let pages_few : length p.pages ≤ 2048 = image_few pid tids p spells.keeps in
-    let one : length p.threads ≡ 1 = from_eq (length p.threads) 1 (and_first (length p.threads == 1) (length tids == length p.threads) fields.thread_count) in
-    let none : length p.waiters ≡ 0 = from_eq (length p.waiters) 0 fields.waiter_count in
+    let threads_few : length p.threads ≤ 64 = from_le (length p.threads) 64 (and_second (nat_le 1 (length p.threads)) (nat_le (length p.threads) 64) (and_first _ (length tids == length p.threads) fields.thread_count)) in
+    let waiting = subst (λ (numbers : List ℕ). All (λ (waiter : Waiter). is_among numbers waiter.tid ≡ true) p.waiters) (same_tids pid tids p spells.keeps) (waiters_among tids p.waiters fields.waiters) in
     let page_size = length-map p.pages page_entry in
     let thread_size = length-map p.threads thread_entry in
     record {
@@ -227,6 +235,6 @@ rebuilt_user pid tids text p spells bytes =
       threads = λ t thread found. (each_of (λ tid part. IsWord tid × IsThread part) (each thread_entry p.threads) threads t thread found).1;
       actions = fields.actions;
       handlers = λ k d inside. let action = words.actions k d inside in record { handler = action.handler; flags = action.flags; mask = action.mask };
-      waiters = λ k d inside. absurd (omega arith);
-      waiters_apart = λ i j d before inside. absurd (omega arith);
+      waiters = λ k d inside. given_waiter p.threads _ (waiting k d inside) (words.waiters k d inside);
+      waiters_apart = waiters_apart tids p.waiters fields.waiters;
     }

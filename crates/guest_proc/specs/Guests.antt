@@ -1,28 +1,42 @@
--- A guest as its callers see it: its virtual number and its user part; and what an answer tells of where a thread stands.
-use Rattle.std.specs.Prelude.{◌≡◌, ℕ, true, List, [], Some, is_some, refl}
-use Rattle.std.specs.Coded.{Coded, code_by, coded×}
+-- A guest as its callers see it: its virtual number, its user part and its room for threads; and what a run tells of where a thread stands.
+use Rattle.std.specs.Prelude.{◌≡◌, ℕ, Bool, true, Option, Some, None, is_some, refl}
+use Rattle.std.specs.Coded.{Coded, code_by, coded×, coded_ℕ}
 use Rattle.std.specs.Ordering.{nat_cmp}
 use Rattle.std.specs.FinMap as map
 use Rattle.sys_abi.specs.declared.request.Request.{Request}
-use Rattle.sys_abi.specs.declared.reply.Reply.{Reply}
 use Rattle.plain_machine.specs.declared.user_part.ThreadPart.{ThreadPart}
 use Rattle.plain_machine.specs.Memory.{Memory}
-use Rattle.plain_machine.specs.Put.{put}
 use Rattle.sys_abi.specs.declared.identity.VPid.{VPid}
 use Rattle.sys_abi.specs.Orders.{coded_vpid}
 use Rattle.plain_machine.specs.declared.user_part.UserPart.{UserPart}
 use Rattle.plain_machine.specs.contracts.user_part.UserPart as user_part
 use Rattle.plain_machine.specs.Steps.{UserStep, Stepped, Asks, Trapped, Waits, NoThread}
+use Rattle.plain_machine.specs.declared.user_part.SignalAction.{SignalAction}
+use Rattle.plain_machine.specs.Deliveries.{Delivery, Enters, Ignores, Kills, with_entered}
+use Rattle.plain_machine.specs.Threads.{with_waiters, without_waiter}
 use Rattle.guest_proc.specs.declared.ran.Ran.{Ran}
 use Rattle.guest_proc.specs.declared.ran.Ran.TheVariants.{Whole as RanWhole, Asks as RanAsks, Trapped as RanTrapped, Waits as RanWaits, Memory as RanMemory}
+pub use Rattle.plain_machine.specs.Deliveries.{delivered_told as delivered_by}
 
 pub record GuestPart : Type 0 where
   pub pid : VPid
   pub user : UserPart
+  pub spare : ℕ  -- for so many further threads there is room
 
--- stored as the pair of its fields
+-- stored as the pair of its number and of its other fields
 abbrev pub guest_code : Coded GuestPart
-guest_code = code_by (VPid × UserPart) (coded× coded_vpid user_part.the_row.coded) (λ g. (g.pid, g.user)) (λ p. record { pid = p.0; user = p.1 }) (λ _. refl)
+guest_code =
+    code_by (VPid × (UserPart × ℕ)) (coded× coded_vpid (coded× user_part.the_row.coded coded_ℕ)) (λ g. (g.pid, (g.user, g.spare))) (λ p. record { pid = p.0; user = p.1.0; spare = p.1.1 })
+    (λ _. refl)
+
+abbrev pub with_user : GuestPart → UserPart → GuestPart
+with_user guest user = record { pid = guest.pid; user = user; spare = guest.spare }
+
+abbrev pub with_memory : UserPart → Memory → UserPart
+with_memory user memory = record user { memory = memory }
+
+abbrev pub with_threads : UserPart → map.FinMap nat_cmp ThreadPart → UserPart
+with_threads user threads = record user { threads = threads }
 
 -- the process has a thread of this number
 abbrev pub HasThread : UserPart → ℕ → Type 0
@@ -44,6 +58,17 @@ ran_at (Trapped s) = RanTrapped (record { 0 = s })
 ran_at Waits = RanWaits
 ran_at NoThread = RanWhole
 
+-- the part that a delivery leaves
+abbrev pub part_after : UserPart → Delivery → UserPart
+part_after user (Enters after) = after
+part_after user Ignores = user
+part_after user (Kills status) = user
+
+-- the part after a thread has entered a handler, if it is there
+abbrev pub entered_in : UserPart → ℕ → SignalAction → ℕ → Bool → Option ThreadPart → UserPart
+entered_in user t action s is_unready None = with_waiters user (without_waiter t user.waiters)
+entered_in user t action s is_unready (Some thread) = with_entered user t thread action s is_unready
+
 -- the part with other memory and threads
 abbrev pub with_parts : UserPart → Memory → map.FinMap nat_cmp ThreadPart → UserPart
 with_parts user memory threads = record {
@@ -54,14 +79,3 @@ with_parts user memory threads = record {
   actions = user.actions;
   waiters = user.waiters;
 }
-
--- an answer's part, from the memory and the threads before it to those after it
-abbrev pub Puts : Memory → map.FinMap nat_cmp ThreadPart → ℕ → Request → Reply → List ℕ → Memory → map.FinMap nat_cmp ThreadPart → Type 0
-Puts memory threads t q reply bytes memory' threads' =
-    (user : UserPart) → user.memory ≡ memory → user.threads ≡ threads → put user t q reply bytes ≡ with_parts user memory' threads'
-
--- one thread, which no handler interrupted, and which nobody waits for on a word
-pub record IsAlone (user : UserPart) : Type 0 where
-  pub threads : map.len user.threads ≡ 1
-  pub contexts : (t : ℕ) (thread : ThreadPart) → map.get user.threads t ≡ Some thread → thread.contexts ≡ []
-  pub waiters : user.waiters ≡ []

@@ -1,6 +1,8 @@
 pub mod Guests
 pub mod Running
 pub mod Lending
+pub mod Rows
 pub mod Threads
 pub mod Peeking
 pub mod Looking
+pub mod Local

@@ -1,32 +1,90 @@
-ghost use Rattle.std.specs.Prelude.{◌≡◌};
+ghost use Rattle.std.specs.Prelude.{◌≡◌, ◌-◌, ◌≤◌, None, is_some, IfSome, IfNone};
+ghost use Rattle.std.specs.FinMap as map;
 ghost use Rattle.plain_machine.specs.Buffers.{written_spans};
-ghost use Rattle.guest_proc.specs.Guests.{Puts};
+ghost use Rattle.plain_machine.specs.Put.{added_thread, after_threads, put, with_spans};
+ghost use Rattle.plain_machine.specs.Valid.{CanAdd};
+ghost use Rattle.guest_proc.specs.Guests.{HasThread, with_memory, with_user};
 ghost use Rattle.guest_proc.specs.Lending.{CanTake};
 
 use crate::buffers::{put_answer, word_of, written_spans};
-use crate::ram::Ram;
-use crate::threads::{after_call, regs_of, set_regs};
-use plain_machine::ThreadPart;
-use sys_abi::{Reply, Request};
-use views::number_map::NumberMap;
+use crate::guest::Guest;
+use plain_machine::threads::added_thread;
+use sys_abi::{Reply, Request, Tid, Transfer};
 
-/// Puts a call's answer into a process's memory and into the registers of its thread. Takes no memory.
-pub fn answer_in(
-    ram: &mut Ram,
-    threads: &mut NumberMap<ThreadPart>,
-    t: u32,
-    request: &Request,
-    reply: Reply,
-    bytes: &[u8],
-)
-    requires { CanTake ram.old (written_spans ram.old request.now) bytes.now }
-    ensures { Puts ram.old threads.old t request.now reply bytes.now ram.new threads.new }
-{
-    if !threads.contains_key(t) {
-        return;
+impl Guest {
+    /// The part after a call's answer. An exit's ends the thread, and a clone's may add one, into room that is there. Takes
+    /// no memory.
+    pub fn answer(&mut self, t: Tid, request: &Request, reply: Reply, transfer: &Transfer)
+        requires writable { CanTake self.old.user.memory (written_spans self.old.user.memory request.now) transfer.now }
+        requires added { CanAdd self.old.user request.now reply }
+        requires spare { IfSome (added_thread request.now reply) (λ _. 1 ≤ self.old.spare) }
+        ensures user { self.new.user ≡ put self.old.user t.0 request.now reply transfer.now }
+        ensures pid { self.new.pid ≡ self.old.pid }
+        ensures spare { IfNone (added_thread request.now reply) (self.new.spare ≡ self.old.spare) }
+        ensures taken { HasThread self.old.user t.0 → IfSome (added_thread request.now reply) (λ _. self.new.spare ≡ self.old.spare - 1) }
+    {
+        self.put(t, request, reply, transfer.as_slice());
     }
-    let spans = written_spans(&ram.space, request);
-    put_answer(&mut ram.space, spans, bytes);
-    let regs = after_call(regs_of(threads, t), word_of(reply));
-    set_regs(threads, t, regs);
+
+    /// The same, where the answer's bytes are these.
+    pub(crate) fn put(&mut self, t: Tid, request: &Request, reply: Reply, bytes: &[u8])
+        requires writable { CanTake self.old.user.memory (written_spans self.old.user.memory request.now) bytes.now }
+        requires added { CanAdd self.old.user request.now reply }
+        requires spare { IfSome (added_thread request.now reply) (λ _. 1 ≤ self.old.spare) }
+        ensures user { self.new.user ≡ put self.old.user t.0 request.now reply bytes.now }
+        ensures pid { self.new.pid ≡ self.old.pid }
+        ensures spare { IfNone (added_thread request.now reply) (self.new.spare ≡ self.old.spare) }
+        ensures taken { HasThread self.old.user t.0 → IfSome (added_thread request.now reply) (λ _. self.new.spare ≡ self.old.spare - 1) }
+    {
+        if !self.has_thread(t) {
+            return;
+        }
+        self.put_bytes(request, bytes);
+        self.finish_call(t.0, word_of(reply));
+        self.change_threads(t, request, reply);
+    }
+
+    /// Whether the process has this thread.
+    pub fn has_thread(&self, t: Tid) -> bool
+        ensures { result ≡ is_some (map.get self.now.user.threads t.0) }
+    {
+        self.threads.contains(t.0)
+    }
+
+    /// Puts the bytes where the call asked for them.
+    fn put_bytes(&mut self, request: &Request, bytes: &[u8])
+        requires { CanTake self.old.user.memory (written_spans self.old.user.memory request.now) bytes.now }
+        ensures { self.new ≡ with_user self.old (with_memory self.old.user (with_spans self.old.user.memory (written_spans self.old.user.memory request.now) bytes.now)) }
+    {
+        let spans = written_spans(&self.ram.space, request);
+        put_answer(&mut self.ram.space, spans, bytes);
+    }
+
+    /// What an answer does to the threads.
+    #[tactic(auto, unfolding(plain_machine::specs::Put::added_thread, plain_machine::specs::Put::after_threads))]
+    fn change_threads(&mut self, t: Tid, request: &Request, reply: Reply)
+        requires thread { HasThread self.old.user t.0 }
+        requires free { IfSome (added_thread request.now reply) (λ new. map.get self.old.user.threads new ≡ None) }
+        requires spare { IfSome (added_thread request.now reply) (λ _. 1 ≤ self.old.spare) }
+        ensures user { self.new.user ≡ after_threads self.old.user t.0 request.now reply }
+        ensures pid { self.new.pid ≡ self.old.pid }
+        ensures spare { IfNone (added_thread request.now reply) (self.new.spare ≡ self.old.spare) }
+        ensures taken { IfSome (added_thread request.now reply) (λ _. self.new.spare ≡ self.old.spare - 1) }
+    {
+        match *request {
+            Request::Exit { .. } => self.remove_thread(t.0),
+            Request::Clone {
+                flags,
+                stack,
+                tls,
+                child_tid,
+                ..
+            } => {
+                if let Some(new) = added_thread(request, reply) {
+                    self.add_clone(t, new, flags, stack, tls, child_tid);
+                }
+            }
+            _ => {}
+        }
+    }
 }

@@ -1,36 +1,33 @@
-ghost use Rattle.std.specs.Prelude.{◌≡◌, ◌≢◌, ◌↔◌, ◌<◌, ◌≤◌, ◌^◌, ℕ, List, Option, length, map as each, All, Some, None, Err, IfOk, OnErr, OnOk, false};
+ghost use Rattle.std.specs.Prelude.{◌≡◌, ◌≢◌, ◌↔◌, ◌<◌, ◌≤◌, ◌^◌, ℕ, List, Option, length, map as each, All, Some, None, Err, IfOk, OnErr, OnOk, false, find, option_map};
 ghost use Rattle.std.specs.FinMap as map;
+ghost use Rattle.views.specs.NumberMap.{is_above};
 ghost use Rattle.elf32.specs.Pages.{page_count};
 ghost use Rattle.elf32.specs.Programs.{IsWellPlaced};
 ghost use Rattle.plain_machine.specs.Start.{start_user};
 ghost use Rattle.plain_machine.specs.Steps.{user_step, user_steps, waits};
-ghost use Rattle.plain_machine.specs.Buffers.{lent, written_spans};
-ghost use Rattle.plain_machine.specs.Put.{put, local_row};
+ghost use Rattle.plain_machine.specs.Buffers.{lent};
 ghost use Rattle.plain_machine.specs.Valid.{IsByte, IsUser};
 ghost use Rattle.image_codec.specs.ProcessImages.{HasImage, SpellsProcess};
 ghost use Rattle.image_codec.specs.UserParts.{user_of, page_entry, thread_entry};
-ghost use Rattle.guest_proc.specs.Guests.{HasThread, IsAlone, Tells, ran_at};
-ghost use Rattle.guest_proc.specs.Lending.{CanTake};
+ghost use Rattle.guest_proc.specs.Guests.{HasThread, Tells, ran_at};
 
-use crate::answer::answer_in;
 use crate::buffers::{LendFault, lend_from};
-use crate::image::{space_of, thread_images, threads_of};
+use crate::image::space_of;
 use crate::look::look_at;
 use crate::ram::Ram;
 use crate::ran::{Ran, ran_of};
 use crate::run::run_instructions;
 use crate::start::{break_of, start_actions, start_space, start_threads};
-use crate::threads::{regs_of, set_regs};
+use crate::threads::Threads;
+use crate::waiters::Waiters;
 use elf32::Program;
 use image_codec::ProcImage;
-use plain_machine::{SignalAction, ThreadPart, Waiter};
+use plain_machine::{Regs, SignalAction};
 use std::alloc::{AllocError, Global};
 use std::marker::Model;
-use sys_abi::errors::ENOSYS;
-use sys_abi::{Errno, Reply, Request, Tid, Transfer, VPid};
+use sys_abi::{Request, Tid, Transfer, VPid};
 use views::duplicate::Duplicate;
 use views::list_of::ListOf;
-use views::number_map::NumberMap;
 
 /// A process's own part, ready to run.
 #[derive(Drop)]
@@ -39,9 +36,9 @@ pub struct Guest {
     pub(crate) ram: Ram,
     pub(crate) break_start: u32,
     pub(crate) break_end: u32,
-    pub(crate) threads: NumberMap<ThreadPart>,
+    pub(crate) threads: Threads,
     pub(crate) actions: ListOf<SignalAction>,
-    pub(crate) waiters: ListOf<Waiter>,
+    pub(crate) waiters: Waiters,
 }
 
 impl Model for Guest {
@@ -57,10 +54,11 @@ impl Model for Guest {
         memory = g.ram;
         break_start = g.break_start;
         break_end = g.break_end;
-        threads = g.threads;
+        threads = g.threads.threads;
         actions = g.actions;
         waiters = g.waiters;
       };
+      spare = g.threads.spare;
     } };
 }
 
@@ -78,7 +76,7 @@ impl Guest {
         requires pages { page_count program.now.segments ≤ 1536 }
         requires some { 1 ≤ length arguments.now }
         requires few { length arguments.now ≤ 4096 }
-        ensures { IfOk result (λ guest. guest ≡ record { pid = pid; user = start_user program.now arguments.now pid.0 }) }
+        ensures { IfOk result (λ guest. guest ≡ record { pid = pid; user = start_user program.now arguments.now pid.0; spare = 0 }) }
     {
         let space = start_space(alloc, program, arguments)?;
         let break_start = break_of(program.segments.as_slice());
@@ -89,7 +87,7 @@ impl Guest {
             break_end: break_start,
             threads: start_threads(alloc, pid.0, program, arguments)?,
             actions: start_actions(alloc)?,
-            waiters: ListOf::new(alloc),
+            waiters: Waiters::new(alloc),
         })
     }
 
@@ -105,8 +103,8 @@ impl Guest {
         ensures numbers { IfOk result (λ image. All (λ page. page.number < 2 ^ 20) image.pages) }
         ensures few { IfOk result (λ image. length image.pages ≤ 2048) }
 
-        // And so it has a spelling, where the part is one that a run reaches.
-        ensures fits { IfOk result (λ image. IsUser self.now.user → IsAlone self.now.user → HasImage image) }
+        // And so it has a spelling, where the part is one that a run reaches, and has a thread.
+        ensures fits { IfOk result (λ image. IsUser self.now.user → 1 ≤ map.len self.now.user.threads → HasImage image) }
     {
         Ok(ProcImage {
             pid: self.pid,
@@ -114,8 +112,8 @@ impl Guest {
             break_end: self.break_end,
             pages: self.ram.images(alloc)?,
             actions: self.actions.duplicate(alloc)?,
-            waiters: self.waiters.duplicate(alloc)?,
-            threads: thread_images(alloc, &self.threads)?,
+            waiters: self.waiters.to_list(alloc)?,
+            threads: self.threads.images(alloc)?,
         })
     }
 
@@ -124,7 +122,7 @@ impl Guest {
     pub fn of_image(alloc: Global, image: ProcImage) -> Result<Guest, AllocError>
         requires numbers { All (λ page. page.number < 2 ^ 20) image.pages }
         requires few { length image.pages ≤ 2048 }
-        ensures part { IfOk result (λ guest. guest ≡ record { pid = image.pid; user = user_of image }) }
+        ensures part { IfOk result (λ guest. guest ≡ record { pid = image.pid; user = user_of image; spare = 0 }) }
 
         // And the part of an image that was read is one that a run may go on from.
         ensures valid { IfOk result (λ guest. (pid : Option ℕ) (tids text : List ℕ) → SpellsProcess pid tids text image → All IsByte text → IsUser guest.user) }
@@ -136,9 +134,9 @@ impl Guest {
             },
             break_start: image.break_start,
             break_end: image.break_end,
-            threads: threads_of(alloc, image.threads)?,
+            threads: Threads::of_images(alloc, image.threads)?,
             actions: image.actions,
-            waiters: image.waiters,
+            waiters: Waiters::of_list(image.waiters),
         })
     }
 
@@ -149,11 +147,41 @@ impl Guest {
         self.pid
     }
 
+    /// The least number of a thread above this one, if there is one.
+    pub fn next_thread(&self, above: u32) -> Option<Tid>
+        ensures { option_map (λ t. t.0) result ≡ find (is_above (Some above)) (map.keys self.now.user.threads) }
+    {
+        let number = self.threads.next_above(Some(above))?;
+        Some(Tid(number))
+    }
+
+    /// The signal mask of a thread that is there.
+    pub fn mask(&self, t: Tid) -> u32
+        requires { HasThread self.now.user t.0 }
+        ensures { option_map (λ thread. thread.mask) (map.get self.now.user.threads t.0) ≡ Some result }
+    {
+        match self.threads.mask(t.0) {
+            Some(mask) => mask,
+            None => unreachable!(),
+        }
+    }
+
+    /// The registers of a thread that is there.
+    pub(crate) fn regs_of(&self, t: Tid) -> Regs
+        requires { HasThread self.now.user t.0 }
+        ensures { option_map (λ thread. thread.regs) (map.get self.now.user.threads t.0) ≡ Some result }
+    {
+        match self.threads.regs(t.0) {
+            Some(regs) => regs,
+            None => unreachable!(),
+        }
+    }
+
     /// Whether the thread waits on a word.
     fn waits(&self, t: Tid) -> bool
         ensures { result ≡ waits self.now.user t.0 }
     {
-        self.waiters.iter().any(|waiter| waiter.tid == t.0)
+        self.waiters.contains(t.0)
     }
 
     /// Runs instructions of a thread, at most `quantum` of them, until one asks for a call or traps. Tells how many it ran
@@ -163,6 +191,7 @@ impl Guest {
         requires some { 1 ≤ quantum }
         ensures steps { user_steps result.0 self.old.user t.0 ≡ Some self.new.user }
         ensures pid { self.new.pid ≡ self.old.pid }
+        ensures spare { self.new.spare ≡ self.old.spare }
         ensures place { Tells result.1 (user_step self.new.user t.0) }
         ensures whole { (result.1 ≡ Ran.Whole) ↔ (result.0 ≡ quantum) }
         ensures count { result.0 ≤ quantum }
@@ -178,14 +207,15 @@ impl Guest {
         requires idle { waits self.old.user t.0 ≡ false }
         ensures steps { user_steps result.0 self.old.user t.0 ≡ Some self.new.user }
         ensures pid { self.new.pid ≡ self.old.pid }
+        ensures spare { self.new.spare ≡ self.old.spare }
         ensures place { Tells result.1 (user_step self.new.user t.0) }
         ensures whole { (result.1 ≡ Ran.Whole) ↔ (result.0 ≡ quantum) }
         ensures count { result.0 ≤ quantum }
         ensures running { result.1 ≢ Ran.Waits }
     {
-        let mut regs = regs_of(&self.threads, t.0);
+        let mut regs = self.regs_of(t);
         let (count, stop) = run_instructions(&mut regs, &mut self.ram, quantum);
-        set_regs(&mut self.threads, t.0, regs);
+        self.threads.set_regs(t.0, regs);
         (count, ran_of(stop, &regs))
     }
 
@@ -197,7 +227,7 @@ impl Guest {
         if self.waits(t) {
             return Ran::Waits;
         }
-        let regs = regs_of(&self.threads, t.0);
+        let regs = self.regs_of(t);
         look_at(&regs, &self.ram)
     }
 
@@ -220,32 +250,5 @@ impl Guest {
         ensures same { self.new ≡ self.old }
     {
         lend_from(&self.ram.space, request, transfer)
-    }
-
-    /// Answers a call that the process answers alone.
-    #[tactic(auto, unfolding(plain_machine::specs::Put::local_row))]
-    pub fn local(&mut self, alloc: Global, t: Tid, request: &Request) -> Result<(), AllocError>
-        ensures ok { OnOk result (self.new ≡ record { pid = self.old.pid; user = local_row self.old.user t.0 request.now }) }
-        ensures err { OnErr result (self.new ≡ self.old) }
-    {
-        let _ = alloc;
-        let refusal = Reply::Error(Errno(ENOSYS));
-        answer_in(&mut self.ram, &mut self.threads, t.0, request, refusal, &[]);
-        Ok(())
-    }
-
-    /// The part after a call's answer. Takes no memory.
-    pub fn answer(&mut self, t: Tid, request: &Request, reply: Reply, transfer: &Transfer)
-        requires { CanTake self.old.user.memory (written_spans self.old.user.memory request.now) transfer.now }
-        ensures { self.new ≡ record { pid = self.old.pid; user = put self.old.user t.0 request.now reply transfer.now } }
-    {
-        answer_in(
-            &mut self.ram,
-            &mut self.threads,
-            t.0,
-            request,
-            reply,
-            transfer.as_slice(),
-        );
     }
 }

@@ -1,15 +1,17 @@
 ghost use Rattle.std.specs.Prelude.{◌≡◌, ◌<◌, ◌≤◌, ◌^◌, length, map as each, All, Some, IsSome, IfOk};
 ghost use Rattle.std.specs.FinMap as map;
 ghost use Rattle.image_codec.specs.UserParts.{page_entry, thread_entry};
+ghost use Rattle.guest_proc.specs.Rows.{entry_of, threads_of, IsRising};
 
+use crate::contexts::Contexts;
 use crate::load::insert_page;
+use crate::rows::{Row, put_row};
 use guest_mem::Space;
 use image_codec::{PageImage, ThreadImage};
 use plain_machine::ThreadPart;
 use std::alloc::{AllocError, Global};
 use views::duplicate::Duplicate;
 use views::list_of::ListOf;
-use views::number_map::NumberMap;
 
 /// Copies of the pages of a space, in rising order of their numbers.
 pub fn page_images(alloc: Global, space: &Space) -> Result<ListOf<PageImage>, AllocError>
@@ -41,25 +43,29 @@ fn page_image(alloc: Global, space: &Space, number: u32) -> Result<PageImage, Al
 }
 
 /// Copies of threads, in rising order of their numbers.
-pub fn thread_images(
-    alloc: Global,
-    threads: &NumberMap<ThreadPart>,
-) -> Result<ListOf<ThreadImage>, AllocError>
-    ensures { IfOk result (λ images. each thread_entry images ≡ map.entries threads.now) }
+pub fn thread_images(alloc: Global, rows: &[Row]) -> Result<ListOf<ThreadImage>, AllocError>
+    requires { IsRising rows.now }
+    ensures { IfOk result (λ images. each thread_entry images ≡ map.entries (threads_of rows.now)) }
 {
-    let mut images = Vec::with_capacity(alloc, threads.len())?;
-    for (tid, part) in threads.iter() {
-        images.push(thread_image(alloc, *tid, part)?)?;
+    let mut images = Vec::with_capacity(alloc, rows.len())?;
+    for row in rows {
+        images.push(thread_image(alloc, row)?)?;
     }
     Ok(ListOf::from_vec(images))
 }
 
-fn thread_image(alloc: Global, tid: u32, part: &ThreadPart) -> Result<ThreadImage, AllocError>
-    ensures { IfOk result (λ image. thread_entry image ≡ (tid, part.now)) }
+fn thread_image(alloc: Global, row: &Row) -> Result<ThreadImage, AllocError>
+    ensures { IfOk result (λ image. thread_entry image ≡ entry_of row.now) }
 {
+    let part = ThreadPart {
+        regs: row.regs,
+        mask: row.mask,
+        clear_tid: row.clear_tid,
+        contexts: row.contexts.to_list(alloc)?,
+    };
     Ok(ThreadImage {
-        tid,
-        part: part.duplicate(alloc)?,
+        tid: row.number,
+        part,
     })
 }
 
@@ -77,17 +83,33 @@ pub fn space_of(alloc: Global, pages: ListOf<PageImage>) -> Result<Space, AllocE
     Ok(space)
 }
 
-/// The map of these threads. Of two threads of one number the earlier one counts.
-pub fn threads_of(
-    alloc: Global,
-    images: ListOf<ThreadImage>,
-) -> Result<NumberMap<ThreadPart>, AllocError>
-    ensures { IfOk result (λ threads. threads ≡ map.from_entries (each thread_entry images)) }
+/// The rows of these threads. Of two threads of one number the earlier one counts.
+pub fn rows_of(alloc: Global, images: ListOf<ThreadImage>) -> Result<Vec<Row>, AllocError>
+    ensures threads { IfOk result (λ rows. threads_of rows.items ≡ map.from_entries (each thread_entry images)) }
+    ensures rising { IfOk result (λ rows. IsRising rows.items) }
 {
     let mut left = images.into_vec();
-    let mut threads = NumberMap::new(alloc);
+    let mut rows = Vec::new(alloc);
     while let Some(image) = left.pop() {
-        threads.insert(image.tid, image.part)?;
+        put_row(&mut rows, row_of_image(image)?)?;
     }
-    Ok(threads)
+    Ok(rows)
+}
+
+fn row_of_image(image: ThreadImage) -> Result<Row, AllocError>
+    ensures { IfOk result (λ row. entry_of row ≡ thread_entry image) }
+{
+    let ThreadPart {
+        regs,
+        mask,
+        clear_tid,
+        contexts,
+    } = image.part;
+    Ok(Row {
+        number: image.tid,
+        regs,
+        mask,
+        clear_tid,
+        contexts: Contexts::of_list(contexts)?,
+    })
 }

@@ -1,33 +1,53 @@
 //! A process's own part, made to run: memory, break, threads, handlers and waiters behind one type, `Guest`.
 //!
-//! To a caller a `Guest` is its virtual number and a user part of the plain machine, and each call is the plain machine's
-//! word of its name: `load` gives the start of a program, `run` the part after so many instructions of a thread and where
-//! the thread then stands, `look` that place alone, `lend` the bytes that a call reads or a fault, `answer` the part after
-//! a call's answer, `local` that after a call which the process answers alone, `image` all of it as lists in order, and
-//! `of_image` the part that such lists stand for.
+//! To a caller a `Guest` is its virtual number, a user part of the plain machine, and the number of threads for which it
+//! has room. Each call is the plain machine's word of its name: `load` gives the start of a program, `run` the part after
+//! so many instructions of a thread and where the thread then stands, `look` that place alone, `lend` the bytes that a call
+//! reads or a fault, `answer` the part after a call's answer, which an exit and a clone of a thread may give, `local` that
+//! after a call which the process answers alone, `deliver` that after a signal, which `foresee` tells, `image` all of it as
+//! lists in order, and `of_image` the part that such lists stand for.
 //!
-//! Proved: each of these, exactly, for every program and every memory; none of them but `load`, `image` and `of_image`
-//! takes memory, and those two copy each page once and not at all. Not claimed: anything of time. The loop of `run`
-//! allocates nothing and looks nothing up in a tree.
+//! Threads stand in rows by their numbers, each with room for 64 saved contexts, so that an answer, a wake, an end, a
+//! delivery and a thread more take no memory: `reserve_thread` takes it before.
+//!
+//! Proved: each of these, exactly, for every program and every memory; none of them but `load`, `image`, `of_image`,
+//! `local` and `reserve_thread` takes memory, and an image copies each page once, `of_image` none. Not claimed: anything of
+//! time. The loop of `run` allocates nothing and looks nothing up.
 #![tactic(auto)]
 
 mod answer;
 pub mod buffers;
+mod clones;
+mod contexts;
+mod deliver;
 pub mod guest;
 mod image;
 mod load;
+mod local;
+mod local_answer;
+mod local_handlers;
+mod local_memory;
+mod local_reads;
+mod local_threads;
+mod local_waits;
 mod look;
 mod peek;
 mod ram;
 pub mod ran;
+mod rows;
 mod run;
 mod stack;
 mod start;
+mod thread_end;
 mod threads;
+mod waiters;
+mod waiting;
 
 pub use buffers::LendFault;
 pub use guest::Guest;
 pub use ran::Ran;
 
+#[cfg(test)]
+mod local_tests;
 #[cfg(test)]
 mod tests;

@@ -6,13 +6,13 @@ ghost use Rattle.plain_machine.specs.Start as start;
 
 use crate::load::{insert_page, put_pages, put_segments};
 use crate::stack::{start_sp, start_stack};
+use crate::threads::Threads;
 use elf32::{Program, Segment};
 use guest_mem::Space;
-use plain_machine::{Context, Frame, Regs, SignalAction, ThreadPart};
+use plain_machine::{Frame, Regs, SignalAction};
 use std::alloc::{AllocError, Global};
 use sys_abi::Page;
 use views::list_of::ListOf;
-use views::number_map::NumberMap;
 
 const STACK_PAGE: u32 = 0x7FFC0;
 
@@ -25,8 +25,6 @@ const RETURN_CODE: [u8; 8] = [0x93, 0x08, 0xB0, 0x08, 0x73, 0x00, 0x00, 0x00];
 const READ_WRITE: u8 = 6;
 
 const READ_EXECUTE: u8 = 5;
-/// How many contexts the handlers of a thread interrupt at most.
-const CONTEXT_LIMIT: usize = 64;
 
 const SIGNAL_COUNT: usize = 31;
 
@@ -107,32 +105,21 @@ fn start_regs(alloc: Global, program: &Program, arguments: &[u8]) -> Result<Regs
     })
 }
 
-fn start_thread(alloc: Global, regs: Regs) -> Result<ThreadPart, AllocError>
-    ensures { IfOk result (λ thread. thread ≡ start.start_thread regs) }
-{
-    let contexts: Vec<Context> = Vec::with_capacity(alloc, CONTEXT_LIMIT)?;
-    Ok(ThreadPart {
-        regs,
-        mask: 0,
-        clear_tid: 0,
-        contexts: ListOf::from_vec(contexts),
-    })
-}
-
 /// The one thread of a program at its start.
 pub fn start_threads(
     alloc: Global,
     t: u32,
     program: &Program,
     arguments: &[u8],
-) -> Result<NumberMap<ThreadPart>, AllocError>
+) -> Result<Threads, AllocError>
     requires some { 1 ≤ length arguments.now }
     requires few { length arguments.now ≤ 4096 }
-    ensures { IfOk result (λ threads. threads ≡ map.insert map.empty t (start.start_thread (start.start_regs program.now arguments.now))) }
+    ensures { IfOk result (λ threads. threads ≡ record { threads = map.insert map.empty t (start.start_thread (start.start_regs program.now arguments.now)); spare = 0 }) }
 {
     let regs = start_regs(alloc, program, arguments)?;
-    let mut threads = NumberMap::new(alloc);
-    threads.insert(t, start_thread(alloc, regs)?)?;
+    let mut threads = Threads::new(alloc);
+    threads.reserve(alloc)?;
+    threads.insert(t, regs, 0, 0);
     Ok(threads)
 }
 

@@ -1,16 +1,18 @@
-// What no clause can say: that calls succeed with memory to spare. The program was put together by hand: five instructions
-// and a call, on one page.
+// What no clause can say: that calls succeed with memory to spare; and a new thread at values worked out by
+// hand. The program was put together by hand: five instructions and a call, on one page.
 ghost use Rattle.std.specs.Prelude.{◌≡◌, IfOk};
 ghost use Rattle.guest_proc.specs.Guests.{HasThread};
 
 use crate::{Guest, Ran};
 use elf32::read_elf;
+use plain_machine::threads::added_thread;
+use plain_machine::Regs;
 use std::alloc::{AllocError, Global};
 use std::test::Fail;
-use sys_abi::{Tid, VPid};
+use sys_abi::{Reply, Request, Tid, VPid};
 
 /// Writes `hello` by two calls, from one segment that is the whole file, at 0x10000.
-const HELLO: [u8; 126] = [
+pub const HELLO: [u8; 126] = [
     0x7F, 0x45, 0x4C, 0x46, 0x01, 0x01, 0x01, 0x00, 0x00, 0x00, 0x00, 0x00, 0x00, 0x00, 0x00, 0x00,
     0x02, 0x00, 0xF3, 0x00, 0x01, 0x00, 0x00, 0x00, 0x54, 0x00, 0x01, 0x00, 0x34, 0x00, 0x00, 0x00,
     0x00, 0x00, 0x00, 0x00, 0x00, 0x00, 0x00, 0x00, 0x34, 0x00, 0x20, 0x00, 0x01, 0x00, 0x00, 0x00,
@@ -23,11 +25,11 @@ const HELLO: [u8; 126] = [
 
 const PID: VPid = VPid(40_000);
 
-const THREAD: Tid = Tid(40_000);
+pub const THREAD: Tid = Tid(40_000);
 
 /// The start of the program of a file.
 #[tactic(auto, using(crate::proofs::GuestLemmas::start_has_thread))]
-fn started(alloc: Global, file: &[u8]) -> Result<Guest, Fail>
+pub fn started(alloc: Global, file: &[u8]) -> Result<Guest, Fail>
     ensures { IfOk result (λ guest. HasThread guest.user 40000) }
 {
     let program = read_elf(alloc, file)?;
@@ -35,7 +37,7 @@ fn started(alloc: Global, file: &[u8]) -> Result<Guest, Fail>
 }
 
 fn copy_of(alloc: Global, guest: &Guest) -> Result<Guest, AllocError>
-    ensures { IfOk result (λ copy. copy ≡ guest.now) }
+    ensures { IfOk result (λ copy. copy.user ≡ guest.now.user) }
 {
     let image = guest.image(alloc)?;
     Guest::of_image(alloc, image)
@@ -58,5 +60,63 @@ fn the_guest_of_an_image_runs_on_the_same(rt: HostRuntime) -> Result<(), Fail> {
     assert_eq!(rt; copy.image(alloc)?.pages.len(), 66);
     assert_eq!(rt; run(&mut guest), (5, true));
     assert_eq!(rt; run(&mut copy), (5, true));
+    Ok(())
+}
+
+/// The stack of the program that was started.
+const STACK: u32 = 0x7FFF_FFE0;
+
+/// A word on that stack's page.
+const WORD: u32 = 0x7FFF_F000;
+
+const NEW: Tid = Tid(40_001);
+
+/// The word of a thread that is there to be cleared at its end, a stack and a thread pointer of its own.
+const CLONE: Request = Request::Clone {
+    flags: 0x003D_0F00,
+    stack: 0x7FFF_8000,
+    parent_tid: WORD,
+    tls: 0x1234,
+    child_tid: WORD,
+};
+
+/// Adds a thread by a clone of the first one's.
+#[tactic(auto, using(crate::proofs::Putting::is_free))]
+fn add_thread(alloc: Global, guest: &mut Guest) -> Result<(), Fail> {
+    guest.reserve_thread(alloc)?;
+    if !guest.has_thread(THREAD) || guest.has_thread(NEW) {
+        return Err(Fail::from("other threads"));
+    }
+    let Some(new) = added_thread(&CLONE, Reply::Value(NEW.0)) else {
+        return Err(Fail::from("no thread"));
+    };
+    if new != NEW.0 {
+        return Err(Fail::from("another thread"));
+    }
+    guest.add_thread(THREAD, NEW, &CLONE);
+    Ok(())
+}
+
+fn regs(guest: &Guest, t: Tid) -> Result<Regs, Fail> {
+    match guest.threads.regs(t.0) {
+        Some(regs) => Ok(regs),
+        None => Err(Fail::from("no thread")),
+    }
+}
+
+#[test]
+fn a_clone_makes_a_thread(rt: HostRuntime) -> Result<(), Fail> {
+    let alloc = rt.alloc();
+    let mut guest = started(alloc, &HELLO)?;
+    add_thread(alloc, &mut guest)?;
+    let caller = regs(&guest, THREAD)?;
+    let new = regs(&guest, NEW)?;
+    assert_eq!(rt; caller.x[2], STACK);
+    assert_eq!(rt; new.x[2], 0x7FFF_8000);
+    assert_eq!(rt; new.x[4], 0x1234);
+    assert_eq!(rt; new.x[10], 0);
+    assert_eq!(rt; new.pc, caller.pc);
+    assert_eq!(rt; guest.threads.clear_tid(NEW.0), Some(WORD));
+    assert_eq!(rt; guest.next_thread(40_000), Some(NEW));
     Ok(())
 }

@@ -55,10 +55,14 @@ thread_rises : (next_id : ℕ) (earlier : List ProcessEntry) (front : List Threa
 thread_rises next_id earlier front thread h =
     after_number _ _ ((both_true _ _ ((both_true _ _ h.number.1).0)).0)
 
+pub thread_entries : (next_id : ℕ) (earlier : List ProcessEntry) (threads : List ThreadEntry) → EachFrom (ThreadFits next_id earlier) [] threads
+    → map.entries (map.from_entries {R = nat_cmp} (mapped signals_entry threads)) ≡ mapped signals_entry threads
+thread_entries next_id earlier threads h = entries_made nat_cmp_total signals_entry threads (each_rising nat_cmp (λ (t : ThreadEntry). t.tid) (ThreadFits next_id earlier) (thread_rises next_id earlier) [] threads h)
+
 threads_back : (next_id : ℕ) (earlier : List ProcessEntry) (threads : List ThreadEntry) → EachFrom (ThreadFits next_id earlier) [] threads
     → mapped thread_image (map.entries (map.from_entries {R = nat_cmp} (mapped signals_entry threads))) ≡ threads
 threads_back next_id earlier threads h =
-    ap (mapped thread_image) (entries_made nat_cmp_total signals_entry threads (each_rising nat_cmp (λ (t : ThreadEntry). t.tid) (ThreadFits next_id earlier) (thread_rises next_id earlier) [] threads h))
+    ap (mapped thread_image) (thread_entries next_id earlier threads h)
     ∙ undone signals_entry thread_image threads (all_from (ThreadFits next_id earlier) _ (λ front t fits. refl) [] threads h)
 
 -- descriptions

@@ -9,7 +9,7 @@ use Rattle.image_codec.specs.Texts.{EachFrom}
 use Rattle.image_codec.specs.ProcessTests.{is_number, is_thread_count}
 use Rattle.image_codec.specs.ProcessImages.{threads_of, IsThreadImage, IsImage, HasImage}
 
-number-is : (number : Option ℕ) (n : ℕ) → IsTrue (is_number number n) → number ≡ Some n
+pub number-is : (number : Option ℕ) (n : ℕ) → IsTrue (is_number number n) → number ≡ Some n
 number-is None n h = cc
 number-is (Some number) n h = let same : number ≡ n = grind (arith, nat_tests) in ap Some same
 
@@ -33,9 +33,12 @@ threads_follow tids front (t ∷ threads) h size =
 counted-same : (tids : List ℕ) (n : ℕ) → IsTrue (is_thread_count tids n) → length tids ≡ n
 counted-same tids n h = grind (arith, nat_tests)
 
+pub same_tids : (number : Option ℕ) (tids : List ℕ) (p : ProcImage) → IsImage number tids p → tids ≡ threads_of p
+same_tids number tids p h =
+    let size : length tids ≡ length p.threads = counted-same tids (length p.threads) h.fields.thread_count in
+    threads_follow tids [] p.threads h.fields.threads (omega arith)
+
 pub owns : (number : Option ℕ) (tids : List ℕ) (p : ProcImage) → IsImage number tids p → HasImage p
 owns number tids p h =
-    let f = h.fields in
-    let same_number : number ≡ Some p.pid.0 = number-is number p.pid.0 f.number in
-    let same_tids : tids ≡ threads_of p = threads_follow tids [] p.threads f.threads (counted-same tids _ f.thread_count ∙ omega arith) in
-    subst (λ (n : Option ℕ). IsImage n (threads_of p) p) same_number (subst (λ (ts : List ℕ). IsImage number ts p) same_tids h)
+    let same_number : number ≡ Some p.pid.0 = number-is number p.pid.0 h.fields.number in
+    subst (λ (n : Option ℕ). IsImage n (threads_of p) p) same_number (subst (λ (ts : List ℕ). IsImage number ts p) (same_tids number tids p h) h)

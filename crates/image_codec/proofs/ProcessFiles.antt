@@ -9,11 +9,12 @@ use Rattle.image_codec.specs.declared.thread_image.ThreadImage.{ThreadImage}
 use Rattle.image_codec.specs.declared.process_image.ProcImage.{ProcImage}
 use Rattle.image_codec.specs.Fields.{is_bytes}
 use Rattle.image_codec.specs.Files.{FileLaws}
-use Rattle.image_codec.specs.Format.{n32, bytes_of, Spells, SpellsFile}
+use Rattle.image_codec.specs.Format.{n32, any, bytes_of, Spells, SpellsFile}
 use Rattle.image_codec.specs.Reading.{read}
 use Rattle.image_codec.specs.Texts.{EachFrom}
-use Rattle.image_codec.specs.ProcessTests.{is_number, is_break_start, is_break_end, is_page_count, is_waiter_count, is_thread_count, is_context_count}
+use Rattle.image_codec.specs.ProcessTests.{is_number, is_break_start, is_break_end, is_page_count, is_thread_count, is_context_count}
 use Rattle.image_codec.specs.ProcessImages.{PROCESS_MAGIC, page_format, action_format, waiter_format, thread_format, process_format, page_text, action_text, waiter_text, thread_text, process_text, list_text, is_whole, IsPage, IsWaiter, IsThreadImage, ActionWords, WaiterWords, ThreadWords, ImageFields, ImageWords, SpellsProcess, DamagedProcess}
+use Rattle.image_codec.proofs.DistinctWaiters.{few_waiters}
 use Rattle.image_codec.proofs.Numerals.{AllBytes}
 use Rattle.image_codec.proofs.Texts.{Law, in_words, next_law, unsigned_law, raw_law, counted_law, each_law, give_law, all_from_each, each_from_all, both_from_each, each_from_both}
 use Rattle.image_codec.proofs.ProcessLaws.{page_law, action_law, waiter_law, thread_law}
@@ -32,11 +33,15 @@ break-order start n h = grind (arith, nat_tests)
 page_count-below : (n : ℕ) → IsTrue (is_page_count n) → n < 2 ^ 32
 page_count-below n h = grind (arith, nat_tests)
 
-waiter_count-below : (n : ℕ) → IsTrue (is_waiter_count n) → n < 2 ^ 32
-waiter_count-below n h = grind (arith, nat_tests)
-
 thread_count-below : (tids : List ℕ) (n : ℕ) → IsTrue (is_thread_count tids n) → n < 2 ^ 32
 thread_count-below tids n h = grind (arith, nat_tests)
+
+-- no more wait than there are threads
+few_tids : (tids : List ℕ) (n : ℕ) → IsTrue (is_thread_count tids n) → length tids ≤ 64
+few_tids tids n h = grind (arith, nat_tests)
+
+pub waiter_count-below : (pid : Option ℕ) (tids : List ℕ) (p : ProcImage) → ImageFields pid tids p → length p.waiters < 2 ^ 32
+waiter_count-below pid tids p f = omega (arith, few_tids tids (length p.threads) f.thread_count, few_waiters tids p.waiters f.waiters)
 
 context_count-below : (n : ℕ) → IsTrue (is_context_count n) → n < 2 ^ 32
 context_count-below n h = grind (arith, nat_tests)
@@ -71,7 +76,6 @@ process_law pid tids =
         page_count = pages.0.1;
         pages = pages.1;
         actions = actions.0;
-        waiter_count = waiters.0.1;
         waiters = waiting;
         thread_count = threads.0.1;
         threads = running;
@@ -93,7 +97,7 @@ process_law pid tids =
               (
                 (f.actions, each_from_all ActionWords [] p.actions w.actions),
                 (
-                  ((waiter_count-below _ f.waiter_count, f.waiter_count), each_from_both (IsWaiter tids) WaiterWords [] p.waiters f.waiters w.waiters),
+                  ((waiter_count-below pid tids p f, refl), each_from_both (IsWaiter tids) WaiterWords [] p.waiters f.waiters w.waiters),
                   (((thread_count-below tids _ f.thread_count, f.thread_count), each_from_both (IsThreadImage tids) ThreadWords [] p.threads f.threads w.threads), refl),
                 ),
               ),
@@ -110,7 +114,7 @@ process_law pid tids =
     (λ b p h o. sym (ap (λ (p : ProcImage). p.pages) o.1.1.1)) (λ _.
     next_law _ _ _ _ _ _ (λ (p : ProcImage). p.actions) (each_law (λ _. action_format) action_text (λ _. ActionWords) 31 (λ _. action_law))
     (λ b p h o. sym (ap (λ (p : ProcImage). p.actions) o.1.1)) (λ _.
-    next_law _ _ _ _ _ _ (λ (p : ProcImage). p.waiters) (counted_law is_waiter_count (waiter_format tids) waiter_text (λ front w. IsWaiter tids front w × WaiterWords w) (waiter_law tids))
+    next_law _ _ _ _ _ _ (λ (p : ProcImage). p.waiters) (counted_law any (waiter_format tids) waiter_text (λ front w. IsWaiter tids front w × WaiterWords w) (waiter_law tids))
     (λ b p h o. sym (ap (λ (p : ProcImage). p.waiters) o.1)) (λ _.
     next_law _ _ _ _ _ _ (λ (p : ProcImage). p.threads) (counted_law (is_thread_count tids) (thread_format tids) thread_text (λ front t. IsThreadImage tids front t × ThreadWords t) (thread_law tids))
     (λ b p h o. sym (ap (λ (p : ProcImage). p.threads) o)) (λ _.

@@ -4,6 +4,7 @@ pub mod Format
 pub mod KernelImages
 pub mod KernelParts
 pub mod Manifests
+pub mod OneProcess
 pub mod ProcessImages
 pub mod ProcessTests
 pub mod Reading

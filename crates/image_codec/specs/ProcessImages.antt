@@ -22,7 +22,7 @@ use Rattle.image_codec.specs.declared.shared.Shared.{Shared}
 use Rattle.image_codec.specs.Fields.{is_bytes}
 use Rattle.image_codec.specs.Format.{Format, unsigned, raw, give, ◌>>=◌, each, counted, any, n8, n32, bytes_of, Damaged}
 use Rattle.image_codec.specs.Texts.{EachFrom}
-use Rattle.image_codec.specs.ProcessTests.{is_number, is_break_start, is_break_end, is_page_count, is_page_number, is_page_rights, is_page_content, is_waiter_count, is_waiting, is_context_count, is_thread_count, is_thread_at, has_heap, has_return_page}
+use Rattle.image_codec.specs.ProcessTests.{is_number, is_break_start, is_break_end, is_page_count, is_page_number, is_page_rights, is_page_content, is_waiting, is_context_count, is_thread_count, is_thread_at, has_heap, has_return_page}
 
 abbrev pub PROCESS_MAGIC : List ℕ
 PROCESS_MAGIC = codes "DMTPRC01"
@@ -102,7 +102,7 @@ process_format pid tids = do
   end ← unsigned n32 (is_break_end start)
   pages ← counted is_page_count (page_format start end)
   actions ← each (λ _. action_format) 31 []
-  waiters ← counted is_waiter_count (waiter_format tids)
+  waiters ← counted any (waiter_format tids)
   threads ← counted (is_thread_count tids) (thread_format tids)
   give (record { pid = record { 0 = number }; break_start = start; break_end = end; pages = pages; actions = actions; waiters = waiters; threads = threads })
 
@@ -138,7 +138,6 @@ pub record ImageFields (pid : Option ℕ) (tids : List ℕ) (p : ProcImage) : Ty
   pub page_count : IsTrue (is_page_count (length p.pages))
   pub pages : EachFrom (IsPage p.break_start p.break_end) [] p.pages
   pub actions : length p.actions ≡ 31
-  pub waiter_count : IsTrue (is_waiter_count (length p.waiters))
   pub waiters : EachFrom (IsWaiter tids) [] p.waiters
   pub thread_count : IsTrue (is_thread_count tids (length p.threads))
   pub threads : EachFrom (IsThreadImage tids) [] p.threads

@@ -56,16 +56,13 @@ return_content = page_of return_code
 unfoldable pub is_page_content : ℕ → List ℕ → Bool
 is_page_content page bytes = not (page == RETURN_PAGE) || is_bytes return_content bytes
 
--- lists of waiters and of saved contexts are empty so far
-abbrev pub is_waiter_count : ℕ → Bool
-is_waiter_count count = count == 0
-
+-- a thread saves at most so many contexts, one for each signal handler that it is in
 abbrev pub is_context_count : ℕ → Bool
-is_context_count count = count == 0
+is_context_count count = nat_le count 64
 
--- a process has one thread so far, of those that the shared image has
+-- 1 to 64 threads, as many as the shared image has of the process
 abbrev pub is_thread_count : List ℕ → ℕ → Bool
-is_thread_count tids count = (count == 1) && (length tids == count)
+is_thread_count tids count = is_within 1 64 count && (length tids == count)
 
 abbrev pub is_among : List ℕ → ℕ → Bool
 is_among numbers n = list_any (λ number. number == n) numbers

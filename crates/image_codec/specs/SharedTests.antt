@@ -137,9 +137,9 @@ is_signals n = nat_lt n (2 ^ 31)
 abbrev pub is_pending : Life → ℕ → Bool
 is_pending life n = is_signals n && (lives life || (n == 0))
 
--- one thread has an image so far
+-- a process that lives has 1 to 64 threads, and a zombie has none
 abbrev pub is_thread_count : Life → ℕ → Bool
-is_thread_count life n = if lives life then n == 1 else n == 0
+is_thread_count life n = if lives life then is_within 1 64 n else n == 0
 
 abbrev pub is_number_of : ℕ → ProcessEntry → Bool
 is_number_of n process = (process.pid.0 == n) || has_thread n process

@@ -11,8 +11,8 @@
 //!
 //! Proved: all of that, for every value and all bytes, and [`image_laws`]. A reader takes no more memory than the bytes
 //! that are there account for. Not proved here: that an image is that of a running process. The formats are this
-//! project's own (`docs/FORMATS.md`) and restate no standard. So far there is one process, with one thread and no waiters
-//! and saved contexts, and the console is the only thing that is open.
+//! project's own (`docs/FORMATS.md`) and restate no standard. So far there is one process, and the console is the only
+//! thing that is open.
 #![tactic(auto)]
 
 mod actions;
@@ -52,3 +52,5 @@ pub use thread_image::ThreadImage;
 mod tests;
 #[cfg(test)]
 mod tests_of_shared;
+#[cfg(test)]
+mod tests_of_threads;

@@ -13,6 +13,8 @@ use sys_abi::flags::{O_APPEND, O_NONBLOCK};
 
 const ACCESS_MODE: u32 = 3;
 
+const THREAD_LIMIT: u32 = 64;
+
 pub fn is_given_out(next_id: u32, n: u32) -> bool
     ensures { result ≡ field.is_given_out next_id n }
 {
@@ -97,7 +99,11 @@ pub fn is_pending(life: Life, n: u32) -> bool
 pub fn is_thread_count(life: Life, n: u32) -> bool
     ensures { result ≡ field.is_thread_count life n }
 {
-    if is_live(life) { n == 1 } else { n == 0 }
+    if is_live(life) {
+        1 <= n && n <= THREAD_LIMIT
+    } else {
+        n == 0
+    }
 }
 
 pub fn is_descriptor_count(life: Life, n: u32) -> bool

@@ -15,11 +15,11 @@ const MANIFEST: [u8; 36] = [
     0, 0, 0, 0, 0, 0x6E, 0x23, 0x04, 0, 0, 0, 0, 0,
 ];
 
-const ZEROS: [u8; 4096] = [0; 4096];
+pub const ZEROS: [u8; 4096] = [0; 4096];
 
 const RETURN_CODE: [u8; 8] = [0x93, 0x08, 0xB0, 0x08, 0x73, 0x00, 0x00, 0x00];
 
-fn damage_at(file: u32, offset: u64) -> Option<ReadFault> {
+pub fn damage_at(file: u32, offset: u64) -> Option<ReadFault> {
     Some(ReadFault::Damaged(Damage { file, offset }))
 }
 
@@ -72,28 +72,40 @@ fn damaged_manifests(rt: HostRuntime) -> Result<(), Fail> {
     Ok(())
 }
 
+fn process(
+    alloc: Global,
+    number: u32,
+    life: Life,
+    tids: &[u32],
+) -> Result<ProcessEntry, AllocError> {
+    let mut threads = ListOf::new(alloc);
+    for tid in tids {
+        threads.push(ThreadEntry {
+            tid: *tid,
+            pending: 0,
+        })?;
+    }
+    Ok(ProcessEntry {
+        pid: VPid(number),
+        parent: 1,
+        host: 0,
+        made: 1,
+        life,
+        pending: 0,
+        threads,
+        descriptors: ListOf::new(alloc),
+    })
+}
+
+pub fn live_process(alloc: Global, number: u32, tids: &[u32]) -> Result<ProcessEntry, AllocError> {
+    process(alloc, number, Life::Live, tids)
+}
+
 // One live process after a zombie.
 fn shared(alloc: Global) -> Result<Shared, AllocError> {
     let mut processes = ListOf::new(alloc);
-    for (number, life) in [(40000, Life::Zombie(0)), (40001, Life::Live)] {
-        let mut threads = ListOf::new(alloc);
-        if life == Life::Live {
-            threads.push(ThreadEntry {
-                tid: number,
-                pending: 0,
-            })?;
-        }
-        processes.push(ProcessEntry {
-            pid: VPid(number),
-            parent: 1,
-            host: 0,
-            made: 1,
-            life,
-            pending: 0,
-            threads,
-            descriptors: ListOf::new(alloc),
-        })?;
-    }
+    processes.push(process(alloc, 40000, Life::Zombie(0), &[])?)?;
+    processes.push(live_process(alloc, 40001, &[40001])?)?;
     Ok(Shared {
         next_id: 40002,
         next_file: 1,
@@ -104,7 +116,7 @@ fn shared(alloc: Global) -> Result<Shared, AllocError> {
     })
 }
 
-fn put_page(bytes: &mut Vec<u8>, number: u32, rights: u8) -> Result<(), AllocError> {
+pub fn put_page(bytes: &mut Vec<u8>, number: u32, rights: u8) -> Result<(), AllocError> {
     put_u32(bytes, number)?;
     put_u8(bytes, rights)?;
     if number == 0x80000 {
@@ -185,11 +197,12 @@ fn damaged_process_images(rt: HostRuntime) -> Result<(), Fail> {
         (4129, 4, 4129),
         (4130, 0, 4130),
         (8225, 1, 4130),
-        (8598, 1, 8598),
+        (8598, 1, 8602),
         (8602, 0, 8602),
         (8602, 2, 8602),
         (8606, 0, 8606),
-        (8746, 1, 8746),
+        (8746, 65, 8746),
+        (8746, 1, 8750),
         // A page of the heap lacks.
         (17, 0x20, 8750),
     ] {

@@ -1,5 +1,6 @@
+use crate::fields::put_u32;
 use crate::{ReadFault, read_shared, restored_kernel, shared_image, write_shared};
-use std::alloc::Global;
+use std::alloc::{AllocError, Global};
 use std::test::Fail;
 use sys_abi::{DescId, VPid};
 
@@ -18,7 +19,7 @@ const START: [u8; 129] = [
 ];
 
 /// A byte of the start's image, a value for it that is not allowed, and the offset of the damage.
-const DAMAGES: [(usize, u8, u64); 38] = [
+const DAMAGES: [(usize, u8, u64); 39] = [
     (0, b'E', 0),
     (7, b'2', 0),
     (9, 0, 8),
@@ -47,7 +48,8 @@ const DAMAGES: [(usize, u8, u64); 38] = [
     (66, 1, 66),
     (73, 0x80, 70),
     (74, 0, 74),
-    (74, 2, 74),
+    (74, 2, 86),
+    (74, 65, 74),
     (78, 0x3F, 78),
     (85, 0x80, 82),
     (87, 2, 86),
@@ -130,5 +132,57 @@ fn short_and_long_files(rt: HostRuntime) -> Result<(), Fail> {
         *count = 0;
     }
     assert_eq!(rt; damage_of(alloc, unheld.as_slice()), Some((1, 90)));
+    Ok(())
+}
+
+/// The start's image with so many threads from 40000 on, as the count and the list say, and with numbers for more.
+fn with_threads(alloc: Global, count: u32, tids: &[u32]) -> Result<Vec<u8>, AllocError> {
+    let mut bytes = START[..9].to_vec(alloc)?;
+    bytes.push(0x9D)?;
+    bytes.extend_from_slice(&START[10..74])?;
+    put_u32(&mut bytes, count)?;
+    for tid in tids {
+        put_u32(&mut bytes, *tid)?;
+        put_u32(&mut bytes, 0x4000_0001)?;
+    }
+    bytes.extend_from_slice(&START[86..])?;
+    Ok(bytes)
+}
+
+#[test]
+fn several_threads(rt: HostRuntime) -> Result<(), Fail> {
+    let alloc = rt.alloc();
+    let bytes = with_threads(alloc, 3, &[40000, 40002, 40255])?;
+    let image = read_shared(alloc, bytes.as_slice())?;
+    for process in &image.processes {
+        assert_eq!(rt; process.threads.len(), 3);
+        let last = process.threads.as_slice().last();
+        assert_eq!(rt;
+            last.map(|t| (t.tid, t.pending)),
+            Some((40255, 0x4000_0001))
+        );
+    }
+    let kernel = restored_kernel(alloc, &image)?;
+    let again = shared_image(alloc, &kernel)?;
+    let written = write_shared(alloc, &again)?;
+    assert!(rt; written == bytes);
+    Ok(())
+}
+
+#[test]
+fn damaged_lists_of_threads(rt: HostRuntime) -> Result<(), Fail> {
+    let alloc = rt.alloc();
+    // No thread and more than there may be; a number below the one before, the same one, one that is not given out yet.
+    for (count, tids, offset) in [
+        (0, [40000, 40001, 40002], 74),
+        (65, [40000, 40001, 40002], 74),
+        (3, [40001, 40000, 40002], 86),
+        (3, [40000, 40002, 40002], 94),
+        (3, [40000, 40002, 40513], 94),
+        (3, [39999, 40002, 40003], 78),
+    ] {
+        let bytes = with_threads(alloc, count, &tids)?;
+        assert_eq!(rt; damage_of(alloc, bytes.as_slice()), Some((1, offset)));
+    }
     Ok(())
 }

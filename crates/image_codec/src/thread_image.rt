@@ -11,6 +11,11 @@ use plain_machine::{Context, Regs, ThreadPart};
 use std::alloc::{AllocError, Global};
 use views::list_of::ListOf;
 
+/// How many threads a process has at most, and how many contexts each of them saves.
+const THREAD_LIMIT: u32 = 64;
+
+const CONTEXT_LIMIT: u32 = 64;
+
 /// A thread of a process, by its number.
 #[derive(Debug, Drop)]
 pub struct ThreadImage {
@@ -18,18 +23,16 @@ pub struct ThreadImage {
     pub part: ThreadPart,
 }
 
-/// Saved contexts can't be spelled yet.
 fn is_context_count(count: u32) -> bool
     ensures { result ≡ is_context_count count }
 {
-    count == 0
+    count <= CONTEXT_LIMIT
 }
 
-/// One thread can be spelled so far.
 fn is_thread_count(threads: &[ThreadEntry], count: u32) -> bool
     ensures { result ≡ is_thread_count (tids_of threads.now) count }
 {
-    count == 1 && threads.len() == count as usize
+    1 <= count && count <= THREAD_LIMIT && threads.len() == count as usize
 }
 
 fn is_thread_at(threads: &[ThreadEntry], place: usize, tid: u32) -> bool

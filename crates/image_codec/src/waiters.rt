@@ -1,9 +1,9 @@
 // Who waits on a process's words, in its image.
 ghost use Rattle.std.specs.Prelude.{◌≡◌, ◌==◌, ◌<◌, ◌^◌, ◌++◌, length, map as each_of, All, OnOk};
 ghost use Rattle.std.specs.List.{list_any};
-ghost use Rattle.image_codec.specs.Format.{counted};
+ghost use Rattle.image_codec.specs.Format.{any, counted};
 ghost use Rattle.image_codec.specs.ProcessImages.{tids_of, waiter_format, waiter_text, list_text, WaiterWords};
-ghost use Rattle.image_codec.specs.ProcessTests.{is_waiter_count, is_waiting};
+ghost use Rattle.image_codec.specs.ProcessTests.{is_waiting};
 ghost use Rattle.image_codec.specs.Reading.{Gives, read};
 
 use crate::fields::{Fault, put_u32, u32_at};
@@ -12,13 +12,6 @@ use crate::thread_image::word_at;
 use plain_machine::Waiter;
 use std::alloc::{AllocError, Global};
 use views::list_of::ListOf;
-
-/// Waiters can't be spelled yet.
-fn is_waiter_count(count: u32) -> bool
-    ensures { result ≡ is_waiter_count count }
-{
-    count == 0
-}
 
 fn has_thread(threads: &[ThreadEntry], tid: u32) -> bool
     ensures { result ≡ list_any (λ thread. thread.tid == tid) threads.now }
@@ -60,12 +53,9 @@ pub fn waiters_at<'a>(
     threads: &[ThreadEntry],
     text: &'a [u8],
 ) -> Result<(ListOf<Waiter>, &'a [u8]), Fault>
-    ensures { Gives (λ x. (x.0, x.1.now)) result (read (counted is_waiter_count (waiter_format (tids_of threads.now))) text.now) }
+    ensures { Gives (λ x. (x.0, x.1.now)) result (read (counted any (waiter_format (tids_of threads.now))) text.now) }
 {
     let (count, items) = u32_at(text)?;
-    if !is_waiter_count(count) {
-        return Err(Fault::Left(text.len()));
-    }
     let mut waiters = ListOf::new(alloc);
     let mut rest = items;
     for _item in 0..count {

@@ -2,9 +2,8 @@
 use Rattle.std.proofs.Common.{◌≡◌, ◌≢◌, ℕ, ◌+◌, ◌<◌, ◌≤◌, Bool, true, false, cond, List, [], ◌∷◌, ◌^◌, length, refl, sym, ap, subst, ◌∙◌, arith, ⊎_elim}
 use Rattle.std.specs.Prelude.{Option, Some, None, is_some, All}
 use Rattle.std.specs.List.{list_any}
-use Rattle.std.specs.declared.cmp.Ordering.{Ordering}
 use Rattle.std.specs.Ordering.{nat_cmp, eq_by_cmp}
-use Rattle.std.specs.Cmp.{IsTotalOrder, nat_cmp_total}
+use Rattle.std.specs.Cmp.{nat_cmp_total}
 use Rattle.std.specs.FinMap as map
 use Rattle.views.proofs.MapLaws.{get_insert_same, get_insert_other, same_or_other, key_tied}
 use Rattle.views.proofs.MapValues.{some_among-values, none_among-values}
@@ -19,31 +18,12 @@ use Rattle.plain_machine.specs.declared.user_part.UserPart.{UserPart}
 use Rattle.plain_machine.specs.declared.description.Descriptor.{Descriptor}
 use Rattle.plain_machine.specs.Kernel.{pid, slot, is_live, is_live_process, is_held, refers_to}
 use Rattle.plain_machine.specs.Start.{Launched, NamedFile, FIRST_PID, console_of, console_description, console_descriptor, start_process, start_user, with_process, with_processes, with_file, with_files, with_users, empty_kernel, start_kernel, start}
-use Rattle.plain_machine.specs.Valid.{IsKernel, IsProcess, IsDescriptor, IsGivenOut, IsSignalSet, IsWord, IsUser, IsValid, SameThreads, Each}
+use Rattle.plain_machine.specs.Valid.{IsKernel, IsProcess, IsDescriptor, IsGivenOut, IsSignalSet, IsUser, IsValid, SameThreads, Each}
 use Rattle.plain_machine.specs.Launches.{IsLaunched}
 use Rattle.plain_machine.specs.Laws.{StartIsValid}
+use Rattle.plain_machine.proofs.Entries.{each_with, there_with, no_entry}
 use Rattle.plain_machine.proofs.StartPages.{all_tail}
 use Rattle.plain_machine.proofs.StartUsers.{one_entry, start_user_is}
-
--- an entry of a map with one more is the new one, or was there
-module _ {K X : Type 0} {R : K → K → Ordering} (o : IsTotalOrder R) (exact : map.IsAntisymmetric R) where
-  pub each_with : (P : K → X → Type 0) (m : map.FinMap R X) (k : K) (v : X) → P k v → ((q : K) (w : X) → q ≢ k → map.get m q ≡ Some w → P q w) → Each (map.insert m k v) P
-  each_with P m k v new old q w found = ⊎_elim
-      (λ here.
-      let there : map.get (map.insert m k v) k ≡ Some w = subst (λ x. map.get (map.insert m k v) x ≡ Some w) here found in
-      let same : v ≡ w = let put = get_insert_same o exact m k v in cc in
-      subst (λ x. P x w) (sym here) (subst (P k) same new))
-      (λ other. old q w other (sym (get_insert_other o exact m k v q other) ∙ found))
-      (same_or_other o exact q k)
-
-  pub there_with : (m : map.FinMap R X) (k : K) (v : X) (q : K) → is_some (map.get m q) ≡ true → is_some (map.get (map.insert m k v) q) ≡ true
-  there_with m k v q there = ⊎_elim
-      (λ here. ap is_some (subst (λ x. map.get (map.insert m k v) x ≡ Some v) (sym here) (get_insert_same o exact m k v)))
-      (λ other. ap is_some (get_insert_other o exact m k v q other) ∙ there)
-      (same_or_other o exact q k)
-
-  pub no_entry : (k : K) (v : X) → map.get (map.empty {X = X} {R = R}) k ≡ Some v → ⊥
-  no_entry k v found = let none : map.get (map.empty {X = X} {R = R}) k ≡ None = map.get-empty R k in cc
 
 -- descriptions that were held still are, where the new descriptors stand in new slots
 still_held : (before after : map.FinMap slot_cmp Descriptor) → ((at : Slot) (descriptor : Descriptor) → map.get before at ≡ Some descriptor → map.get after at ≡ Some descriptor) → (d : DescId) → is_held before d ≡ true → is_held after d ≡ true
@@ -126,10 +106,11 @@ module _ (k : PlainKernel) (p host : ℕ) (is : IsKernel k) (next : k.next_id �
   console_held = some_among-values slot_total slot_exact (refers_to (console_of p)) _ (slot (pid p) 2) (console_descriptor p)
       (get_insert_same slot_total slot_exact _ (slot (pid p) 2) (console_descriptor p)) (key_tied desc_total desc_exact (console_of p))
 
-  pub process_added : IsKernel (with_process k p host)
+  pub process_added : p + 1 < 2 ^ 31 → IsKernel (with_process k p host)
   unfolding with_process
-  process_added = record {
+  process_added last = record {
     first_id = let first = is.first_id in omega arith;
+    last_id = last;
     processes = each_with vpid_total vpid_exact (IsProcess (p + 1)) k.processes (pid p) (start_process p) (new_process p (let first = is.first_id in omega arith)) (λ q process other found. old_process q process (is.processes q process found));
     makers = each_with vpid_total vpid_exact (λ q maker. is_some (map.get (map.insert k.processes (pid p) (start_process p)) q) ≡ true) k.makers (pid p) _
         (ap is_some (get_insert_same vpid_total vpid_exact k.processes (pid p) (start_process p)))
@@ -164,13 +145,13 @@ threads_added k users p host user old new q process u known found =
     (λ q process other known v there. old q process v known (sym (get_insert_other vpid_total vpid_exact users (pid p) user q other) ∙ there))
     q process known u found
 
-pub launched_valid : (k : PlainKernel) (users : map.FinMap vpid_cmp UserPart) (p : ℕ) (launched : Launched) → k.next_id ≡ p → IsWord p → IsLaunched launched → IsValid (record { kernel = k; users = users })
+pub launched_valid : (k : PlainKernel) (users : map.FinMap vpid_cmp UserPart) (p : ℕ) (launched : Launched) → k.next_id ≡ p → p + 1 < 2 ^ 31 → IsLaunched launched → IsValid (record { kernel = k; users = users })
     → IsValid (record { kernel = with_process k p launched.host; users = map.insert users (pid p) (start_user launched.program launched.arguments p) })
-launched_valid k users p launched next small starts is =
+launched_valid k users p launched next last starts is =
     let user = start_user launched.program launched.arguments p in
     record {
-      kernel = process_added k p launched.host is.kernel next;
-      users = each_with vpid_total vpid_exact (λ q u. IsUser u) users (pid p) user (start_user_is launched p starts small) (λ q u other found. is.users q u found);
+      kernel = process_added k p launched.host is.kernel next last;
+      users = each_with vpid_total vpid_exact (λ q u. IsUser u) users (pid p) user (start_user_is launched p starts (omega arith)) (λ q u other found. is.users q u found);
       alive = λ q. ⊎_elim
           (λ here. subst (λ x. is_some (map.get (map.insert users (pid p) user) x) ≡ is_live (with_process k p launched.host) x) (sym here)
           (ap is_some (get_insert_same vpid_total vpid_exact users (pid p) user) ∙ sym (live_new k p launched.host is.kernel next)))
@@ -184,7 +165,7 @@ unfolding with_process
 next_after k p host = refl
 
 -- the processes of a job's programs, one after the other
-launched_all : (jobs : List Launched) (k : PlainKernel) (users : map.FinMap vpid_cmp UserPart) (p : ℕ) → k.next_id ≡ p → p + length jobs ≤ 2 ^ 32 → All IsLaunched jobs → IsValid (record { kernel = k; users = users })
+launched_all : (jobs : List Launched) (k : PlainKernel) (users : map.FinMap vpid_cmp UserPart) (p : ℕ) → k.next_id ≡ p → p + length jobs < 2 ^ 31 → All IsLaunched jobs → IsValid (record { kernel = k; users = users })
     → IsValid (record { kernel = with_processes k p jobs; users = with_users users p jobs })
 unfolding with_processes with_users
 launched_all [] k users p next fits are is = is
@@ -198,6 +179,7 @@ unfolding with_file is_live
 file_valid k users file is = record {
   kernel = record {
     first_id = is.kernel.first_id;
+    last_id = is.kernel.last_id;
     processes = is.kernel.processes;
     makers = is.kernel.makers;
     descriptors = λ at descriptor found. let old = is.kernel.descriptors at descriptor found in record { number = old.number; alive = old.alive; described = old.described };
@@ -228,6 +210,7 @@ unfolding empty_kernel is_live
 empty_valid = record {
   kernel = record {
     first_id = omega arith;
+    last_id = omega arith;
     processes = λ q process found. absurd (no_entry vpid_total vpid_exact q process found);
     makers = λ q maker found. absurd (no_entry vpid_total vpid_exact q maker found);
     descriptors = λ at descriptor found. absurd (no_entry slot_total slot_exact at descriptor found);

@@ -141,7 +141,7 @@ content_page size content are = (
   length-take-le size _ (padded_length size content (replicate size 0) (length-replicate size 0)),
 )
 
-with_pages_are : (memory : Memory) (most first n rights : ℕ) (content : List ℕ) → first + n ≤ 2 ^ 20 → rights < 8 → All IsByte content → ArePages most memory → ArePages (most + n) (with_pages memory first n rights content)
+pub with_pages_are : (memory : Memory) (most first n rights : ℕ) (content : List ℕ) → first + n ≤ 2 ^ 20 → rights < 8 → All IsByte content → ArePages most memory → ArePages (most + n) (with_pages memory first n rights content)
 unfolding with_pages
 with_pages_are memory most first zero rights content low small are before = subst (λ k. ArePages k memory) (let same : most ≡ most + 0 = omega arith in same) before
 with_pages_are memory most first (suc n) rights content low small are before =

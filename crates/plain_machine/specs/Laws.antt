@@ -1,5 +1,5 @@
 -- Laws of runs, each of which the contract of `run_laws` promises.
-use Rattle.std.specs.Prelude.{◌≡◌, ◌≢◌, ◌≤◌, ℕ, true, List, [], ◌∷◌, ◌++◌, length, Option, Some, None, All}
+use Rattle.std.specs.Prelude.{◌≡◌, ◌≢◌, ◌≤◌, ℕ, Bool, true, List, [], ◌∷◌, ◌++◌, length, Option, Some, None, All}
 use Rattle.std.specs.FinMap as map
 use Rattle.sys_abi.specs.declared.identity.VPid.{VPid}
 use Rattle.sys_abi.specs.declared.reply.Reply.{Reply}
@@ -11,16 +11,18 @@ use Rattle.plain_machine.specs.declared.kernel.PlainKernel.{PlainKernel}
 use Rattle.plain_machine.specs.declared.user_part.UserPart.{UserPart}
 use Rattle.plain_machine.specs.Kernel.{is_live, pid}
 use Rattle.plain_machine.specs.Attempts.{Served}
-use Rattle.plain_machine.specs.Steps.{user_steps}
+use Rattle.plain_machine.specs.Steps.{Asks, user_step, user_steps}
+use Rattle.plain_machine.specs.Deliveries.{Enters, deliver}
 use Rattle.plain_machine.specs.Buffers.{lent, written_spans}
-use Rattle.plain_machine.specs.Put.{word_of, put, put_fault, local_row, CanTake}
+use Rattle.plain_machine.specs.Put.{word_of, put, put_fault, CanTake}
+use Rattle.plain_machine.specs.Local.{local_row}
 use Rattle.plain_machine.specs.Serve.{serve}
 use Rattle.plain_machine.specs.Records.{Outcome, outcome, step}
 use Rattle.plain_machine.specs.Runs.{run, console}
 use Rattle.elf32.specs.Pages.{page_count}
 use Rattle.elf32.specs.Programs.{program_of, IsWellPlaced}
 use Rattle.plain_machine.specs.Start.{Launched, NamedFile, start, start_user, PROGRAM_LIMIT}
-use Rattle.plain_machine.specs.Valid.{IsWord, IsByte, IsKernel, IsUser, IsValid}
+use Rattle.plain_machine.specs.Valid.{IsWord, IsByte, IsKernel, IsUser, IsValid, IsRequest, CanAdd}
 use Rattle.plain_machine.specs.Launches.{IsLaunched}
 
 -- the process that a record is of
@@ -58,14 +60,20 @@ UserStepsKeepUser = (n : ℕ) (user after : UserPart) (t : ℕ) → IsUser user 
 
 abbrev pub PutKeepsUser : Type 0
 PutKeepsUser =
-    (user : UserPart) (t : ℕ) (q : Request) (reply : Reply) (bytes : List ℕ) → IsUser user → IsWord (word_of reply) → All IsByte bytes → CanTake user.memory (written_spans user.memory q) bytes
-    → IsUser (put user t q reply bytes)
+    (user : UserPart) (t : ℕ) (q : Request) (reply : Reply) (bytes : List ℕ) → IsUser user → IsRequest q → IsWord (word_of reply) → All IsByte bytes
+    → CanTake user.memory (written_spans user.memory q) bytes → CanAdd user q reply → IsUser (put user t q reply bytes)
 
 abbrev pub FaultKeepsUser : Type 0
 FaultKeepsUser = (user : UserPart) (t : ℕ) (q : Request) → IsUser user → IsUser (put_fault user t q)
 
 abbrev pub LocalKeepsUser : Type 0
-LocalKeepsUser = (user : UserPart) (t : ℕ) (q : Request) → IsUser user → IsUser (local_row user t q)
+LocalKeepsUser = (user : UserPart) (t : ℕ) (q : Request) → IsUser user → user_step user t ≡ Asks q → IsUser (local_row user t q)
+
+abbrev pub DeliveryKeepsUser : Type 0
+DeliveryKeepsUser = (user after : UserPart) (t s : ℕ) (unready : Bool) → IsUser user → deliver user t s unready ≡ Enters after → IsUser after
+
+abbrev pub AskedIsRequest : Type 0
+AskedIsRequest = (user : UserPart) (t : ℕ) (q : Request) → IsUser user → user_step user t ≡ Asks q → IsRequest q
 
 -- no more threads wait than there are
 abbrev pub WaitersAreFew : Type 0
@@ -89,3 +97,9 @@ RunOfOneMore = (g h : Plain) (trace : List Record) (r : Record) → run g trace 
 abbrev pub ConsoleOfOneMore : Type 0
 ConsoleOfOneMore =
     (g h : Plain) (trace : List Record) (r : Record) (o : Outcome) → run g trace ≡ Some h → outcome h r ≡ Some o → console g (trace ++ r ∷ []) ≡ console g trace ++ o.console
+
+-- what a call that a valid state serves answers may add a thread
+abbrev pub ServeAdds : Type 0
+ServeAdds =
+    (g : Plain) (user : UserPart) (p : VPid) (t : ℕ) (q : Request) (given : List ℕ) (served : Served) → IsValid g → map.get g.users p ≡ Some user
+    → serve g.kernel p t q given ≡ Some served → CanAdd user q served.reply

@@ -1,6 +1,6 @@
 -- One record from a plain state: which state follows and what goes to the console, or nothing where the record is no step of that state.
 --     outcome g r      both      step g r      the state alone
-use Rattle.std.specs.Prelude.{◌==◌, ◌&&◌, ◌||◌, ℕ, ◌+◌, Bool, true, false, nat_le, List, [], length, Option, Some, None, option_and_then, if◌then◌else◌}
+use Rattle.std.specs.Prelude.{◌==◌, ◌&&◌, ◌||◌, ℕ, ◌+◌, Bool, true, false, not, nat_le, List, [], length, Option, Some, None, is_some, option_and_then, if◌then◌else◌}
 use Rattle.std.specs.Option.{option_map}
 use Rattle.std.specs.FinMap as map
 use Rattle.sys_abi.specs.declared.identity.VPid.{VPid}
@@ -9,14 +9,19 @@ use Rattle.sys_abi.specs.declared.record.Record.{Record}
 use Rattle.sys_abi.specs.declared.record.Record.TheVariants.{User, Call, Deliver, Arrive, Cut, Drained, Refilled, Complete, Refused, Lapsed}
 use Rattle.sys_abi.specs.declared.request.Request.{Request}
 use Rattle.sys_abi.specs.Requests.{is_local}
+use Rattle.sys_abi.specs.Signals.{has_signal, without_signals}
 use Rattle.plain_machine.specs.declared.plain.Plain.{Plain}
 use Rattle.plain_machine.specs.declared.channel.Direction.{Direction}
+use Rattle.plain_machine.specs.declared.kernel.PlainKernel.{PlainKernel}
 use Rattle.plain_machine.specs.declared.user_part.UserPart.{UserPart}
+use Rattle.plain_machine.specs.declared.user_part.ThreadPart.{ThreadPart}
 use Rattle.plain_machine.specs.Attempts.{Served}
-use Rattle.plain_machine.specs.Kernel.{is_live, after_end}
-use Rattle.plain_machine.specs.Steps.{UserStep, Asks, Trapped, user_step, user_steps}
+use Rattle.plain_machine.specs.Kernel.{is_live, after_end, pending, after_take}
+use Rattle.plain_machine.specs.Steps.{UserStep, Asks, Trapped, Waits, user_step, user_steps}
 use Rattle.plain_machine.specs.Buffers.{lent}
-use Rattle.plain_machine.specs.Put.{put, put_fault, local_row}
+use Rattle.plain_machine.specs.Put.{put, put_fault}
+use Rattle.plain_machine.specs.Local.{local_row}
+use Rattle.plain_machine.specs.Deliveries.{Delivery, Enters, Ignores, Kills, deliver, traps_with}
 use Rattle.plain_machine.specs.Serve.{serve}
 
 -- how many instructions a thread runs at most in one record
@@ -74,17 +79,43 @@ abbrev pub outcome_of_call : Plain → VPid → ℕ → Option UserPart → Opti
 outcome_of_call g p t None = None
 outcome_of_call g p t (Some user) = outcome_of_ask g p t user (user_step user t)
 
--- a trap with a signal that has no handler ends the process; no call makes a signal pending or sets a handler yet
+-- signals
+
+-- a call that waits
+abbrev pub waits_at : Plain → VPid → ℕ → Request → Option (List ℕ) → Bool
+waits_at g p t q None = false
+waits_at g p t q (Some given) = not (is_local q) && not (is_some (serve g.kernel p t q given))
+
+-- the thread waits on a word, or stands at a call that isn't ready
+abbrev pub is_unready : Plain → VPid → ℕ → UserPart → UserStep → Bool
+is_unready g p t user Waits = true
+is_unready g p t user (Asks q) = waits_at g p t q (lent user.memory q)
+is_unready g p t user _ = false
+
 abbrev pub ended_by_signal : Plain → VPid → Plain
 ended_by_signal g p = living (record { kernel = after_end g.kernel p; users = g.users })
 
-abbrev pub outcome_of_trap : Plain → VPid → ℕ → UserStep → Option Outcome
-outcome_of_trap g p s (Trapped trap) = if trap == s then Some (quiet (ended_by_signal g p)) else None
-outcome_of_trap g p s _ = None
+abbrev pub delivered : Plain → VPid → Delivery → Plain
+delivered g p (Enters user) = with_user g p user
+delivered g p Ignores = g
+delivered g p (Kills status) = ended_by_signal g p
+
+-- the pending signals that the thread's mask lets through
+abbrev pub deliverable : PlainKernel → VPid → ℕ → ThreadPart → ℕ
+deliverable k p t thread = without_signals (pending k p t) thread.mask
+
+-- a signal with which the thread traps is delivered for that, and stays pending where it is
+abbrev pub outcome_of_pending : Plain → VPid → ℕ → ℕ → UserPart → Option ThreadPart → Option Outcome
+outcome_of_pending g p t s user None = None
+outcome_of_pending g p t s user (Some thread) =
+    if traps_with (user_step user t) s then Some (quiet (delivered g p (deliver user t s false))) else
+    if has_signal (deliverable g.kernel p t thread) s then
+    Some (quiet (delivered (record { kernel = after_take g.kernel p t s; users = g.users }) p (deliver user t s (is_unready g p t user (user_step user t)))))
+    else None
 
 abbrev pub outcome_of_signal : Plain → VPid → ℕ → ℕ → Option UserPart → Option Outcome
 outcome_of_signal g p t s None = None
-outcome_of_signal g p t s (Some user) = outcome_of_trap g p s (user_step user t)
+outcome_of_signal g p t s (Some user) = outcome_of_pending g p t s user (map.get user.threads t)
 
 abbrev pub with_arrived : Plain → Dir → Direction → ℕ → Plain
 with_arrived g dir direction n = record {

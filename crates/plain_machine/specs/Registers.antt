@@ -14,3 +14,22 @@ at_pc regs address = record { x = regs.x; pc = address }
 -- the address of the next instruction
 abbrev pub next_pc : Regs → ℕ
 next_pc regs = (regs.pc + 4) % 2 ^ 32
+
+-- the registers that the calling convention names (RISC-V ELF psABI, chapter 1)
+abbrev pub RA : ℕ
+RA = 1
+
+abbrev pub SP : ℕ
+SP = 2
+
+abbrev pub TP : ℕ
+TP = 4
+
+abbrev pub A0 : ℕ
+A0 = 10
+
+abbrev pub A1 : ℕ
+A1 = 11
+
+abbrev pub A2 : ℕ
+A2 = 12

@@ -1,12 +1,16 @@
 -- What holds of every plain state that a run reaches: a fact a topic, each over the maps that it speaks of.
 -- Source: the limits of docs/MACHINE.md.
 --     IsKernel k      of the kernel part      IsUser user      of one process's part      IsValid g      of both, and of how they fit together
-use Rattle.std.specs.Prelude.{◌≡◌, ◌≢◌, ℕ, ◌*◌, ◌%◌, ◌^◌, ◌<◌, ◌≤◌, nat_lt, true, length, slice_index, Some, is_some, All, AllPairs}
+--     IsRequest q     of a call that a thread asks for      CanAdd user q reply      of a process whose thread gets this answer
+use Rattle.std.specs.Prelude.{◌≡◌, ◌≢◌, ℕ, ◌*◌, ◌%◌, ◌^◌, ◌<◌, ◌≤◌, nat_lt, true, length, slice_index, Option, Some, None, is_some, All, AllPairs}
 use Rattle.std.specs.Ordering.{nat_cmp}
 use Rattle.std.specs.declared.cmp.Ordering.{Ordering}
 use Rattle.std.specs.FinMap as map
 use Rattle.sys_abi.specs.declared.identity.VPid.{VPid}
 use Rattle.sys_abi.specs.declared.identity.Slot.{Slot}
+use Rattle.sys_abi.specs.declared.request.Request.{Request}
+use Rattle.sys_abi.specs.declared.request.Request.TheVariants.{SetTidAddress, Futex, Brk, Munmap, Mmap, Clone}
+use Rattle.sys_abi.specs.declared.reply.Reply.{Reply}
 use Rattle.plain_machine.specs.declared.memory.Frame.{Frame}
 use Rattle.plain_machine.specs.declared.regs.Regs.{Regs}
 use Rattle.plain_machine.specs.declared.user_part.UserPart.{UserPart}
@@ -22,6 +26,7 @@ use Rattle.plain_machine.specs.declared.kernel.PlainKernel.{PlainKernel}
 use Rattle.plain_machine.specs.declared.plain.Plain.{Plain}
 use Rattle.plain_machine.specs.Kernel.{is_live, is_held}
 use Rattle.plain_machine.specs.Memory.{Memory}
+use Rattle.plain_machine.specs.Put.{added_thread}
 use Rattle.plain_machine.specs.Start.{FIRST_PID, RETURN_PAGE, return_frame}
 
 abbrev pub IsWord : ℕ → Type 0
@@ -65,6 +70,7 @@ pub record IsDirection (direction : Direction) : Type 0 where
 
 pub record IsKernel (k : PlainKernel) : Type 0 where
   pub first_id : FIRST_PID ≤ k.next_id
+  pub last_id : k.next_id < 2 ^ 31
   pub processes : Each k.processes (IsProcess k.next_id)
   pub makers : Each k.makers (λ p maker. is_some (map.get k.processes p) ≡ true)
   pub descriptors : Each k.descriptors (IsDescriptor k)
@@ -131,3 +137,21 @@ pub record IsValid (g : Plain) : Type 0 where
   pub users : Each g.users (λ p user. IsUser user)
   pub alive : (p : VPid) → is_some (map.get g.users p) ≡ is_live g.kernel p
   pub threads : (p : VPid) (process : Process) (user : UserPart) → map.get g.kernel.processes p ≡ Some process → map.get g.users p ≡ Some user → SameThreads process user
+
+-- what a call names are words: it was read off registers
+unfoldable pub IsRequest : Request → Type 0
+IsRequest (SetTidAddress place) = IsWord place
+IsRequest (Futex address operation value timeout) = IsWord address
+IsRequest (Brk address) = IsWord address
+IsRequest (Munmap address length) = IsWord address × IsWord length
+IsRequest (Mmap address length protection flags fd offset) = IsWord length
+IsRequest (Clone flags stack parent_tid tls child_tid) = IsWord stack × IsWord tls × IsWord child_tid
+IsRequest q = Unit {0}
+
+-- where an answer adds a thread, its number is free, and there is room for one more
+abbrev pub CanAddAs : UserPart → Option ℕ → Type 0
+CanAddAs user None = Unit {0}
+CanAddAs user (Some new) = IsWord new × (map.get user.threads new ≡ None) × (map.len user.threads < 64)
+
+abbrev pub CanAdd : UserPart → Request → Reply → Type 0
+CanAdd user q reply = CanAddAs user (added_thread q reply)

@@ -1,4 +1,4 @@
-ghost use Rattle.plain_machine.specs.Laws.{RecordIsLocal, StartIsValid, StepKeepsValid, RunOfOneMore, ConsoleOfOneMore, ReadIsLaunched, StartIsUser, UserStepsKeepUser, PutKeepsUser, FaultKeepsUser, LocalKeepsUser, WaitersAreFew, ServeAnswers};
+ghost use Rattle.plain_machine.specs.Laws.{RecordIsLocal, StartIsValid, StepKeepsValid, RunOfOneMore, ConsoleOfOneMore, ReadIsLaunched, StartIsUser, UserStepsKeepUser, PutKeepsUser, FaultKeepsUser, LocalKeepsUser, DeliveryKeepsUser, AskedIsRequest, WaitersAreFew, ServeAnswers, ServeAdds};
 ghost use Rattle.plain_machine.specs.Examples.{AreDecoded, AreQuotients, AreProducts, IsStarted, AreAnswers};
 
 /// The laws of runs, for proofs about traces. It does nothing.
@@ -16,8 +16,11 @@ pub fn run_laws()
     ensures user_put { PutKeepsUser }
     ensures user_fault { FaultKeepsUser }
     ensures user_local { LocalKeepsUser }
+    ensures user_delivery { DeliveryKeepsUser }
+    ensures user_asks { AskedIsRequest }
     ensures waiters { WaitersAreFew }
     ensures answers { ServeAnswers }
+    ensures adds { ServeAdds }
 {}
 
 /// Worked examples of the definitions, so that a change of one shows. It does nothing.

@@ -25,7 +25,7 @@ pub struct Answer {
 impl PlainKernel {
     /// Serves a call of a thread, where `given` are the bytes that the call reads. It answers None where the call waits.
     /// Then, and after a failed allocation, the kernel part is as before.
-    #[tactic(auto, unfolding(crate::specs::Serve::serve, crate::specs::Serve::row, crate::specs::Rows::End::exit_group_row))]
+    #[tactic(auto, unfolding(crate::specs::Serve::serve, crate::specs::Serve::row, crate::specs::Rows::End::exit_group_row, crate::specs::Rows::End::exit_row))]
     pub fn serve(
         &mut self,
         alloc: Global,
@@ -39,12 +39,23 @@ impl PlainKernel {
         ensures waits { IfOk result (λ answer. answer ≡ None → self.new ≡ self.old) }
         ensures err { OnErr result (self.new ≡ self.old) }
     {
-        let _ = t;
         match request {
             Request::Write { fd, .. } => Ok(Some(settled(alloc, self.write(alloc, p, *fd, given)))),
             Request::ExitGroup { .. } => {
                 self.end_process(p);
                 Ok(Some(value(alloc, 0)))
+            }
+            Request::Exit { .. } => {
+                self.end_thread(p, t);
+                Ok(Some(value(alloc, 0)))
+            }
+            Request::Tgkill { pid, tid, signal } => {
+                let attempt = self.tgkill(alloc, p, *pid, *tid, *signal);
+                Ok(Some(settled(alloc, attempt)))
+            }
+            Request::Clone { flags, .. } => {
+                let attempt = self.clone_by_flags(alloc, p, *flags)?;
+                Ok(Some(settled(alloc, attempt)))
             }
             _ => Ok(Some(settled(alloc, Err(Errno(ENOSYS))))),
         }
@@ -71,7 +82,8 @@ impl PlainKernel {
     }
 }
 
-fn value(alloc: Global, number: u32) -> Answer
+/// An answer that is a number alone.
+pub(crate) fn value(alloc: Global, number: u32) -> Answer
     ensures { result ≡ record { reply = Value number; bytes = []; is_shown = false } }
 {
     Answer {

@@ -2,7 +2,7 @@ use crate::{FIRST_PID, PlainKernel, Served, serve_slowly};
 use std::alloc::{AllocError, Global};
 use std::test::Fail;
 use sys_abi::errors::EBADF;
-use sys_abi::{Errno, Reply, Request, Tid, VPid};
+use sys_abi::{Errno, Reply, Request, Signal, Tid, VPid};
 use views::list_of::ListOf;
 
 const FIRST: VPid = VPid(FIRST_PID);
@@ -106,5 +106,53 @@ fn named_file(rt: HostRuntime) -> Result<(), Fail> {
     let bytes = kernel.files.get(1).ok_or("no file")?;
     assert_eq!(rt; bytes.as_slice(), b"hello\n".as_slice());
     assert_eq!(rt; kernel.next_file, 2);
+    Ok(())
+}
+
+/// CLONE_VM, CLONE_FS, CLONE_FILES, CLONE_SIGHAND, CLONE_THREAD and CLONE_PARENT_SETTID.
+const NEW_THREAD: u32 = 0x0011_0F00;
+
+#[test]
+fn thread_begins_and_ends(rt: HostRuntime) -> Result<(), Fail> {
+    let alloc = rt.alloc();
+    let mut kernel = kernel(alloc)?;
+    let call = Request::Clone {
+        flags: NEW_THREAD,
+        stack: 0,
+        parent_tid: 0x1000,
+        tls: 0,
+        child_tid: 0,
+    };
+    let answer = kernel
+        .serve(alloc, FIRST, THREAD, &call, b"")?
+        .ok_or("waits")?;
+    assert_eq!(rt; answer.reply, Reply::Value(FIRST_PID + 1));
+    assert_eq!(rt; answer.bytes.as_slice(), [0x41, 0x9C, 0, 0].as_slice());
+    assert_eq!(rt; kernel.thread_count(FIRST), 2);
+    let exit = Request::Exit { code: 0 };
+    kernel.serve(alloc, FIRST, THREAD, &exit, b"")?;
+    assert_eq!(rt; kernel.has_thread(FIRST, FIRST_PID), false);
+    assert_eq!(rt; kernel.is_live(FIRST), true);
+    kernel.serve(alloc, FIRST, Tid(FIRST_PID + 1), &exit, b"")?;
+    assert_eq!(rt; kernel.is_live(FIRST), false);
+    Ok(())
+}
+
+#[test]
+fn signal_to_a_thread(rt: HostRuntime) -> Result<(), Fail> {
+    let alloc = rt.alloc();
+    let mut kernel = kernel(alloc)?;
+    let call = Request::Tgkill {
+        pid: FIRST_PID,
+        tid: FIRST_PID,
+        signal: 10,
+    };
+    let answer = kernel
+        .serve(alloc, FIRST, THREAD, &call, b"")?
+        .ok_or("waits")?;
+    assert_eq!(rt; answer.reply, Reply::Value(0));
+    assert_eq!(rt; kernel.pending(FIRST, THREAD), 0x200);
+    kernel.take(FIRST, THREAD, Signal(10));
+    assert_eq!(rt; kernel.pending(FIRST, THREAD), 0);
     Ok(())
 }

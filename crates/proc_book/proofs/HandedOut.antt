@@ -14,10 +14,10 @@ use Rattle.views.proofs.MapLaws.{true_false, same_or_other, get_insert_same, get
 use Rattle.views.proofs.MapValues.{get-map_values, get-retained}
 use Rattle.sys_abi.specs.declared.identity.RealPid.{RealPid}
 use Rattle.proc_book.specs.declared.process.Process.{Process}
-use Rattle.proc_book.specs.declared.limits.TheConstants.{CHILD_ENDED}
+use Rattle.sys_abi.specs.declared.signals.TheConstants.{SIGCHLD}
 use Rattle.proc_book.specs.RealOrder.{real_cmp}
 use Rattle.proc_book.specs.Changes.{at_key}
-use Rattle.proc_book.specs.Signals.{has_signal}
+use Rattle.sys_abi.specs.Signals.{has_signal}
 use Rattle.proc_book.specs.Processes.{newborn, is_live, is_child_of, signals_of, raised, after_take, zombie}
 use Rattle.proc_book.specs.Ends.{Processes, orphan, is_zombie_child, orphaned, is_live_at, left_by, ended_by, after_end}
 use Rattle.proc_book.specs.Procs.{real, with_thread, without_thread, IsBelow, IsUnused, AllHandedOut, after_wait}
@@ -126,9 +126,9 @@ either_map false m x y first second = second
 shrinks-left_by : (p : RealPid) (status : ℕ) (parent : Option RealPid) (m : Processes) → Shrinks m (left_by p status parent m)
 shrinks-left_by p status None m = shrinks-remove m p
 shrinks-left_by p status (Some parent) m =
-    let told = at_key m parent (raised None CHILD_ENDED) in
+    let told = at_key m parent (raised None SIGCHLD) in
     either_map (is_live_at m parent) m _ _
-    (shrinks-then m told (at_key told p (zombie status)) (shrinks-at_key m parent (raised None CHILD_ENDED) (fewer-raised None CHILD_ENDED)) (shrinks-at_key told p (zombie status) (fewer-zombie status)))
+    (shrinks-then m told (at_key told p (zombie status)) (shrinks-at_key m parent (raised None SIGCHLD) (fewer-raised None SIGCHLD)) (shrinks-at_key told p (zombie status) (fewer-zombie status)))
     (shrinks-remove m p)
 
 shrinks-ended_by : (p : RealPid) (status : ℕ) (found : Option Process) (m : Processes) → Shrinks m (ended_by p status found m)

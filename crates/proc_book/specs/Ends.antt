@@ -7,9 +7,9 @@ use Rattle.std.specs.Option.{option_map_or}
 use Rattle.std.specs.FinMap as map
 use Rattle.views.specs.Maps.{map_values, retain}
 use Rattle.sys_abi.specs.declared.identity.RealPid.{RealPid}
+use Rattle.sys_abi.specs.declared.signals.TheConstants.{SIGCHLD}
 use Rattle.proc_book.specs.RealOrder.{real_cmp}
 use Rattle.proc_book.specs.declared.process.Process.{Process}
-use Rattle.proc_book.specs.declared.limits.TheConstants.{CHILD_ENDED}
 use Rattle.proc_book.specs.Changes.{at_key}
 use Rattle.proc_book.specs.Processes.{is_live, is_child_of, raised, zombie}
 
@@ -30,7 +30,7 @@ is_live_at m p = option_map_or is_live (map.get m p) false
 
 abbrev pub left_by : RealPid → ℕ → Option RealPid → Processes → Processes
 left_by p status None m = map.remove m p
-left_by p status (Some parent) m = if is_live_at m parent then at_key (at_key m parent (raised None CHILD_ENDED)) p (zombie status) else map.remove m p
+left_by p status (Some parent) m = if is_live_at m parent then at_key (at_key m parent (raised None SIGCHLD)) p (zombie status) else map.remove m p
 
 abbrev pub ended_by : RealPid → ℕ → Option Process → Processes → Processes
 ended_by p status None m = m

@@ -4,4 +4,3 @@ pub mod LentProcess
 pub mod Processes
 pub mod Procs
 pub mod RealOrder
-pub mod Signals

@@ -15,7 +15,7 @@ use Rattle.proc_book.specs.declared.process.Life.{Life}
 use Rattle.proc_book.specs.declared.process.Life.TheVariants.{Live, Zombie}
 use Rattle.proc_book.specs.Changes.{at_key}
 use Rattle.proc_book.specs.RealOrder.{real_cmp}
-use Rattle.proc_book.specs.Signals.{has_signal, with_signal, without_signal}
+use Rattle.sys_abi.specs.Signals.{has_signal, with_signal, without_signal}
 
 abbrev pub newborn : Option RealPid → ℕ → Process
 newborn parent number = record { parent = parent; life = Live; pending = 0; threads = map.insert map.empty number 0 }

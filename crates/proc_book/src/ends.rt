@@ -4,9 +4,9 @@ ghost use Rattle.proc_book.specs.Changes.{at_key};
 ghost use Rattle.proc_book.specs.Processes as process;
 ghost use Rattle.proc_book.specs.Ends as words;
 
-use crate::limits::CHILD_ENDED;
 use crate::process_map::ProcessMap;
 use std::alloc::Global;
+use sys_abi::signals::SIGCHLD;
 use sys_abi::{RealPid, Signal};
 
 pub(crate) fn is_live_at(processes: &ProcessMap, p: RealPid) -> bool
@@ -60,7 +60,7 @@ fn leave(
         processes.remove(p);
         return;
     }
-    raise_at(processes, parent, None, Signal(CHILD_ENDED));
+    raise_at(processes, parent, None, Signal(SIGCHLD));
     make_zombie(processes, alloc, p, status);
 }
 

@@ -16,7 +16,6 @@ mod proc_fault;
 mod process;
 mod process_map;
 mod procs;
-mod signals;
 mod waiting;
 
 pub use proc_fault::ProcFault;

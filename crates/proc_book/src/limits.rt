@@ -5,6 +5,3 @@ pub const PROCESS_LIMIT: usize = 128;
 
 /// How many threads a process has at most.
 pub const THREAD_LIMIT: usize = 64;
-
-/// The signal that a live parent gets at the end of a child (`man 7 signal`, SIGCHLD).
-pub const CHILD_ENDED: u32 = 17;

@@ -1,7 +1,7 @@
 ghost use Rattle.std.specs.Prelude.{◌≡◌, ◌≤◌, ◌<◌, Err, IfOk, OnOk, OnErr, IsOkUnless, true};
 ghost use Rattle.std.specs.FinMap as map;
 ghost use Rattle.proc_book.specs.Changes.{at_key};
-ghost use Rattle.proc_book.specs.Signals as signals;
+ghost use Rattle.sys_abi.specs.Signals as signals;
 ghost use Rattle.proc_book.specs.Processes as words;
 ghost use Rattle.proc_book.specs.Ends as ends;
 ghost use Rattle.proc_book.specs.Procs as procs;
@@ -9,8 +9,8 @@ ghost use Rattle.proc_book.specs.declared.limits.TheConstants.{THREAD_LIMIT};
 
 use crate::limits::THREAD_LIMIT;
 use crate::proc_fault::ProcFault;
-use crate::signals::{has_signal, with_signal, without_signal};
 use std::alloc::{AllocError, Global};
+use sys_abi::signals::{has_signal, with_signal, without_signal};
 use sys_abi::{RealPid, Signal};
 use views::number_map::NumberMap;
 

@@ -19,7 +19,7 @@ pub fn is_below(a: u32, b: u32) -> bool
 
 /// SLL, SLLI: `a` times 2 to the power `amount`, without the bits that don't fit.
 #[inline]
-#[tactic(auto, using(crate::proofs::Shifts::shl_past))]
+#[tactic(auto, using(plain_machine::proofs::Shifts::shl_past))]
 pub fn shift_left(a: u32, amount: u32) -> u32
     ensures { result ≡ a * 2 ^ amount % 2 ^ 32 }
 {
@@ -28,7 +28,7 @@ pub fn shift_left(a: u32, amount: u32) -> u32
 
 /// SRL, SRLI: zeros come in.
 #[inline]
-#[tactic(auto, using(crate::proofs::Shifts::shr_past))]
+#[tactic(auto, using(plain_machine::proofs::Shifts::shr_past))]
 pub fn shift_right(a: u32, amount: u32) -> u32
     ensures { result ≡ a / 2 ^ amount }
 {

@@ -2,3 +2,5 @@ pub mod LentValues
 pub mod Names
 pub mod Orders
 pub mod Requests
+pub mod Signals
+pub mod Clones

@@ -1,4 +1,4 @@
-//! Flag bits of calls and of open descriptions (`man 2 open`, `man 2 clone`).
+//! Flag bits of calls, of open descriptions and of signal handlers (`man 2 open`, `man 2 clone`, `man 2 sigaction`).
 
 pub const O_WRONLY: u32 = 1;
 
@@ -26,3 +26,23 @@ pub const CLONE_CHILD_CLEARTID: u32 = 0x0020_0000;
 pub const CLONE_CHILD_SETTID: u32 = 0x0100_0000;
 
 pub const CLONE_SETTLS: u32 = 0x0008_0000;
+
+/// A thread that shares its process's memory.
+pub const CLONE_VM: u32 = 0x100;
+
+pub const CLONE_FS: u32 = 0x200;
+
+pub const CLONE_FILES: u32 = 0x400;
+
+pub const CLONE_SIGHAND: u32 = 0x800;
+
+pub const CLONE_THREAD: u32 = 0x0001_0000;
+
+/// Taken and without effect.
+pub const CLONE_SYSVSEM: u32 = 0x0004_0000;
+
+/// The signal that stays deliverable while its handler runs (`man 2 sigaction`).
+pub const SA_NODEFER: u32 = 0x4000_0000;
+
+/// A call that a handler interrupts begins again (`man 2 sigaction`).
+pub const SA_RESTART: u32 = 0x1000_0000;

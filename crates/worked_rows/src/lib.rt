@@ -11,6 +11,8 @@ mod compiled;
 #[cfg(test)]
 mod launches;
 #[cfg(test)]
+mod mappings;
+#[cfg(test)]
 mod pieces;
 #[cfg(test)]
 mod programs;
@@ -21,4 +23,8 @@ mod refusals;
 #[cfg(test)]
 mod session;
 #[cfg(test)]
+mod signals;
+#[cfg(test)]
 mod starts;
+#[cfg(test)]
+mod threads;

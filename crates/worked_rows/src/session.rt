@@ -1,4 +1,4 @@
-use crate::programs::hello;
+use crate::programs::{hello, program};
 use dmtcp_top::{Status, dmtcp};
 use edge_io::{MemInputs, MemSink};
 use set_disk::MemFolder;
@@ -83,6 +83,37 @@ pub fn run_in<R: Wait + Threads + Sync>(
         out,
         log,
     })
+}
+
+/// Runs a program of these instructions, with a text behind them, as `a.elf`.
+pub fn run_code<R: Wait + Threads + Sync>(
+    rt: &R,
+    alloc: Global,
+    code: &[u32],
+    text: &[u8],
+) -> Result<Left, AllocError> {
+    let mut disk = MemFolder::new(alloc, &[])?;
+    run_code_in(rt, alloc, &["launch", "0:a.elf"], code, text, &mut disk)
+}
+
+/// The same with other words, in a folder with what earlier calls left there.
+pub fn run_code_in<R: Wait + Threads + Sync>(
+    rt: &R,
+    alloc: Global,
+    words: &[&str],
+    code: &[u32],
+    text: &[u8],
+    disk: &mut MemFolder,
+) -> Result<Left, AllocError> {
+    let file = program(alloc, code, text)?;
+    run_in(
+        rt,
+        alloc,
+        words,
+        ("a.elf", file.as_slice()),
+        NONE_FAIL,
+        disk,
+    )
 }
 
 /// The same with `hello.elf` under that name.

@@ -1,6 +1,6 @@
 use Rattle.std.proofs.Common.{◌≡◌, [], Some, None, map, string_bytes, ap, ◌∙◌}
 use Rattle.trace_log.specs.Trace.{TraceState}
-use Rattle.dmtcp_top.specs.declared.run_end.RunEnd.TheVariants.{Done as RunDone, Budget as RunBudget, SinkFault as RunSinkFault, Memory as RunMemory}
+use Rattle.dmtcp_top.specs.declared.run_end.RunEnd.TheVariants.{Done as RunDone, Budget as RunBudget, Stuck as RunStuck, SinkFault as RunSinkFault, Memory as RunMemory}
 use Rattle.dmtcp_top.specs.declared.settings.Settings.{Settings}
 use Rattle.dmtcp_top.specs.Machines.{plain_of}
 use Rattle.dmtcp_top.specs.Sessions.{sunk}
@@ -80,6 +80,21 @@ returns-in-Budget-clause-promise g c =
         begun_arrives (map string_bytes c.args.words.now) (g.I.Inputs.held c.args.inputs.now) (g.F.Folder.reads c.args.disk.now) c.run.new.trace.records console log RunBudget
             c.run.result c.in-Ok.start c.in-Some.job c.reserve.new.self.room c.settings-records.result.records c.in-Some.ensures.some c.in-Ok.ensures.begins room (ap (λ (s : Settings). s.records) c.settings-records.ensures)
             c.in-Budget.is c.run.ensures.ends,
+        whole_begun (plain_of c.in-Ok.start.machine) c.run.new.trace.records c.args.disk.now c.begin.new.disk c.run.new.disk c.begin.ensures.looks c.run.ensures.safe,
+      ),
+    )
+
+pub returns-in-Stuck-clause-promise : goal.returns-in-Stuck-clause-promise
+returns-in-Stuck-clause-promise g c =
+    let console = sunk (g.O.Sink.taken c.args.out.now) (g.O.Sink.taken c.run.new.out) in
+    let log = sunk (g.L.Sink.taken c.args.log.now) (g.L.Sink.taken c.run.new.log) in
+    let reserved = from_ok c.reserve.result c.if-is_err.ensures.negation c.reserve.ensures.ok in
+    let room : c.reserve.new.self.room ≡ c.settings-records.result.records = ap (λ (t : TraceState). t.room) reserved in (
+      Some (plain_of c.in-Ok.start.machine),
+      (
+        begun_arrives (map string_bytes c.args.words.now) (g.I.Inputs.held c.args.inputs.now) (g.F.Folder.reads c.args.disk.now) c.run.new.trace.records console log RunStuck
+            c.run.result c.in-Ok.start c.in-Some.job c.reserve.new.self.room c.settings-records.result.records c.in-Some.ensures.some c.in-Ok.ensures.begins room (ap (λ (s : Settings). s.records) c.settings-records.ensures)
+            c.in-Stuck.is c.run.ensures.ends,
         whole_begun (plain_of c.in-Ok.start.machine) c.run.new.trace.records c.args.disk.now c.begin.new.disk c.run.new.disk c.begin.ensures.looks c.run.ensures.safe,
       ),
     )

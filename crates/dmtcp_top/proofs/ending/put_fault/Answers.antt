@@ -4,7 +4,7 @@ use Rattle.elf32.specs.Faults.{word_of}
 use Rattle.dmtcp_top.specs.Log.{fault_text, bad_program_line}
 use Rattle.dmtcp_top.specs.Sessions.{sunk, Took, TookFront}
 use Rattle.dmtcp_top.proofs.Sinks.{took_both, took_more, front_grows, OnErr-of_any, OnErr-map}
-use Rattle.dmtcp_top.proofs.Turns.{OnOk-map}
+use Rattle.dmtcp_top.proofs.Results.{OnOk-map}
 use Rattle.dmtcp_top.proofs.ending.put_fault.Goals as goal
 
 pub returns-in_err-put_three-clause-err : goal.returns-in_err-put_three-clause-err

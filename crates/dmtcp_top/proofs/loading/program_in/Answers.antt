@@ -1,4 +1,4 @@
-use Rattle.std.proofs.Common.{ℕ, List, ◌≤◌, sym, subst}
+use Rattle.std.proofs.Common.{◌≤◌, sym, subst}
 use Rattle.std.specs.Prelude.{All}
 use Rattle.elf32.specs.declared.program.Program.{Program}
 use Rattle.elf32.specs.Pages.{page_count}

@@ -1,6 +1,5 @@
-use Rattle.std.proofs.Common.{◌≡◌, Err, IfSome, ap, sym, subst, ◌∙◌}
+use Rattle.std.proofs.Common.{Err, IfSome, ap, sym, subst, ◌∙◌}
 use Rattle.image_codec.specs.declared.damage.Damage.{Damage as Place}
-use Rattle.image_store.specs.declared.store_fault.StoreFault.TheVariants.{Damaged}
 use Rattle.image_store.specs.declared.set_info.SetInfo.{SetInfo}
 use Rattle.image_store.specs.FoundSets.{last_set, HasSet}
 use Rattle.dmtcp_top.specs.Sets.{SpoilsSet}

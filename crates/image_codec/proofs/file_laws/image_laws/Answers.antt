@@ -1,5 +1,9 @@
+use Rattle.image_codec.proofs.ImageKernels.{image_is_kernel, image_has_next_id}
+use Rattle.image_codec.proofs.KeptImages.{other_threads_keep_image}
 use Rattle.image_codec.proofs.ManifestLaws as manifest
+use Rattle.image_codec.proofs.OneProcess.{one_of_image}
 use Rattle.image_codec.proofs.ProcessFiles as process
+use Rattle.image_codec.proofs.SameThreads.{images_have_same_threads, same_threads_have_tids}
 use Rattle.image_codec.proofs.SetLaws.{one_state_of_set}
 use Rattle.image_codec.proofs.SharedLaws as shared
 use Rattle.image_codec.proofs.StartImages.{start_has_image}
@@ -19,3 +23,21 @@ returns-clause-set c = one_state_of_set
 
 pub returns-clause-start : goal.returns-clause-start
 returns-clause-start c = start_has_image
+
+pub returns-clause-one : goal.returns-clause-one
+returns-clause-one c = one_of_image
+
+pub returns-clause-kernel : goal.returns-clause-kernel
+returns-clause-kernel c = image_is_kernel
+
+pub returns-clause-next_id : goal.returns-clause-next_id
+returns-clause-next_id c = image_has_next_id
+
+pub returns-clause-threads : goal.returns-clause-threads
+returns-clause-threads c = images_have_same_threads
+
+pub returns-clause-tids : goal.returns-clause-tids
+returns-clause-tids c = same_threads_have_tids
+
+pub returns-clause-kept : goal.returns-clause-kept
+returns-clause-kept c = other_threads_keep_image

@@ -1,8 +1,13 @@
 use Rattle.plain_machine.proofs.StepBounds.{step_keeps_valid}
 use Rattle.plain_machine.proofs.StartKernels.{start_is_valid}
 use Rattle.plain_machine.proofs.StartUsers.{start_user_is, read_is_launched}
-use Rattle.plain_machine.proofs.UserBounds.{user_steps_keep_user, put_keeps_user, fault_keeps_user, local_keeps_user, waiters_are_few}
+use Rattle.plain_machine.proofs.UserBounds.{user_steps_keep_user, waiters_are_few}
+use Rattle.plain_machine.proofs.PutBounds.{put_keeps_user, fault_keeps_user}
+use Rattle.plain_machine.proofs.LocalBounds.{local_keeps_user}
+use Rattle.plain_machine.proofs.DeliveryBounds.{delivery_keeps_user}
+use Rattle.plain_machine.proofs.Requests.{asked_is_request}
 use Rattle.plain_machine.proofs.CallBounds.{serve_answers}
+use Rattle.plain_machine.proofs.AddedThreads.{serve_adds}
 use Rattle.plain_machine.proofs.RunLaws.{run_of_one_more, console_of_one_more}
 use Rattle.plain_machine.proofs.Locality.{record_is_local}
 use Rattle.plain_machine.proofs.laws.run_laws.Goals as goal
@@ -40,8 +45,17 @@ returns-clause-user_fault c = fault_keeps_user
 pub returns-clause-user_local : goal.returns-clause-user_local
 returns-clause-user_local c = local_keeps_user
 
-pub returns-clause-answers : goal.returns-clause-answers
-returns-clause-answers c = serve_answers
+pub returns-clause-user_delivery : goal.returns-clause-user_delivery
+returns-clause-user_delivery c = delivery_keeps_user
+
+pub returns-clause-user_asks : goal.returns-clause-user_asks
+returns-clause-user_asks c = asked_is_request
 
 pub returns-clause-waiters : goal.returns-clause-waiters
 returns-clause-waiters c = waiters_are_few
+
+pub returns-clause-answers : goal.returns-clause-answers
+returns-clause-answers c = serve_answers
+
+pub returns-clause-adds : goal.returns-clause-adds
+returns-clause-adds c = serve_adds

@@ -1,6 +1,6 @@
 use Rattle.std.proofs.Common.{ap, ◌∙◌}
 use Rattle.std.specs.FinMap as map
-use Rattle.proc_book.specs.Signals.{with_signal}
+use Rattle.sys_abi.specs.Signals.{with_signal}
 use Rattle.proc_book.proofs.Lends.{on_some, changed-found}
 use Rattle.proc_book.proofs.process.raise_at.Goals as goal
 

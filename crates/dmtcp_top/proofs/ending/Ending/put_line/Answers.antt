@@ -3,7 +3,7 @@ use Rattle.std.specs.Prelude.{codes}
 use Rattle.dmtcp_top.specs.declared.ending.Ending.{Ending}
 use Rattle.dmtcp_top.specs.Endings.{line_of}
 use Rattle.dmtcp_top.specs.Sessions.{sunk, Took, TookFront}
-use Rattle.dmtcp_top.proofs.Turns.{OnOk-map}
+use Rattle.dmtcp_top.proofs.Results.{OnOk-map}
 use Rattle.dmtcp_top.proofs.Sinks.{OnErr-map}
 use Rattle.dmtcp_top.proofs.ending.Ending.put_line.Goals as goal
 

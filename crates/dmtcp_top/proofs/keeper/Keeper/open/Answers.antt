@@ -1,4 +1,4 @@
-use Rattle.std.proofs.Common.{◌≡◌, inl, refl, sym, ap, ◌∙◌, arith}
+use Rattle.std.proofs.Common.{inl, refl, sym, ◌∙◌, arith}
 use Rattle.dmtcp_top.proofs.Safety.{none_above}
 use Rattle.dmtcp_top.proofs.Served.{reopened_next}
 use Rattle.dmtcp_top.proofs.keeper.Keeper.open.Goals as goal

@@ -1,29 +1,29 @@
-use Rattle.std.proofs.Common.{◌≡◌, true, false, cond, [], Some, None, inl, refl, sym, ap, subst, ◌∙◌}
+use Rattle.std.proofs.Common.{◌≡◌, true, false, cond, [], inl, refl, sym, ap, ◌∙◌}
 use Rattle.sys_abi.specs.declared.record.Record.TheVariants.{Lapsed}
 use Rattle.trace_log.specs.declared.requests.Tally.{Tally}
-use Rattle.trace_log.specs.Requests.{Phase, NoRequest, Requested, asks}
+use Rattle.trace_log.specs.Requests.{NoRequest, Requested, asks}
 use Rattle.dmtcp_top.specs.declared.keeper.Keeper.{Keeper}
 use Rattle.dmtcp_top.proofs.Sinks.{OnErr-map}
-use Rattle.dmtcp_top.proofs.Turns.{OnOk-map}
+use Rattle.dmtcp_top.proofs.Results.{OnOk-map}
 use Rattle.dmtcp_top.proofs.Endings.{ended_if_dead}
 use Rattle.dmtcp_top.proofs.Checkpoints.{asks_below, asks_some, outcome_tally}
 use Rattle.dmtcp_top.proofs.Served.{on_ok2, lapsed_ok, lapsed_broken, kept_same}
 use Rattle.dmtcp_top.proofs.keeper.Keeper.serve.Goals as goal
 
 pub returns-then-not-asks-clause-ok : goal.returns-then-not-asks-clause-ok
-returns-then-not-asks-clause-ok g c = λ g' sink had first before due.
+returns-then-not-asks-clause-ok g c = λ g' place sink had first before due.
     let k = c.args.self.now in
     let idle : asks k.schedule before.running.requests.tally ≡ false = ap (λ (t : Tally). asks k.schedule t) (sym before.noted.tallied) ∙ sym c.asks.ensures ∙ c.if-not-asks.true in
     (before, inl (due ∙ ap (λ b. cond b (Requested []) NoRequest) idle))
 
 pub returns-then-not-lives-clause-ok : goal.returns-then-not-lives-clause-ok
-returns-then-not-lives-clause-ok g c = on_ok2 c.conclude.result c.conclude.ensures.ok c.conclude.ensures.keeper (λ took keeper g' sink had first before due.
+returns-then-not-lives-clause-ok g c = on_ok2 c.conclude.result c.conclude.ensures.ok c.conclude.ensures.keeper (λ took keeper g' place sink had first before due.
     let k = c.args.self.now in
     let m = c.args.machine.now in
     let asked : asks k.schedule before.running.requests.tally ≡ true = ap (λ (t : Tally). asks k.schedule t) (sym before.noted.tallied) ∙ sym c.asks.ensures ∙ c.if-not-asks.false in
     let waits = due ∙ ap (λ b. cond b (Requested []) NoRequest) asked in
     let over = ended_if_dead m c.requires.ready.single (sym c.lives.ensures ∙ c.if-not-lives.true) in
-    lapsed_ok k.schedule g' m k c.conclude.new.self c.args.trace.now c.conclude.new.trace sink had (g.L.Sink.taken c.args.log.now) (g.L.Sink.taken c.conclude.new.log) first c.args.disk.now before waits over
+    lapsed_ok k.schedule g' m place k c.conclude.new.self c.args.trace.now c.conclude.new.trace sink had (g.L.Sink.taken c.args.log.now) (g.L.Sink.taken c.conclude.new.log) first c.args.disk.now before waits over
     c.conclude.ensures.trace c.conclude.ensures.schedule (ap (λ (x : Keeper). x.lines) keeper) (ap (λ (x : Keeper). x.tally) keeper) took)
 
 pub returns-then-not-lives-clause-kept : goal.returns-then-not-lives-clause-kept
@@ -32,13 +32,13 @@ returns-then-not-lives-clause-kept g c = OnOk-map c.conclude.result (λ keeper s
     (ap (λ (x : Keeper). x.tally.greatest) keeper ∙ outcome_tally c.args.self.now.tally Lapsed refl (λ generation is. cc))) c.conclude.ensures.keeper
 
 pub returns-then-not-lives-clause-err : goal.returns-then-not-lives-clause-err
-returns-then-not-lives-clause-err g c = OnErr-map c.conclude.result (λ front g' sink had first before due.
+returns-then-not-lives-clause-err g c = OnErr-map c.conclude.result (λ front g' place sink had first before due.
     let k = c.args.self.now in
     let m = c.args.machine.now in
     let asked : asks k.schedule before.running.requests.tally ≡ true = ap (λ (t : Tally). asks k.schedule t) (sym before.noted.tallied) ∙ sym c.asks.ensures ∙ c.if-not-asks.false in
     let waits = due ∙ ap (λ b. cond b (Requested []) NoRequest) asked in
     let over = ended_if_dead m c.requires.ready.single (sym c.lives.ensures ∙ c.if-not-lives.true) in
-    lapsed_broken k.schedule g' m k c.args.trace.now c.conclude.new.trace sink had (g.L.Sink.taken c.args.log.now) (g.L.Sink.taken c.conclude.new.log) first c.args.disk.now before waits over c.conclude.ensures.trace front) c.conclude.ensures.err
+    lapsed_broken k.schedule g' m place k c.args.trace.now c.conclude.new.trace sink had (g.L.Sink.taken c.args.log.now) (g.L.Sink.taken c.conclude.new.log) first c.args.disk.now before waits over c.conclude.ensures.trace front) c.conclude.ensures.err
 
 pub checkpoint-requires-clause-below : goal.checkpoint-requires-clause-below
 checkpoint-requires-clause-below g c = asks_below c.args.self.now.schedule c.args.self.now.tally (sym c.asks.ensures ∙ c.if-not-asks.false)
@@ -47,16 +47,16 @@ pub checkpoint-requires-clause-kept : goal.checkpoint-requires-clause-kept
 checkpoint-requires-clause-kept g c = c.requires.kept (asks_some c.args.self.now.schedule c.args.self.now.tally (sym c.asks.ensures ∙ c.if-not-asks.false))
 
 pub returns-clause-ok : goal.returns-clause-ok
-returns-clause-ok g c = OnOk-map c.checkpoint.result (λ done g' sink had first before due.
+returns-clause-ok g c = OnOk-map c.checkpoint.result (λ done g' place sink had first before due.
     let k = c.args.self.now in
     let asked : asks k.schedule before.running.requests.tally ≡ true = ap (λ (t : Tally). asks k.schedule t) (sym before.noted.tallied) ∙ sym c.asks.ensures ∙ c.if-not-asks.false in
-    done g' sink had first before (due ∙ ap (λ b. cond b (Requested []) NoRequest) asked)) c.checkpoint.ensures.ok
+    done g' place sink had first before (due ∙ ap (λ b. cond b (Requested []) NoRequest) asked)) c.checkpoint.ensures.ok
 
 pub returns-clause-err : goal.returns-clause-err
-returns-clause-err g c = OnErr-map c.checkpoint.result (λ done g' sink had first before due.
+returns-clause-err g c = OnErr-map c.checkpoint.result (λ done g' place sink had first before due.
     let k = c.args.self.now in
     let asked : asks k.schedule before.running.requests.tally ≡ true = ap (λ (t : Tally). asks k.schedule t) (sym before.noted.tallied) ∙ sym c.asks.ensures ∙ c.if-not-asks.false in
-    done g' sink had first before (due ∙ ap (λ b. cond b (Requested []) NoRequest) asked)) c.checkpoint.ensures.err
+    done g' place sink had first before (due ∙ ap (λ b. cond b (Requested []) NoRequest) asked)) c.checkpoint.ensures.err
 
 pub returns-clause-untouched : goal.returns-clause-untouched
 returns-clause-untouched g c = λ none. absurd (asks_some c.args.self.now.schedule c.args.self.now.tally (sym c.asks.ensures ∙ c.if-not-asks.false) none)

@@ -1,10 +1,11 @@
 use Rattle.std.proofs.Common.{refl}
-use Rattle.dmtcp_top.proofs.Turns.{notes_from, spoils_from, OnOk-map}
+use Rattle.dmtcp_top.proofs.Results.{OnOk-map}
+use Rattle.dmtcp_top.proofs.MachineRecords.{takes_from, breaks_from}
 use Rattle.dmtcp_top.proofs.machine.Machine.call.Goals as goal
 
 pub returns-then-is_local-clause-ok : goal.returns-then-is_local-clause-ok
 returns-then-is_local-clause-ok g c =
-    OnOk-map c.local_call.result (λ notes. notes_from c.args.self.now _ _ _ _ _ refl c.lend.ensures.same refl (notes (g.O.Sink.taken c.args.out.now))) c.local_call.ensures.ok
+    OnOk-map c.local_call.result (λ takes. takes_from c.args.self.now _ _ _ _ c.args.t refl c.lend.ensures.same _ (takes (g.O.Sink.taken c.args.out.now))) c.local_call.ensures.ok
 
 pub returns-else-is_local-clause-failed : goal.returns-else-is_local-clause-failed
-returns-else-is_local-clause-failed g c = λ is. spoils_from c.args.self.now _ _ _ _ refl c.lend.ensures.same refl (c.kernel_call.ensures.failed is)
+returns-else-is_local-clause-failed g c = λ is. breaks_from c.args.self.now _ _ _ _ c.args.t refl c.lend.ensures.same (c.kernel_call.ensures.failed is)

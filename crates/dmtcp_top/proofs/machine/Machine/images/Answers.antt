@@ -1,13 +1,13 @@
 use Rattle.std.proofs.Common.{◌≡◌, ℕ, List, [], ◌∷◌, ◌++◌, sym, ap, subst, ◌∙◌}
 use Rattle.dmtcp_top.specs.Machines.{plain_of}
 use Rattle.dmtcp_top.specs.Sets.{SpellsState}
-use Rattle.dmtcp_top.proofs.MachineImages.{part_is_alone, part_is_valid, spells_state}
+use Rattle.dmtcp_top.proofs.MachineImages.{part_has_threads, part_is_valid, spells_state}
 use Rattle.dmtcp_top.proofs.machine.Machine.images.Goals as goal
 
 pub write_process-requires : goal.write_process-requires
 write_process-requires c =
     let m = c.args.self.now in
-    c.in_ok-image.ensures.fits (part_is_valid m c.requires.ready c.requires.alive) (part_is_alone m.guest.user m.thread.0 c.requires.ready.single.one)
+    c.in_ok-image.ensures.fits (part_is_valid m c.requires.ready c.requires.alive) (part_has_threads m c.requires.ready c.requires.alive)
 
 pub returns-clause-spelled : goal.returns-clause-spelled
 returns-clause-spelled c =

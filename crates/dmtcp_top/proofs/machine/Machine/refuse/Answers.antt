@@ -1,22 +1,32 @@
-use Rattle.std.proofs.Common.{ℕ, List, refl, sym, ap, subst, ◌∙◌}
-use Rattle.guest_proc.specs.Guests.{GuestPart}
-use Rattle.guest_proc.specs.Lending.{CanTake}
-use Rattle.guest_proc.proofs.Taking.{takes_nothing}
+use Rattle.std.proofs.Common.{◌≤◌, None, refl, sym, ap, subst, ◌∙◌}
+use Rattle.std.specs.Prelude.{IfSome}
 use Rattle.plain_machine.specs.Buffers.{written_spans}
-use Rattle.plain_machine.specs.Put.{put, error}
-use Rattle.dmtcp_top.proofs.Turns.{fault_notes, answered_single}
+use Rattle.plain_machine.specs.Put.{CanTake, put, error}
+use Rattle.plain_machine.specs.Valid.{CanAddAs}
+use Rattle.plain_machine.proofs.MemoryPages.{no_bytes_taken}
+use Rattle.plain_machine.proofs.PutBounds.{error_adds_nothing}
+use Rattle.dmtcp_top.specs.Sessions.{sunk}
+use Rattle.dmtcp_top.proofs.MachineRecords.{fault_takes}
+use Rattle.dmtcp_top.proofs.Readiness.{ready_after}
 use Rattle.dmtcp_top.proofs.machine.Machine.refuse.Goals as goal
 
-pub answer-requires : goal.answer-requires
-answer-requires c =
+pub answer-requires-clause-writable : goal.answer-requires-clause-writable
+answer-requires-clause-writable c =
     let memory = c.args.self.now.guest.user.memory in
-    subst (CanTake memory (written_spans memory c.args.request.now)) (sym c.clear.ensures) (takes_nothing memory (written_spans memory c.args.request.now))
+    subst (CanTake memory (written_spans memory c.args.request.now)) (sym c.clear.ensures) (no_bytes_taken memory (written_spans memory c.args.request.now))
 
-pub returns-clause-noted : goal.returns-clause-noted
-returns-clause-noted c taken =
+pub answer-requires-clause-added : goal.answer-requires-clause-added
+answer-requires-clause-added c = subst (CanAddAs c.args.self.now.guest.user) (sym (error_adds_nothing c.args.request.now 14)) tt
+
+pub answer-requires-clause-spare : goal.answer-requires-clause-spare
+answer-requires-clause-spare c = subst (λ added. IfSome added (λ _. 1 ≤ c.args.self.now.guest.spare)) (sym (error_adds_nothing c.args.request.now 14)) tt
+
+pub returns-clause-took : goal.returns-clause-took
+returns-clause-took c taken =
     let m = c.args.self.now in
-    let answered = c.answer.ensures ∙ ap (λ (bytes : List ℕ). let g : GuestPart = record { pid = m.guest.pid; user = put m.guest.user c.args.self.now.thread.0 c.args.request.now (error 14) bytes } in g) c.clear.ensures in
-    fault_notes m _ _ _ taken c.pid-p.result c.args.request.now c.pid-p.ensures c.requires.alive c.requires.asks c.requires.fault refl answered c.append.ensures
+    let part = c.answer.ensures.user ∙ ap (put m.guest.user c.args.t.0 c.args.request.now (error 14)) c.clear.ensures in
+    fault_takes m _ _ _ taken c.pid-p.result c.args.t c.args.request.now c.pid-p.ensures c.requires.alive c.requires.asks c.requires.fault refl c.answer.ensures.pid part c.append.ensures
 
-pub returns-clause-single : goal.returns-clause-single
-returns-clause-single c = answered_single c.args.self.now _ c.pid-p.result c.args.request.now (error 14) c.clear.new.self c.pid-p.ensures c.requires.single refl (λ q differ dead. dead) c.answer.ensures
+pub returns-clause-ready : goal.returns-clause-ready
+returns-clause-ready c =
+    ready_after c.args.self.now _ _ _ _ (sunk None None) refl c.requires.ready c.requires.alive (record { pid = c.answer.ensures.pid }) (returns-clause-took c None)

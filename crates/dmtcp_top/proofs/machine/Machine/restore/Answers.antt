@@ -1,11 +1,10 @@
 use Rattle.std.proofs.Common.{◌≡◌, ◌<◌, ◌≤◌, ◌^◌, Some, length, sym, ap, subst, ◌∙◌}
 use Rattle.std.specs.Prelude.{All}
 use Rattle.image_codec.specs.declared.process_image.ProcImage.{ProcImage}
-use Rattle.image_codec.specs.declared.thread_image.ThreadImage.{ThreadImage}
 use Rattle.image_codec.specs.ProcessImages.{SpellsProcess, pid_at, tids_at}
 use Rattle.guest_proc.proofs.FittingImages.{image_numbers, image_few}
 use Rattle.dmtcp_top.specs.declared.machine.Machine.{Machine}
-use Rattle.dmtcp_top.proofs.Restored.{the_image, last_image, first_thread, guest_of, restored_state_is, restored_is_ready}
+use Rattle.dmtcp_top.proofs.Restored.{the_image, last_image, guest_of, restored_state_is, restored_is_ready}
 use Rattle.dmtcp_top.proofs.machine.Machine.restore.Goals as goal
 
 one_value : {X : Type 0} (x y : X) → Some x ≡ Some y → x ≡ y
@@ -18,14 +17,6 @@ pub unreachable-requires : goal.unreachable-requires
 unreachable-requires c =
     let is = the_image c.args.decoded.shared c.args.decoded.procs c.requires.spelled in
     c.in_default.not-Some is.image (last_image c.args.decoded.shared c.args.decoded.procs is c.into_vec-images.result.items c.into_vec-images.result.len c.pop.result c.into_vec-images.ensures c.into_vec-images.result.ok.0 c.pop.ensures.value)
-
-pub unreachable-requires-in_default-first : goal.unreachable-requires-in_default-first
-unreachable-requires-in_default-first c =
-    let is = the_image c.args.decoded.shared c.args.decoded.procs c.requires.spelled in
-    let popped = last_image c.args.decoded.shared c.args.decoded.procs is c.into_vec-images.result.items c.into_vec-images.result.len c.pop.result c.into_vec-images.ensures c.into_vec-images.result.ok.0 c.pop.ensures.value in
-    let same = one_value c.in-Some.image is.image (sym c.in-Some.is ∙ popped) in
-    let there = c.in_default-first.ensures.value ∙ first_thread c.args.decoded.shared c.args.decoded.procs is c.in-Some.image c.as_slice.result.now same c.as_slice.ensures in
-    absurd (cc)
 
 pub of_image-requires-clause-numbers : goal.of_image-requires-clause-numbers
 of_image-requires-clause-numbers c =
@@ -52,7 +43,6 @@ returns-clause-state c =
     let m : Machine = record {
       kernel = c.in_ok-kernel.kernel;
       guest = c.in_ok-guest.guest;
-      thread = record { 0 = c.in-Some-first.first.now.tid };
       transfer = c.in_ok-transfer.transfer;
     } in
     restored_state_is s c.args.decoded.procs is m c.in_ok-kernel.ensures (c.in_ok-guest.ensures.part ∙ ap guest_of same)
@@ -63,7 +53,5 @@ returns-clause-ready c =
     let is = the_image s c.args.decoded.procs c.requires.spelled in
     let popped = last_image s c.args.decoded.procs is c.into_vec-images.result.items c.into_vec-images.result.len c.pop.result c.into_vec-images.ensures c.into_vec-images.result.ok.0 c.pop.ensures.value in
     let same = one_value c.in-Some.image is.image (sym c.in-Some.is ∙ popped) in
-    let first = one_value _ _ (c.in-Some-first.ensures.value ∙ first_thread s c.args.decoded.procs is c.in-Some.image c.as_slice.result.now same c.as_slice.ensures) in
     let valid = c.in_ok-guest.ensures.valid (pid_at s 2) (tids_at s 2) is.text (subst (SpellsProcess (pid_at s 2) (tids_at s 2) is.text) (sym same) is.process) is.bytes in
     restored_is_ready s c.args.decoded.procs is _ c.in_ok-kernel.ensures (c.in_ok-guest.ensures.part ∙ ap guest_of same) valid
-    (ap (λ (t : ThreadImage). t.tid) first)

@@ -5,8 +5,8 @@ use Rattle.plain_machine.specs.Kernel.{pid, is_live}
 use Rattle.plain_machine.specs.Start.{with_process, empty_kernel}
 use Rattle.plain_machine.specs.Valid.{IsValid}
 use Rattle.image_codec.specs.KernelImages.{HasImage}
-use Rattle.dmtcp_top.specs.Machines.{single, OneThread}
-use Rattle.dmtcp_top.proofs.Starts.{start_is_single, start_valid, first_image, first_is_alone, one_thread_at_start}
+use Rattle.dmtcp_top.specs.Machines.{single}
+use Rattle.dmtcp_top.proofs.Starts.{start_is_single, start_valid, first_image, first_is_alone}
 use Rattle.dmtcp_top.proofs.machine.Machine.start.Goals as goal
 
 pub returns-clause-state : goal.returns-clause-state
@@ -24,7 +24,6 @@ returns-clause-ready c =
         alone = λ q differ.
             let apart : q ≢ pid 40000 = λ is. differ (is ∙ sym (ap (λ (h : GuestPart). h.pid) c.in_ok-guest.ensures)) in
             subst (λ (k : PlainKernel). is_live k q ≡ false) (sym kernel) (first_is_alone q apart);
-        one = subst (λ (h : GuestPart). OneThread h.user 40000) (sym c.in_ok-guest.ensures) (one_thread_at_start c.args.program.now c.args.arguments.now 40000);
       };
       valid = subst IsValid (sym (returns-clause-state c)) (start_valid c.args.program.now c.args.arguments.now c.requires.launched);
       imaged = λ alive. subst HasImage (sym kernel) (first_image c.args.program.now c.args.arguments.now);

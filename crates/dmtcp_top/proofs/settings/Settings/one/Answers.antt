@@ -1,7 +1,7 @@
 use Rattle.dmtcp_top.proofs.Decimals.{IfNone-of_any}
 use Rattle.dmtcp_top.proofs.Options.{NoOptions, one_option, no_option}
 use Rattle.std.proofs.Common.{[], ◌∷◌, sym, subst}
-use Rattle.dmtcp_top.specs.Words.{AreOptions, with_setting, defaults}
+use Rattle.dmtcp_top.specs.Words.{AreOptions, with_setting}
 use Rattle.dmtcp_top.proofs.settings.Settings.one.Goals as goal
 
 pub returns-in_err-setting-clause-none : goal.returns-in_err-setting-clause-none

@@ -1,20 +1,25 @@
 use Rattle.std.proofs.Common.{◌≡◌, ◌≢◌, ◌+◌, ◌≤◌, length, None}
-use Rattle.dmtcp_top.specs.Machines.{plain_of, IsReady}
+use Rattle.std.specs.Prelude.{IfSome}
+use Rattle.dmtcp_top.specs.Abilities.{HasTurn}
+use Rattle.dmtcp_top.specs.Machines.{plain_of, placed, IsReady}
+use Rattle.dmtcp_top.specs.Rounds.{new_round}
 use Rattle.dmtcp_top.specs.Sessions.{sunk}
 use Rattle.dmtcp_top.specs.Keeping.{IsKept}
 use Rattle.dmtcp_top.specs.UnderWay.{IsUnderWay, IsSettled}
 use Rattle.dmtcp_top.proofs.start.Start.run.Given as goal
 
-abbrev pub invariant-loop-turn : goal.invariant-loop-turn
-invariant-loop-turn g l = record {
-  under : (now : IsUnderWay g.F.Folder.reads g.F.Folder.moment g.F.Folder.may_leave g.F.Folder.left_since g.F.Folder.faults l.initial.self.keeper.schedule (plain_of l.initial.self.machine) l.self.machine l.self.keeper l.trace
+abbrev pub invariant-loop-record : goal.invariant-loop-record
+invariant-loop-record g l = record {
+  under : (now : IsUnderWay g.F.Folder.reads g.F.Folder.moment g.F.Folder.may_leave g.F.Folder.left_since g.F.Folder.faults l.initial.self.keeper.schedule (plain_of l.initial.self.machine) l.self.machine (placed l.self.machine l.turn) l.self.keeper l.trace
       (sunk (g.O.Sink.taken l.initial.out) (g.O.Sink.taken l.out)) (sunk (g.L.Sink.taken l.initial.log) (g.L.Sink.taken l.log)) l.initial.disk l.disk) × IsSettled now.running.requests l.trace;
+  turn : IfSome l.turn (HasTurn l.self.machine);
+  still : l.turn ≡ None → new_round (plain_of l.self.machine) ≡ None;
   ready : IsReady l.self.machine;
   scheduled : l.self.keeper.schedule ≡ l.initial.self.keeper.schedule;
   kept : l.self.keeper.schedule.every ≢ None → IsKept l.self.keeper (g.F.Folder.reads l.disk) (g.F.Folder.may_leave l.disk);
   untouched : l.initial.self.keeper.schedule.every ≡ None → l.disk ≡ l.initial.disk;
   size : length l.trace.records + l.trace.room ≡ l.room;
-  left : l.trace.room + l._turn ≤ l.room;
+  left : l.trace.room + l._record ≤ l.room;
   later : g.O.Sink.faults l.initial.out ≤ g.O.Sink.faults l.out;
   log_later : g.L.Sink.faults l.initial.log ≤ g.L.Sink.faults l.log;
 }

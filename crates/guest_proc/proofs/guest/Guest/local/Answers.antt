@@ -1,6 +1,28 @@
-use Rattle.plain_machine.specs.Buffers.{written_spans}
-use Rattle.guest_proc.proofs.Taking.{takes_nothing}
+use Rattle.std.proofs.Common.{◌∙◌, ap, sym}
+use Rattle.guest_proc.specs.Guests.{with_user}
+use Rattle.guest_proc.proofs.LocalAnswers.{local_none, local_fault, local_answered, local_refused, local_wanted}
 use Rattle.guest_proc.proofs.guest.Guest.local.Goals as goal
 
-pub answer_in-requires : goal.answer_in-requires
-answer_in-requires c = takes_nothing c.self.inside.ram (written_spans c.self.inside.ram c.args.request.now)
+pub returns-then-not-has_thread-clause-ok : goal.returns-then-not-has_thread-clause-ok
+returns-then-not-has_thread-clause-ok c = ap (with_user c.args.self.now) (local_none c.args.self.now.user c.args.t.0 c.args.request.now (sym c.if-not-has_thread.ensures))
+
+pub returns-then-not-is_lendable-clause-ok : goal.returns-then-not-is_lendable-clause-ok
+returns-then-not-is_lendable-clause-ok c =
+    c.put_error.ensures
+    ∙ ap (with_user c.args.self.now) (local_fault c.args.self.now.user c.args.t.0 c.args.request.now (sym c.if-not-has_thread.ensures) (sym c.if-not-is_lendable.ensures))
+
+pub returns-in-Ok-clause-ok : goal.returns-in-Ok-clause-ok
+returns-in-Ok-clause-ok c =
+    c.put_local.ensures c.args.self.now.user
+    ∙ local_answered c.args.self.now c.call_alone.new.self c.args.t.0 c.args.request.now (sym c.if-not-has_thread.ensures) (sym c.if-not-is_lendable.ensures) c.in-Ok.answer c.in-Ok.ensures
+
+pub returns-in-Err-Refused-clause-ok : goal.returns-in-Err-Refused-clause-ok
+returns-in-Err-Refused-clause-ok c =
+    c.put_error-in-Err-Refused.ensures
+    ∙ local_refused c.args.self.now c.call_alone.new.self c.args.t.0 c.args.request.now (sym c.if-not-has_thread.ensures) (sym c.if-not-is_lendable.ensures) c.in-Err-Refused.errno
+    (rw c.in-Err-Refused.field-0-is at c.in-Err-Refused.ensures)
+
+pub returns-in-Err-Memory-clause-err : goal.returns-in-Err-Memory-clause-err
+returns-in-Err-Memory-clause-err c =
+    local_wanted c.args.self.now c.call_alone.new.self c.args.t.0 c.args.request.now (sym c.if-not-has_thread.ensures) (sym c.if-not-is_lendable.ensures)
+    (rw c.in-Err-Memory.field-0-is at c.in-Err-Memory.ensures)

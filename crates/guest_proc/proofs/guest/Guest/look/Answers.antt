@@ -1,4 +1,6 @@
-use Rattle.std.proofs.Common.{◌∙◌, ap, sym}
+use Rattle.std.proofs.Common.{◌≡◌, ◌∙◌, ap, sym, subst}
+use Rattle.std.specs.Prelude.{Some, option_map}
+use Rattle.std.specs.FinMap as map
 use Rattle.plain_machine.specs.declared.user_part.UserPart.{UserPart}
 use Rattle.plain_machine.specs.Steps.{user_step, waits}
 use Rattle.guest_proc.specs.Guests.{GuestPart, ran_at}
@@ -14,13 +16,13 @@ part c = record {
   memory = c.self.inside.ram;
   break_start = c.self.inside.break_start;
   break_end = c.self.inside.break_end;
-  threads = c.self.inside.threads;
+  threads = c.self.inside.threads.threads;
   actions = c.self.inside.actions;
   waiters = c.self.inside.waiters;
 }
 
 pub returns : goal.returns
 returns c =
-    looks (part c) c.args.t.0 c.regs_of-regs.result c.look_at.result c.regs_of-regs.ensures
+    looks (part c) c.args.t.0 c.regs_of-regs.result c.look_at.result (subst (λ (v : GuestPart). option_map (λ thread. thread.regs) (map.get v.user.threads c.args.t.0) ≡ Some c.regs_of-regs.result) (sym c.self.view_is) c.regs_of-regs.ensures)
     (ap (λ (v : GuestPart). waits v.user c.args.t.0) c.self.view_is ∙ sym c.if-waits.ensures) c.look_at.ensures
     ∙ ap (λ (v : GuestPart). ran_at (user_step v.user c.args.t.0)) c.self.view_is

@@ -1,0 +1,184 @@
+-- What a record of the one process leaves of the kernel part: nobody else comes to life, and there is an image again as long as the process lives.
+--     IsKept before after p      kept_itself, kept_by_end, kept_by_take, kept_by_serve
+use Rattle.std.proofs.Common.{◌≡◌, ◌≢◌, ℕ, ◌+◌, ◌≤◌, Bool, true, false, cond, ◌&&◌, List, Option, Some, None, refl, sym, ap, ◌∙◌, arith}
+use Rattle.std.specs.Prelude.{nat_le, nat_lt}
+use Rattle.std.specs.FinMap as map
+use Rattle.views.proofs.MapLaws.{get_remove_other, get_remove_same, true_false}
+use Rattle.sys_abi.specs.declared.identity.VPid.{VPid}
+use Rattle.sys_abi.specs.declared.errors.TheConstants.{EAGAIN, EBADF, EINVAL, ENOSYS, ESRCH}
+use Rattle.sys_abi.specs.declared.cloning.CloneForm.{CloneForm}
+use Rattle.sys_abi.specs.declared.cloning.CloneForm.TheVariants.{Fork, Thread}
+use Rattle.sys_abi.specs.Clones.{clone_form}
+use Rattle.sys_abi.specs.Signals.{has_signal, without_signal}
+use Rattle.sys_abi.specs.declared.request.Request.{Request}
+use Rattle.sys_abi.specs.declared.request.Request.TheVariants.{Write, Exit, ExitGroup, Tgkill, Clone}
+use Rattle.sys_abi.proofs.OrderLaws.{vpid_total, vpid_exact}
+use Rattle.plain_machine.specs.declared.kernel.PlainKernel.{PlainKernel}
+use Rattle.plain_machine.specs.declared.process.Process.{Process}
+use Rattle.plain_machine.specs.declared.description.Object.{Object}
+use Rattle.plain_machine.specs.declared.description.Object.TheVariants.{Console}
+use Rattle.plain_machine.specs.Attempts.{Try, Fails, NotReady, Gives, Served, need, found, refused, settled}
+use Rattle.plain_machine.specs.Kernel.{pid, is_live, is_live_process, description_at, may_write, after_end, signals_of, with_signals, taken_from, raised_at, changed_by, at_process, after_take, after_raise, is_neighbour, thread_count, has_thread, without_thread, with_thread, after_thread_end, with_next_thread}
+use Rattle.plain_machine.specs.Rows.Write.{write_row, write_object}
+use Rattle.plain_machine.specs.Rows.End.{exit_row, exit_group_row}
+use Rattle.plain_machine.specs.Rows.Send.{is_above_zero, may_be_sent, tgkill_row}
+use Rattle.plain_machine.specs.Rows.Clone.{THREAD_LIMIT, LAST_ID, cloned, clone_thread, clone_by, clone_row}
+use Rattle.plain_machine.specs.Serve.{row, serve}
+use Rattle.plain_machine.specs.Valid.{IsKernel}
+use Rattle.plain_machine.proofs.Giving.{Giving, gives, nothing}
+use Rattle.plain_machine.proofs.Trying.{Trying, succeeds, fails, after}
+use Rattle.plain_machine.proofs.LocalReplies.{needed}
+use Rattle.plain_machine.proofs.KernelThreads.{take_threads}
+use Rattle.plain_machine.proofs.ThreadBounds.{serve_threads}
+use Rattle.image_codec.specs.KernelImages.{HasImage}
+use Rattle.image_codec.proofs.KeptImages.{other_threads_keep_image}
+use Rattle.dmtcp_top.proofs.MachineImages.{live_process}
+
+-- an image is there again, where the process lives
+abbrev pub KeepsImage : PlainKernel → PlainKernel → VPid → Type 0
+KeepsImage before after p = HasImage before → IsKernel after → is_live after p ≡ true → HasImage after
+
+pub record IsKept (before after : PlainKernel) (p : VPid) : Type 0 where
+  pub others : (q : VPid) → q ≢ p → is_live before q ≡ false → is_live after q ≡ false
+  pub image : KeepsImage before after p
+
+pub kept_itself : (k : PlainKernel) (p : VPid) → IsKept k k p
+kept_itself k p = record { others = λ q differ dead. dead; image = λ image is alive. image }
+
+-- the process ends
+ended_is_dead : (k : PlainKernel) (p : VPid) → is_live (after_end k p) p ≡ false
+unfolding after_end is_live
+ended_is_dead k p = ap is_live_process (get_remove_same vpid_total vpid_exact k.processes p)
+
+end_revives_nobody : (k : PlainKernel) (p q : VPid) → q ≢ p → is_live k q ≡ false → is_live (after_end k p) q ≡ false
+unfolding after_end is_live
+end_revives_nobody k p q differ dead = ap is_live_process (get_remove_other vpid_total vpid_exact k.processes p q differ) ∙ dead
+
+pub kept_by_end : (before k : PlainKernel) (p : VPid) → IsKept before k p → IsKept before (after_end k p) p
+kept_by_end before k p kept = record {
+  others = λ q differ dead. end_revives_nobody k p q differ (kept.others q differ dead);
+  image = λ image is alive. true_false (sym alive ∙ ended_is_dead k p);
+}
+
+end_keeps_image : (k : PlainKernel) (p : VPid) → KeepsImage k (after_end k p) p
+end_keeps_image k p = (kept_by_end k k p (kept_itself k p)).image
+
+-- the threads and pending signals of a process change
+change_keeps_image : (k : PlainKernel) (p : VPid) (change : Process → Process) (next : ℕ) (process : Process) → map.get k.processes p ≡ Some process → (change process).parent ≡ process.parent → (change process).life ≡ process.life
+    → k.next_id ≤ next → HasImage k → IsKernel (record (at_process k p change) { next_id = next }) → HasImage (record (at_process k p change) { next_id = next })
+change_keeps_image k p change next process known parent life more image is =
+    other_threads_keep_image k (record (at_process k p change) { next_id = next }) p (change process) image
+    (record {
+      old = process;
+      was = known;
+      parent = parent;
+      life = life;
+      processes = ap (changed_by k.processes p change) known;
+      makers = refl;
+      descriptors = refl;
+      descriptions = refl;
+      names = refl;
+      files = refl;
+      next_file = refl;
+      channels = refl;
+      directions = refl;
+      listeners = refl;
+      inboxes = refl;
+      next_id = more;
+      limit = is.last_id;
+    }) is
+
+abbrev SameAround : Process → Process → Type 0
+SameAround before after = (after.parent ≡ before.parent) × (after.life ≡ before.life)
+
+taken_around : (t s : ℕ) (process : Process) → SameAround process (taken_from t s process)
+taken_around t s process = by_test (has_signal (signals_of t process) s)
+  where
+    by_test : (b : Bool) → SameAround process (cond b (with_signals process t (without_signal (signals_of t process) s)) (record process { pending = without_signal process.pending s }))
+    by_test true = (refl, refl)
+    by_test false = (refl, refl)
+
+pub kept_by_take : (k : PlainKernel) (p : VPid) (t s : ℕ) → is_live k p ≡ true → IsKept k (after_take k p t s) p
+unfolding after_take
+kept_by_take k p t s alive = record {
+  others = λ q differ dead. (take_threads k p t s).live q ∙ dead;
+  image = λ image is now.
+      let (process, known) = live_process k p alive in
+      let around = taken_around t s process in
+      change_keeps_image k p (taken_from t s) k.next_id process known around.0 around.1 (omega arith) image is;
+}
+
+-- a call that is served
+module _ (k : PlainKernel) (p : VPid) (alive : is_live k p ≡ true) where
+  abbrev Kept : Served → Type 0
+  Kept served = KeepsImage k served.kernel p
+
+  same_kernel : KeepsImage k k p
+  same_kernel = (kept_itself k p).image
+
+  settled_kept : (attempt : Try Served) → Trying attempt Kept → Giving (settled k attempt) Kept
+  settled_kept (Fails e) holds = gives (refused k e) same_kernel
+  settled_kept NotReady holds = nothing
+  settled_kept (Gives served) holds = gives served (holds.each served refl)
+
+  write_kept : (fd : ℕ) (given : List ℕ) → Trying (write_row k p fd given) Kept
+  unfolding write_row write_object
+  write_kept fd given =
+      after (found (description_at k p fd) EBADF) (λ description there. after (need (may_write description.flags) EBADF) (λ allowed can. shown description.object))
+    where
+      shown : (object : Object) → Trying (write_object k object given) Kept
+      shown Console = succeeds _ same_kernel
+      shown _ = fails ENOSYS
+
+  raise_kept : (q : VPid) (t s : ℕ) → is_live k q ≡ true → KeepsImage k (after_raise k q t s) p
+  unfolding after_raise
+  raise_kept q t s there image is now =
+      let (process, known) = live_process k q there in
+      change_keeps_image k q (raised_at t s) k.next_id process known refl refl (omega arith) image is
+
+  tgkill_kept : (number t s : ℕ) → Trying (tgkill_row k p number t s) Kept
+  unfolding tgkill_row is_neighbour
+  tgkill_kept number t s =
+      after (need (is_above_zero number && may_be_sent s) EINVAL) (λ may allowed.
+      after (need (is_neighbour k p number && has_thread k (pid number) t) ESRCH) (λ there known.
+      let tests = needed _ ESRCH there known in
+      let lives_there : is_live k (pid number) ≡ true = grind (arith, tests) in
+      succeeds _ (raise_kept (pid number) t s lives_there)))
+
+  exit_kept : (t : ℕ) → Giving (settled k (exit_row k p t)) Kept
+  unfolding exit_row after_thread_end
+  exit_kept t = gives _ (by_count (nat_le (thread_count k p) 1))
+    where
+      by_count : (last : Bool) → KeepsImage k (cond last (after_end k p) (at_process k p (without_thread t))) p
+      by_count true image is now = end_keeps_image k p image is now
+      by_count false image is now =
+          let (process, known) = live_process k p alive in
+          change_keeps_image k p (without_thread t) k.next_id process known refl refl (omega arith) image is
+
+  clone_kept : (flags : ℕ) → Trying (clone_thread k p flags) Kept
+  unfolding clone_thread with_next_thread
+  clone_kept flags =
+      after (need (nat_lt (thread_count k p) THREAD_LIMIT && nat_lt k.next_id LAST_ID) EAGAIN) (λ done allowed.
+      succeeds (cloned k p flags) (λ image is now.
+      let (process, known) = live_process k p alive in
+      change_keeps_image k p (with_thread k.next_id) (k.next_id + 1) process known refl refl (omega arith) image is))
+
+  form_kept : (flags : ℕ) (form : Option CloneForm) → Trying (clone_by k p flags form) Kept
+  form_kept flags None = fails EINVAL
+  form_kept flags (Some Fork) = fails ENOSYS
+  form_kept flags (Some Thread) = clone_kept flags
+
+  serve_kept : (t : ℕ) (q : Request) (given : List ℕ) → Giving (serve k p t q given) Kept
+  unfolding serve row exit_group_row clone_row
+  serve_kept t (Write fd buffer count) given = settled_kept (write_row k p fd given) (write_kept fd given)
+  serve_kept t (ExitGroup code) given = gives _ (end_keeps_image k p)
+  serve_kept t (Exit code) given = exit_kept t
+  serve_kept t (Tgkill number tid s) given = settled_kept (tgkill_row k p number tid s) (tgkill_kept number tid s)
+  serve_kept t (Clone flags stack parent_tid tls child_tid) given = settled_kept (clone_row k p flags) (form_kept flags (clone_form flags))
+  serve_kept t _ given = gives _ same_kernel
+
+  pub kept_by_serve : (t : ℕ) (q : Request) (given : List ℕ) (served : Served) → IsKernel k → serve k p t q given ≡ Some served → IsKept k served.kernel p
+  kept_by_serve t q given served is goes = record {
+    others = λ r differ dead. ((serve_threads k p t is alive q given).each served goes).live r differ ∙ dead;
+    image = (serve_kept t q given).each served goes;
+  }

@@ -1,0 +1,103 @@
+-- What a call comes to that its process answers alone, as its functions tell it.
+--     value_told, action_told, mask_told, stays_told, answer_told      answers, where user is the part after the call
+--     DoesRow told before after attempt result      the guest goes from before to after as the row says; where memory was wanted nothing has changed
+--     FitsAnswer memory q answer                    the answer can be put
+--     IsAsked user t q thread given                 the thread asks for a call that reads these bytes
+--     MakesCall before after t q result             the call was made, but for its answer
+--     NamesAction, NamesSet                         what those bytes name
+--     with_change guest t change                    the guest with a change of one thread
+use Rattle.std.specs.Prelude.{◌≡◌, ◌==◌, ℕ, ◌++◌, List, [], true, false, Option, Some, None, Result, Ok, Err, IfOk}
+use Rattle.std.specs.FinMap as map
+use Rattle.sys_abi.specs.declared.request.Request.{Request}
+use Rattle.sys_abi.specs.declared.reply.Reply.TheVariants.{Value as ToValue}
+use Rattle.plain_machine.specs.declared.user_part.SignalAction.{SignalAction}
+use Rattle.plain_machine.specs.declared.user_part.ThreadPart.{ThreadPart}
+use Rattle.plain_machine.specs.declared.user_part.UserPart.{UserPart}
+use Rattle.plain_machine.specs.Memory.{Memory as Pages, low_bytes}
+use Rattle.plain_machine.specs.Buffers.{lent, written_spans}
+use Rattle.plain_machine.specs.Put.{CanTake, added_thread}
+use Rattle.plain_machine.specs.Local.{local_by}
+use Rattle.plain_machine.specs.Attempts.{Try, Fails, Gives}
+use Rattle.plain_machine.specs.Rows.Locals.{Local, Replies, Stays as StaysAs}
+use Rattle.plain_machine.specs.Rows.Handlers.{action_bytes, action_in, word_in}
+use Rattle.guest_proc.specs.declared.local_answer.LocalAnswer.{LocalAnswer}
+use Rattle.guest_proc.specs.declared.local_answer.LocalAnswer.TheVariants.{Value, Action, Mask, Stays}
+use Rattle.guest_proc.specs.declared.local_answer.LocalFault.{LocalFault}
+use Rattle.guest_proc.specs.declared.local_answer.LocalFault.TheVariants.{Refused, Memory}
+use Rattle.guest_proc.specs.Guests.{GuestPart, with_user, with_threads}
+use Rattle.guest_proc.specs.Threads.{changed}
+
+abbrev pub value_told : UserPart → ℕ → Local
+value_told user value = Replies user value []
+
+abbrev pub action_told : UserPart → SignalAction → Local
+action_told user action = Replies user 0 (action_bytes action)
+
+abbrev pub mask_told : UserPart → ℕ → Local
+mask_told user mask = Replies user 0 (low_bytes 4 mask ++ low_bytes 4 0)
+
+abbrev pub stays_told : UserPart → Unit {0} → Local
+stays_told user done = StaysAs user
+
+abbrev pub answer_told : UserPart → LocalAnswer → Local
+answer_told user (Value value) = value_told user value
+answer_told user (Action action) = action_told user action
+answer_told user (Mask mask) = mask_told user mask
+answer_told user Stays = StaysAs user
+
+abbrev pub DoesRow : {A : Type 0} → (UserPart → A → Local) → GuestPart → GuestPart → Try Local → Result A LocalFault → Type 0
+DoesRow told before after attempt (Ok answer) = (attempt ≡ Gives (told after.user answer)) × (after ≡ with_user before after.user)
+DoesRow told before after attempt (Err (Refused e)) = (attempt ≡ Fails e.0) × (after ≡ before)
+DoesRow told before after attempt (Err Memory) = after ≡ before
+
+-- the answer's bytes can be written where the call asked for them, and it adds no thread
+pub record FitsReply (memory : Pages) (q : Request) (value : ℕ) (bytes : List ℕ) : Type 0 where
+  pub room : CanTake memory (written_spans memory q) bytes
+  pub threads : added_thread q (ToValue value) ≡ None
+
+abbrev pub FitsAnswer : Pages → Request → LocalAnswer → Type 0
+FitsAnswer memory q (Value value) = FitsReply memory q value []
+FitsAnswer memory q (Action action) = FitsReply memory q 0 (action_bytes action)
+FitsAnswer memory q (Mask mask) = FitsReply memory q 0 (low_bytes 4 mask ++ low_bytes 4 0)
+FitsAnswer memory q Stays = Unit {0}
+
+-- a thread asks for a call that reads these bytes
+pub record IsAsked (user : UserPart) (t : ℕ) (q : Request) (thread : ThreadPart) (given : List ℕ) : Type 0 where
+  pub there : map.get user.threads t ≡ Some thread
+  pub read : lent user.memory q ≡ Some given
+
+-- the call was made, but for its answer
+pub record MakesCall (before after : GuestPart) (t : ℕ) (q : Request) (result : Result LocalAnswer LocalFault) : Type 0 where
+  pub row : (thread : ThreadPart) (given : List ℕ) → IsAsked before.user t q thread given → DoesRow answer_told before after (local_by before.user t thread q given) result
+  pub fits : IfOk result (FitsAnswer after.user.memory q)
+
+-- what each kind of call answers
+abbrev pub value_answer : Result ℕ LocalFault → Result LocalAnswer LocalFault
+value_answer (Ok value) = Ok (Value value)
+value_answer (Err fault) = Err fault
+
+abbrev pub action_answer : Result SignalAction LocalFault → Result LocalAnswer LocalFault
+action_answer (Ok action) = Ok (Action action)
+action_answer (Err fault) = Err fault
+
+abbrev pub mask_answer : Result ℕ LocalFault → Result LocalAnswer LocalFault
+mask_answer (Ok mask) = Ok (Mask mask)
+mask_answer (Err fault) = Err fault
+
+abbrev pub no_answer : Result (Unit {0}) LocalFault → Result LocalAnswer LocalFault
+no_answer (Ok done) = Ok Stays
+no_answer (Err fault) = Err fault
+
+-- the action that a call names in its bytes, none where it names no place
+abbrev pub NamesAction : Option SignalAction → List ℕ → ℕ → Type 0
+NamesAction None given address = (address == 0) ≡ true
+NamesAction (Some action) given address = ((address == 0) ≡ false) × (action ≡ action_in given)
+
+-- and the set
+abbrev pub NamesSet : Option ℕ → List ℕ → ℕ → Type 0
+NamesSet None given address = (address == 0) ≡ true
+NamesSet (Some set) given address = ((address == 0) ≡ false) × (set ≡ word_in given 0)
+
+-- the guest with a change of one thread, if it is there
+abbrev pub with_change : GuestPart → ℕ → (ThreadPart → ThreadPart) → GuestPart
+with_change guest t change = with_user guest (with_threads guest.user (changed guest.user.threads t change))

@@ -1,0 +1,83 @@
+ghost use Rattle.std.specs.Prelude.{◌≡◌, ◌-◌, ◌≤◌, max, Some, None, OnOk, OnErr};
+ghost use Rattle.std.specs.FinMap as map;
+ghost use Rattle.sys_abi.specs.declared.reply.Reply.TheVariants.{Value};
+ghost use Rattle.plain_machine.specs.Put.{added_thread, after_threads};
+ghost use Rattle.plain_machine.specs.Threads.{with_new_thread};
+ghost use Rattle.guest_proc.specs.Guests.{HasThread, with_threads};
+ghost use Rattle.guest_proc.specs.Threads.{fresh};
+
+use crate::guest::Guest;
+use plain_machine::Regs;
+use plain_machine::threads::{new_clear_tid, new_regs};
+use std::alloc::{AllocError, Global};
+use sys_abi::{Request, Tid};
+
+impl Guest {
+    /// Makes room for one more thread and its saved contexts, if there is none.
+    pub fn reserve_thread(&mut self, alloc: Global) -> Result<(), AllocError>
+        ensures ok { OnOk result (self.new ≡ record self.old { spare = max 1 self.old.spare }) }
+        ensures err { OnErr result (self.new ≡ self.old) }
+    {
+        self.threads.reserve(alloc)
+    }
+
+    /// Adds the thread that a clone makes of its caller, into room that is there. Takes no memory.
+    #[tactic(auto, unfolding(plain_machine::specs::Put::added_thread, plain_machine::specs::Put::after_threads))]
+    pub fn add_thread(&mut self, t: Tid, new: Tid, request: &Request)
+        requires thread { HasThread self.old.user t.0 }
+        requires clone { added_thread request.now (Value new.0) ≡ Some new.0 }
+        requires free { map.get self.old.user.threads new.0 ≡ None }
+        requires spare { 1 ≤ self.old.spare }
+        ensures user { self.new.user ≡ after_threads self.old.user t.0 request.now (Value new.0) }
+        ensures pid { self.new.pid ≡ self.old.pid }
+        ensures spare { self.new.spare ≡ self.old.spare - 1 }
+    {
+        match *request {
+            Request::Clone {
+                flags,
+                stack,
+                tls,
+                child_tid,
+                ..
+            } => self.add_clone(t, new.0, flags, stack, tls, child_tid),
+            _ => unreachable!(),
+        }
+    }
+
+    /// Adds the thread that a clone with these arguments makes.
+    pub(crate) fn add_clone(
+        &mut self,
+        t: Tid,
+        new: u32,
+        flags: u32,
+        stack: u32,
+        tls: u32,
+        child_tid: u32,
+    )
+        requires thread { HasThread self.old.user t.0 }
+        requires free { map.get self.old.user.threads new ≡ None }
+        requires spare { 1 ≤ self.old.spare }
+        ensures { self.new ≡ record {
+          pid = self.old.pid;
+          user = with_new_thread self.old.user t.0 new flags stack tls child_tid;
+          spare = self.old.spare - 1;
+        } }
+    {
+        let regs = new_regs(self.regs_of(t), flags, stack, tls);
+        let mask = self.mask(t);
+        self.insert_thread(new, regs, mask, new_clear_tid(flags, child_tid));
+    }
+
+    /// Puts a thread that no handler has interrupted into room that is there.
+    fn insert_thread(&mut self, t: u32, regs: Regs, mask: u32, clear_tid: u32)
+        requires free { map.get self.old.user.threads t ≡ None }
+        requires spare { 1 ≤ self.old.spare }
+        ensures { self.new ≡ record {
+          pid = self.old.pid;
+          user = with_threads self.old.user (map.insert self.old.user.threads t (fresh regs mask clear_tid));
+          spare = self.old.spare - 1;
+        } }
+    {
+        self.threads.insert(t, regs, mask, clear_tid);
+    }
+}

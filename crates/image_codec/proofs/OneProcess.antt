@@ -1,0 +1,171 @@
+-- The shared image of one process that lives: the process, and what the kernel part has of it.
+--     one_process      where it stands in the image, and its fields      one_of_image      the same as a law
+--     threads_there, parts_there      which threads a map of an image's threads has
+use Rattle.std.proofs.Common.{◌≡◌, ◌≢◌, ℕ, ◌≤◌, ◌==◌, ◌&&◌, ◌||◌, Bool, true, false, cond, IsTrue, List, [], ◌∷◌, length, filter, map as each, refl, sym, ap, subst, ◌∙◌, ⊎_elim, arith}
+use Rattle.std.specs.Prelude.{Some, is_some, count_by, slice_get}
+use Rattle.std.specs.Option.{option_map, option_map_or}
+use Rattle.std.specs.Ordering.{nat_cmp, eq_by_cmp}
+use Rattle.std.specs.Cmp.{nat_cmp_total}
+use Rattle.std.specs.FinMap as map
+use Rattle.std.specs.FinMap.{nat_cmp-IsAntisymmetric}
+use Rattle.std.proofs.lemmas.Bool.Decides.{nat_tests}
+use Rattle.views.proofs.MapLaws.{get_insert_same, get_insert_other, same_or_other, key_tied, other_key}
+use Rattle.sys_abi.specs.declared.identity.VPid.{VPid}
+use Rattle.sys_abi.specs.Orders.{vpid_cmp}
+use Rattle.sys_abi.proofs.OrderLaws.{vpid_total, vpid_exact}
+use Rattle.plain_machine.specs.declared.process.Process.{Process}
+use Rattle.plain_machine.specs.declared.process.Life.{Life}
+use Rattle.plain_machine.specs.declared.process.Life.TheVariants.{Live, Zombie}
+use Rattle.plain_machine.specs.declared.user_part.ThreadPart.{ThreadPart}
+use Rattle.plain_machine.specs.Kernel.{lives, is_live, is_live_process}
+use Rattle.image_codec.specs.declared.shared.ThreadEntry.{ThreadEntry}
+use Rattle.image_codec.specs.declared.shared.ProcessEntry.{ProcessEntry}
+use Rattle.image_codec.specs.declared.shared.Shared.{Shared}
+use Rattle.image_codec.specs.declared.thread_image.ThreadImage.{ThreadImage}
+use Rattle.image_codec.specs.Fields.{is_within}
+use Rattle.image_codec.specs.Texts.{EachFrom}
+use Rattle.image_codec.specs.SharedTests as field
+use Rattle.image_codec.specs.SharedFits.{IsShared, ProcessFits, state_of}
+use Rattle.image_codec.specs.KernelParts.{kernel_of, process_entry, signals_entry}
+use Rattle.image_codec.specs.ProcessTests.{is_among}
+use Rattle.image_codec.specs.ProcessImages.{process_at, pid_at, tids_at, tids_of, is_alive}
+use Rattle.image_codec.specs.UserParts.{thread_entry}
+use Rattle.image_codec.specs.Sets.{live_count}
+use Rattle.image_codec.specs.OneProcess.{ImageHasOneProcess}
+
+one_item : {X : Type 0} (xs : List X) → length xs ≡ 1 → (x : X) × (xs ≡ x ∷ [])
+one_item [] is = absurd (omega arith)
+one_item (x ∷ []) is = (x, refl)
+one_item (x ∷ y ∷ xs) is = absurd (omega arith)
+
+is_one : (n : ℕ) → IsTrue (n == 1) → n ≡ 1
+is_one n is = grind (arith, nat_tests)
+
+live_state : (life : Life) (rest : Bool) → IsTrue ((state_of life == 0) && rest) → life ≡ Live
+live_state Live rest is = refl
+live_state (Zombie status) rest is = absurd (cc)
+
+within : (n : ℕ) → IsTrue (is_within 1 64 n) → (1 ≤ n) × (n ≤ 64)
+within n is = (grind (arith, nat_tests), grind (arith, nat_tests))
+
+-- where it stands in the image, and its fields
+pub record OneEntry (s : Shared) : Type 0 where
+  pub process : ProcessEntry
+  pub listed : s.processes ≡ process ∷ []
+  pub life : process.life ≡ Live
+  pub fits : ProcessFits s.next_id s.channels s.descriptions [] process
+  pub some_threads : 1 ≤ length process.threads
+  pub few_threads : length process.threads ≤ 64
+
+pub one_process : (s : Shared) → IsShared s → OneEntry s
+unfolding EachFrom
+one_process s is =
+    let (process, listed) = one_item s.processes (is_one (length s.processes) is.fields.process_count.1) in
+    let fits = (subst (EachFrom (ProcessFits s.next_id s.channels s.descriptions) []) listed is.fields.processes).0 in
+    let life : process.life ≡ Live = live_state process.life _ fits.life.state.1 in
+    let count = within (length process.threads) (subst (λ (l : Life). IsTrue (field.is_thread_count l (length process.threads))) life fits.thread_count.1) in
+    record { process = process; listed = listed; life = life; fits = fits; some_threads = count.0; few_threads = count.1 }
+
+module _ (s : Shared) (one : OneEntry s) where
+  -- its file is the second one of a set
+  at_two : process_at s 2 ≡ Some one.process
+  unfolding process_at
+  at_two =
+      ap (λ (ps : List ProcessEntry). slice_get (filter (λ process. is_alive process.life) ps) 0) one.listed
+      ∙ ap (λ (l : Life). slice_get (cond (is_alive l) (one.process ∷ []) []) 0) one.life
+
+  one_lives : live_count s ≡ 1
+  unfolding live_count
+  one_lives =
+      ap (count_by (λ (process : ProcessEntry). lives process.life)) one.listed
+      ∙ ap (λ (l : Life). count_by (λ (process : ProcessEntry). lives process.life) ((record one.process { life = l }) ∷ [])) one.life
+
+  pub tids_are : tids_at s 2 ≡ tids_of one.process.threads
+  tids_are = ap (λ o. option_map_or (λ (process : ProcessEntry). tids_of process.threads) o []) at_two
+
+  pub pid_is : pid_at s 2 ≡ Some one.process.pid.0
+  pid_is = ap (option_map (λ (entry : ProcessEntry). entry.pid.0)) at_two
+
+  -- the kernel part has it and no other
+  pub processes_are : (kernel_of s).processes ≡ map.insert map.empty one.process.pid (process_entry one.process).1
+  unfolding kernel_of
+  processes_are = ap (λ (ps : List ProcessEntry). map.from_entries (each process_entry ps)) one.listed
+
+  pub one_is_live : is_live (kernel_of s) one.process.pid ≡ true
+  unfolding is_live
+  one_is_live =
+      ap (λ m. is_live_process (map.get m one.process.pid)) processes_are
+      ∙ ap is_live_process (get_insert_same vpid_total vpid_exact map.empty one.process.pid (process_entry one.process).1)
+      ∙ ap lives one.life
+
+  nobody_else : (q : VPid) → q ≢ one.process.pid → is_live (kernel_of s) q ≡ false
+  unfolding is_live
+  nobody_else q other =
+      ap (λ m. is_live_process (map.get m q)) processes_are
+      ∙ ap is_live_process (get_insert_other vpid_total vpid_exact map.empty one.process.pid (process_entry one.process).1 q other ∙ map.get-empty {X = Process} vpid_cmp q)
+
+  -- what is found in the kernel part is that process
+  pub found_once : (p : VPid) (process : Process) → map.get (kernel_of s).processes p ≡ Some process → (p ≡ one.process.pid) × ((process_entry one.process).1 ≡ process)
+  found_once p process found = ⊎_elim
+      (λ here.
+      let there : map.get (kernel_of s).processes p ≡ Some (process_entry one.process).1 =
+      ap (λ m. map.get m p) processes_are ∙ ap (map.get (map.insert map.empty one.process.pid (process_entry one.process).1)) here
+      ∙ get_insert_same vpid_total vpid_exact map.empty one.process.pid (process_entry one.process).1 in
+      (here, cc))
+      (λ other.
+      let none = ap (λ m. map.get m p) processes_are ∙ get_insert_other vpid_total vpid_exact map.empty one.process.pid (process_entry one.process).1 p other ∙ map.get-empty {X = Process} vpid_cmp p in
+      absurd (cc))
+      (same_or_other vpid_total vpid_exact p one.process.pid)
+
+pub one_of_image : ImageHasOneProcess
+one_of_image s is =
+    let one = one_process s is in
+    record {
+      process = one.process;
+      listed = one.listed;
+      life = one.life;
+      some_threads = one.some_threads;
+      few_threads = one.few_threads;
+      files = one_lives s one;
+      pid = pid_is s one;
+      tids = tids_are s one;
+      known = processes_are s one;
+      alive = one_is_live s one;
+      alone = nobody_else s one;
+    }
+
+-- which threads a map has
+
+differ : (m n : ℕ) → n ≢ m → (m == n) ≡ false
+differ m n other = elim (m == n) as (λ b. (m == n) ≡ b → b ≡ false) [ true ↦ λ is. absurd (other (grind (arith, nat_tests))) | false ↦ λ is. refl ] refl
+
+equal : (m n : ℕ) → m ≡ n → (m == n) ≡ true
+equal m n is = grind (arith, nat_tests, is)
+
+pub keys_there : {X : Type 0} (es : List (ℕ × X)) (t : ℕ) → is_some (map.find nat_cmp t es) ≡ is_among (each (λ e. e.0) es) t
+keys_there [] t = refl
+keys_there (e ∷ es) t = ⊎_elim
+    (λ (here : t ≡ e.0).
+    ap (λ b. is_some (cond b (Some e.1) (map.find nat_cmp t es))) (ap (λ k. eq_by_cmp nat_cmp k e.0) here ∙ key_tied nat_cmp_total nat_cmp-IsAntisymmetric e.0)
+    ∙ sym (ap (λ b. b || is_among (each (λ (f : ℕ × _). f.0) es) t) (equal e.0 t (sym here))))
+    (λ (other : t ≢ e.0).
+    ap (λ b. is_some (cond b (Some e.1) (map.find nat_cmp t es))) (other_key nat_cmp_total nat_cmp-IsAntisymmetric t e.0 other) ∙ keys_there es t
+    ∙ sym (ap (λ b. b || is_among (each (λ (f : ℕ × _). f.0) es) t) (differ e.0 t other)))
+    (same_or_other nat_cmp_total nat_cmp-IsAntisymmetric t e.0)
+
+made_there : {X : Type 0} (es : List (ℕ × X)) (t : ℕ) → is_some (map.get (map.from_entries {R = nat_cmp} es) t) ≡ is_among (each (λ e. e.0) es) t
+made_there es t = ap is_some (map.get-from_entries nat_cmp_total es t) ∙ keys_there es t
+
+pub signals_keys : (threads : List ThreadEntry) → each (λ (e : ℕ × ℕ). e.0) (each signals_entry threads) ≡ tids_of threads
+signals_keys [] = refl
+signals_keys (thread ∷ threads) = ap (λ (tids : List ℕ). thread.tid ∷ tids) (signals_keys threads)
+
+pub threads_there : (threads : List ThreadEntry) (t : ℕ) → is_some (map.get (map.from_entries {R = nat_cmp} (each signals_entry threads)) t) ≡ is_among (tids_of threads) t
+threads_there threads t = made_there (each signals_entry threads) t ∙ ap (λ (tids : List ℕ). is_among tids t) (signals_keys threads)
+
+pub part_keys : (images : List ThreadImage) → each (λ (e : ℕ × ThreadPart). e.0) (each thread_entry images) ≡ each (λ (image : ThreadImage). image.tid) images
+part_keys [] = refl
+part_keys (image ∷ images) = ap (λ (tids : List ℕ). image.tid ∷ tids) (part_keys images)
+
+pub parts_there : (images : List ThreadImage) (t : ℕ) → is_some (map.get (map.from_entries {R = nat_cmp} (each thread_entry images)) t) ≡ is_among (each (λ (image : ThreadImage). image.tid) images) t
+parts_there images t = made_there (each thread_entry images) t ∙ ap (λ (tids : List ℕ). is_among tids t) (part_keys images)

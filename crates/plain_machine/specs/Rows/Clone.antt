@@ -1,0 +1,45 @@
+-- clone(flags, stack, parent_tid, tls, child_tid) (`man 2 clone`): a thread gets the next number, which is written where the flags ask for it. No process
+-- makes a child yet.
+use Rattle.std.specs.Prelude.{◌&&◌, ℕ, ◌-◌, ◌^◌, nat_lt, List, [], ◌++◌, Option, Some, None, Bool, if◌then◌else◌}
+use Rattle.sys_abi.specs.declared.identity.VPid.{VPid}
+use Rattle.sys_abi.specs.declared.reply.Reply.TheVariants.{Value}
+use Rattle.sys_abi.specs.declared.errors.TheConstants.{EAGAIN, EINVAL, ENOSYS}
+use Rattle.sys_abi.specs.declared.flags.TheConstants.{CLONE_PARENT_SETTID, CLONE_CHILD_SETTID}
+use Rattle.sys_abi.specs.declared.cloning.CloneForm.{CloneForm}
+use Rattle.sys_abi.specs.declared.cloning.CloneForm.TheVariants.{Fork, Thread}
+use Rattle.sys_abi.specs.Clones.{clone_form}
+use Rattle.plain_machine.specs.declared.kernel.PlainKernel.{PlainKernel}
+use Rattle.plain_machine.specs.Memory.{low_bytes}
+use Rattle.plain_machine.specs.Buffers.{has_flag}
+use Rattle.plain_machine.specs.Attempts.{Try, Fails, Gives, Served, ◌>>◌, need}
+use Rattle.plain_machine.specs.Kernel.{thread_count, with_next_thread}
+
+abbrev pub THREAD_LIMIT : ℕ
+THREAD_LIMIT = 64
+
+-- numbers of processes and threads are below this one
+abbrev pub LAST_ID : ℕ
+LAST_ID = 2 ^ 31 - 1
+
+abbrev pub number_if : Bool → ℕ → List ℕ
+number_if wanted number = if wanted then low_bytes 4 number else []
+
+-- the new number, for each place that the flags name
+abbrev pub number_bytes : ℕ → ℕ → List ℕ
+number_bytes flags number = number_if (has_flag flags CLONE_PARENT_SETTID) number ++ number_if (has_flag flags CLONE_CHILD_SETTID) number
+
+abbrev pub cloned : PlainKernel → VPid → ℕ → Served
+cloned k p flags = record { kernel = with_next_thread k p; reply = Value k.next_id; bytes = number_bytes flags k.next_id; console = [] }
+
+unfoldable pub clone_thread : PlainKernel → VPid → ℕ → Try Served
+clone_thread k p flags = do
+  need (nat_lt (thread_count k p) THREAD_LIMIT && nat_lt k.next_id LAST_ID) EAGAIN
+  Gives (cloned k p flags)
+
+abbrev pub clone_by : PlainKernel → VPid → ℕ → Option CloneForm → Try Served
+clone_by k p flags None = Fails EINVAL
+clone_by k p flags (Some Fork) = Fails ENOSYS
+clone_by k p flags (Some Thread) = clone_thread k p flags
+
+unfoldable pub clone_row : PlainKernel → VPid → ℕ → Try Served
+clone_row k p flags = clone_by k p flags (clone_form flags)

@@ -1,0 +1,48 @@
+//! What is told of a thread when a signal is to be delivered to it, and of what became of it (`man 7 signal`).
+
+use crate::identity::{Signal, Tid};
+use crate::request::Request;
+
+/// The first 16 bytes of what a call reads from its process's memory, with zeros where it reads fewer. Whether a call
+/// waits depends on no later byte.
+pub type Given = [u8; 16];
+
+/// Where a thread stands when a signal is to be delivered to it.
+#[derive(Clone, Copy, Debug, PartialEq, Eq)]
+pub enum At {
+    /// At an instruction that goes on, or that traps with another signal, or waiting on a word.
+    Code,
+    /// At a trap with that very signal.
+    Trap,
+    /// At a call of the kernel without a fault, which reads these bytes.
+    Call(Request, Given),
+}
+
+/// What a delivery came to.
+#[derive(Clone, Copy, Debug, PartialEq, Eq)]
+pub enum Delivered {
+    /// The handler begins.
+    Entered,
+    /// Nothing else happens.
+    Ignored,
+    /// The process ends with this status.
+    Kills(u32),
+}
+
+/// The delivery of a signal to a thread.
+#[derive(Clone, Copy, Debug, PartialEq, Eq)]
+pub struct Delivering {
+    pub t: Tid,
+    pub s: Signal,
+    pub at: At,
+    pub result: Delivered,
+}
+
+/// A thread that can't go on by itself: its signal mask, and the call at which it stands, None for one that waits on a
+/// word.
+#[derive(Clone, Copy, Debug, PartialEq, Eq)]
+pub struct IdleThread {
+    pub tid: Tid,
+    pub mask: u32,
+    pub at: Option<(Request, Given)>,
+}

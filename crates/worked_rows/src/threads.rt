@@ -1,0 +1,270 @@
+use crate::records::{CALL, SECOND, call_of, delivered, user, user_of};
+use crate::session::{restart_in, run_code, run_code_in};
+use dmtcp_top::Status;
+use set_disk::MemFolder;
+use std::test::Fail;
+use sys_abi::Record;
+
+/// Waits on the word at `sp`, which holds 1.
+const WAITS: [u32; 6] = [
+    0x0001_0513,
+    0x0000_0593,
+    0x0010_0613,
+    0x0000_0693,
+    0x0620_0893,
+    0x0000_0073,
+];
+
+#[test]
+fn a_sole_thread_that_waits_is_stuck(rt: HostRuntime) -> Result<(), Fail> {
+    let left = run_code(&rt, rt.alloc(), &WAITS, b"")?;
+    assert_eq!(rt; left.status, Status::Stuck);
+    assert_eq!(rt; left.status.code(), 19);
+    assert_eq!(rt; left.log.bytes(), b"stuck\n".as_slice());
+    assert_eq!(rt; left.out.bytes(), b"".as_slice());
+    assert_eq!(rt; left.records(), [user(5), CALL].as_slice());
+    Ok(())
+}
+
+#[test]
+fn a_full_trace_with_a_thread_that_waits_is_spent(rt: HostRuntime) -> Result<(), Fail> {
+    let complete = "checkpoint 1 complete: generation 1, drained 0\nbudget spent: 4 records\n";
+    let cases = [
+        ("3", "2", "budget spent: 2 records\n"),
+        ("2", "4", complete),
+    ];
+    for (every, records, log) in cases {
+        let mut disk = MemFolder::new(rt.alloc(), &[])?;
+        let words = ["launch", "--every", every, "--records", records, "0:a.elf"];
+        let left = run_code_in(&rt, rt.alloc(), &words, &WAITS, b"", &mut disk)?;
+        assert_eq!(rt; left.status, Status::Budget);
+        assert_eq!(rt; left.log.bytes(), log.as_bytes());
+    }
+    Ok(())
+}
+
+#[test]
+fn a_thread_that_waits_is_restarted_and_stuck_again(rt: HostRuntime) -> Result<(), Fail> {
+    let mut disk = MemFolder::new(rt.alloc(), &[])?;
+    let words = ["launch", "--every", "2", "0:a.elf"];
+    let left = run_code_in(&rt, rt.alloc(), &words, &WAITS, b"", &mut disk)?;
+    assert_eq!(rt; left.status, Status::Stuck);
+    let log = "checkpoint 1 complete: generation 1, drained 0\nstuck\n";
+    assert_eq!(rt; left.log.bytes(), log.as_bytes());
+    let expected = [
+        user(5),
+        CALL,
+        Record::Cut { generation: 1 },
+        Record::Complete { generation: 1 },
+    ];
+    assert_eq!(rt; left.records(), expected.as_slice());
+    let again = restart_in(&rt, rt.alloc(), &["restart"], &mut disk)?;
+    assert_eq!(rt; again.status, Status::Stuck);
+    assert_eq!(rt; again.log.bytes(), b"stuck\n".as_slice());
+    assert_eq!(rt; again.records().len(), 0);
+    Ok(())
+}
+
+/// Makes a thread that writes `a` and exits, waits until its end has cleared the word that held its number, writes `b`
+/// and exits with 0.
+const JOINS: [u32; 36] = [
+    0xFC01_0113,
+    0x0031_1537,
+    0xF005_0513,
+    0xC001_0593,
+    0x0001_0613,
+    0x0000_0693,
+    0x0001_0713,
+    0x0DC0_0893,
+    0x0000_0073,
+    0x0405_0463,
+    0x0001_2603,
+    0x0006_0E63,
+    0x0001_0513,
+    0x0000_0593,
+    0x0000_0693,
+    0x0620_0893,
+    0x0000_0073,
+    0xFE5F_F06F,
+    0x0010_0513,
+    0x0000_0597,
+    0x0455_8593,
+    0x0010_0613,
+    0x0400_0893,
+    0x0000_0073,
+    0x0000_0513,
+    0x05E0_0893,
+    0x0000_0073,
+    0x0010_0513,
+    0x0000_0597,
+    0x0205_8593,
+    0x0010_0613,
+    0x0400_0893,
+    0x0000_0073,
+    0x0000_0513,
+    0x05D0_0893,
+    0x0000_0073,
+];
+
+#[test]
+fn a_thread_waits_for_the_end_of_another(rt: HostRuntime) -> Result<(), Fail> {
+    let left = run_code(&rt, rt.alloc(), &JOINS, b"ab")?;
+    assert_eq!(rt; left.status, Status::Done);
+    assert_eq!(rt; left.out.bytes(), b"ab".as_slice());
+    // The new thread's turn comes in the round after its clone, and none comes to the one that waits.
+    let expected = [
+        user(8),
+        CALL,
+        user(7),
+        CALL,
+        user_of(SECOND, 6),
+        call_of(SECOND),
+        user_of(SECOND, 2),
+        call_of(SECOND),
+        user(8),
+        CALL,
+        user(2),
+        CALL,
+    ];
+    assert_eq!(rt; left.records(), expected.as_slice());
+    Ok(())
+}
+
+/// Handles signal 10 by writing `a` and `b`, each by a call of its own. Makes a thread that sends itself the signal, writes
+/// `c` and exits; waits for its end, writes `d` and exits with 0.
+const SIGNALS_ITSELF: [u32; 63] = [
+    0xFC01_0113,
+    0x0000_0297,
+    0x0D02_8293,
+    0x0051_2823,
+    0x00A0_0513,
+    0x0101_0593,
+    0x0000_0613,
+    0x0080_0693,
+    0x0860_0893,
+    0x0000_0073,
+    0x0031_1537,
+    0xF005_0513,
+    0xC001_0593,
+    0x0001_0613,
+    0x0000_0693,
+    0x0001_0713,
+    0x0DC0_0893,
+    0x0000_0073,
+    0x0405_0463,
+    0x0001_2603,
+    0x0006_0E63,
+    0x0001_0513,
+    0x0000_0593,
+    0x0000_0693,
+    0x0620_0893,
+    0x0000_0073,
+    0xFE5F_F06F,
+    0x0010_0513,
+    0x0000_0597,
+    0x08F5_8593,
+    0x0010_0613,
+    0x0400_0893,
+    0x0000_0073,
+    0x0000_0513,
+    0x05E0_0893,
+    0x0000_0073,
+    0x0B20_0893,
+    0x0000_0073,
+    0x0005_0593,
+    0x0000_A537,
+    0xC405_0513,
+    0x00A0_0613,
+    0x0830_0893,
+    0x0000_0073,
+    0x0010_0513,
+    0x0000_0597,
+    0x04A5_8593,
+    0x0010_0613,
+    0x0400_0893,
+    0x0000_0073,
+    0x0000_0513,
+    0x05D0_0893,
+    0x0000_0073,
+    0x0010_0513,
+    0x0000_0597,
+    0x0245_8593,
+    0x0010_0613,
+    0x0400_0893,
+    0x0000_0073,
+    0x0010_0513,
+    0x0015_8593,
+    0x0000_0073,
+    0x0000_8067,
+];
+
+/// The records of that program, undisturbed.
+fn undisturbed() -> [Record; 25] {
+    [
+        user(9),
+        CALL,
+        user(7),
+        CALL,
+        user(7),
+        CALL,
+        user_of(SECOND, 2),
+        call_of(SECOND),
+        user_of(SECOND, 5),
+        call_of(SECOND),
+        delivered(SECOND, 10),
+        user_of(SECOND, 5),
+        call_of(SECOND),
+        user_of(SECOND, 2),
+        call_of(SECOND),
+        user_of(SECOND, 2),
+        call_of(SECOND),
+        user_of(SECOND, 5),
+        call_of(SECOND),
+        user_of(SECOND, 2),
+        call_of(SECOND),
+        user(8),
+        CALL,
+        user(2),
+        CALL,
+    ]
+}
+
+#[test]
+fn a_thread_sends_itself_a_signal_while_another_waits(rt: HostRuntime) -> Result<(), Fail> {
+    let left = run_code(&rt, rt.alloc(), &SIGNALS_ITSELF, b"abcd")?;
+    assert_eq!(rt; left.status, Status::Done);
+    assert_eq!(rt; left.out.bytes(), b"abcd".as_slice());
+    assert_eq!(rt; left.records(), undisturbed().as_slice());
+    Ok(())
+}
+
+#[test]
+fn two_threads_are_restarted_where_one_waits_and_one_is_in_a_handler(
+    rt: HostRuntime,
+) -> Result<(), Fail> {
+    // The first waits; the signal is pending, its handler begins, has written `a`, then `b`, has returned; `c` stands on
+    // the console; the first is awake.
+    let cases = [
+        ("6", "8", 6, "", "abcd"),
+        ("10", "12", 10, "", "abcd"),
+        ("11", "13", 11, "", "abcd"),
+        ("13", "15", 13, "a", "bcd"),
+        ("15", "17", 15, "ab", "cd"),
+        ("17", "19", 17, "ab", "cd"),
+        ("19", "21", 19, "abc", "d"),
+        ("21", "23", 21, "abc", "d"),
+    ];
+    for (every, records, done, before, after) in cases {
+        let mut disk = MemFolder::new(rt.alloc(), &[])?;
+        let words = ["launch", "--every", every, "--records", records, "0:a.elf"];
+        let code = &SIGNALS_ITSELF;
+        let first = run_code_in(&rt, rt.alloc(), &words, code, b"abcd", &mut disk)?;
+        assert_eq!(rt; first.status, Status::Budget);
+        assert_eq!(rt; first.out.bytes(), before.as_bytes());
+        let second = restart_in(&rt, rt.alloc(), &["restart"], &mut disk)?;
+        assert_eq!(rt; second.status, Status::Done);
+        assert_eq!(rt; second.out.bytes(), after.as_bytes());
+        assert_eq!(rt; Some(second.records()), undisturbed().get(done..));
+    }
+    Ok(())
+}
