@@ -62,15 +62,19 @@ returns-in-Ok-clause-launches g c =
     let folder = g.F.Folder.reads c.args.disk.now in
     let begun : (opening : ℕ) × (Opens folder c.args.settings.every opening × IsFresh c.match-settings.keeper c.args.settings opening) = elim c.match-settings.branch [
       | in-None w ↦ (
-          0,
-          (subst (λ every. Opens folder every 0) (sym w.in-None.is) refl,
-          subst (λ (k : Keeper). IsFresh k c.args.settings 0) (sym w.keeper-is) (record { schedule = w.new-keeper.ensures.schedule; tally = w.new-keeper.ensures.tally; lines = w.new-keeper.ensures.lines })),
-        )
+        0,
+        (
+          subst (λ every. Opens folder every 0) (sym w.in-None.is) refl,
+          subst (λ (k : Keeper). IsFresh k c.args.settings 0) (sym w.keeper-is) (record { schedule = w.new-keeper.ensures.schedule; tally = w.new-keeper.ensures.tally; lines = w.new-keeper.ensures.lines }),
+        ),
+      )
       | in-Some+in_ok-open-in-Some w ↦
           let last_one = w.in_ok-open-in-Some.field-0.last in (
             generation_of last_one,
-            (opened folder c.args.settings.every last_one (λ none. let some = w.in-Some.is in absurd (cc)) w.in_ok-open-in-Some.ensures.opens.1,
-            subst (λ (k : Keeper). IsFresh k c.args.settings (generation_of last_one)) (sym w.keeper-is) w.keeper_of-keeper.ensures.fresh),
+            (
+              opened folder c.args.settings.every last_one (λ none. let some = w.in-Some.is in absurd (cc)) w.in_ok-open-in-Some.ensures.opens.1,
+              subst (λ (k : Keeper). IsFresh k c.args.settings (generation_of last_one)) (sym w.keeper-is) w.keeper_of-keeper.ensures.fresh,
+            ),
           )
     ] in
     record {
