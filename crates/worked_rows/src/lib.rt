@@ -2,10 +2,11 @@
 //!
 //! Each test is named by what it shows. Its program is a list of instruction words behind the headers of the stored
 //! `hello.elf`, or a stored file of `examples/`. Nothing is proved here but that the tests are safe and end.
+//!
+//! To another crate of tests: `programs` has the programs, `records` the records of their traces, and `session` runs the
+//! top call with them.
 #![tactic(auto)]
 
-#[cfg(test)]
-mod checkpoints;
 #[cfg(test)]
 mod compiled;
 #[cfg(test)]
@@ -14,14 +15,11 @@ mod launches;
 mod mappings;
 #[cfg(test)]
 mod pieces;
-#[cfg(test)]
-mod programs;
-#[cfg(test)]
-mod records;
+pub mod programs;
+pub mod records;
 #[cfg(test)]
 mod refusals;
-#[cfg(test)]
-mod session;
+pub mod session;
 #[cfg(test)]
 mod signals;
 #[cfg(test)]

@@ -43,6 +43,7 @@ pub const HELLO: [u32; 9] = [
     0x0000_0073,
 ];
 
+/// The file of `HELLO`, which is `examples/hello.elf`.
 pub fn hello(alloc: Global) -> Result<Vec<u8>, AllocError> {
     program(alloc, &HELLO, b"hello\n")
 }

@@ -1,5 +1,6 @@
 use sys_abi::{Record, Signal, Tid, VPid};
 
+/// A call of the program's first thread.
 pub const CALL: Record = Record::Call {
     p: VPid(40000),
     t: Tid(40000),
@@ -11,10 +12,12 @@ pub const FIRST: Tid = Tid(40000);
 /// The one that it makes first.
 pub const SECOND: Tid = Tid(40001);
 
+/// A call of a thread.
 pub fn call_of(t: Tid) -> Record {
     Record::Call { p: VPid(40000), t }
 }
 
+/// So many instructions of a thread.
 pub fn user_of(t: Tid, n: u32) -> Record {
     Record::User {
         p: VPid(40000),
@@ -23,6 +26,7 @@ pub fn user_of(t: Tid, n: u32) -> Record {
     }
 }
 
+/// A signal that is delivered to a thread.
 pub fn delivered(t: Tid, s: u32) -> Record {
     Record::Deliver {
         p: VPid(40000),
@@ -31,6 +35,7 @@ pub fn delivered(t: Tid, s: u32) -> Record {
     }
 }
 
+/// So many instructions of the program's first thread.
 pub fn user(n: u32) -> Record {
     Record::User {
         p: VPid(40000),

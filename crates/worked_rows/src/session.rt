@@ -18,6 +18,7 @@ pub struct Left {
 }
 
 impl Left {
+    /// The records that the call left in the trace.
     pub fn records(&self) -> &[Record] {
         self.trace.as_slice()
     }
@@ -31,6 +32,7 @@ pub struct Failing<'a> {
     pub log: &'a [u64],
 }
 
+/// No call fails.
 pub const NONE_FAIL: Failing<'static> = Failing {
     inputs: &[],
     out: &[],

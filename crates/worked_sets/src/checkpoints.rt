@@ -1,10 +1,10 @@
-use crate::programs::{hello, program};
-use crate::records::{CALL, user};
-use crate::session::{Failing, NONE_FAIL, restart_in, run, run_hello_in, run_in};
 use dmtcp_top::Status;
 use set_disk::{FileName, Folder, MemFolder};
 use std::test::Fail;
 use sys_abi::{Record, Tid, VPid};
+use worked_rows::programs::{hello, program};
+use worked_rows::records::{CALL, user};
+use worked_rows::session::{Failing, NONE_FAIL, restart_in, run, run_hello_in, run_in};
 
 /// What `hello.elf` does with a checkpoint asked for after every 2 records of work.
 const WITH_ONE_SET: [Record; 7] = [
