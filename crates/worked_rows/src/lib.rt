@@ -9,7 +9,15 @@ mod checkpoints;
 #[cfg(test)]
 mod compiled;
 #[cfg(test)]
+mod futexes;
+#[cfg(test)]
+mod halves;
+#[cfg(test)]
+mod handlers;
+#[cfg(test)]
 mod launches;
+#[cfg(test)]
+mod local_calls;
 #[cfg(test)]
 mod mappings;
 #[cfg(test)]
@@ -20,6 +28,12 @@ mod programs;
 mod records;
 #[cfg(test)]
 mod refusals;
+#[cfg(test)]
+mod registers;
+#[cfg(test)]
+mod replays;
+#[cfg(test)]
+mod scripts;
 #[cfg(test)]
 mod session;
 #[cfg(test)]
