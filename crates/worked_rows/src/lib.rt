@@ -12,8 +12,6 @@ mod compiled;
 #[cfg(test)]
 mod launches;
 #[cfg(test)]
-mod mappings;
-#[cfg(test)]
 mod pieces;
 pub mod programs;
 pub mod records;
@@ -21,8 +19,4 @@ pub mod records;
 mod refusals;
 pub mod session;
 #[cfg(test)]
-mod signals;
-#[cfg(test)]
 mod starts;
-#[cfg(test)]
-mod threads;

@@ -1,11 +1,12 @@
-use crate::records::{CALL, FIRST, SECOND, call_of, delivered, user, user_of};
-use crate::session::{Left, run_code};
+use crate::halves::assert_restarts;
 use dmtcp_top::Status;
 use std::alloc::{AllocError, Global};
 use std::sync::Wait;
 use std::test::Fail;
 use std::thread::Threads;
 use sys_abi::Record;
+use worked_rows::records::{CALL, FIRST, SECOND, call_of, delivered, user, user_of};
+use worked_rows::session::{Left, run_code};
 
 /// Sends itself signal 10 where `sp` is no multiple of 16. The handler writes its `a0`, `ra` and `sp`. Then the program
 /// writes `sp` and the answer of its call, and exits with 0.
@@ -469,5 +470,14 @@ fn a_signal_that_is_masked_wakes_nobody(rt: HostRuntime) -> Result<(), Fail> {
     assert_eq!(rt; left.status, Status::Stuck);
     let expected = [user(8), CALL, user(5), CALL, user(5), CALL];
     assert_eq!(rt; left.records(), expected.as_slice());
+    Ok(())
+}
+
+#[test]
+fn signals_come_after_a_restart_as_without_one(rt: HostRuntime) -> Result<(), Fail> {
+    // Two are pending; one is pending and traps too; the thread stands at a trap whose signal is masked.
+    assert_restarts(&rt, rt.alloc(), &TWO_PENDING, b"", &[12])?;
+    assert_restarts(&rt, rt.alloc(), &TRAPS_WHILE_PENDING, b"x", &[4])?;
+    assert_restarts(&rt, rt.alloc(), &TRAPS, b"x", &[4])?;
     Ok(())
 }

@@ -1,9 +1,9 @@
-use crate::records::{CALL, SECOND, call_of, delivered, user, user_of};
-use crate::session::{restart_in, run_code, run_code_in};
 use dmtcp_top::Status;
 use set_disk::MemFolder;
 use std::test::Fail;
 use sys_abi::Record;
+use worked_rows::records::{CALL, SECOND, call_of, delivered, user, user_of};
+use worked_rows::session::{restart_in, run_code, run_code_in};
 
 /// Waits on the word at `sp`, which holds 1.
 const WAITS: [u32; 6] = [

@@ -1,7 +1,7 @@
-use crate::records::{CALL, FIRST, delivered, user};
-use crate::session::run_code;
 use dmtcp_top::Status;
 use std::test::Fail;
+use worked_rows::records::{CALL, FIRST, delivered, user};
+use worked_rows::session::run_code;
 
 /// Makes the heap one page long and maps two pages more; writes the break before and after and where the mapping begins,
 /// then a byte of the heap and one of the mapping. Takes away the mapping's first page, stores in the second one, and

@@ -1,0 +1,147 @@
+use crate::futexes::LOCKED;
+use dmtcp_top::Status;
+use plain_machine::{
+    FIRST_PID, Frame, Plain, PlainKernel, Regs, ReplayFault, SignalAction, ThreadPart, UserPart,
+    replay,
+};
+use std::alloc::{AllocError, Global};
+use std::test::Fail;
+use sys_abi::page::PAGE_SIZE;
+use sys_abi::{ByPid, Page, VPid};
+use views::list_of::ListOf;
+use views::number_map::NumberMap;
+use worked_rows::programs::{STORED_HELLO, program};
+use worked_rows::records::{CALL, user};
+use worked_rows::session::{NONE_FAIL, run};
+
+/// The end of the stack: the count of arguments, where the name stands, words of zeros, and the name.
+const STACK_END: [u8; 48] = [
+    1, 0, 0, 0, 0xF6, 0xFF, 0xFF, 0x7F, 0, 0, 0, 0, 0, 0, 0, 0, 0, 0, 0, 0, 0, 0, 0, 0, 0, 0, 0, 0,
+    0, 0, 0, 0, 0, 0, 0, 0, 0, 0, b'h', b'e', b'l', b'l', b'o', b'.', b'e', b'l', b'f', 0,
+];
+
+/// What a handler returns to.
+const RETURN: [u8; 8] = [0x93, 0x08, 0xB0, 0x08, 0x73, 0, 0, 0];
+
+/// A page with these bytes at its head.
+fn headed(alloc: Global, rights: u8, bytes: &[u8]) -> Result<Frame, AllocError> {
+    let mut page = Page::zeroed(alloc)?;
+    if bytes.len() <= PAGE_SIZE {
+        page.write(0, bytes);
+    }
+    Ok(Frame { rights, page })
+}
+
+/// The pages of a program whose file is loaded whole at 0x10000.
+fn memory(alloc: Global, file: &[u8]) -> Result<NumberMap<Frame>, AllocError> {
+    let mut memory = NumberMap::new(alloc);
+    memory.insert(0x10, headed(alloc, 5, file)?)?;
+    for number in 0x7_FFC0..0x7_FFFF {
+        memory.insert(number, headed(alloc, 6, b"")?)?;
+    }
+    let mut page = Page::zeroed(alloc)?;
+    page.write(0xFD0, &STACK_END);
+    memory.insert(0x7_FFFF, Frame { rights: 6, page })?;
+    memory.insert(0x8_0000, headed(alloc, 5, &RETURN)?)?;
+    Ok(memory)
+}
+
+fn user_part(alloc: Global, file: &[u8]) -> Result<UserPart, AllocError> {
+    let mut regs = Regs {
+        x: [0; 32],
+        pc: 0x1_0054,
+    };
+    regs.x[2] = 0x7FFF_FFD0;
+    let mut threads = NumberMap::new(alloc);
+    let thread = ThreadPart {
+        regs,
+        mask: 0,
+        clear_tid: 0,
+        contexts: ListOf::new(alloc),
+    };
+    threads.insert(FIRST_PID, thread)?;
+    let mut actions = ListOf::new(alloc);
+    for _ in 0..31 {
+        actions.push(SignalAction {
+            handler: 0,
+            flags: 0,
+            mask: 0,
+        })?;
+    }
+    Ok(UserPart {
+        memory: memory(alloc, file)?,
+        break_start: 0x1_1000,
+        break_end: 0x1_1000,
+        threads,
+        actions,
+        waiters: ListOf::new(alloc),
+    })
+}
+
+/// The start of a job of this program alone, with the name `hello.elf`.
+fn start_of(alloc: Global, file: &[u8]) -> Result<Plain, AllocError> {
+    let mut kernel = PlainKernel::empty(alloc);
+    kernel.add_process(alloc, FIRST_PID, 0)?;
+    let mut users = ByPid::new(alloc);
+    users.insert(VPid(FIRST_PID), user_part(alloc, file)?)?;
+    Ok(Plain { kernel, users })
+}
+
+#[test]
+fn the_trace_of_a_run_is_replayed_to_its_end(rt: HostRuntime) -> Result<(), Fail> {
+    let alloc = rt.alloc();
+    let locked = program(alloc, &LOCKED, b"abcde")?;
+    for (file, count) in [(STORED_HELLO.as_slice(), 4), (locked.as_slice(), 40)] {
+        let words = ["launch", "0:hello.elf"];
+        let left = run(&rt, alloc, &words, ("hello.elf", file), NONE_FAIL)?;
+        assert_eq!(rt; left.status, Status::Done);
+        assert_eq!(rt; left.records().len(), count);
+        let start = start_of(alloc, file)?;
+        let after = replay(alloc, &start, left.records())
+            .ok()
+            .ok_or("no state")?;
+        assert_eq!(rt; after.kernel.has_life(), false);
+        assert_eq!(rt; after.users.len(), 0);
+    }
+    Ok(())
+}
+
+#[test]
+fn a_trace_that_lacks_a_record_is_refused_at_its_place(rt: HostRuntime) -> Result<(), Fail> {
+    let alloc = rt.alloc();
+    let start = start_of(alloc, &STORED_HELLO)?;
+    let traces = [
+        [CALL, user(2), CALL],
+        [user(5), user(2), CALL],
+        [user(5), CALL, CALL],
+    ];
+    for (place, trace) in traces.iter().enumerate() {
+        let refused = replay(alloc, &start, trace).err();
+        assert_eq!(rt; refused, Some(ReplayFault::Refused(place as u64)));
+    }
+    let at_once = replay(alloc, &start, &[CALL]).err();
+    assert_eq!(rt; at_once, Some(ReplayFault::Refused(0)));
+    Ok(())
+}
+
+/// The place of the one thread's next instruction.
+fn place_in(plain: &Plain) -> Option<u32> {
+    let user = plain.users.get(VPid(FIRST_PID))?;
+    let thread = user.threads.get(FIRST_PID)?;
+    Some(thread.regs.pc)
+}
+
+#[test]
+fn a_trace_that_ends_before_the_run_gives_the_state_there(rt: HostRuntime) -> Result<(), Fail> {
+    let alloc = rt.alloc();
+    let start = start_of(alloc, &STORED_HELLO)?;
+    let none = replay(alloc, &start, &[]).ok().ok_or("no state")?;
+    assert_eq!(rt; place_in(&none), Some(0x1_0054));
+    assert_eq!(rt; none.kernel.next_id, FIRST_PID + 1);
+    let some = replay(alloc, &start, &[user(5), CALL])
+        .ok()
+        .ok_or("no state")?;
+    assert_eq!(rt; place_in(&some), Some(0x1_006C));
+    assert_eq!(rt; some.kernel.has_life(), true);
+    Ok(())
+}
