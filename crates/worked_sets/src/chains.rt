@@ -91,32 +91,82 @@ impl Chain {
     }
 }
 
+/// A launch that ends when its trace is full.
+fn launch_letters<R: Abort + Wait + Threads + Sync>(
+    rt: &R,
+    alloc: Global,
+    every: &str,
+    records: &str,
+    disk: &mut MemFolder,
+    chain: &mut Chain,
+) -> Result<(), AllocError> {
+    let words = ["launch", "--every", every, "--records", records, "0:a.elf"];
+    let left = run_code_in(rt, alloc, &words, &LETTERS, b"", disk)?;
+    assert_eq!(rt; left.status, Status::Budget);
+    chain.take(&left)
+}
+
+/// A restart that ends when its trace is full.
+fn restart_letters<R: Abort + Wait + Threads + Sync>(
+    rt: &R,
+    alloc: Global,
+    every: &str,
+    records: &str,
+    disk: &mut MemFolder,
+    chain: &mut Chain,
+) -> Result<(), AllocError> {
+    let words = ["restart", "--every", every, "--records", records];
+    let left = restart_in(rt, alloc, &words, disk)?;
+    assert_eq!(rt; left.status, Status::Budget);
+    chain.take(&left)
+}
+
+/// A restart that goes on to the program's end.
+fn finish_letters<R: Abort + Wait + Threads + Sync>(
+    rt: &R,
+    alloc: Global,
+    every: &str,
+    disk: &mut MemFolder,
+    chain: &mut Chain,
+) -> Result<(), AllocError> {
+    let left = restart_in(rt, alloc, &["restart", "--every", every], disk)?;
+    assert_eq!(rt; left.status, Status::Done);
+    chain.finish(&left)
+}
+
 /// A launch and ten restarts in one folder. All but the last end when their trace is full.
 fn chain_of_ten<R: Abort + Wait + Threads + Sync>(
     rt: &R,
     alloc: Global,
     every: &str,
     records: &str,
-) -> Result<Chain, AllocError> {
+    chain: &mut Chain,
+) -> Result<(), AllocError> {
+    let mut disk = MemFolder::new(alloc, &[])?;
+    launch_letters(rt, alloc, every, records, &mut disk, chain)?;
+    for _ in 0..9 {
+        restart_letters(rt, alloc, every, records, &mut disk, chain)?;
+    }
+    finish_letters(rt, alloc, every, &mut disk, chain)
+}
+
+/// Asserts that the chain does what the whole run does. One record of work is lost in each run but the last; two sets are
+/// made in each.
+fn assert_chain<R: Abort + Wait + Threads + Sync>(
+    rt: &R,
+    alloc: Global,
+    every: &str,
+    records: &str,
+    whole: &Left,
+) -> Result<(), AllocError> {
     let mut chain = Chain {
         work: Vec::new(alloc),
         text: Vec::new(alloc),
     };
-    let mut disk = MemFolder::new(alloc, &[])?;
-    let words = ["launch", "--every", every, "--records", records, "0:a.elf"];
-    let left = run_code_in(rt, alloc, &words, &LETTERS, b"", &mut disk)?;
-    assert_eq!(rt; left.status, Status::Budget);
-    chain.take(&left)?;
-    for _ in 0..9 {
-        let words = ["restart", "--every", every, "--records", records];
-        let left = restart_in(rt, alloc, &words, &mut disk)?;
-        assert_eq!(rt; left.status, Status::Budget);
-        chain.take(&left)?;
-    }
-    let left = restart_in(rt, alloc, &["restart", "--every", every], &mut disk)?;
-    assert_eq!(rt; left.status, Status::Done);
-    chain.finish(&left)?;
-    Ok(chain)
+    chain_of_ten(rt, alloc, every, records, &mut chain)?;
+    assert_eq!(rt; chain.work.as_slice(), whole.records());
+    assert_eq!(rt; chain.text.as_slice(), whole.out.bytes());
+    Ok(())
 }
 
 #[test]
@@ -124,12 +174,7 @@ fn ten_restarts_do_what_one_run_does(rt: HostRuntime) -> Result<(), Fail> {
     let whole = run_code(&rt, rt.alloc(), &LETTERS, b"")?;
     assert_eq!(rt; whole.status, Status::Done);
     assert_eq!(rt; whole.out.bytes(), b"abcdefghijklmnopqrstuvwxyz".as_slice());
-
-    // One record of work is lost in each run but the last; two sets are made in each.
-    for (every, records) in [("3", "6"), ("2", "8")] {
-        let chain = chain_of_ten(&rt, rt.alloc(), every, records)?;
-        assert_eq!(rt; chain.work.as_slice(), whole.records());
-        assert_eq!(rt; chain.text.as_slice(), whole.out.bytes());
-    }
+    assert_chain(&rt, rt.alloc(), "3", "6", &whole)?;
+    assert_chain(&rt, rt.alloc(), "2", "8", &whole)?;
     Ok(())
 }

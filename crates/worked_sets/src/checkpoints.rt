@@ -1,6 +1,11 @@
+use crate::outcomes::{Outcome, launch_hello};
 use dmtcp_top::Status;
 use set_disk::{FileName, Folder, MemFolder};
+use std::alloc::{AllocError, Global};
+use std::process::Abort;
+use std::sync::Wait;
 use std::test::Fail;
+use std::thread::Threads;
 use sys_abi::{Record, Tid, VPid};
 use worked_rows::programs::{hello, program};
 use worked_rows::records::{CALL, user};
@@ -78,40 +83,57 @@ fn a_set_has_a_manifest_and_two_images(rt: HostRuntime) -> Result<(), Fail> {
     Ok(())
 }
 
+const SPENT_FOUR: &str =
+    "checkpoint 1 complete: generation 1, drained 0\nbudget spent: 4 records\n";
+
+const SPENT_FIVE: &str =
+    "checkpoint 1 complete: generation 1, drained 0\nbudget spent: 5 records\n";
+
+const SPENT_NONE: &str = "checkpoint 1 complete: generation 1, drained 0\ndone\n";
+
+/// A launch whose trace has so much room, and a restart.
+fn assert_cut_off<R: Abort + Wait + Threads + Sync>(
+    rt: &R,
+    alloc: Global,
+    records: &str,
+    launched: Outcome,
+    standing: Option<&[Record]>,
+    restarted: Status,
+) -> Result<(), AllocError> {
+    let mut disk = MemFolder::new(alloc, &[])?;
+    let words = [
+        "launch",
+        "--every",
+        "2",
+        "--records",
+        records,
+        "0:hello.elf",
+    ];
+    launch_hello(rt, alloc, &words, &mut disk, launched, standing)?;
+    let again = restart_in(rt, alloc, &["restart"], &mut disk)?;
+    assert_eq!(rt; again.status, restarted);
+    Ok(())
+}
+
 #[test]
 fn a_full_trace_ends_a_run_with_checkpoints(rt: HostRuntime) -> Result<(), Fail> {
-    let complete = "checkpoint 1 complete: generation 1, drained 0\n";
+    use Status::{Budget, Done, NoSet};
     let cases = [
-        ("1", Status::Budget, "budget spent: 1 records\n"),
-        ("2", Status::Budget, "budget spent: 2 records\n"),
-        ("3", Status::Budget, "budget spent: 3 records\n"),
-        ("4", Status::Budget, "budget spent: 4 records\n"),
-        ("5", Status::Budget, "budget spent: 5 records\n"),
-        ("6", Status::Done, "done\n"),
+        ("1", Budget, "", "budget spent: 1 records\n", NoSet),
+        ("2", Budget, "hello\n", "budget spent: 2 records\n", NoSet),
+        ("3", Budget, "hello\n", "budget spent: 3 records\n", NoSet),
+        ("4", Budget, "hello\n", SPENT_FOUR, Done),
+        ("5", Budget, "hello\n", SPENT_FIVE, Done),
+        ("6", Done, "hello\n", SPENT_NONE, Done),
     ];
-    for (place, (records, status, last)) in cases.iter().enumerate() {
-        let mut disk = MemFolder::new(rt.alloc(), &[])?;
-        let words = [
-            "launch",
-            "--every",
-            "2",
-            "--records",
-            *records,
-            "0:hello.elf",
-        ];
-        let left = run_hello_in(&rt, rt.alloc(), &words, &mut disk)?;
-        assert_eq!(rt; left.status, *status);
-        assert_eq!(rt; Some(left.records()), WITH_ONE_SET.get(..place + 1));
-        let mut log = String::from_str(rt.alloc(), if place < 3 { "" } else { complete })?;
-        log.push_str(last)?;
-        assert_eq!(rt; left.log.bytes(), log.as_bytes());
-        let again = restart_in(&rt, rt.alloc(), &["restart"], &mut disk)?;
-        let expected = if place < 3 {
-            Status::NoSet
-        } else {
-            Status::Done
+    for (place, (records, status, out, log, again)) in cases.iter().enumerate() {
+        let launched = Outcome {
+            status: *status,
+            out,
+            log,
         };
-        assert_eq!(rt; again.status, expected);
+        let standing = WITH_ONE_SET.get(..place.saturating_add(1));
+        assert_cut_off(&rt, rt.alloc(), records, launched, standing, *again)?;
     }
     Ok(())
 }

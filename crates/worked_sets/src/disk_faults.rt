@@ -1,12 +1,14 @@
+use crate::outcomes::{DISK_FAULT, Outcome, done, launch_hello, restart};
 use dmtcp_top::Status;
 use set_disk::MemFolder;
 use std::alloc::{AllocError, Global};
+use std::process::Abort;
 use std::sync::Wait;
 use std::test::Fail;
 use std::thread::Threads;
-use sys_abi::{Cause, Record};
+use sys_abi::{Cause, Record, VPid};
 use worked_rows::programs::THREE_WRITES;
-use worked_rows::records::{CALL, user};
+use worked_rows::records::{CALL, FIRST, user};
 use worked_rows::session::{restart_in, run_code_in, run_hello_in};
 
 const EVERY_TWO: [&str; 4] = ["launch", "--every", "2", "0:hello.elf"];
@@ -33,16 +35,19 @@ fn calls_until<R: Wait + Threads + Sync>(
 
 #[test]
 fn a_folder_that_fails_when_a_launch_opens_it_ends_the_call(rt: HostRuntime) -> Result<(), Fail> {
+    assert_eq!(rt; Status::DiskFault.code(), 15);
     let opening = calls_until(&rt, rt.alloc(), "2", "1")?;
     assert!(rt; 0 < opening && opening < 100);
-    for number in 0..opening {
-        let mut disk = MemFolder::new(rt.alloc(), &[number + 1])?;
-        let left = run_hello_in(&rt, rt.alloc(), &EVERY_TWO, &mut disk)?;
-        assert_eq!(rt; left.status, Status::DiskFault);
-        assert_eq!(rt; left.status.code(), 15);
-        assert_eq!(rt; left.log.bytes(), b"disk fault\n".as_slice());
-        assert_eq!(rt; left.out.bytes(), b"".as_slice());
-        assert_eq!(rt; left.records().len(), 0);
+    for call in 1..=opening {
+        let mut disk = MemFolder::new(rt.alloc(), &[call])?;
+        launch_hello(
+            &rt,
+            rt.alloc(),
+            &EVERY_TWO,
+            &mut disk,
+            DISK_FAULT,
+            Some(&[]),
+        )?;
     }
     Ok(())
 }
@@ -56,56 +61,71 @@ fn a_program_that_is_missing_comes_before_a_folder_that_fails(rt: HostRuntime) -
     Ok(())
 }
 
+/// What `hello.elf` does where its one checkpoint is refused.
+const WITH_NO_SET: [Record; 7] = [
+    Record::User {
+        p: VPid(40000),
+        t: FIRST,
+        n: 5,
+    },
+    CALL,
+    Record::Cut { generation: 1 },
+    Record::Refused {
+        cause: Cause::DiskFault,
+    },
+    Record::User {
+        p: VPid(40000),
+        t: FIRST,
+        n: 2,
+    },
+    CALL,
+    Record::Lapsed,
+];
+
+const REFUSED: Outcome<'static> = Outcome {
+    status: Status::Done,
+    out: "hello\n",
+    log: "checkpoint 1 refused: disk fault\ncheckpoint 2 lapsed\ndone\n",
+};
+
 #[test]
 fn a_folder_that_fails_at_any_call_of_a_checkpoint_refuses_it(rt: HostRuntime) -> Result<(), Fail> {
     let opening = calls_until(&rt, rt.alloc(), "2", "1")?;
     let last = calls_until(&rt, rt.alloc(), "2", "4")?;
     assert!(rt; opening < last && last < 100);
-    let log = "checkpoint 1 refused: disk fault\ncheckpoint 2 lapsed\ndone\n";
-    let expected = [
-        user(5),
-        CALL,
-        Record::Cut { generation: 1 },
-        Record::Refused {
-            cause: Cause::DiskFault,
-        },
-        user(2),
-        CALL,
-        Record::Lapsed,
-    ];
-    for number in opening..last {
-        let mut disk = MemFolder::new(rt.alloc(), &[number + 1])?;
-        let left = run_hello_in(&rt, rt.alloc(), &EVERY_TWO, &mut disk)?;
-        assert_eq!(rt; left.status, Status::Done);
-        assert_eq!(rt; left.out.bytes(), b"hello\n".as_slice());
-        assert_eq!(rt; left.log.bytes(), log.as_bytes());
-        assert_eq!(rt; left.records(), expected.as_slice());
+    for call in opening.saturating_add(1)..=last {
+        let mut disk = MemFolder::new(rt.alloc(), &[call])?;
+        let records = Some(WITH_NO_SET.as_slice());
+        launch_hello(&rt, rt.alloc(), &EVERY_TWO, &mut disk, REFUSED, records)?;
     }
     Ok(())
 }
 
+const ONE_REFUSED: &str =
+    "checkpoint 1 refused: disk fault\ncheckpoint 2 complete: generation 2, drained 0\ncheckpoint 3 complete: generation 3, drained 0\ncheckpoint 4 lapsed\ndone\n";
+
+/// Launches `hello.elf` with a checkpoint after each record of work, of which the first is refused.
+fn launch_refused<R: Abort + Wait + Threads + Sync>(
+    rt: &R,
+    alloc: Global,
+    words: &[&str],
+    status: Status,
+) -> Result<MemFolder, AllocError> {
+    let last = calls_until(rt, alloc, "1", "3")?;
+    let mut disk = MemFolder::new(alloc, &[last])?;
+    let left = run_hello_in(rt, alloc, words, &mut disk)?;
+    assert_eq!(rt; left.status, status);
+    if status == Status::Done {
+        assert_eq!(rt; left.log.bytes(), ONE_REFUSED.as_bytes());
+    }
+    Ok(disk)
+}
+
 #[test]
 fn sets_after_a_refused_one_have_later_generations(rt: HostRuntime) -> Result<(), Fail> {
-    let last = calls_until(&rt, rt.alloc(), "1", "3")?;
-    let mut disk = MemFolder::new(rt.alloc(), &[last])?;
     let words = ["launch", "--every", "1", "0:hello.elf"];
-    let left = run_hello_in(&rt, rt.alloc(), &words, &mut disk)?;
-    assert_eq!(rt; left.status, Status::Done);
-    let lines = [
-        "checkpoint 1 refused: disk fault\n",
-        "checkpoint 2 complete: generation 2, drained 0\n",
-        "checkpoint 3 complete: generation 3, drained 0\n",
-        "checkpoint 4 lapsed\n",
-        "done\n",
-    ];
-    let mut log = String::new(rt.alloc());
-    for line in lines {
-        log.push_str(line)?;
-    }
-    assert_eq!(rt; left.log.bytes(), log.as_bytes());
-    let left = restart_in(&rt, rt.alloc(), &["restart"], &mut disk)?;
-    assert_eq!(rt; left.status, Status::Done);
-    assert_eq!(rt; left.records(), [CALL].as_slice());
+    let mut disk = launch_refused(&rt, rt.alloc(), &words, Status::Done)?;
+    restart(&rt, rt.alloc(), &mut disk, done(""), Some(&[CALL]))?;
     Ok(())
 }
 
@@ -114,10 +134,8 @@ fn each_set_is_restarted_from_also_the_one_whose_last_sync_failed(
     rt: HostRuntime,
 ) -> Result<(), Fail> {
     let work = [CALL, user(2), CALL];
-    let last = calls_until(&rt, rt.alloc(), "1", "3")?;
     let cases = [("3", 0, "hello\n"), ("6", 1, ""), ("9", 2, "")];
-    for (records, done, text) in cases {
-        let mut disk = MemFolder::new(rt.alloc(), &[last])?;
+    for (records, place, text) in cases {
         let words = [
             "launch",
             "--every",
@@ -126,12 +144,8 @@ fn each_set_is_restarted_from_also_the_one_whose_last_sync_failed(
             records,
             "0:hello.elf",
         ];
-        let left = run_hello_in(&rt, rt.alloc(), &words, &mut disk)?;
-        assert_eq!(rt; left.status, Status::Budget);
-        let left = restart_in(&rt, rt.alloc(), &["restart"], &mut disk)?;
-        assert_eq!(rt; left.status, Status::Done);
-        assert_eq!(rt; left.out.bytes(), text.as_bytes());
-        assert_eq!(rt; Some(left.records()), work.get(done..));
+        let mut disk = launch_refused(&rt, rt.alloc(), &words, Status::Budget)?;
+        restart(&rt, rt.alloc(), &mut disk, done(text), work.get(place..))?;
     }
     Ok(())
 }
@@ -150,22 +164,26 @@ fn a_restart_takes_the_set_after_a_refused_one(rt: HostRuntime) -> Result<(), Fa
     Ok(())
 }
 
+/// How many calls a launch of `hello.elf` makes, and how many a restart after it besides.
+fn calls_of_both<R: Wait + Threads + Sync>(
+    rt: &R,
+    alloc: Global,
+) -> Result<(u64, u64), AllocError> {
+    let mut disk = MemFolder::new(alloc, &[])?;
+    run_hello_in(rt, alloc, &EVERY_TWO, &mut disk)?;
+    let before = disk.calls();
+    restart_in(rt, alloc, &["restart"], &mut disk)?;
+    Ok((before, disk.calls()))
+}
+
 #[test]
 fn a_folder_that_fails_when_a_restart_reads_it_ends_the_call(rt: HostRuntime) -> Result<(), Fail> {
-    let mut disk = MemFolder::new(rt.alloc(), &[])?;
-    run_hello_in(&rt, rt.alloc(), &EVERY_TWO, &mut disk)?;
-    let before = disk.calls();
-    restart_in(&rt, rt.alloc(), &["restart"], &mut disk)?;
-    let after = disk.calls();
+    let (before, after) = calls_of_both(&rt, rt.alloc())?;
     assert!(rt; before < after && after < 100);
-    for number in before..after {
-        let mut disk = MemFolder::new(rt.alloc(), &[number + 1])?;
+    for call in before.saturating_add(1)..=after {
+        let mut disk = MemFolder::new(rt.alloc(), &[call])?;
         run_hello_in(&rt, rt.alloc(), &EVERY_TWO, &mut disk)?;
-        let left = restart_in(&rt, rt.alloc(), &["restart"], &mut disk)?;
-        assert_eq!(rt; left.status, Status::DiskFault);
-        assert_eq!(rt; left.log.bytes(), b"disk fault\n".as_slice());
-        assert_eq!(rt; left.out.bytes(), b"".as_slice());
-        assert_eq!(rt; left.records().len(), 0);
+        restart(&rt, rt.alloc(), &mut disk, DISK_FAULT, Some(&[]))?;
     }
     Ok(())
 }

@@ -16,4 +16,6 @@ mod damages;
 #[cfg(test)]
 mod disk_faults;
 #[cfg(test)]
+mod outcomes;
+#[cfg(test)]
 mod restarts;

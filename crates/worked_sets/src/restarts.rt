@@ -1,6 +1,11 @@
+use crate::outcomes::{done, launch_three, restart};
 use dmtcp_top::Status;
 use set_disk::{FileName, Folder, MemFolder};
+use std::alloc::{AllocError, Global};
+use std::process::Abort;
+use std::sync::Wait;
 use std::test::Fail;
+use std::thread::Threads;
 use worked_rows::programs::THREE_WRITES;
 use worked_rows::records::user;
 use worked_rows::session::{restart_in, run_code, run_code_in};
@@ -26,16 +31,11 @@ fn each_of_three_sets_is_restarted_from(rt: HostRuntime) -> Result<(), Fail> {
         ("8", 4, "ab", "c"),
         ("12", 6, "abc", ""),
     ];
-    for (records, done, before, after) in cases {
+    for (records, place, before, after) in cases {
         let mut disk = MemFolder::new(rt.alloc(), &[])?;
-        let words = ["launch", "--records", records, "--every", "2", "0:a.elf"];
-        let first = run_code_in(&rt, rt.alloc(), &words, &THREE_WRITES, b"abc", &mut disk)?;
-        assert_eq!(rt; first.status, Status::Budget);
-        assert_eq!(rt; first.out.bytes(), before.as_bytes());
-        let second = restart_in(&rt, rt.alloc(), &["restart"], &mut disk)?;
-        assert_eq!(rt; second.status, Status::Done);
-        assert_eq!(rt; second.out.bytes(), after.as_bytes());
-        assert_eq!(rt; Some(second.records()), undisturbed.records().get(done..));
+        let rest = undisturbed.records().get(place..);
+        launch_three(&rt, rt.alloc(), records, &mut disk, before)?;
+        restart(&rt, rt.alloc(), &mut disk, done(after), rest)?;
     }
     Ok(())
 }
@@ -65,32 +65,38 @@ fn damage_in_a_set_that_counts_no_more_is_not_looked_for(rt: HostRuntime) -> Res
     Ok(())
 }
 
+const THREE_REQUESTS: &str =
+    "checkpoint 1 complete: generation 2, drained 0\ncheckpoint 2 complete: generation 3, drained 0\ncheckpoint 3 lapsed\ndone\n";
+
+const TWO_REQUESTS: &str =
+    "checkpoint 1 complete: generation 2, drained 0\ncheckpoint 2 lapsed\ndone\n";
+
+const ONE_REQUEST: &str = "checkpoint 1 complete: generation 2, drained 0\ndone\n";
+
+fn log_of_restart<R: Abort + Wait + Threads + Sync>(
+    rt: &R,
+    alloc: Global,
+    every: &str,
+    log: &str,
+) -> Result<(), AllocError> {
+    let mut disk = MemFolder::new(alloc, &[])?;
+    launch_three(rt, alloc, "4", &mut disk, "a")?;
+    let left = restart_in(rt, alloc, &["restart", "--every", every], &mut disk)?;
+    assert_eq!(rt; left.status, Status::Done);
+    assert_eq!(rt; left.out.bytes(), b"bc".as_slice());
+    assert_eq!(rt; left.log.bytes(), log.as_bytes());
+    Ok(())
+}
+
 #[test]
 fn a_restart_counts_its_own_checkpoints_and_goes_on_with_the_generations(
     rt: HostRuntime,
 ) -> Result<(), Fail> {
-    let two =
-        "checkpoint 1 complete: generation 2, drained 0\ncheckpoint 2 complete: generation 3, drained 0\n";
-    let one = "checkpoint 1 complete: generation 2, drained 0\n";
-    let cases = [
-        ("2", two, "checkpoint 3 lapsed\ndone\n"),
-        ("3", one, "checkpoint 2 lapsed\ndone\n"),
-        ("4", one, "done\n"),
-        ("6", "", "checkpoint 1 lapsed\ndone\n"),
-        ("7", "", "done\n"),
-    ];
-    for (every, lines, last) in cases {
-        let mut disk = MemFolder::new(rt.alloc(), &[])?;
-        let words = ["launch", "--records", "4", "--every", "2", "0:a.elf"];
-        run_code_in(&rt, rt.alloc(), &words, &THREE_WRITES, b"abc", &mut disk)?;
-        let words = ["restart", "--every", every];
-        let left = restart_in(&rt, rt.alloc(), &words, &mut disk)?;
-        assert_eq!(rt; left.status, Status::Done);
-        assert_eq!(rt; left.out.bytes(), b"bc".as_slice());
-        let mut log = String::from_str(rt.alloc(), lines)?;
-        log.push_str(last)?;
-        assert_eq!(rt; left.log.bytes(), log.as_bytes());
-    }
+    log_of_restart(&rt, rt.alloc(), "2", THREE_REQUESTS)?;
+    log_of_restart(&rt, rt.alloc(), "3", TWO_REQUESTS)?;
+    log_of_restart(&rt, rt.alloc(), "4", ONE_REQUEST)?;
+    log_of_restart(&rt, rt.alloc(), "6", "checkpoint 1 lapsed\ndone\n")?;
+    log_of_restart(&rt, rt.alloc(), "7", "done\n")?;
     Ok(())
 }
 

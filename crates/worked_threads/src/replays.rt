@@ -5,9 +5,12 @@ use plain_machine::{
     replay,
 };
 use std::alloc::{AllocError, Global};
+use std::process::Abort;
+use std::sync::Wait;
 use std::test::Fail;
+use std::thread::Threads;
 use sys_abi::page::PAGE_SIZE;
-use sys_abi::{ByPid, Page, VPid};
+use sys_abi::{ByPid, Page, Record, VPid};
 use views::list_of::ListOf;
 use views::number_map::NumberMap;
 use worked_rows::programs::{STORED_HELLO, program};
@@ -87,23 +90,40 @@ fn start_of(alloc: Global, file: &[u8]) -> Result<Plain, AllocError> {
     Ok(Plain { kernel, users })
 }
 
+/// Whether these records are a run that leaves nobody alive.
+fn is_whole(alloc: Global, start: &Plain, records: &[Record]) -> bool {
+    match replay(alloc, start, records) {
+        Ok(after) => !after.kernel.has_life() && after.users.len() == 0,
+        Err(_) => false,
+    }
+}
+
+/// Runs the program, and replays its trace of so many records.
+fn assert_replayed<R: Abort + Wait + Threads + Sync>(
+    rt: &R,
+    alloc: Global,
+    file: &[u8],
+    count: usize,
+) -> Result<(), AllocError> {
+    let words = ["launch", "0:hello.elf"];
+    let left = run(rt, alloc, &words, ("hello.elf", file), NONE_FAIL)?;
+    assert_eq!(rt; left.status, Status::Done);
+    assert_eq!(rt; left.records().len(), count);
+    let start = start_of(alloc, file)?;
+    assert!(rt; is_whole(alloc, &start, left.records()));
+    Ok(())
+}
+
 #[test]
 fn the_trace_of_a_run_is_replayed_to_its_end(rt: HostRuntime) -> Result<(), Fail> {
-    let alloc = rt.alloc();
-    let locked = program(alloc, &LOCKED, b"abcde")?;
-    for (file, count) in [(STORED_HELLO.as_slice(), 4), (locked.as_slice(), 40)] {
-        let words = ["launch", "0:hello.elf"];
-        let left = run(&rt, alloc, &words, ("hello.elf", file), NONE_FAIL)?;
-        assert_eq!(rt; left.status, Status::Done);
-        assert_eq!(rt; left.records().len(), count);
-        let start = start_of(alloc, file)?;
-        let after = replay(alloc, &start, left.records())
-            .ok()
-            .ok_or("no state")?;
-        assert_eq!(rt; after.kernel.has_life(), false);
-        assert_eq!(rt; after.users.len(), 0);
-    }
+    assert_replayed(&rt, rt.alloc(), &STORED_HELLO, 4)?;
+    let locked = program(rt.alloc(), &LOCKED, b"abcde")?;
+    assert_replayed(&rt, rt.alloc(), locked.as_slice(), 40)?;
     Ok(())
+}
+
+fn refusal(alloc: Global, start: &Plain, records: &[Record]) -> Option<ReplayFault> {
+    replay(alloc, start, records).err()
 }
 
 #[test]
@@ -116,32 +136,33 @@ fn a_trace_that_lacks_a_record_is_refused_at_its_place(rt: HostRuntime) -> Resul
         [user(5), CALL, CALL],
     ];
     for (place, trace) in traces.iter().enumerate() {
-        let refused = replay(alloc, &start, trace).err();
-        assert_eq!(rt; refused, Some(ReplayFault::Refused(place as u64)));
+        let refused = ReplayFault::Refused(place as u64);
+        assert_eq!(rt; refusal(alloc, &start, trace), Some(refused));
     }
-    let at_once = replay(alloc, &start, &[CALL]).err();
-    assert_eq!(rt; at_once, Some(ReplayFault::Refused(0)));
+    assert_eq!(rt;
+        refusal(alloc, &start, &[CALL]),
+        Some(ReplayFault::Refused(0))
+    );
     Ok(())
 }
 
-/// The place of the one thread's next instruction.
-fn place_in(plain: &Plain) -> Option<u32> {
+/// Where the one thread's next instruction stands after these records, and which number the next thread gets.
+fn after(alloc: Global, start: &Plain, records: &[Record]) -> Option<(u32, u32)> {
+    let plain = replay(alloc, start, records).ok()?;
     let user = plain.users.get(VPid(FIRST_PID))?;
     let thread = user.threads.get(FIRST_PID)?;
-    Some(thread.regs.pc)
+    Some((thread.regs.pc, plain.kernel.next_id))
 }
 
 #[test]
 fn a_trace_that_ends_before_the_run_gives_the_state_there(rt: HostRuntime) -> Result<(), Fail> {
     let alloc = rt.alloc();
     let start = start_of(alloc, &STORED_HELLO)?;
-    let none = replay(alloc, &start, &[]).ok().ok_or("no state")?;
-    assert_eq!(rt; place_in(&none), Some(0x1_0054));
-    assert_eq!(rt; none.kernel.next_id, FIRST_PID + 1);
-    let some = replay(alloc, &start, &[user(5), CALL])
-        .ok()
-        .ok_or("no state")?;
-    assert_eq!(rt; place_in(&some), Some(0x1_006C));
-    assert_eq!(rt; some.kernel.has_life(), true);
+    let next = FIRST_PID + 1;
+    assert_eq!(rt; after(alloc, &start, &[]), Some((0x1_0054, next)));
+    assert_eq!(rt;
+        after(alloc, &start, &[user(5), CALL]),
+        Some((0x1_006C, next))
+    );
     Ok(())
 }

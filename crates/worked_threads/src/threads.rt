@@ -1,9 +1,14 @@
+use crate::halves::assert_restarts;
 use dmtcp_top::Status;
 use set_disk::MemFolder;
+use std::alloc::{AllocError, Global};
+use std::process::Abort;
+use std::sync::Wait;
 use std::test::Fail;
+use std::thread::Threads;
 use sys_abi::Record;
 use worked_rows::records::{CALL, SECOND, call_of, delivered, user, user_of};
-use worked_rows::session::{restart_in, run_code, run_code_in};
+use worked_rows::session::{Left, restart_in, run_code, run_code_in};
 
 /// Waits on the word at `sp`, which holds 1.
 const WAITS: [u32; 6] = [
@@ -26,28 +31,40 @@ fn a_sole_thread_that_waits_is_stuck(rt: HostRuntime) -> Result<(), Fail> {
     Ok(())
 }
 
-#[test]
-fn a_full_trace_with_a_thread_that_waits_is_spent(rt: HostRuntime) -> Result<(), Fail> {
-    let complete = "checkpoint 1 complete: generation 1, drained 0\nbudget spent: 4 records\n";
-    let cases = [
-        ("3", "2", "budget spent: 2 records\n"),
-        ("2", "4", complete),
-    ];
-    for (every, records, log) in cases {
-        let mut disk = MemFolder::new(rt.alloc(), &[])?;
-        let words = ["launch", "--every", every, "--records", records, "0:a.elf"];
-        let left = run_code_in(&rt, rt.alloc(), &words, &WAITS, b"", &mut disk)?;
-        assert_eq!(rt; left.status, Status::Budget);
-        assert_eq!(rt; left.log.bytes(), log.as_bytes());
-    }
+fn assert_spent<R: Abort + Wait + Threads + Sync>(
+    rt: &R,
+    alloc: Global,
+    every: &str,
+    records: &str,
+    log: &str,
+) -> Result<(), AllocError> {
+    let mut disk = MemFolder::new(alloc, &[])?;
+    let words = ["launch", "--every", every, "--records", records, "0:a.elf"];
+    let left = run_code_in(rt, alloc, &words, &WAITS, b"", &mut disk)?;
+    assert_eq!(rt; left.status, Status::Budget);
+    assert_eq!(rt; left.log.bytes(), log.as_bytes());
     Ok(())
 }
 
 #[test]
-fn a_thread_that_waits_is_restarted_and_stuck_again(rt: HostRuntime) -> Result<(), Fail> {
-    let mut disk = MemFolder::new(rt.alloc(), &[])?;
+fn a_full_trace_with_a_thread_that_waits_is_spent(rt: HostRuntime) -> Result<(), Fail> {
+    let complete = "checkpoint 1 complete: generation 1, drained 0\nbudget spent: 4 records\n";
+    assert_spent(&rt, rt.alloc(), "3", "2", "budget spent: 2 records\n")?;
+    assert_spent(&rt, rt.alloc(), "2", "4", complete)?;
+    Ok(())
+}
+
+/// A launch with a checkpoint while the thread waits.
+fn launch_waiting<R: Wait + Threads + Sync>(
+    rt: &R,
+    alloc: Global,
+    disk: &mut MemFolder,
+) -> Result<Left, AllocError> {
     let words = ["launch", "--every", "2", "0:a.elf"];
-    let left = run_code_in(&rt, rt.alloc(), &words, &WAITS, b"", &mut disk)?;
+    run_code_in(rt, alloc, &words, &WAITS, b"", disk)
+}
+
+fn assert_stuck_after_a_set<R: Abort>(rt: &R, left: &Left) {
     assert_eq!(rt; left.status, Status::Stuck);
     let log = "checkpoint 1 complete: generation 1, drained 0\nstuck\n";
     assert_eq!(rt; left.log.bytes(), log.as_bytes());
@@ -58,6 +75,12 @@ fn a_thread_that_waits_is_restarted_and_stuck_again(rt: HostRuntime) -> Result<(
         Record::Complete { generation: 1 },
     ];
     assert_eq!(rt; left.records(), expected.as_slice());
+}
+
+#[test]
+fn a_thread_that_waits_is_restarted_and_stuck_again(rt: HostRuntime) -> Result<(), Fail> {
+    let mut disk = MemFolder::new(rt.alloc(), &[])?;
+    assert_stuck_after_a_set(&rt, &launch_waiting(&rt, rt.alloc(), &mut disk)?);
     let again = restart_in(&rt, rt.alloc(), &["restart"], &mut disk)?;
     assert_eq!(rt; again.status, Status::Stuck);
     assert_eq!(rt; again.log.bytes(), b"stuck\n".as_slice());
@@ -244,27 +267,6 @@ fn two_threads_are_restarted_where_one_waits_and_one_is_in_a_handler(
 ) -> Result<(), Fail> {
     // The first waits; the signal is pending, its handler begins, has written `a`, then `b`, has returned; `c` stands on
     // the console; the first is awake.
-    let cases = [
-        ("6", "8", 6, "", "abcd"),
-        ("10", "12", 10, "", "abcd"),
-        ("11", "13", 11, "", "abcd"),
-        ("13", "15", 13, "a", "bcd"),
-        ("15", "17", 15, "ab", "cd"),
-        ("17", "19", 17, "ab", "cd"),
-        ("19", "21", 19, "abc", "d"),
-        ("21", "23", 21, "abc", "d"),
-    ];
-    for (every, records, done, before, after) in cases {
-        let mut disk = MemFolder::new(rt.alloc(), &[])?;
-        let words = ["launch", "--every", every, "--records", records, "0:a.elf"];
-        let code = &SIGNALS_ITSELF;
-        let first = run_code_in(&rt, rt.alloc(), &words, code, b"abcd", &mut disk)?;
-        assert_eq!(rt; first.status, Status::Budget);
-        assert_eq!(rt; first.out.bytes(), before.as_bytes());
-        let second = restart_in(&rt, rt.alloc(), &["restart"], &mut disk)?;
-        assert_eq!(rt; second.status, Status::Done);
-        assert_eq!(rt; second.out.bytes(), after.as_bytes());
-        assert_eq!(rt; Some(second.records()), undisturbed().get(done..));
-    }
-    Ok(())
+    let places = [6, 10, 11, 13, 15, 17, 19, 21];
+    assert_restarts(&rt, rt.alloc(), &SIGNALS_ITSELF, b"abcd", &places)
 }
