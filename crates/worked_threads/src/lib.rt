@@ -13,6 +13,8 @@ mod halves;
 #[cfg(test)]
 mod handlers;
 #[cfg(test)]
+mod kernel_calls;
+#[cfg(test)]
 mod local_calls;
 #[cfg(test)]
 mod mappings;

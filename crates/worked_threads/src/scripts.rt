@@ -112,6 +112,8 @@ pub const RESTARTS: u32 = 0x1_0124;
 pub const PLACE: u32 = 0x7FFF_0000;
 
 /// The answers of refused calls.
+pub const ESRCH: u32 = 0xFFFF_FFFD;
+
 pub const EINTR: u32 = 0xFFFF_FFFC;
 
 pub const EAGAIN: u32 = 0xFFFF_FFF5;
