@@ -1,5 +1,5 @@
 -- How a call ends, from how it came to its end and what became of the last line.
-use Rattle.std.proofs.Common.{◌≡◌, ◌≢◌, ℕ, zero, suc, List, [], ◌∷◌, ◌++◌, take, Option, inl, inr, refl, sym, ap, subst, ◌∙◌}
+use Rattle.std.proofs.Common.{◌≡◌, ◌≢◌, ℕ, zero, suc, List, [], ◌∷◌, ◌++◌, take, Option, inl, inr, refl, sym, ap, subst, ◌∙◌, append-nil}
 use Rattle.edge_io.specs.Sink.{appended}
 use Rattle.trace_log.specs.LogText.{log_text}
 use Rattle.dmtcp_top.specs.declared.status.Status.{Status}
@@ -20,10 +20,6 @@ take_of_nothing (suc n) xs is = ap (take (suc n)) is
 front_of_nothing : (sink : Sunk) → TookFront sink [] → Took sink []
 front_of_nothing sink front = front.1 ∙ ap (appended sink.before) (take_of_nothing front.0 [] refl)
 
-append_nothing : {A : Type 0} (xs : List A) → xs ++ [] ≡ xs
-append_nothing [] = refl
-append_nothing (x ∷ xs) = ap (λ rest. x ∷ rest) (append_nothing xs)
-
 module _ (session : Session) (had mid has : Option (List ℕ)) where
   -- the last line came whole
   reached_whole : (ending : Ending) → Reaches (status_of ending) session (line_of ending) → Took (sunk had mid) (log_text session.trace) → Took (sunk mid has) (line_of ending) → Took (sunk had has) (log_text session.trace ++ line_of ending)
@@ -33,7 +29,7 @@ module _ (session : Session) (had mid has : Option (List ℕ)) where
   cut_off : SinkFailed session (sunk had mid) → Took (sunk mid has) [] → SinkFailed session (sunk had has)
   cut_off there took = record {
     run = there.run;
-    took = (there.took.0, took_both had mid has (take there.took.0 (log_text session.trace)) [] there.took.1 took ∙ ap (appended had) (append_nothing (take there.took.0 (log_text session.trace))));
+    took = (there.took.0, took_both had mid has (take there.took.0 (log_text session.trace)) [] there.took.1 took ∙ ap (appended had) (append-nil (take there.took.0 (log_text session.trace))));
   }
 
   -- the log failed at the last line

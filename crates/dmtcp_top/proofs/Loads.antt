@@ -12,7 +12,7 @@ use Rattle.sys_abi.specs.declared.record.Record.{Record}
 use Rattle.sys_abi.specs.declared.record.Record.TheVariants.{Complete}
 use Rattle.set_disk.specs.Files.{Files as Folder}
 use Rattle.set_disk.specs.Crash.{Same}
-use Rattle.set_disk.proofs.Stretches.{joins, weakens}
+use Rattle.set_disk.proofs.Stretches.{joins, weakens, told_then}
 use Rattle.plain_machine.specs.declared.plain.Plain.{Plain}
 use Rattle.trace_log.specs.Requests.{first_tally}
 use Rattle.image_store.specs.declared.set_info.SetInfo.{SetInfo}
@@ -35,7 +35,6 @@ use Rattle.dmtcp_top.specs.Keeping.{IsOpening, SpellsCut, CountsFaults, IsKept, 
 use Rattle.dmtcp_top.specs.Launches.{schedule_of}
 use Rattle.dmtcp_top.specs.Loads.{IsMachineOf, OnlyLooks, Restored}
 use Rattle.dmtcp_top.specs.Promise.{SpellsCutOf, StaysWhole}
-use Rattle.dmtcp_top.proofs.Safety.{if_some}
 
 nothing_there : (generation : ℕ) → Contains {X = Record} [] (Complete generation) → ⊥
 nothing_there generation there = let below = there.1 in omega arith
@@ -122,7 +121,7 @@ pub kept : (keeper : Keeper) (settings : Settings) (store : Known) (told : Optio
 kept keeper settings store told images stored tallied none fits = record {
   fits = λ other is. let same : store ≡ other = cc in
       (subst (λ (s : Known). FitsFolder s told images) same fits, ap next_generation (sym same) ∙ next_after store none ∙ ap suc (sym greatest));
-  above = λ files is. if_some (last files) (λ info at.
+  above = λ files is. told_then (last files) (λ info at.
       let found : store.last ≡ Some info = sym (fits files is).last ∙ at in
       let bound : keeper.tally.greatest ≡ info.generation = greatest ∙ ap generation_of found in omega arith);
   floor = λ no_store. absurd (none_some keeper.store store stored no_store);
@@ -159,7 +158,7 @@ module _ (told : Option Folder) (images : Folder → Type 0) (store : Known) (in
   slot_is files = refl
 
   pub damage_found : (damage : Damage) → ForSome told (λ files. HasDamage (last_set files) damage) → IfSome told (λ files. SpoilsSet files info.slot damage)
-  damage_found damage damaged = if_some told (λ files is.
+  damage_found damage damaged = told_then told (λ files is.
       let found = damaged files is in
       record {
         found = found.0;
@@ -169,7 +168,7 @@ module _ (told : Option Folder) (images : Folder → Type 0) (store : Known) (in
       })
 
   pub damage_spelled : (bytes : List (List ℕ)) (damage : Damage) → ForSome told (λ files. HasSet (last_set files) info.generation bytes) → DamagedFiles bytes damage.file damage.offset → IfSome told (λ files. SpoilsSet files info.slot damage)
-  damage_spelled bytes damage has damaged = if_some told (λ files is.
+  damage_spelled bytes damage has damaged = told_then told (λ files is.
       let found = has files is in
       record {
         found = found.0;
@@ -182,7 +181,7 @@ module _ (told : Option Folder) (images : Folder → Type 0) (store : Known) (in
   restored (Ok m) bytes has of = record {
     images = bytes;
     spelled = of.0;
-    counted = if_some told (λ files is. record { images = bytes; counts = has files is; state = of.0 });
+    counted = told_then told (λ files is. record { images = bytes; counts = has files is; state = of.0 });
     ready = of.1;
   }
   restored (Err (Damaged at damage)) bytes has of = subst (λ slot. IfSome told (λ files. SpoilsSet files slot damage)) (sym of.0) (damage_spelled bytes damage has of.1)

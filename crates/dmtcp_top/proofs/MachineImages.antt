@@ -7,9 +7,9 @@ use Rattle.sys_abi.specs.declared.identity.VPid.{VPid}
 use Rattle.sys_abi.proofs.OrderLaws.{vpid_total, vpid_exact}
 use Rattle.plain_machine.specs.declared.kernel.PlainKernel.{PlainKernel}
 use Rattle.plain_machine.specs.declared.process.Process.{Process}
-use Rattle.plain_machine.specs.declared.process.Life.{Life}
-use Rattle.plain_machine.specs.declared.process.Life.TheVariants.{Live, Zombie}
-use Rattle.plain_machine.specs.Kernel.{lives as lives_in, is_live, is_live_process}
+use Rattle.sys_abi.specs.declared.life.Life.{Life}
+use Rattle.sys_abi.specs.declared.life.Life.TheVariants.{Live, Zombie}
+use Rattle.plain_machine.specs.Kernel.{is_live, is_live_process}
 use Rattle.plain_machine.specs.Valid.{FitsLife, IsUser, SameThreads}
 use Rattle.plain_machine.proofs.ThreadKeys.{same_len}
 use Rattle.image_codec.specs.declared.process_image.ProcImage.{ProcImage}
@@ -27,6 +27,7 @@ use Rattle.dmtcp_top.specs.declared.machine.Machine.{Machine}
 use Rattle.dmtcp_top.specs.Machines.{IsReady, lives, only, plain_of}
 use Rattle.dmtcp_top.specs.Sets.{SpellsState}
 use Rattle.dmtcp_top.proofs.Outcomes.{users_while_live}
+use Rattle.sys_abi.specs.Lives.{lives as lives_in}
 
 -- a process that lives is there, and has a thread
 pub live_process : (k : PlainKernel) (p : VPid) → is_live k p ≡ true → (process : Process) × (map.get k.processes p ≡ Some process)

@@ -1,6 +1,6 @@
 -- Words of options, and what they set.
 use Rattle.std.specs.Prelude.{◌⊎◌}
-use Rattle.std.proofs.Common.{◌≡◌, ◌≢◌, ◌==◌, Bool, true, false, get_or, inl, inr, ℕ, zero, suc, List, [], ◌∷◌, ◌++◌, length, All, Option, Some, None, IfNone, refl, sym, ap, ◌∙◌, arith}
+use Rattle.std.proofs.Common.{◌≡◌, ◌≢◌, ◌==◌, Bool, true, false, get_or, inl, inr, ℕ, zero, suc, List, [], ◌∷◌, ◌++◌, length, All, Option, Some, None, IfNone, refl, sym, ap, ◌∙◌, arith, append-nil}
 use Rattle.dmtcp_top.specs.declared.settings.Setting.{Setting}
 use Rattle.dmtcp_top.specs.declared.settings.Setting.TheVariants.{Every, Records}
 use Rattle.dmtcp_top.specs.declared.settings.Settings.{Settings}
@@ -28,21 +28,17 @@ both a b first second zero d small = first
 both a b first second (suc zero) d small = second
 both a b first second (suc (suc k)) d small = absurd (omega arith)
 
-no_more : {A : Type 0} (xs : List A) → xs ++ [] ≡ xs
-no_more [] = refl
-no_more (x ∷ xs) = ap (λ rest. x ∷ rest) (no_more xs)
-
 pub one_option : (option number : List ℕ) (setting : Setting) → IsCounted setting → option ∷ number ∷ [] ≡ words_of setting → AreOptions (option ∷ number ∷ []) (with_setting defaults setting)
 one_option option number setting count is = record {
   given = setting ∷ [];
-  text = is ∙ sym (no_more (words_of setting));
+  text = is ∙ sym (append-nil (words_of setting));
   once = tt;
   counts = only_one setting count;
   set = refl;
 }
 
 joined : (o n p m : List ℕ) (first second : Setting) → o ∷ n ∷ [] ≡ words_of first → p ∷ m ∷ [] ≡ words_of second → o ∷ n ∷ p ∷ m ∷ [] ≡ words_of_all (first ∷ second ∷ [])
-joined o n p m first second is also = ap (λ front. front ++ p ∷ m ∷ []) is ∙ ap (λ back. words_of first ++ back) (also ∙ sym (no_more (words_of second)))
+joined o n p m first second is also = ap (λ front. front ++ p ∷ m ∷ []) is ∙ ap (λ back. words_of first ++ back) (also ∙ sym (append-nil (words_of second)))
 
 pub two_options : (o n p m : List ℕ) (first second : Setting) → IsCounted first → IsCounted second → o ∷ n ∷ [] ≡ words_of first → p ∷ m ∷ [] ≡ words_of second → Differ first second → AreOptions (o ∷ n ∷ p ∷ m ∷ []) (with_setting (with_setting defaults first) second)
 two_options o n p m first second count amount is also differ = record {
@@ -110,7 +106,7 @@ pair_of o n p m (s ∷ t ∷ []) counts once is = record {
   first = s;
   second = t;
   is = ap front_two is ∙ front_of s (words_of t ++ []);
-  also = ap back_two is ∙ back_of s (words_of t ++ []) ∙ no_more (words_of t);
+  also = ap back_two is ∙ back_of s (words_of t ++ []) ∙ append-nil (words_of t);
   count = counts 0 s (omega arith);
   amount = counts 1 s (omega arith);
   differ = once;

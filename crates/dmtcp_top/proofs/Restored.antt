@@ -27,10 +27,11 @@ use Rattle.image_codec.proofs.OneProcess.{one_of_image}
 use Rattle.image_codec.proofs.ImageKernels.{image_is_kernel}
 use Rattle.image_codec.proofs.SameThreads.{images_have_same_threads}
 use Rattle.guest_proc.specs.Guests.{GuestPart}
-use Rattle.guest_proc.proofs.FittingImages.{first_of, rest_of}
+use Rattle.guest_proc.proofs.FittingImages.{first_of}
 use Rattle.dmtcp_top.specs.declared.machine.Machine.{Machine}
 use Rattle.dmtcp_top.specs.Machines.{IsReady, only, plain_of, single}
 use Rattle.dmtcp_top.proofs.Outcomes.{users_while_live}
+use Rattle.plain_machine.proofs.StartPages.{all_tail}
 
 -- the shared image is file 1, and its one process file 2
 pub record IsOneImage (s : Shared) (images : List ProcImage) : Type 0 where
@@ -54,7 +55,7 @@ one_image : (files : List (List ℕ)) (s : Shared) (images : List ProcImage) →
 unfolding SpellsFiles
 one_image [] s images bytes spells = absurd spells
 one_image (first ∷ texts) s images bytes spells =
-    image_of_texts s texts images spells.0.keeps (spells.1 ∙ (one_of_image s spells.0.keeps).files) (rest_of (λ file. All IsByte file) first texts bytes) spells.2
+    image_of_texts s texts images spells.0.keeps (spells.1 ∙ (one_of_image s spells.0.keeps).files) (all_tail (λ file. All IsByte file) first texts bytes) spells.2
 
 pub the_image : (s : Shared) (images : List ProcImage) → (files : List (List ℕ)) × (All (λ file. All IsByte file) files × SpellsFiles files s images) → IsOneImage s images
 the_image s images (files, (bytes, spells)) = one_image files s images bytes spells

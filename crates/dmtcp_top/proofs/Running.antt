@@ -1,5 +1,5 @@
 -- A run on its way: one more record of the machine, and one more mark.
-use Rattle.std.proofs.Common.{◌≡◌, ℕ, suc, ◌+◌, ◌-◌, ◌<◌, ◌≤◌, true, false, List, [], ◌∷◌, ◌++◌, length, Option, Some, inl, inr, refl, sym, ap, subst, ◌∙◌, arith}
+use Rattle.std.proofs.Common.{◌≡◌, ℕ, suc, ◌+◌, ◌-◌, ◌<◌, ◌≤◌, true, false, List, [], ◌∷◌, ◌++◌, length, Option, Some, inl, inr, refl, sym, ap, subst, ◌∙◌, arith, append-nil}
 use Rattle.std.specs.Prelude.{◌⊎◌}
 use Rattle.std.specs.Option.{option_map}
 use Rattle.std.proofs.lemmas.List.{length-append}
@@ -29,10 +29,6 @@ use Rattle.dmtcp_top.specs.Running.{walk, IsRunning, IsNoted}
 use Rattle.dmtcp_top.specs.RunEnds.{IsRun, Shown, CutShort, RanOut, FilledUp, GotStuck}
 use Rattle.dmtcp_top.proofs.Sinks.{took_nothing, took_both, took_more, took_front}
 use Rattle.dmtcp_top.proofs.Walks.{pushed, work_is_due, mark_is_due, mark_stays}
-
-no_more : {A : Type 0} (xs : List A) → xs ++ [] ≡ xs
-no_more [] = refl
-no_more (x ∷ xs) = ap (λ rest. x ∷ rest) (no_more xs)
 
 pub work_no_mark : (r : Record) → is_work r ≡ true → is_mark r ≡ false
 work_no_mark (User p t n) work = refl
@@ -164,7 +160,7 @@ running_mark schedule g m place records sink r running marks may =
       reaches = one_more schedule g (plain_of m) m place records sink r running may goes;
       order = pushed_one.order;
       walked = pushed_one.ends ∙ ap (λ (place : Option Place). Some (standing_of place next)) (mark_stays (plain_of m) place r marks);
-      shown = running.shown ∙ ap (appended sink.before) (sym (console_of_one_more g (plain_of m) records r (quiet (plain_of m)) steps is_quiet ∙ no_more (console g records)));
+      shown = running.shown ∙ ap (appended sink.before) (sym (console_of_one_more g (plain_of m) records r (quiet (plain_of m)) steps is_quiet ∙ append-nil (console g records)));
     } in
     (whole, refl)
 
@@ -175,7 +171,7 @@ noted_work schedule g r requests keeper later records log noted work scheduled l
   scheduled = scheduled ∙ noted.scheduled;
   tallied = tallied ∙ ap one_more_work noted.tallied ∙ sym (work_counts r requests.tally work);
   lined = lined ∙ noted.lined ∙ sym (after_one_more log_start records r ∙ no_progress (after_all log_start records) r (work_no_mark r work));
-  logged = noted.logged ∙ ap (appended log.before) (sym (log_grows records r ∙ ap (λ line. log_text records ++ line) (no_line (after_all log_start records) r (work_no_mark r work)) ∙ no_more (log_text records)));
+  logged = noted.logged ∙ ap (appended log.before) (sym (log_grows records r ∙ ap (λ line. log_text records ++ line) (no_line (after_all log_start records) r (work_no_mark r work)) ∙ append-nil (log_text records)));
   few = let before = noted.few in let same = ap (λ (l : Progress). l.request) lined in omega (arith, length-append records (r ∷ []));
   dry = ap (λ (l : Progress). l.drained) lined ∙ noted.dry;
 }
@@ -242,7 +238,7 @@ running_spoils schedule g m here from to room had mid has running free spoils fi
 pub spoils_log : (schedule : Schedule) (requests : Requests) (keeper : Keeper) (m : Machine) (here : Place) (from to : TraceState) (sink log : Sunk) → IsNoted schedule requests keeper from.records log → (spoils : Spoils m here from to sink) → TookFront log (log_text to.records)
 spoils_log schedule requests keeper m here from to sink log noted spoils =
     let r = spoils.noted in
-    let same : log_text (from.records ++ r ∷ []) ≡ log_text from.records = log_grows from.records r ∙ ap (λ line. log_text from.records ++ line) (no_line (after_all log_start from.records) r (work_no_mark r spoils.own.work)) ∙ no_more (log_text from.records) in
+    let same : log_text (from.records ++ r ∷ []) ≡ log_text from.records = log_grows from.records r ∙ ap (λ line. log_text from.records ++ line) (no_line (after_all log_start from.records) r (work_no_mark r spoils.own.work)) ∙ append-nil (log_text from.records) in
     subst (λ (t : TraceState). TookFront log (log_text t.records)) (sym spoils.broke.trace) (took_front log (log_text (from.records ++ r ∷ [])) (noted.logged ∙ ap (appended log.before) (sym same)))
 
 -- one more record takes one from the room

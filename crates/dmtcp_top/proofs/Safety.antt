@@ -12,7 +12,7 @@ use Rattle.sys_abi.specs.declared.record.Record.TheVariants.{Complete, Refused}
 use Rattle.sys_abi.specs.declared.record.Cause.TheVariants.{DiskFault}
 use Rattle.set_disk.specs.Files.{Files as Folder}
 use Rattle.set_disk.specs.Moments.{LeavesOnly}
-use Rattle.set_disk.proofs.Stretches.{joins, weakens}
+use Rattle.set_disk.proofs.Stretches.{joins, weakens, told_then}
 use Rattle.plain_machine.specs.declared.plain.Plain.{Plain}
 use Rattle.trace_log.specs.Requests.{CutAt}
 use Rattle.dmtcp_top.specs.Sets.{SpellsState}
@@ -98,22 +98,18 @@ same_at_least files image least same at_least =
     let found = counts_as image (set_of files at_least.info) (same ∙ found_of files at_least.info at_least.counts) in
     record { info = found.info; counts = found.counts; late = let late = at_least.late in let is = found.generation in let own = set_generation files at_least.info in omega arith }
 
-pub if_some : {A : Type 0} (o : Option A) {P : A → Type 0} → ((x : A) → o ≡ Some x → P x) → IfSome o P
-if_some None each = tt
-if_some (Some x) each = each x refl
-
 pub at_some : {A : Type 0} (P : A → Type 0) (o : Option A) (x : A) → o ≡ Some x → IfSome o P → P x
 at_some P o x is holds = subst (λ q. IfSome q P) is holds
 
 -- a bound on the generation of the set that counts
 pub same_below : (files image : Folder) (most : ℕ) → last_set image ≡ last_set files → IfSome (last files) (λ info. info.generation ≤ most) → IfSome (last image) (λ info. info.generation ≤ most)
-same_below files image most same below = if_some (last image) (λ info is.
+same_below files image most same below = told_then (last image) (λ info is.
     let found = counts_as files (set_of image info) (sym same ∙ found_of image info is) in
     let bound = at_some (λ info. info.generation ≤ most) (last files) found.info found.counts below in
     let own = set_generation image info in let equal = found.generation in omega arith)
 
 pub new_below : (image : Folder) (generation most : ℕ) (images : List (List ℕ)) → HasSet (last_set image) generation images → generation ≤ most → IfSome (last image) (λ info. info.generation ≤ most)
-new_below image generation most images has enough = if_some (last image) (λ info is.
+new_below image generation most images has enough = told_then (last image) (λ info is.
     let found = new_generation image generation images has in
     let same : found.0 ≡ info = let first = found.1.0 in cc in
     let equal : info.generation ≡ generation = ap (λ (i : SetInfo). i.generation) (sym same) ∙ found.1.1 in omega arith)
@@ -121,7 +117,7 @@ new_below image generation most images has enough = if_some (last image) (λ inf
 -- a bound on the set that counts is one on its place
 pub none_above : (told : Option Folder) (most : ℕ) → ForSome told (λ files. IfSome (last files) (λ info. info.generation ≤ most)) → ForSome told (NoneAbove most)
 none_above told most above = λ files is some.
-    if_some (last_set files) (λ set at.
+    told_then (last_set files) (λ set at.
     let found = counts_as files set at in
     let bound = at_some (λ info. info.generation ≤ most) (last files) found.info found.counts (above files is) in let same = found.generation in omega arith)
 

@@ -12,7 +12,6 @@ use Rattle.sys_abi.specs.declared.request.Request.TheVariants.{Write, Exit, Exit
 use Rattle.plain_machine.specs.declared.kernel.PlainKernel.{PlainKernel}
 use Rattle.plain_machine.specs.declared.description.Object.{Object}
 use Rattle.plain_machine.specs.declared.description.Object.TheVariants.{Console}
-use Rattle.plain_machine.specs.Buffers.{has_flag}
 use Rattle.plain_machine.specs.Attempts.{Try, Fails, NotReady, Gives, Served, and_then, found, need, settled}
 use Rattle.plain_machine.specs.Kernel.{description_at, may_write}
 use Rattle.plain_machine.specs.Rows.Write.{write_row, write_object}
@@ -20,6 +19,7 @@ use Rattle.plain_machine.specs.Rows.End.{exit_row, exit_group_row}
 use Rattle.plain_machine.specs.Rows.Send.{tgkill_row}
 use Rattle.plain_machine.specs.Rows.Clone.{number_if, number_bytes, clone_thread, clone_by, clone_row}
 use Rattle.plain_machine.specs.Serve.{row, serve}
+use Rattle.sys_abi.specs.Flags.{has_flag}
 
 abbrev IsAnswered : Try Served → Type 0
 IsAnswered (Fails e) = Unit {0}

@@ -1,18 +1,14 @@
 -- What a sink took in several pieces.
-use Rattle.std.proofs.Common.{◌≡◌, ℕ, ◌+◌, List, [], ◌∷◌, ◌++◌, length, take, append_assoc, Option, Some, None, Result, Ok, Err, OnErr, refl, sym, ap, ◌∙◌, arith}
+use Rattle.std.proofs.Common.{◌≡◌, ℕ, ◌+◌, List, [], ◌∷◌, ◌++◌, length, take, append_assoc, Option, Some, None, Result, Ok, Err, OnErr, refl, sym, ap, ◌∙◌, arith, append-nil}
 use Rattle.std.specs.Prelude.{min}
 use Rattle.std.proofs.Math.Seq.{take-append-add, take-length}
 use Rattle.std.proofs.lemmas.List.{take-append-le, take_min}
 use Rattle.edge_io.specs.Sink.{appended}
 use Rattle.dmtcp_top.specs.Sessions.{Sunk, sunk, Took, TookFront}
 
-append_nothing : {A : Type 0} (xs : List A) → xs ++ [] ≡ xs
-append_nothing [] = refl
-append_nothing (x ∷ xs) = ap (λ rest. x ∷ rest) (append_nothing xs)
-
 pub took_nothing : (taken : Option (List ℕ)) → Took (sunk taken taken) []
 took_nothing None = refl
-took_nothing (Some bytes) = ap (λ xs. Some xs) (sym (append_nothing bytes))
+took_nothing (Some bytes) = ap (λ xs. Some xs) (sym (append-nil bytes))
 
 -- a sink that took two pieces took both together
 appended_twice : (taken : Option (List ℕ)) (xs ys : List ℕ) → appended (appended taken xs) ys ≡ appended taken (xs ++ ys)

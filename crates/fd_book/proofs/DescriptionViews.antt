@@ -25,6 +25,7 @@ use Rattle.fd_book.specs.Books.{is_after, bound_above}
 use Rattle.fd_book.specs.Descriptions.{kept_at, descriptions_of, IsIndex}
 use Rattle.fd_book.proofs.IndexLaws.{get-descriptions_of, found_none, not_indexed, add_seen, add_good, set_seen, take_seen, take_good}
 use Rattle.fd_book.proofs.TableViews.{nothing_there}
+use Rattle.views.proofs.NextKeys.{first}
 
 abbrev pub Index : Type 0
 Index = BTreeMap DescId ℕ
@@ -114,11 +115,6 @@ take_none m n slab now id none removed seen =
     let no_key = get-view desc_total m id ∙ sym none in
     ap (λ (i : FinMap desc_cmp ℕ). descriptions_of i slab) (removed ∙ remove_absent desc_total desc_exact (view desc_cmp m) id no_key) ∙ seen
     ∙ sym (remove_absent desc_total desc_exact now id (found_none (view desc_cmp m) slab now id no_key seen))
-
--- the least name above another, read off the range of the tree that begins there
-first : {A : Type 0} → List A → Option A
-first [] = None
-first (x ∷ xs) = Some x
 
 find-filter : (p : DescId → Bool) (es : List (DescId × ℕ)) → option_map (λ e. e.0) (first (filter (λ e. p e.0) es)) ≡ find p (keys_of es)
 unfolding first

@@ -6,7 +6,7 @@ use Rattle.std.proofs.lemmas.List.{get_or_past}
 use Rattle.views.proofs.MapLaws.{same_or_other, get_insert_same, get_insert_other}
 use Rattle.sys_abi.specs.declared.identity.RealPid.{RealPid}
 use Rattle.sys_abi.specs.declared.identity.DescId.{DescId}
-use Rattle.sys_abi.proofs.OrderLaws.{desc_total, desc_exact}
+use Rattle.sys_abi.proofs.OrderLaws.{desc_total, desc_exact, real_pid_total, real_pid_exact}
 use Rattle.fd_book.specs.declared.real_slot.RealSlot.{RealSlot}
 use Rattle.fd_book.specs.declared.description.Descriptor.{Descriptor}
 use Rattle.fd_book.specs.declared.open.Open.{Open}
@@ -14,7 +14,7 @@ use Rattle.fd_book.specs.Books.{slot}
 use Rattle.fd_book.specs.Numbers.{NoneOpen}
 use Rattle.fd_book.specs.Tables.{at_place}
 use Rattle.fd_book.specs.Counts.{with_holders, retained, after_retain, after_place, after_retains, IsBook}
-use Rattle.fd_book.proofs.OrderLaws.{real_pid_total, real_pid_exact, real_slot_total, real_slot_exact}
+use Rattle.fd_book.proofs.OrderLaws.{real_slot_total, real_slot_exact}
 use Rattle.fd_book.proofs.CountLaws.{count-cons}
 use Rattle.fd_book.proofs.BookLaws.{Slots, Opens, descs, is_there, after_retain_book, descs-after_retain}
 

@@ -15,13 +15,12 @@ use Rattle.views.proofs.MapLaws.{true_false, key_tied, same_key}
 use Rattle.views.proofs.MapValues.{EachEntry, each_entry, at_entry}
 use Rattle.sys_abi.specs.declared.identity.RealPid.{RealPid}
 use Rattle.sys_abi.specs.declared.identity.DescId.{DescId}
-use Rattle.sys_abi.specs.Orders.{desc_cmp}
-use Rattle.sys_abi.proofs.OrderLaws.{desc_total, desc_exact}
+use Rattle.sys_abi.specs.Orders.{desc_cmp, real_pid_cmp}
+use Rattle.sys_abi.proofs.OrderLaws.{desc_total, desc_exact, real_pid_total, real_pid_exact}
 use Rattle.fd_book.specs.declared.description.Descriptor.{Descriptor}
-use Rattle.fd_book.specs.Orders.{real_pid_cmp, real_slot_cmp}
+use Rattle.fd_book.specs.Orders.{real_slot_cmp}
 use Rattle.fd_book.specs.Books.{slot, refers_to, IsHolder}
 use Rattle.fd_book.specs.Tables.{at_place, place_refers}
-use Rattle.fd_book.proofs.OrderLaws.{real_pid_total, real_pid_exact}
 use Rattle.fd_book.proofs.TableLaws.{get-descriptors_of}
 use Rattle.fd_book.proofs.TableViews.{Trees, seen}
 

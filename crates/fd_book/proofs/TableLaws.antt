@@ -10,24 +10,15 @@ use Rattle.views.proofs.MapLaws.{key_tied, other_key, same_or_other}
 use Rattle.sys_abi.specs.declared.identity.RealPid.{RealPid}
 use Rattle.fd_book.specs.declared.real_slot.RealSlot.{RealSlot}
 use Rattle.fd_book.specs.declared.description.Descriptor.{Descriptor}
-use Rattle.fd_book.specs.Orders.{real_pid_cmp, real_slot_cmp}
+use Rattle.fd_book.specs.Orders.{real_slot_cmp}
 use Rattle.fd_book.specs.Books.{slot}
 use Rattle.fd_book.specs.Tables.{at_place, entries_from, all_entries, descriptors_of}
-use Rattle.fd_book.proofs.OrderLaws.{real_pid_total, real_pid_exact, real_slot_total, real_slot_exact}
+use Rattle.fd_book.proofs.OrderLaws.{real_slot_total, real_slot_exact}
 use Rattle.fd_book.proofs.Places.{past_places}
-
-first : (a b : Bool) → T (a && b) → T a
-first true b p = tt
-first false b p = p
-
-second : (a b : Bool) → T (a && b) → T b
-second true b p = p
-second false b p = absurd p
-
-less : (r : Ordering) → T (is_lt r) → r ≡ Less
-less Less p = refl
-less Equal p = absurd p
-less Greater p = absurd p
+use Rattle.views.proofs.MapValues.{find_below}
+use Rattle.views.proofs.Tests.{first, second}
+use Rattle.sys_abi.specs.Orders.{real_pid_cmp}
+use Rattle.sys_abi.proofs.OrderLaws.{real_pid_total, real_pid_exact}
 
 or_none : {X : Type 0} (x : Option X) → option_or x None ≡ x
 or_none None = refl
@@ -40,10 +31,6 @@ module _ {K X : Type 0} (R : K → K → Ordering) where
     | true ↦ refl
     | false ↦ find-append q es fs
   ]
-
-  find_below : (q : K) (es : List (K × X)) → T (below_all R q es) → find R q es ≡ None
-  find_below q [] h = refl
-  find_below q (e ∷ es) h = ap (λ r. cond (is_eq r) (Some e.1) (find R q es)) (less _ (first _ _ h)) ∙ find_below q es (second _ _ h)
 
 -- the head is not the one that is sought
 passed : (q at : RealSlot) (d : Descriptor) (es : List (RealSlot × Descriptor)) (found : Option Descriptor) → q ≢ at → find real_slot_cmp q es ≡ found → find real_slot_cmp q ((at, d) ∷ es) ≡ found

@@ -12,12 +12,14 @@ use Rattle.views.proofs.MapLaws.{true_false, get_inserted, get_beside_inserted, 
 use Rattle.sys_abi.specs.declared.identity.RealPid.{RealPid}
 use Rattle.fd_book.specs.declared.real_slot.RealSlot.{RealSlot}
 use Rattle.fd_book.specs.declared.description.Descriptor.{Descriptor}
-use Rattle.fd_book.specs.Orders.{real_pid_cmp, real_slot_cmp}
+use Rattle.fd_book.specs.Orders.{real_slot_cmp}
 use Rattle.fd_book.specs.Books.{slot}
 use Rattle.fd_book.specs.Numbers.{NoneOpen}
 use Rattle.fd_book.specs.Tables.{at_place, all_entries, descriptors_of}
-use Rattle.fd_book.proofs.OrderLaws.{real_pid_total, real_pid_exact, real_slot_total, real_slot_exact}
+use Rattle.fd_book.proofs.OrderLaws.{real_slot_total, real_slot_exact}
 use Rattle.fd_book.proofs.TableLaws.{get-descriptors_of, get-after_set, as_insert, as_remove}
+use Rattle.sys_abi.specs.Orders.{real_pid_cmp}
+use Rattle.sys_abi.proofs.OrderLaws.{real_pid_total, real_pid_exact}
 
 abbrev pub Trees : Type 0
 Trees = BTreeMap RealPid (List (Option Descriptor))

@@ -21,6 +21,7 @@ use Rattle.guest_mem.specs.Refusals.{granted, is_mapped, refusal, stored}
 use Rattle.guest_mem.specs.Pages.{IsSpace}
 use Rattle.guest_mem.proofs.InPage.{bytes_of, is_mapped-in_page, bytes_at-in_page}
 use Rattle.guest_mem.proofs.Ranges.{joined, bytes_at-split, is_mapped-split, is_mapped-readable, false_true}
+use Rattle.plain_machine.proofs.PageByPage.{and_false}
 
 both_some : (front back : Option (List ℕ)) → is_some (joined front back) ≡ is_some front && is_some back
 both_some None back = refl
@@ -44,10 +45,6 @@ checked_more m right a i j frame has mapped had there some inside = (
       ∙ frame_had right ((a + i) % 4096) j frame) k)
       ),
 )
-
-and_false : (b : Bool) → b && false ≡ false
-and_false true = refl
-and_false false = refl
 
 hole : (m : Memory) (a n i : ℕ) → i < n → map.get m ((a + i) / 4096) ≡ None → is_mapped m a n ≡ false
 unfolding is_mapped

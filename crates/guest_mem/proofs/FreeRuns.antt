@@ -1,6 +1,5 @@
 -- The lowest run of free pages.
 --     free_true, true_free, free_false      what the test of a run says
---     find_place, find_nowhere              the first of some numbers that passes a test, or none
 use Rattle.std.proofs.Common.{◌≡◌, ℕ, zero, suc, ◌+◌, ◌-◌, ◌≤◌, ◌<◌, Bool, true, false, cond, ◌&&◌, refl, sym, ap, ◌∙◌, arith, ⊎_elim}
 use Rattle.std.specs.Prelude.{Some, None, is_some, find, not}
 use Rattle.std.specs.List.{range_with_len}
@@ -9,6 +8,7 @@ use Rattle.std.proofs.lemmas.Bool.{cases_eq, cases_lt}
 use Rattle.plain_machine.specs.Memory.{Memory}
 use Rattle.plain_machine.specs.Pages.{IsFree, is_free, free_run}
 use Rattle.guest_mem.specs.Pages.{IsTaken}
+use Rattle.plain_machine.proofs.PageByPage.{and_false, find_place, find_nowhere}
 
 both : (a b : Bool) → a ≡ true → b ≡ true → a && b ≡ true
 both a b first second = λ i. first i && second i
@@ -20,10 +20,6 @@ free_true m page (suc n) free =
     both (is_free m page n) (not (is_some (map.get m (page + n)))) (free_true m page n (λ q from below. free q from (omega arith)))
     (ap (λ found. not (is_some found)) (free (page + n) (omega arith) (omega arith)))
 
-and_false : (b : Bool) → b && false ≡ false
-and_false true = refl
-and_false false = refl
-
 pub free_false : (m : Memory) (page n taken : ℕ) → IsTaken m page n taken → is_free m page n ≡ false
 unfolding is_free
 free_false m page zero taken is = absurd (omega (arith, is.from, is.below))
@@ -34,23 +30,6 @@ free_false m page (suc n) taken is =
     (λ (other : taken ≡ page + n → ⊥).
     ap (λ b. b && not (is_some (map.get m (page + n)))) (free_false m page n taken (record { from = is.from; below = omega (arith, is.below, other); held = is.held })))
     (cases_eq taken (page + n))
-
-pub find_place : (p : ℕ → Bool) (a n place : ℕ) → a ≤ place → place < a + n → ((q : ℕ) → a ≤ q → q < place → p q ≡ false) → p place ≡ true
-    → find p (range_with_len a n) ≡ Some place
-find_place p a zero place from below fails passes = absurd (omega arith)
-find_place p a (suc n) place from below fails passes =
-    ⊎_elim
-    (λ (here : a ≡ place). ap (λ b. cond b (Some a) (find p (range_with_len (a + 1) n))) (ap p here ∙ passes) ∙ ap (λ k. Some k) here)
-    (λ (other : a ≡ place → ⊥).
-    ap (λ b. cond b (Some a) (find p (range_with_len (a + 1) n))) (fails a (omega arith) (omega arith))
-    ∙ find_place p (a + 1) n place (omega arith) (omega arith) (λ q start before. fails q (omega arith) before) passes)
-    (cases_eq a place)
-
-pub find_nowhere : (p : ℕ → Bool) (a n : ℕ) → ((q : ℕ) → a ≤ q → q < a + n → p q ≡ false) → find p (range_with_len a n) ≡ None
-find_nowhere p a zero fails = refl
-find_nowhere p a (suc n) fails =
-    ap (λ b. cond b (Some a) (find p (range_with_len (a + 1) n))) (fails a (omega arith) (omega arith))
-    ∙ find_nowhere p (a + 1) n (λ q from below. fails q (omega arith) (omega arith))
 
 -- the walk of a space: runs from so many pages on are not free
 pub record IsWalk (memory : Memory) (count start page : ℕ) : Type 0 where

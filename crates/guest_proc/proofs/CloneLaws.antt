@@ -6,10 +6,10 @@ use Rattle.sys_abi.specs.declared.flags.TheConstants.{CLONE_CHILD_CLEARTID}
 use Rattle.plain_machine.specs.declared.regs.Regs.{Regs}
 use Rattle.plain_machine.specs.declared.user_part.UserPart.{UserPart}
 use Rattle.plain_machine.specs.declared.user_part.ThreadPart.{ThreadPart}
-use Rattle.plain_machine.specs.Buffers.{has_flag}
 use Rattle.plain_machine.specs.Threads.{new_regs, new_thread, with_new_thread_by, with_new_thread}
 use Rattle.guest_proc.specs.Guests.{with_threads}
 use Rattle.guest_proc.specs.Threads.{fresh}
+use Rattle.sys_abi.specs.Flags.{has_flag}
 
 module _ (user : UserPart) (t new flags stack tls child_tid : ℕ) where
   abbrev cleared : ℕ

@@ -21,6 +21,7 @@ use Rattle.plain_machine.specs.Rows.Handlers.{with_mask}
 use Rattle.plain_machine.specs.Deliveries.{Delivery, Enters, Ignores, Kills, CONTEXT_LIMIT, action_on, interrupted, handler_regs, handler_mask, entered, with_entered, delivery, traps_with, deliver_to, deliver, delivered_told}
 use Rattle.guest_proc.specs.Guests.{HasThread, part_after, entered_in}
 use Rattle.guest_proc.specs.Threads.{ThreadTable, with_contexts, changed_by, changed, at_thread}
+use Rattle.plain_machine.proofs.Delivering.{chosen}
 
 -- two changes of one thread
 twice_by : (threads : map.FinMap nat_cmp ThreadPart) (t : ℕ) (first then : ThreadPart → ThreadPart) (found : Option ThreadPart) → map.get threads t ≡ found
@@ -84,10 +85,6 @@ pub foreseen : (user : UserPart) (t s count mask : ℕ) (action : SignalAction) 
 unfolding deliver
 foreseen user t s count mask action is_trap is_unready result has_mask has_count is_action traps told =
     foreseen_by user t s count mask action is_trap is_unready result (map.get user.threads t) has_mask has_count is_action traps told
-
--- a delivery that enters the handler
-abbrev chosen : Bool → Bool → Bool → Bool → ℕ → UserPart → Delivery
-chosen ends passes defaults fits s after = cond ends (Kills s) (cond passes Ignores (cond defaults (Kills s) (cond fits (Enters after) (Kills 11))))
 
 record Entry (fits : Bool) (after : UserPart) (delivery : Delivery) : Type 0 where
   room : fits ≡ true

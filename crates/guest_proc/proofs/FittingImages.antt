@@ -26,6 +26,7 @@ use Rattle.image_codec.specs.ProcessImages.{IsPage, IsWaiter, IsThreadImage, is_
 use Rattle.image_codec.proofs.DistinctWaiters.{waiters_fit}
 use Rattle.image_codec.proofs.OneProcess.{keys_there, part_keys}
 use Rattle.guest_proc.proofs.Images.{front, back, rising, past_front, lt_true}
+use Rattle.plain_machine.proofs.StartPages.{all_tail}
 
 -- entries
 found_after : {X : Type 0} (k q : ℕ) (v : X) (es : List (ℕ × X)) → T (below_all nat_cmp k es) → map.find nat_cmp q es ≡ Some v → k < q
@@ -50,9 +51,6 @@ each_entry P m holds = entries_all P (map.entries m) (map.entries_sorted m) (λ 
 
 pub first_of : {X : Type 0} (P : X → Type 0) (x : X) (xs : List X) → All P (x ∷ xs) → P x
 first_of P x xs are = are 0 x (omega arith)
-
-pub rest_of : {X : Type 0} (P : X → Type 0) (x : X) (xs : List X) → All P (x ∷ xs) → All P xs
-rest_of P x xs are = λ k d inside. are (suc k) d (omega arith)
 
 -- tests
 both_true : (a b : Bool) → a ≡ true → b ≡ true → (a && b) ≡ true
@@ -154,7 +152,7 @@ pages_fit start end before [] next sorted are = tt
 pages_fit start end before (p ∷ pages) next sorted are = (
   page_fits start end before p next (first_of (λ e. IsKept start end e.0 e.1) (page_entry p) (each page_entry pages) are),
   pages_fit start end (before ++ p ∷ []) pages (next_is before p pages (front (below_all nat_cmp p.number (each page_entry pages)) (is_sorted nat_cmp (each page_entry pages)) sorted))
-      (back (below_all nat_cmp p.number (each page_entry pages)) (is_sorted nat_cmp (each page_entry pages)) sorted) (rest_of (λ e. IsKept start end e.0 e.1) (page_entry p) (each page_entry pages) are),
+      (back (below_all nat_cmp p.number (each page_entry pages)) (is_sorted nat_cmp (each page_entry pages)) sorted) (all_tail (λ e. IsKept start end e.0 e.1) (page_entry p) (each page_entry pages) are),
 )
 
 pages_fit_all : (user : UserPart) (pages : List PageImage) → IsUser user → each page_entry pages ≡ map.entries user.memory → EachFrom (IsPage user.break_start user.break_end) [] pages
@@ -221,7 +219,7 @@ unfolding EachFrom
 threads_fit tids before [] all are = tt
 threads_fit tids before (t ∷ threads) all are = (
   thread_fits tids before t (ap (λ numbers. slice_get numbers (length before)) all ∙ tid_at before t threads) (first_of (λ e. IsThread e.1) (thread_entry t) (each thread_entry threads) are),
-  threads_fit tids (before ++ t ∷ []) threads (all ∙ sym (ap tids_in (append_assoc before (t ∷ []) threads))) (rest_of (λ e. IsThread e.1) (thread_entry t) (each thread_entry threads) are),
+  threads_fit tids (before ++ t ∷ []) threads (all ∙ sym (ap tids_in (append_assoc before (t ∷ []) threads))) (all_tail (λ e. IsThread e.1) (thread_entry t) (each thread_entry threads) are),
 )
 
 -- a thread of the part is one of its image

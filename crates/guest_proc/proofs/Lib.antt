@@ -7,7 +7,6 @@ pub mod Waking
 pub mod Texts
 pub mod Runs
 pub mod Lift
-pub mod ThreadLemmas
 pub mod LendLemmas
 pub mod GuestLemmas
 pub mod Loading

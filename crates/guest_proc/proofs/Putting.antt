@@ -13,8 +13,9 @@ use Rattle.plain_machine.specs.declared.user_part.ThreadPart.{ThreadPart}
 use Rattle.plain_machine.specs.Buffers.{written_spans}
 use Rattle.plain_machine.specs.Put.{after_call, added_thread, after_threads, put, put_by, with_spans, word_of}
 use Rattle.plain_machine.specs.Valid.{CanAdd, CanAddAs}
-use Rattle.guest_proc.specs.Guests.{GuestPart, HasThread, with_user, with_memory, with_threads}
+use Rattle.guest_proc.specs.Guests.{GuestPart, HasThread, with_user, with_threads}
 use Rattle.guest_proc.specs.Threads.{changed, changed_by}
+use Rattle.plain_machine.specs.Rows.Mappings.{with_memory}
 
 -- look-ups after a change of a thread that is there
 has_by : (threads : map.FinMap nat_cmp ThreadPart) (t : ℕ) (change : ThreadPart → ThreadPart) (found : Option ThreadPart) → is_some found ≡ true

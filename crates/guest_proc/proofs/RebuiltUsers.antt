@@ -29,16 +29,17 @@ use Rattle.image_codec.specs.ProcessImages.{IsPage, IsThreadImage, ThreadWords, 
 use Rattle.image_codec.proofs.DistinctWaiters.{waiters_among, waiters_apart}
 use Rattle.image_codec.proofs.OneProcess.{parts_there}
 use Rattle.image_codec.proofs.Owners.{same_tids}
-use Rattle.guest_proc.proofs.FittingImages.{page_there, image_few, from_eq, from_le, from_lt, and_first, and_second, first_of, rest_of}
+use Rattle.guest_proc.proofs.FittingImages.{page_there, image_few, from_eq, from_le, from_lt, and_first, and_second, first_of}
+use Rattle.plain_machine.proofs.StartPages.{all_tail}
 
 -- the bytes of pages in a text
 left_of : (P : ℕ → Type 0) (xs ys : List ℕ) → All P (xs ++ ys) → All P xs
 left_of P [] ys are = All-nil P
-left_of P (x ∷ xs) ys are = All-cons P x xs (first_of P x (xs ++ ys) are) (left_of P xs ys (rest_of P x (xs ++ ys) are))
+left_of P (x ∷ xs) ys are = All-cons P x xs (first_of P x (xs ++ ys) are) (left_of P xs ys (all_tail P x (xs ++ ys) are))
 
 right_of : (P : ℕ → Type 0) (xs ys : List ℕ) → All P (xs ++ ys) → All P ys
 right_of P [] ys are = are
-right_of P (x ∷ xs) ys are = right_of P xs ys (rest_of P x (xs ++ ys) are)
+right_of P (x ∷ xs) ys are = right_of P xs ys (all_tail P x (xs ++ ys) are)
 
 pages_bytes : (pages : List PageImage) → All IsByte (flat_map page_text pages) → All (λ page. All IsByte page.frame.page) pages
 unfolding page_text
@@ -71,7 +72,7 @@ found_in P (e ∷ es) q v are found = ⊎_elim
     let value : e.1 ≡ v = cc in
     subst (P q) value (subst (λ k. P k e.1) (sym here) (first_of (λ e. P e.0 e.1) e es are)))
     (λ (other : q ≢ e.0).
-    found_in P es q v (rest_of (λ e. P e.0 e.1) e es are) (sym (ap (λ b. cond b (Some e.1) (map.find nat_cmp q es)) (other_key nat_cmp_total map.nat_cmp-IsAntisymmetric q e.0 other)) ∙ found))
+    found_in P es q v (all_tail (λ e. P e.0 e.1) e es are) (sym (ap (λ b. cond b (Some e.1) (map.find nat_cmp q es)) (other_key nat_cmp_total map.nat_cmp-IsAntisymmetric q e.0 other)) ∙ found))
     (same_or_other nat_cmp_total map.nat_cmp-IsAntisymmetric q e.0)
 
 each_of : {X : Type 0} (P : ℕ → X → Type 0) (es : List (ℕ × X)) → All (λ e. P e.0 e.1) es → Each (map.from_entries {R = nat_cmp} es) P
@@ -122,7 +123,7 @@ unfolding EachFrom
 given_pages start end before [] are bytes = All-nil _
 given_pages start end before (p ∷ pages) are bytes =
     All-cons (λ e. IsGiven start end e.0 e.1) (page_entry p) (each page_entry pages) (given_page start end before p are.0 (first_of (λ page. All IsByte page.frame.page) p pages bytes))
-    (given_pages start end (before ++ p ∷ []) pages are.1 (rest_of (λ page. All IsByte page.frame.page) p pages bytes))
+    (given_pages start end (before ++ p ∷ []) pages are.1 (all_tail (λ page. All IsByte page.frame.page) p pages bytes))
 
 -- which pages are there
 has_each : (pages : List PageImage) (first n k : ℕ) → has_pages pages first n ≡ true → k < n → has_page pages (first + k) ≡ true
@@ -197,7 +198,7 @@ given_threads tids before [] are words = All-nil _
 given_threads tids before (t ∷ threads) are words =
     let first = first_of ThreadWords t threads words in
     All-cons (λ e. IsWord e.0 × IsThread e.1) (thread_entry t) (each thread_entry threads) (first.tid, given_thread tids before t are.0 first)
-    (given_threads tids (before ++ t ∷ []) threads are.1 (rest_of ThreadWords t threads words))
+    (given_threads tids (before ++ t ∷ []) threads are.1 (all_tail ThreadWords t threads words))
 
 -- who waits is one of the threads
 given_waiter : (threads : List ThreadImage) (waiter : Waiter) → is_among (each (λ (t : ThreadImage). t.tid) threads) waiter.tid ≡ true → WaiterWords waiter → IsWaiter (map.from_entries (each thread_entry threads)) waiter

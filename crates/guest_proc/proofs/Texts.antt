@@ -8,6 +8,7 @@ use Rattle.plain_machine.specs.Memory.{Memory, byte_at, bytes_at, followed_by}
 use Rattle.plain_machine.specs.declared.buffers.Source.{Source}
 use Rattle.plain_machine.specs.declared.buffers.Source.TheVariants.{Nothing}
 use Rattle.plain_machine.specs.Buffers.{text_at, text_from, bytes_of}
+use Rattle.plain_machine.proofs.TextBytes.{text-zero, rest_at, text_from-some, behind}
 
 -- the first so many bytes are there, none of them zero, and the text goes on after them
 pub record TextSoFar (memory : Memory) (address done : ℕ) : Type 0 where
@@ -23,14 +24,6 @@ bytes-zero : (memory : Memory) (address : ℕ) → bytes_at memory Read address 
 unfolding bytes_at
 bytes-zero memory address = refl
 
-text-suc : (memory : Memory) (address n : ℕ) → text_at memory address (suc n) ≡ text_from (text_at memory (address + 1) n) (byte_at memory Read address)
-unfolding text_at
-text-suc memory address n = refl
-
-text-zero : (memory : Memory) (address : ℕ) → text_at memory address 0 ≡ Some []
-unfolding text_at
-text-zero memory address = refl
-
 same_option : (o : Option (List ℕ)) → o ≡ option_map (λ rest. [] ++ rest) o
 same_option None = refl
 same_option (Some rest) = refl
@@ -43,13 +36,6 @@ starts memory address = record {
       let place : address ≡ address + 0 = omega arith in
       same_option (text_at memory address 256) ∙ ap (λ a. option_map (λ rest. [] ++ rest) (text_at memory a 256)) place;
 }
-
--- what follows the first so many bytes
-rest_at : (memory : Memory) (address done : ℕ) (byte : Option ℕ) → done < 256 → byte_at memory Read (address + done) ≡ byte
-    → text_at memory (address + done) (256 - done) ≡ text_from (text_at memory (address + done + 1) (255 - done)) byte
-rest_at memory address done byte less is =
-    let more : 256 - done ≡ suc (255 - done) = omega arith in
-    ap (text_at memory (address + done)) more ∙ text-suc memory (address + done) (255 - done) ∙ ap (text_from (text_at memory (address + done + 1) (255 - done))) is
 
 bytes_next : (memory : Memory) (address done : ℕ) (front : List ℕ) (byte : Option ℕ) → bytes_at memory Read address done ≡ Some front → byte_at memory Read (address + done) ≡ byte
     → bytes_at memory Read address (done + 1) ≡ followed_by (Some front) byte
@@ -80,17 +66,6 @@ ended memory address done byte so_far less is zero_byte =
     let found = is ∙ ap Some zero_byte in
     let text = so_far.text ∙ ap (option_map (λ rest. so_far.front ++ rest)) (rest_at memory address done (Some 0) less found) in
     record { text = text ∙ sym (bytes_next memory address done so_far.front (Some 0) so_far.bytes found); there = ap is_some text }
-
-is_other : (byte : ℕ) → byte ≢ 0 → (byte == 0) ≡ false
-is_other byte other = grind (arith, nat_tests)
-
-text_from-some : (rest : Option (List ℕ)) (byte : ℕ) → byte ≢ 0 → text_from rest (Some byte) ≡ option_map (λ bytes. byte ∷ bytes) rest
-text_from-some rest byte other = ap (λ b. if b then Some (0 ∷ []) else option_map (λ bytes. byte ∷ bytes) rest) (is_other byte other)
-
-behind : (front : List ℕ) (byte : ℕ) (rest : Option (List ℕ))
-    → option_map (λ r. front ++ r) (option_map (λ bytes. byte ∷ bytes) rest) ≡ option_map (λ r. (front ++ byte ∷ []) ++ r) rest
-behind front byte None = refl
-behind front byte (Some rest) = ap Some (sym (append_assoc front (byte ∷ []) rest))
 
 -- another byte doesn't
 pub goes_on : (memory : Memory) (address done byte : ℕ) → TextSoFar memory address done → done < 256 → byte_at memory Read (address + done) ≡ Some byte → byte ≢ 0 → TextSoFar memory address (done + 1)

@@ -1,5 +1,5 @@
--- Waking threads, over plain variables.
---     awake_is        one thread goes on      wake_more, wake_done      one more in a row, and nobody left
+-- Waking a thread, over plain variables.
+--     awake_is        the thread goes on
 use Rattle.std.proofs.Common.{◌≡◌, ℕ, zero, suc, ◌+◌, ◌-◌, ◌≤◌, refl, sym, ap, ◌∙◌, arith}
 use Rattle.std.specs.Prelude.{Option, Some, None}
 use Rattle.std.specs.FinMap as map
@@ -18,30 +18,3 @@ pub awake_is : (user : UserPart) (t : ℕ)
     → with_threads (with_waiters user (without_waiter t user.waiters)) (changed user.threads t (λ thread. after_call thread 0)) ≡ awake user t
 unfolding awake
 awake_is user t = by_found (with_waiters user (without_waiter t user.waiters)) t (map.get user.threads t)
-
--- in a row
-pub wake_none : (address : ℕ) (user : UserPart) → wake 0 address user ≡ record { user = user; count = 0 }
-unfolding wake
-wake_none address user = refl
-
-pub wake_more : (n address : ℕ) (user before after : UserPart) (waiter : Waiter) → wake n address user ≡ record { user = before; count = n } → first_waiter address before.waiters ≡ Some waiter
-    → after ≡ awake before waiter.tid → wake (n + 1) address user ≡ record { user = after; count = n + 1 }
-unfolding wake wake_one
-wake_more n address user before after waiter so_far first is =
-    let more : n + 1 ≡ suc n = omega arith in
-    ap (λ k. wake k address user) more ∙ ap (wake_one address) so_far ∙ ap (woken_by (record { user = before; count = n })) first ∙ ap (λ u. record { user = u; count = n + 1 }) (sym is)
-
-wake_past : (k n address : ℕ) (user after : UserPart) (woken : ℕ) → wake n address user ≡ record { user = after; count = woken } → first_waiter address after.waiters ≡ None
-    → wake (k + n) address user ≡ record { user = after; count = woken }
-unfolding wake wake_one
-wake_past zero n address user after woken so_far none = ap (λ m. wake m address user) (let same : 0 + n ≡ n = omega arith in same) ∙ so_far
-wake_past (suc k) n address user after woken so_far none =
-    let more : suc k + n ≡ suc (k + n) = omega arith in
-    ap (λ m. wake m address user) more ∙ ap (wake_one address) (wake_past k n address user after woken so_far none) ∙ ap (woken_by (record { user = after; count = woken })) none
-
--- nobody is left
-pub wake_done : (n limit address : ℕ) (user after : UserPart) (woken : ℕ) → n ≤ limit → wake n address user ≡ record { user = after; count = woken } → first_waiter address after.waiters ≡ None
-    → wake limit address user ≡ record { user = after; count = woken }
-wake_done n limit address user after woken within so_far none =
-    let all : limit ≡ (limit - n) + n = omega arith in
-    ap (λ m. wake m address user) all ∙ wake_past (limit - n) n address user after woken so_far none

@@ -32,9 +32,6 @@ guest_code =
 abbrev pub with_user : GuestPart → UserPart → GuestPart
 with_user guest user = record { pid = guest.pid; user = user; spare = guest.spare }
 
-abbrev pub with_memory : UserPart → Memory → UserPart
-with_memory user memory = record user { memory = memory }
-
 abbrev pub with_threads : UserPart → map.FinMap nat_cmp ThreadPart → UserPart
 with_threads user threads = record user { threads = threads }
 

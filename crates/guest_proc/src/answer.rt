@@ -3,8 +3,9 @@ ghost use Rattle.std.specs.FinMap as map;
 ghost use Rattle.plain_machine.specs.Buffers.{written_spans};
 ghost use Rattle.plain_machine.specs.Put.{added_thread, after_threads, put, with_spans};
 ghost use Rattle.plain_machine.specs.Valid.{CanAdd};
-ghost use Rattle.guest_proc.specs.Guests.{HasThread, with_memory, with_user};
+ghost use Rattle.guest_proc.specs.Guests.{HasThread, with_user};
 ghost use Rattle.guest_proc.specs.Lending.{CanTake};
+ghost use Rattle.plain_machine.specs.Rows.Mappings.{with_memory};
 
 use crate::buffers::{put_answer, word_of, written_spans};
 use crate::guest::Guest;

@@ -16,8 +16,8 @@ use Rattle.sys_abi.specs.declared.identity.VPid.{VPid}
 use Rattle.sys_abi.proofs.OrderLaws.{vpid_total, vpid_exact}
 use Rattle.plain_machine.specs.declared.kernel.PlainKernel.{PlainKernel}
 use Rattle.plain_machine.specs.declared.process.Process.{Process}
-use Rattle.plain_machine.specs.declared.process.Life.{Life}
-use Rattle.plain_machine.specs.declared.process.Life.TheVariants.{Live}
+use Rattle.sys_abi.specs.declared.life.Life.{Life}
+use Rattle.sys_abi.specs.declared.life.Life.TheVariants.{Live}
 use Rattle.plain_machine.specs.Valid.{FitsLife, IsGivenOut, IsKernel, IsProcess, IsSignalSet}
 use Rattle.image_codec.specs.declared.shared.DescriptionImage.{DescriptionImage}
 use Rattle.image_codec.specs.declared.shared.ThreadEntry.{ThreadEntry}

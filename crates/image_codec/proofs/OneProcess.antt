@@ -14,10 +14,10 @@ use Rattle.sys_abi.specs.declared.identity.VPid.{VPid}
 use Rattle.sys_abi.specs.Orders.{vpid_cmp}
 use Rattle.sys_abi.proofs.OrderLaws.{vpid_total, vpid_exact}
 use Rattle.plain_machine.specs.declared.process.Process.{Process}
-use Rattle.plain_machine.specs.declared.process.Life.{Life}
-use Rattle.plain_machine.specs.declared.process.Life.TheVariants.{Live, Zombie}
+use Rattle.sys_abi.specs.declared.life.Life.{Life}
+use Rattle.sys_abi.specs.declared.life.Life.TheVariants.{Live, Zombie}
 use Rattle.plain_machine.specs.declared.user_part.ThreadPart.{ThreadPart}
-use Rattle.plain_machine.specs.Kernel.{lives, is_live, is_live_process}
+use Rattle.plain_machine.specs.Kernel.{is_live, is_live_process}
 use Rattle.image_codec.specs.declared.shared.ThreadEntry.{ThreadEntry}
 use Rattle.image_codec.specs.declared.shared.ProcessEntry.{ProcessEntry}
 use Rattle.image_codec.specs.declared.shared.Shared.{Shared}
@@ -32,6 +32,7 @@ use Rattle.image_codec.specs.ProcessImages.{process_at, pid_at, tids_at, tids_of
 use Rattle.image_codec.specs.UserParts.{thread_entry}
 use Rattle.image_codec.specs.Sets.{live_count}
 use Rattle.image_codec.specs.OneProcess.{ImageHasOneProcess}
+use Rattle.sys_abi.specs.Lives.{lives}
 
 one_item : {X : Type 0} (xs : List X) → length xs ≡ 1 → (x : X) × (xs ≡ x ∷ [])
 one_item [] is = absurd (omega arith)

@@ -15,12 +15,9 @@ use Rattle.image_codec.specs.OneProcess.{ImagesHaveSameThreads, SameThreadsHaveT
 use Rattle.image_codec.proofs.KernelLaws.{thread_entries}
 use Rattle.image_codec.proofs.OneProcess.{one_process, pid_is, tids_are, found_once, threads_there, parts_there, part_keys, signals_keys}
 use Rattle.image_codec.proofs.Owners.{number-is, same_tids}
+use Rattle.plain_machine.proofs.ThreadKeys.{key_only}
 
--- maps with entries at the same places have the same keys
-abbrev mark : {X : Type 0} → X → Unit {0}
-mark x = tt
-
-marks : {X Y : Type 0} (x : Option X) (y : Option Y) → is_some x ≡ is_some y → option_map mark x ≡ option_map mark y
+marks : {X Y : Type 0} (x : Option X) (y : Option Y) → is_some x ≡ is_some y → option_map key_only x ≡ option_map key_only y
 marks None None is = refl
 marks None (Some y) is = cc
 marks (Some x) None is = cc
@@ -29,9 +26,9 @@ marks (Some x) (Some y) is = refl
 same_keys : {K X Y : Type 0} {R : K → K → Ordering} (o : IsTotalOrder R) (exact : map.IsAntisymmetric R) (m : map.FinMap R X) (n : map.FinMap R Y) → ((q : K) → is_some (map.get m q) ≡ is_some (map.get n q))
     → map.keys m ≡ map.keys n
 same_keys o exact m n same =
-    sym (keys-map_values mark m)
-    ∙ ap map.keys (map.same_map o exact (map_values mark m) (map_values mark n) (λ q. get-map_values mark m q ∙ marks (map.get m q) (map.get n q) (same q) ∙ sym (get-map_values mark n q)))
-    ∙ keys-map_values mark n
+    sym (keys-map_values key_only m)
+    ∙ ap map.keys (map.same_map o exact (map_values key_only m) (map_values key_only n) (λ q. get-map_values key_only m q ∙ marks (map.get m q) (map.get n q) (same q) ∙ sym (get-map_values key_only n q)))
+    ∙ keys-map_values key_only n
 
 pub images_have_same_threads : ImagesHaveSameThreads
 unfolding user_of

@@ -4,8 +4,8 @@ use Rattle.std.specs.Prelude.{All}
 use Rattle.std.specs.List.{flat_map}
 use Rattle.std.proofs.lemmas.Bool.Decides.{nat_tests}
 use Rattle.std.proofs.lemmas.Slice.Eq.{bytes_eq-Decides}
-use Rattle.plain_machine.specs.declared.process.Life.{Life}
-use Rattle.plain_machine.specs.declared.process.Life.TheVariants.{Live, Zombie}
+use Rattle.sys_abi.specs.declared.life.Life.{Life}
+use Rattle.sys_abi.specs.declared.life.Life.TheVariants.{Live, Zombie}
 use Rattle.image_codec.specs.declared.shared.ChannelImage.{ChannelImage}
 use Rattle.image_codec.specs.declared.shared.ObjectImage.{ObjectImage}
 use Rattle.image_codec.specs.declared.shared.ObjectImage.TheVariants.{Console, File, Stream, Socket, Listener}

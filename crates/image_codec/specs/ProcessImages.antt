@@ -8,8 +8,8 @@
 use Rattle.std.specs.Prelude.{◌≡◌, ℕ, ◌-◌, ◌&&◌, ◌^◌, ◌<◌, nat_lt, Bool, true, false, IsTrue, List, [], ◌∷◌, ◌++◌, length, map as each_of, filter, drop, slice_get, slice_index, codes, All, Option, Some, None, if◌then◌else◌}
 use Rattle.std.specs.List.{flat_map}
 use Rattle.std.specs.Option.{option_map, option_map_or}
-use Rattle.plain_machine.specs.declared.process.Life.{Life}
-use Rattle.plain_machine.specs.declared.process.Life.TheVariants.{Live, Zombie}
+use Rattle.sys_abi.specs.declared.life.Life.{Life}
+use Rattle.sys_abi.specs.declared.life.Life.TheVariants.{Live, Zombie}
 use Rattle.plain_machine.specs.declared.user_part.Context.{Context}
 use Rattle.plain_machine.specs.declared.user_part.SignalAction.{SignalAction}
 use Rattle.plain_machine.specs.declared.user_part.Waiter.{Waiter}
@@ -23,6 +23,7 @@ use Rattle.image_codec.specs.Fields.{is_bytes}
 use Rattle.image_codec.specs.Format.{Format, unsigned, raw, give, ◌>>=◌, each, counted, any, n8, n32, bytes_of, Damaged}
 use Rattle.image_codec.specs.Texts.{EachFrom}
 use Rattle.image_codec.specs.ProcessTests.{is_number, is_break_start, is_break_end, is_page_count, is_page_number, is_page_rights, is_page_content, is_waiting, is_context_count, is_thread_count, is_thread_at, has_heap, has_return_page}
+use Rattle.plain_machine.specs.Valid.{IsWord}
 
 abbrev pub PROCESS_MAGIC : List ℕ
 PROCESS_MAGIC = codes "DMTPRC01"
@@ -184,9 +185,6 @@ process_text p =
     ++ list_text page_text p.pages ++ flat_map action_text p.actions ++ list_text waiter_text p.waiters ++ list_text thread_text p.threads
 
 -- the numbers that no test bounds have 32 bits
-
-abbrev pub IsWord : ℕ → Type 0
-IsWord n = n < 2 ^ 32
 
 pub record ActionWords (a : SignalAction) : Type 0 where
   pub handler : IsWord a.handler

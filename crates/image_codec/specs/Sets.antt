@@ -10,7 +10,6 @@ use Rattle.std.specs.FinMap as map
 use Rattle.sys_abi.specs.declared.identity.VPid.{VPid}
 use Rattle.plain_machine.specs.declared.user_part.UserPart.{UserPart}
 use Rattle.plain_machine.specs.declared.plain.Plain.{Plain}
-use Rattle.plain_machine.specs.Kernel.{lives}
 use Rattle.image_codec.specs.declared.process_image.ProcImage.{ProcImage}
 use Rattle.image_codec.specs.declared.shared.Shared.{Shared}
 use Rattle.image_codec.specs.Manifests.{SpellsManifest}
@@ -18,6 +17,7 @@ use Rattle.image_codec.specs.SharedFormat.{SpellsShared, DamagedShared}
 use Rattle.image_codec.specs.ProcessImages.{SpellsProcess, DamagedProcess, pid_at, tids_at}
 use Rattle.image_codec.specs.KernelParts.{kernel_of}
 use Rattle.image_codec.specs.UserParts.{user_of}
+use Rattle.sys_abi.specs.Lives.{lives}
 
 -- each file the image of the process of its place
 unfoldable pub SpellsImages : Shared → ℕ → List (List ℕ) → List ProcImage → Type 0

@@ -7,8 +7,8 @@
 use Rattle.std.specs.Prelude.{◌≡◌, ℕ, ◌==◌, ◌%◌, nat_le, List, Option, Some, None, if◌then◌else◌}
 use Rattle.sys_abi.specs.declared.identity.VirtAddr.{VirtAddr}
 use Rattle.sys_abi.specs.declared.identity.DescId.{DescId}
-use Rattle.plain_machine.specs.declared.process.Life.{Life}
-use Rattle.plain_machine.specs.declared.process.Life.TheVariants.{Live, Zombie}
+use Rattle.sys_abi.specs.declared.life.Life.{Life}
+use Rattle.sys_abi.specs.declared.life.Life.TheVariants.{Live, Zombie}
 use Rattle.plain_machine.specs.declared.channel.ChannelKind.{ChannelKind}
 use Rattle.plain_machine.specs.declared.channel.ChannelKind.TheVariants.{Pair, Internet, Pipe}
 use Rattle.plain_machine.specs.Kernel.{pid}

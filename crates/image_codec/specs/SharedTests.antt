@@ -6,8 +6,7 @@ use Rattle.std.specs.Prelude.{◌==◌, ◌&&◌, ◌||◌, ℕ, ◌+◌, ◌-�
 use Rattle.std.specs.List.{list_any, list_all}
 use Rattle.sys_abi.specs.declared.identity.DescId.{DescId}
 use Rattle.views.specs.NumberMap.{is_above}
-use Rattle.plain_machine.specs.declared.process.Life.{Life}
-use Rattle.plain_machine.specs.Kernel.{lives}
+use Rattle.sys_abi.specs.declared.life.Life.{Life}
 use Rattle.image_codec.specs.declared.shared.FileImage.{FileImage}
 use Rattle.image_codec.specs.declared.shared.ChannelImage.{ChannelImage}
 use Rattle.image_codec.specs.declared.shared.DescriptionImage.{DescriptionImage}
@@ -16,6 +15,7 @@ use Rattle.image_codec.specs.declared.shared.DescriptorEntry.{DescriptorEntry}
 use Rattle.image_codec.specs.declared.shared.ProcessEntry.{ProcessEntry}
 use Rattle.image_codec.specs.declared.shared.Shared.{Shared}
 use Rattle.image_codec.specs.Fields.{is_bytes, is_within}
+use Rattle.sys_abi.specs.Lives.{lives}
 
 -- the last of the items so far
 abbrev pub last_item : {X : Type 0} → List X → Option X

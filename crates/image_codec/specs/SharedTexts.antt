@@ -3,7 +3,7 @@
 use Rattle.std.specs.Prelude.{ℕ, ◌+◌, ◌*◌, ◌^◌, ◌<◌, Bool, List, ◌++◌, length, codes, Option, Some, None, if◌then◌else◌}
 use Rattle.std.specs.List.{flat_map}
 use Rattle.sys_abi.specs.declared.identity.VirtAddr.{VirtAddr}
-use Rattle.plain_machine.specs.declared.process.Life.{Life}
+use Rattle.sys_abi.specs.declared.life.Life.{Life}
 use Rattle.plain_machine.specs.declared.channel.ChannelKind.{ChannelKind}
 use Rattle.plain_machine.specs.declared.channel.ChannelKind.TheVariants.{Pair, Internet, Pipe}
 use Rattle.image_codec.specs.declared.shared.FileImage.{FileImage}

@@ -4,7 +4,7 @@
 -- Source: docs/FORMATS.md, "Shared image".
 use Rattle.std.specs.Prelude.{ℕ, ◌+◌, ◌<◌, false, [], ◌∷◌}
 use Rattle.sys_abi.specs.declared.flags.TheConstants.{O_RDWR}
-use Rattle.plain_machine.specs.declared.process.Life.TheVariants.{Live}
+use Rattle.sys_abi.specs.declared.life.Life.TheVariants.{Live}
 use Rattle.plain_machine.specs.Kernel.{pid}
 use Rattle.plain_machine.specs.Start.{Launched, FIRST_PID, NOBODY, console_of, start_kernel}
 use Rattle.image_codec.specs.declared.shared.ObjectImage.TheVariants.{Console}

@@ -12,10 +12,7 @@ use Rattle.set_disk.specs.Crash.{AfterStep, IsSettled, Only, Same}
 use Rattle.set_disk.specs.Moments.{Passes, LeavesOnly}
 use Rattle.set_disk.specs.declared.disk_fault.DiskFault.{DiskFault}
 use Rattle.image_store.specs.StoreCrashes.{SameTold, ChangesNothing}
-
-either : {A B C : Type 0} → A ⊎ B → (A → C) → (B → C) → C
-either (inl a) f g = f a
-either (inr b) f g = g b
+use Rattle.set_disk.proofs.Stretches.{either}
 
 module _ {D : Type 0} {moment : D → ℕ} {may_leave : D → Files → Type 0} {left_since : D → ℕ → Files → Type 0} where
   both_steps : {a b : D} {R S T : Files → Files → Type 0} → Passes moment may_leave left_since R a b → ((old mid new : Files) → R old mid → S mid new → T old new) → (image : Files) → AfterStep S (may_leave b) image → AfterStep T (may_leave a) image

@@ -25,7 +25,7 @@ use Rattle.plain_machine.specs.Attempts.{Try, Fails, NotReady, Gives, Served, ne
 use Rattle.plain_machine.specs.Kernel.{pid, description_at, may_write, after_end, after_raise, is_neighbour, thread_count, has_thread, after_thread_end}
 use Rattle.plain_machine.specs.Memory.{Memory, byte_at}
 use Rattle.plain_machine.specs.declared.memory.Right.TheVariants.{Read as ToRead}
-use Rattle.plain_machine.specs.Buffers.{reads_of, bytes_of, given_of, text_from, text_at, PATH_LIMIT, if_writable, can_write, size_of, has_flag, span_if, thread_spans, writes_of, written_spans, lent, span, is_wait}
+use Rattle.plain_machine.specs.Buffers.{reads_of, bytes_of, given_of, text_from, text_at, PATH_LIMIT, if_writable, can_write, size_of, span_if, thread_spans, writes_of, written_spans, lent, span, is_wait}
 use Rattle.plain_machine.specs.Put.{word_of}
 use Rattle.plain_machine.specs.Rows.Write.{write_object, write_row}
 use Rattle.plain_machine.specs.Rows.End.{exit_group_row, exit_row}
@@ -38,6 +38,7 @@ use Rattle.plain_machine.proofs.Giving.{Giving, gives, nothing, where_, either, 
 use Rattle.plain_machine.proofs.Trying.{Trying, succeeds, fails, after}
 use Rattle.plain_machine.proofs.MemoryBounds.{bytes_read, low_bytes_are}
 use Rattle.plain_machine.proofs.MemoryPages.{FitsSpans, no_bytes_fit, fits_taken}
+use Rattle.sys_abi.specs.Flags.{has_flag}
 
 -- what a served call answers, where its answer may write these spans
 pub record Fits (spans : List Span) (served : Served) : Type 0 where

@@ -29,7 +29,7 @@ back (Kills status) came.Ignored user is other = cc
 back (Kills status) came.Entered user is other = absurd (other refl)
 back (Kills status) (came.Kills told) user is other = let same : status ≡ told = cc in ap (λ k. Kills k) same
 
-abbrev chosen : Bool → Bool → Bool → Bool → ℕ → UserPart → Delivery
+abbrev pub chosen : Bool → Bool → Bool → Bool → ℕ → UserPart → Delivery
 chosen ends passes defaults fits s after = cond ends (Kills s) (cond passes Ignores (cond defaults (Kills s) (cond fits (Enters after) (Kills 11))))
 
 entry : (ends passes defaults fits : Bool) (s : ℕ) (after : UserPart) → delivered_told (chosen ends passes defaults fits s after) ≡ came.Entered

@@ -18,7 +18,6 @@ use Rattle.plain_machine.specs.declared.user_part.SignalAction.{SignalAction}
 use Rattle.plain_machine.specs.declared.user_part.Context.{Context}
 use Rattle.plain_machine.specs.Registers.{RA, SP, A0, A1, A2, reg, with_reg, at_pc, next_pc}
 use Rattle.plain_machine.specs.Steps.{user_step, with_thread}
-use Rattle.plain_machine.specs.Buffers.{has_flag}
 use Rattle.plain_machine.specs.Start.{default_action}
 use Rattle.plain_machine.specs.Deliveries.{Delivery, Enters, Ignores, Kills, action_on, is_ignored, interrupted, RETURN_ADDRESS, handler_regs, handler_mask, CONTEXT_LIMIT, entered, with_entered, handled, traps_with, deliver_to, deliver}
 use Rattle.plain_machine.specs.Valid.{IsWord, IsRegs, IsThread, IsAction, IsUser}
@@ -28,6 +27,7 @@ use Rattle.plain_machine.proofs.MemoryPages.{kept_pages}
 use Rattle.plain_machine.proofs.WordBounds.{either_word}
 use Rattle.plain_machine.proofs.EffectBounds.{reg_word, regs_at, regs_with, next_word}
 use Rattle.plain_machine.proofs.UserParts.{Follows, then_follows, memory_of, thread_follows, no_waiter_follows}
+use Rattle.sys_abi.specs.Flags.{has_flag}
 
 -- what the process does on a signal
 default_is : IsAction default_action

@@ -17,10 +17,10 @@ use Rattle.sys_abi.specs.Signals.{has_signal, without_signal}
 use Rattle.sys_abi.proofs.OrderLaws.{vpid_total, vpid_exact, slot_total, slot_exact, desc_total, desc_exact}
 use Rattle.plain_machine.specs.declared.kernel.PlainKernel.{PlainKernel}
 use Rattle.plain_machine.specs.declared.process.Process.{Process}
-use Rattle.plain_machine.specs.declared.process.Life.{Life}
-use Rattle.plain_machine.specs.declared.process.Life.TheVariants.{Live, Zombie}
+use Rattle.sys_abi.specs.declared.life.Life.{Life}
+use Rattle.sys_abi.specs.declared.life.Life.TheVariants.{Live, Zombie}
 use Rattle.plain_machine.specs.declared.description.Descriptor.{Descriptor}
-use Rattle.plain_machine.specs.Kernel.{lives, is_live, is_live_process, is_held, refers_to, is_slot_of, after_end, signals_of, with_signals, taken_from, raised_at, at_process, after_take, after_raise, thread_count_in, thread_count, has_thread_in, has_thread, without_thread, with_thread, with_next_thread}
+use Rattle.plain_machine.specs.Kernel.{is_live, is_live_process, is_held, refers_to, is_slot_of, after_end, signals_of, with_signals, taken_from, raised_at, at_process, after_take, after_raise, thread_count_in, thread_count, has_thread_in, has_thread, without_thread, with_thread, with_next_thread}
 use Rattle.plain_machine.specs.Start.{FIRST_PID}
 use Rattle.plain_machine.specs.Valid.{IsSignalSet, IsGivenOut, FitsLife, IsProcess, IsKernel, Each}
 use Rattle.plain_machine.proofs.Entries.{each_with}
@@ -28,6 +28,7 @@ use Rattle.plain_machine.proofs.ChangedProcesses.{each_changed, changed_test}
 use Rattle.plain_machine.proofs.SignalBounds.{set_without, set_with, none_without}
 use Rattle.plain_machine.proofs.ThreadKeys.{same_there, same_len}
 use Rattle.plain_machine.proofs.KernelThreads.{there_if_signal}
+use Rattle.sys_abi.specs.Lives.{lives}
 
 -- what is found in a smaller map was in the greater one
 kept_by_test : {A : Type 0} (b : Bool) (found : Option A) (v : A) → cond b found None ≡ Some v → (b ≡ true) × (found ≡ Some v)

@@ -14,10 +14,11 @@ use Rattle.plain_machine.specs.declared.plain.Plain.{Plain}
 use Rattle.plain_machine.specs.declared.kernel.PlainKernel.{PlainKernel}
 use Rattle.plain_machine.specs.declared.process.Process.{Process}
 use Rattle.plain_machine.specs.declared.user_part.UserPart.{UserPart}
-use Rattle.plain_machine.specs.Kernel.{lives, is_live_process, is_live, after_end, signals_of, with_signals, taken_from, at_process, after_take, has_thread_in, has_thread}
+use Rattle.plain_machine.specs.Kernel.{is_live_process, is_live, after_end, signals_of, with_signals, taken_from, at_process, after_take, has_thread_in, has_thread}
 use Rattle.plain_machine.specs.Valid.{IsKernel, IsUser, IsValid, Each}
 use Rattle.plain_machine.proofs.ThreadKeys.{same_there}
 use Rattle.plain_machine.proofs.ChangedProcesses.{changed_test}
+use Rattle.sys_abi.specs.Lives.{lives}
 
 pub record KeepsThreads (before after : PlainKernel) : Type 0 where
   pub live : (q : VPid) → is_live after q ≡ true → is_live before q ≡ true

@@ -43,7 +43,6 @@ pub mod WakingInRow
 pub mod LocalRows
 pub mod SpelledNumbers
 pub mod PageByPage
-pub mod Lent
 pub mod StepsInRow
 pub mod Delivering
 pub mod LentLengths

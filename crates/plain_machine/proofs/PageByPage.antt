@@ -1,8 +1,10 @@
 -- Runs of pages, one page after the other.
 --     with_none, with_more           zeroed pages
 --     without_none, without_more     pages taken away
+--     get_inside, get_outside, place      a look-up there, and where a page may be
 --     free_none, free_more, free_held      the test of a run
 --     place_none, place_more, place_found      the first place that passes it
+--     find_place, find_nowhere      the first of some numbers that passes a test, or none
 use Rattle.std.proofs.Common.{◌≡◌, ◌≢◌, ℕ, zero, suc, ◌+◌, ◌-◌, ◌*◌, ◌≤◌, ◌<◌, Bool, true, false, cond, ◌&&◌, List, [], ◌∷◌, take, drop, refl, sym, ap, ◌∙◌, arith, ⊎_elim, inl, inr, add-suc, add-one}
 use Rattle.std.specs.Prelude.{Some, None, ◌⊎◌, is_some, find, not, nat_le, nat_lt, replicate}
 use Rattle.std.specs.List.{range_with_len}
@@ -43,7 +45,7 @@ with_more m page n rights =
 inside : (page n q : ℕ) → page ≤ q → q < page + n → is_among page n q ≡ true
 inside page n q from below = λ i. le-leb page q from i && lt-ltb q (page + n) below i
 
-and_false : (b : Bool) → b && false ≡ false
+pub and_false : (b : Bool) → b && false ≡ false
 and_false true = refl
 and_false false = refl
 
@@ -51,20 +53,20 @@ outside : (page n q : ℕ) → (q < page) ⊎ (page + n ≤ q) → is_among page
 outside page n q (inl below) = ap (λ b. b && nat_lt q (page + n)) (lt-leb page q below)
 outside page n q (inr above) = ap (λ b. nat_le page q && b) (le-ltb q (page + n) above) ∙ and_false (nat_le page q)
 
-get_inside : (m : Memory) (page n q : ℕ) → page ≤ q → q < page + n → map.get (without_pages m page n) q ≡ None
+pub get_inside : (m : Memory) (page n q : ℕ) → page ≤ q → q < page + n → map.get (without_pages m page n) q ≡ None
 unfolding without_pages
 get_inside m page n q from below =
     get-retain nat_cmp_total map.nat_cmp-IsAntisymmetric m (λ number. not (is_among page n number)) q
     ∙ ap (λ b. cond (not b) (map.get m q) None) (inside page n q from below)
 
-get_outside : (m : Memory) (page n q : ℕ) → (q < page) ⊎ (page + n ≤ q) → map.get (without_pages m page n) q ≡ map.get m q
+pub get_outside : (m : Memory) (page n q : ℕ) → (q < page) ⊎ (page + n ≤ q) → map.get (without_pages m page n) q ≡ map.get m q
 unfolding without_pages
 get_outside m page n q away =
     get-retain nat_cmp_total map.nat_cmp-IsAntisymmetric m (λ number. not (is_among page n number)) q
     ∙ ap (λ b. cond (not b) (map.get m q) None) (outside page n q away)
 
 -- a page is one of a run, or not
-place : (page n q : ℕ) → ((page ≤ q) × (q < page + n)) ⊎ ((q < page) ⊎ (page + n ≤ q))
+pub place : (page n q : ℕ) → ((page ≤ q) × (q < page + n)) ⊎ ((q < page) ⊎ (page + n ≤ q))
 place page n q =
     ⊎_elim (λ (below : q < page). inr (inl below))
     (λ (from : page ≤ q). ⊎_elim (λ (within : q < page + n). inl (from, within)) (λ (above : page + n ≤ q). inr (inr above)) (cases_lt q (page + n)))
@@ -136,7 +138,7 @@ place_more m count start n none held q from below =
     (λ (other : q ≡ start + n → ⊥). none q from (omega arith))
     (cases_eq q (start + n))
 
-find_place : (p : ℕ → Bool) (a n place : ℕ) → a ≤ place → place < a + n → ((q : ℕ) → a ≤ q → q < place → p q ≡ false) → p place ≡ true
+pub find_place : (p : ℕ → Bool) (a n place : ℕ) → a ≤ place → place < a + n → ((q : ℕ) → a ≤ q → q < place → p q ≡ false) → p place ≡ true
     → find p (range_with_len a n) ≡ Some place
 find_place p a zero place from below fails passes = absurd (omega arith)
 find_place p a (suc n) place from below fails passes =
@@ -147,7 +149,7 @@ find_place p a (suc n) place from below fails passes =
     ∙ find_place p (a + 1) n place (omega arith) (omega arith) (λ q start before. fails q (omega arith) before) passes)
     (cases_eq a place)
 
-find_nowhere : (p : ℕ → Bool) (a n : ℕ) → ((q : ℕ) → a ≤ q → q < a + n → p q ≡ false) → find p (range_with_len a n) ≡ None
+pub find_nowhere : (p : ℕ → Bool) (a n : ℕ) → ((q : ℕ) → a ≤ q → q < a + n → p q ≡ false) → find p (range_with_len a n) ≡ None
 find_nowhere p a zero fails = refl
 find_nowhere p a (suc n) fails =
     ap (λ b. cond b (Some a) (find p (range_with_len (a + 1) n))) (fails a (omega arith) (omega arith))

@@ -1,5 +1,5 @@
 -- One more record at a trace's end: the run goes one step further, and the console shows that record's bytes after the others.
-use Rattle.std.proofs.Common.{◌≡◌, List, [], ◌∷◌, ◌++◌, append_assoc, refl, sym, ap, ◌∙◌}
+use Rattle.std.proofs.Common.{◌≡◌, List, [], ◌∷◌, ◌++◌, append_assoc, refl, sym, ap, ◌∙◌, append-nil}
 use Rattle.std.specs.Prelude.{Option, Some, None, option_and_then}
 use Rattle.std.specs.Option.{option_map}
 use Rattle.plain_machine.specs.Records.{outcome, step}
@@ -9,10 +9,6 @@ use Rattle.plain_machine.specs.Laws.{RunOfOneMore, ConsoleOfOneMore}
 then_some : {A : Type 0} (o : Option A) → option_and_then (λ a. Some a) o ≡ o
 then_some None = refl
 then_some (Some a) = refl
-
-append_nothing : {A : Type 0} (xs : List A) → xs ++ [] ≡ xs
-append_nothing [] = refl
-append_nothing (x ∷ xs) = ap (λ rest. x ∷ rest) (append_nothing xs)
 
 pub run_of_one_more : RunOfOneMore
 unfolding run
@@ -26,7 +22,7 @@ run_of_one_more g h (x ∷ rest) r goes =
 pub console_of_one_more : ConsoleOfOneMore
 unfolding run console
 console_of_one_more g h [] r o goes is =
-    let same : g ≡ h = cc in ap (λ k. console_from (λ next. console next []) (outcome k r)) same ∙ ap (console_from (λ next. console next [])) is ∙ append_nothing o.console
+    let same : g ≡ h = cc in ap (λ k. console_from (λ next. console next []) (outcome k r)) same ∙ ap (console_from (λ next. console next [])) is ∙ append-nil o.console
 console_of_one_more g h (x ∷ rest) r o goes is =
     elim (outcome g x) as (λ first.
     option_and_then (λ next. run next rest) (option_map (λ out. out.state) first) ≡ Some h

@@ -1,5 +1,6 @@
 -- A text, read byte by byte.
 --     Reads memory address done front      after so many bytes, none of them zero, the text is these and what follows
+--     rest_at, text_from-some, behind      what follows, and one byte more in front of it
 use Rattle.std.proofs.Common.{◌≡◌, ◌≢◌, ℕ, suc, ◌+◌, ◌-◌, ◌==◌, ◌<◌, List, [], ◌∷◌, ◌++◌, refl, sym, ap, ◌∙◌, false, arith, append_assoc, append-nil, if◌then◌else◌}
 use Rattle.std.proofs.lemmas.Bool.Decides.{nat_tests}
 use Rattle.std.specs.Prelude.{Option, Some, None}
@@ -15,12 +16,12 @@ text-suc : (memory : Memory) (address n : ℕ) → text_at memory address (suc n
 unfolding text_at
 text-suc memory address n = refl
 
-text-zero : (memory : Memory) (address : ℕ) → text_at memory address 0 ≡ Some []
+pub text-zero : (memory : Memory) (address : ℕ) → text_at memory address 0 ≡ Some []
 unfolding text_at
 text-zero memory address = refl
 
 -- what follows the first so many bytes
-rest_at : (memory : Memory) (address done : ℕ) (byte : Option ℕ) → done < 256 → byte_at memory Read (address + done) ≡ byte
+pub rest_at : (memory : Memory) (address done : ℕ) (byte : Option ℕ) → done < 256 → byte_at memory Read (address + done) ≡ byte
     → text_at memory (address + done) (256 - done) ≡ text_from (text_at memory (address + done + 1) (255 - done)) byte
 rest_at memory address done byte less is =
     let more : 256 - done ≡ suc (255 - done) = omega arith in
@@ -40,10 +41,10 @@ text-ended memory address done byte front so_far less is zero_byte =
 is_other : (byte : ℕ) → byte ≢ 0 → (byte == 0) ≡ false
 is_other byte other = grind (arith, nat_tests)
 
-text_from-some : (rest : Option (List ℕ)) (byte : ℕ) → byte ≢ 0 → text_from rest (Some byte) ≡ option_map (λ bytes. byte ∷ bytes) rest
+pub text_from-some : (rest : Option (List ℕ)) (byte : ℕ) → byte ≢ 0 → text_from rest (Some byte) ≡ option_map (λ bytes. byte ∷ bytes) rest
 text_from-some rest byte other = ap (λ b. if b then Some (0 ∷ []) else option_map (λ bytes. byte ∷ bytes) rest) (is_other byte other)
 
-behind : (front : List ℕ) (byte : ℕ) (rest : Option (List ℕ))
+pub behind : (front : List ℕ) (byte : ℕ) (rest : Option (List ℕ))
     → option_map (λ r. front ++ r) (option_map (λ bytes. byte ∷ bytes) rest) ≡ option_map (λ r. (front ++ byte ∷ []) ++ r) rest
 behind front byte None = refl
 behind front byte (Some rest) = ap Some (sym (append_assoc front (byte ∷ []) rest))

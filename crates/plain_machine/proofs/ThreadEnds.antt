@@ -17,7 +17,6 @@ use Rattle.plain_machine.specs.declared.user_part.Waiter.{Waiter}
 use Rattle.plain_machine.specs.Memory.{Memory, store}
 use Rattle.plain_machine.specs.Registers.{A0, SP, TP}
 use Rattle.plain_machine.specs.Steps.{with_regs}
-use Rattle.plain_machine.specs.Buffers.{has_flag}
 use Rattle.plain_machine.specs.Threads.{after_call, with_waiters, without_waiter, awake_by, awake, first_waiter, Woken, woken_by, wake_one, wake, without_thread, with_cleared, after_clearing, thread_end_by, after_thread_end, with_reg_if, new_regs, new_thread, with_new_thread_by, with_new_thread}
 use Rattle.plain_machine.specs.Valid.{IsWord, IsRegs, IsThread, IsUser}
 use Rattle.plain_machine.proofs.Giving.{Giving}
@@ -27,6 +26,7 @@ use Rattle.plain_machine.proofs.WordBounds.{either_word}
 use Rattle.plain_machine.proofs.EffectBounds.{regs_at, regs_with, next_word}
 use Rattle.plain_machine.proofs.ThreadKeys.{without_one, with_one, there_without, there_with}
 use Rattle.plain_machine.proofs.UserParts.{Follows, follows_itself, then_follows, memory_of, written_follows, thread_follows, no_waiter_follows, thread_less, thread_more}
+use Rattle.sys_abi.specs.Flags.{has_flag}
 
 -- a thread after its call's answer
 pub thread_with : (thread : ThreadPart) (regs : Regs) → IsThread thread → IsRegs regs → IsThread (with_regs thread regs)

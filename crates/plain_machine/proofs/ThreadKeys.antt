@@ -49,7 +49,7 @@ module _ {X : Type 0} (threads : map.FinMap nat_cmp X) where
       (same_or_other nat_cmp_total map.nat_cmp-IsAntisymmetric u t)
 
 -- as many entries
-abbrev key_only : {X : Type 0} → X → Unit {0}
+abbrev pub key_only : {X : Type 0} → X → Unit {0}
 key_only x = tt
 
 same_presence : {X Y : Type 0} (a : Option X) (b : Option Y) → is_some a ≡ is_some b → option_map key_only a ≡ option_map key_only b

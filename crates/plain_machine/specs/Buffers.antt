@@ -15,6 +15,7 @@ use Rattle.plain_machine.specs.declared.buffers.Source.{Source}
 use Rattle.plain_machine.specs.declared.buffers.Source.TheVariants.{Nothing, Bytes, Text}
 use Rattle.plain_machine.specs.declared.buffers.Spans.{Spans}
 use Rattle.plain_machine.specs.Memory.{Memory, byte_at, bytes_at, load}
+use Rattle.sys_abi.specs.Flags.{has_flag}
 
 abbrev pub span : ℕ → ℕ → Span
 span address length = record { address = address; length = min length TRANSFER_LIMIT }
@@ -88,9 +89,6 @@ span_unless_zero address length = if address == 0 then [] else span address leng
 -- an address and its true length, which answers of accept and getsockname write
 abbrev pub address_spans : ℕ → ℕ → ℕ → List Span
 address_spans address length size = span address size ∷ span length 4 ∷ []
-
-abbrev pub has_flag : ℕ → ℕ → Bool
-has_flag flags flag = flags / flag % 2 == 1
 
 abbrev pub span_if : Bool → ℕ → List Span
 span_if wanted address = if wanted then span address 4 ∷ [] else []

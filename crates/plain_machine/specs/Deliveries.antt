@@ -18,9 +18,9 @@ use Rattle.plain_machine.specs.declared.user_part.SignalAction.{SignalAction}
 use Rattle.plain_machine.specs.Registers.{RA, SP, A0, A1, A2, reg, with_reg, at_pc, next_pc}
 use Rattle.plain_machine.specs.Steps.{UserStep, Trapped, user_step, with_thread}
 use Rattle.plain_machine.specs.Threads.{with_waiters, without_waiter}
-use Rattle.plain_machine.specs.Buffers.{has_flag}
 use Rattle.plain_machine.specs.Replies.{word_of, error}
 use Rattle.plain_machine.specs.Start.{default_action}
+use Rattle.sys_abi.specs.Flags.{has_flag}
 
 pub data Delivery : Type 0 where
   Enters : UserPart → Delivery  -- the handler begins

@@ -12,20 +12,16 @@ use Rattle.sys_abi.specs.Signals.{has_signal, with_signal, without_signal}
 use Rattle.plain_machine.specs.declared.kernel.PlainKernel.{PlainKernel}
 use Rattle.plain_machine.specs.declared.process.Process.{Process}
 use Rattle.plain_machine.specs.declared.process.Maker.{Maker}
-use Rattle.plain_machine.specs.declared.process.Life.{Life}
-use Rattle.plain_machine.specs.declared.process.Life.TheVariants.{Live, Zombie}
+use Rattle.sys_abi.specs.declared.life.Life.{Life}
 use Rattle.plain_machine.specs.declared.description.Description.{Description}
 use Rattle.plain_machine.specs.declared.description.Descriptor.{Descriptor}
+use Rattle.sys_abi.specs.Lives.{lives}
 
 abbrev pub pid : ℕ → VPid
 pid number = record { 0 = number }
 
 abbrev pub slot : VPid → ℕ → Slot
 slot p fd = record { pid = p; fd = fd }
-
-abbrev pub lives : Life → Bool
-lives Live = true
-lives (Zombie status) = false
 
 abbrev pub is_live_process : Option Process → Bool
 is_live_process None = false

@@ -17,7 +17,7 @@ use Rattle.plain_machine.specs.declared.user_part.UserPart.{UserPart}
 use Rattle.plain_machine.specs.declared.user_part.ThreadPart.{ThreadPart}
 use Rattle.plain_machine.specs.declared.user_part.SignalAction.{SignalAction}
 use Rattle.plain_machine.specs.declared.process.Process.{Process}
-use Rattle.plain_machine.specs.declared.process.Life.TheVariants.{Live}
+use Rattle.sys_abi.specs.declared.life.Life.TheVariants.{Live}
 use Rattle.plain_machine.specs.declared.description.Object.TheVariants.{Console}
 use Rattle.plain_machine.specs.declared.description.Description.{Description}
 use Rattle.plain_machine.specs.declared.description.Descriptor.{Descriptor}

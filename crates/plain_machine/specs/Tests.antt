@@ -16,8 +16,8 @@ use Rattle.plain_machine.specs.declared.description.Description.{Description}
 use Rattle.plain_machine.specs.declared.description.Descriptor.{Descriptor}
 use Rattle.plain_machine.specs.declared.description.Object.{Object}
 use Rattle.plain_machine.specs.declared.description.Object.TheVariants.{Datagram, Counter}
-use Rattle.plain_machine.specs.Kernel.{lives}
 use Rattle.plain_machine.specs.Records.{step}
+use Rattle.sys_abi.specs.Lives.{lives}
 
 -- some process lives
 unfoldable pub has_life : PlainKernel → Bool

@@ -16,7 +16,7 @@ use Rattle.plain_machine.specs.declared.user_part.Waiter.{Waiter}
 use Rattle.plain_machine.specs.Memory.{store}
 use Rattle.plain_machine.specs.Registers.{A0, SP, TP, with_reg, at_pc, next_pc}
 use Rattle.plain_machine.specs.Steps.{with_regs, with_thread}
-use Rattle.plain_machine.specs.Buffers.{has_flag}
+use Rattle.sys_abi.specs.Flags.{has_flag}
 
 abbrev pub after_call : ThreadPart → ℕ → ThreadPart
 after_call thread value = with_regs thread (at_pc (with_reg thread.regs A0 value) (next_pc thread.regs))

@@ -18,8 +18,8 @@ use Rattle.plain_machine.specs.declared.user_part.ThreadPart.{ThreadPart}
 use Rattle.plain_machine.specs.declared.user_part.SignalAction.{SignalAction}
 use Rattle.plain_machine.specs.declared.user_part.Waiter.{Waiter}
 use Rattle.plain_machine.specs.declared.process.Process.{Process}
-use Rattle.plain_machine.specs.declared.process.Life.{Life}
-use Rattle.plain_machine.specs.declared.process.Life.TheVariants.{Live, Zombie}
+use Rattle.sys_abi.specs.declared.life.Life.{Life}
+use Rattle.sys_abi.specs.declared.life.Life.TheVariants.{Live, Zombie}
 use Rattle.plain_machine.specs.declared.description.Descriptor.{Descriptor}
 use Rattle.plain_machine.specs.declared.channel.Direction.{Direction}
 use Rattle.plain_machine.specs.declared.kernel.PlainKernel.{PlainKernel}

@@ -6,7 +6,7 @@ ghost use Rattle.plain_machine.specs.Tests as tests;
 
 use crate::description::{Description, Descriptor};
 use crate::kernel::PlainKernel;
-use crate::process::Life;
+use sys_abi::Life;
 use sys_abi::{BySlot, DescId, Slot, VPid};
 
 impl Life {

@@ -1,14 +1,7 @@
 use std::alloc::{AllocError, Global};
+use sys_abi::Life;
 use views::duplicate::Duplicate;
 use views::number_map::NumberMap;
-
-/// Whether a process lives, or has ended and its parent has not waited for it (`man 2 wait4`).
-#[derive(Clone, Copy, Debug, PartialEq, Eq)]
-pub enum Life {
-    Live,
-    /// With the status that its parent reads.
-    Zombie(u32),
-}
 
 /// A process as the kernel knows it: its parent (1: nobody), its life, the signals that are pending for it, and for each
 /// of its threads those that are pending for it. Bit s - 1 of a set of signals stands for signal s.

@@ -5,7 +5,8 @@ ghost use Rattle.plain_machine.specs.Start as words;
 
 use crate::description::{Description, Descriptor, Object};
 use crate::kernel::PlainKernel;
-use crate::process::{Life, Maker, Process};
+use crate::process::{Maker, Process};
+use sys_abi::Life;
 use std::alloc::{AllocError, Global};
 use sys_abi::flags::O_RDWR;
 use sys_abi::{ByAddress, ByConn, ByDesc, ByDir, ByName, ByPid, BySlot, DescId, Slot, VPid};

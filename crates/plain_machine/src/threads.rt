@@ -1,10 +1,10 @@
 //! What a call's answer, a clone and a wake do to a thread's registers and to the list of those that wait (`man 2 clone`,
 //! `man 2 futex`).
 ghost use Rattle.std.specs.Prelude.{◌≡◌, ◌<◌, if◌then◌else◌};
-ghost use Rattle.plain_machine.specs.Buffers.{has_flag};
 ghost use Rattle.plain_machine.specs.Put.{added_thread, added_by};
 ghost use Rattle.plain_machine.specs.Registers as registers;
 ghost use Rattle.plain_machine.specs.Threads as words;
+ghost use Rattle.sys_abi.specs.Flags.{has_flag};
 
 use crate::regs::Regs;
 use crate::user_part::Waiter;

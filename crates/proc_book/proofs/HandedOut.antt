@@ -15,7 +15,7 @@ use Rattle.views.proofs.MapValues.{get-map_values, get-retained}
 use Rattle.sys_abi.specs.declared.identity.RealPid.{RealPid}
 use Rattle.proc_book.specs.declared.process.Process.{Process}
 use Rattle.sys_abi.specs.declared.signals.TheConstants.{SIGCHLD}
-use Rattle.proc_book.specs.RealOrder.{real_cmp}
+use Rattle.sys_abi.specs.Orders.{real_pid_cmp}
 use Rattle.proc_book.specs.Changes.{at_key}
 use Rattle.sys_abi.specs.Signals.{has_signal}
 use Rattle.proc_book.specs.Processes.{newborn, is_live, is_child_of, signals_of, raised, after_take, zombie}
@@ -23,7 +23,7 @@ use Rattle.proc_book.specs.Ends.{Processes, orphan, is_zombie_child, orphaned, i
 use Rattle.proc_book.specs.Procs.{real, with_thread, without_thread, IsBelow, IsUnused, AllHandedOut, after_wait}
 use Rattle.proc_book.specs.declared.waiting.Waiting.{Waiting}
 use Rattle.proc_book.specs.declared.waiting.Waiting.TheVariants.{NoChild, NotReady, Ended}
-use Rattle.proc_book.proofs.OrderLaws.{real_total, real_exact}
+use Rattle.sys_abi.proofs.OrderLaws.{real_pid_total, real_pid_exact}
 
 -- q has no thread that p has not
 abbrev pub HasFewer : Process → Process → Type 0
@@ -47,18 +47,18 @@ shrinks-then a b c first second r q is =
     record { process = earlier.process; was = earlier.was; threads = λ t there. earlier.threads t (later.threads t there) }
 
 pub shrinks-remove : (m : Processes) (k : RealPid) → Shrinks m (map.remove m k)
-shrinks-remove m k r q is = elim (same_or_other real_total real_exact r k) [
-  | inl same ↦ absurd (none-some q (sym (get_remove_same real_total real_exact m k) ∙ ap (map.get (map.remove m k)) (sym same) ∙ is))
-  | inr differ ↦ shrinks-same m r q (sym (get_remove_other real_total real_exact m k r differ) ∙ is)
+shrinks-remove m k r q is = elim (same_or_other real_pid_total real_pid_exact r k) [
+  | inl same ↦ absurd (none-some q (sym (get_remove_same real_pid_total real_pid_exact m k) ∙ ap (map.get (map.remove m k)) (sym same) ∙ is))
+  | inr differ ↦ shrinks-same m r q (sym (get_remove_other real_pid_total real_pid_exact m k r differ) ∙ is)
 ]
 
 changed_by : (m : Processes) (k : RealPid) (f : Process → Process) (found : Option Process) → map.get m k ≡ found → ((p : Process) → HasFewer p (f p)) → Shrinks m (option_map_or (λ p. map.insert m k (f p)) found m)
 changed_by m k f None is fewer r q at = shrinks-same m r q at
-changed_by m k f (Some p) is fewer r q at = elim (same_or_other real_total real_exact r k) [
+changed_by m k f (Some p) is fewer r q at = elim (same_or_other real_pid_total real_pid_exact r k) [
   | inl same ↦
-      let value : f p ≡ q = same_Some (f p) q (sym (get_insert_same real_total real_exact m k (f p)) ∙ ap (map.get (map.insert m k (f p))) (sym same) ∙ at) in
+      let value : f p ≡ q = same_Some (f p) q (sym (get_insert_same real_pid_total real_pid_exact m k (f p)) ∙ ap (map.get (map.insert m k (f p))) (sym same) ∙ at) in
       record { process = p; was = ap (map.get m) same ∙ is; threads = subst (HasFewer p) value (fewer p) }
-  | inr differ ↦ shrinks-same m r q (sym (get_insert_other real_total real_exact m k (f p) r differ) ∙ at)
+  | inr differ ↦ shrinks-same m r q (sym (get_insert_other real_pid_total real_pid_exact m k (f p) r differ) ∙ at)
 ]
 
 pub shrinks-at_key : (m : Processes) (k : RealPid) (f : Process → Process) → ((p : Process) → HasFewer p (f p)) → Shrinks m (at_key m k f)
@@ -69,7 +69,7 @@ passed p None q is = is
 passed p (Some x) q is = elim (p x) as (λ b. cond b (Some x) None ≡ Some q → Some x ≡ Some q) [ true ↦ λ e. e | false ↦ λ e. absurd (none-some q e) ] is
 
 pub shrinks-retain : (m : Processes) (p : Process → Bool) → Shrinks m (retain (λ r q. p q) m)
-shrinks-retain m p r q is = shrinks-same m r q (passed p (map.get m r) q (sym (get-retained real_total real_exact (λ r q. p q) m r) ∙ is))
+shrinks-retain m p r q is = shrinks-same m r q (passed p (map.get m r) q (sym (get-retained real_pid_total real_pid_exact (λ r q. p q) m r) ∙ is))
 
 mapped_by : (m : Processes) (f : Process → Process) (r : RealPid) (q : Process) (found : Option Process) → ((p : Process) → HasFewer p (f p)) → map.get m r ≡ found → option_map f found ≡ Some q → Older m r q
 mapped_by m f r q None fewer is at = absurd (none-some q at)
@@ -181,16 +181,16 @@ handed_out-start m n next later node parent all inside is later_is r q at =
     let number = slice_index next node in
     let key : RealPid = real node number in
     let added : map.get (map.insert m key (newborn parent number)) r ≡ Some q = ap (λ x. map.get x r) (sym is) ∙ at in
-    subst (λ xs. IsBelow (slice_index xs r.node) r q) (sym later_is) (elim (same_or_other real_total real_exact r key) [
+    subst (λ xs. IsBelow (slice_index xs r.node) r q) (sym later_is) (elim (same_or_other real_pid_total real_pid_exact r key) [
       | inl same ↦
           let top : slice_index (slice_set next node (number + 1)) r.node ≡ number + 1 = ap (λ (k : RealPid). slice_index (slice_set next node (number + 1)) k.node) same ∙ get_or-set_same next node (number + 1) 0 inside in
           let pid : r.pid ≡ number = ap (λ (k : RealPid). k.pid) same in
-          let value : newborn parent number ≡ q = same_Some (newborn parent number) q (sym (get_insert_same real_total real_exact m key (newborn parent number)) ∙ ap (map.get (map.insert m key (newborn parent number))) (sym same) ∙ added) in
+          let value : newborn parent number ≡ q = same_Some (newborn parent number) q (sym (get_insert_same real_pid_total real_pid_exact m key (newborn parent number)) ∙ ap (map.get (map.insert m key (newborn parent number))) (sym same) ∙ added) in
           record {
             own = omega (arith, top, pid);
             threads = λ t there. let one = only_thread number t (ap (λ (x : Process). is_some (map.get x.threads t)) value ∙ there) in omega (arith, top, one);
           }
-      | inr differ ↦ below_more _ _ r q (rises next node r.node inside) (all r q (sym (get_insert_other real_total real_exact m key (newborn parent number) r differ) ∙ added))
+      | inr differ ↦ below_more _ _ r q (rises next node r.node inside) (all r q (sym (get_insert_other real_pid_total real_pid_exact m key (newborn parent number) r differ) ∙ added))
     ])
 
 one_more : (threads : FinMap nat_cmp ℕ) (number t : ℕ) → is_some (map.get (map.insert threads number 0) t) ≡ true → (t ≡ number) ⊎ (is_some (map.get threads t) ≡ true)
@@ -210,12 +210,12 @@ added_by : (m : Processes) (next : List ℕ) (p : RealPid) (found : Option Proce
 added_by m next p None all inside is r q at = below_more _ _ r q (rises next p.node r.node inside) (all r q at)
 added_by m next p (Some x) all inside is r q at =
     let number = slice_index next p.node in
-    elim (same_or_other real_total real_exact r p) [
+    elim (same_or_other real_pid_total real_pid_exact r p) [
       | inl same ↦
-          let value : with_thread number x ≡ q = same_Some (with_thread number x) q (sym (get_insert_same real_total real_exact m p (with_thread number x)) ∙ ap (map.get (map.insert m p (with_thread number x))) (sym same) ∙ at) in
+          let value : with_thread number x ≡ q = same_Some (with_thread number x) q (sym (get_insert_same real_pid_total real_pid_exact m p (with_thread number x)) ∙ ap (map.get (map.insert m p (with_thread number x))) (sym same) ∙ at) in
           let top : slice_index (slice_set next p.node (number + 1)) r.node ≡ number + 1 = ap (λ (k : RealPid). slice_index (slice_set next p.node (number + 1)) k.node) same ∙ get_or-set_same next p.node (number + 1) 0 inside in
           subst (IsBelow _ r) value (with_thread_below number _ r x (below_more _ _ r x (rises next p.node r.node inside) (all r x (ap (map.get m) same ∙ is))) (omega (arith, top)))
-      | inr differ ↦ below_more _ _ r q (rises next p.node r.node inside) (all r q (sym (get_insert_other real_total real_exact m p (with_thread number x) r differ) ∙ at))
+      | inr differ ↦ below_more _ _ r q (rises next p.node r.node inside) (all r q (sym (get_insert_other real_pid_total real_pid_exact m p (with_thread number x) r differ) ∙ at))
     ]
 
 pub handed_out-add_thread : (m n : Processes) (next later : List ℕ) (p : RealPid) → AllHandedOut m next → p.node < length next
@@ -224,7 +224,7 @@ handed_out-add_thread m n next later p all inside is later_is =
     subst (λ x. AllHandedOut x later) (sym is) (subst (AllHandedOut _) (sym later_is) (added_by m next p (map.get m p) all inside refl))
 
 pub handed_out-none : (m : Processes) (next : List ℕ) → m ≡ map.empty → AllHandedOut m next
-handed_out-none m next none r q is = absurd (none-some q (sym (map.get-empty real_cmp r) ∙ ap (λ x. map.get x r) (sym none) ∙ is))
+handed_out-none m next none r q is = absurd (none-some q (sym (map.get-empty real_pid_cmp r) ∙ ap (λ x. map.get x r) (sym none) ∙ is))
 
 pub shrinks-after_wait : (found : Waiting) (m : Processes) → Shrinks m (after_wait found m)
 shrinks-after_wait NoChild m = shrinks-same m

@@ -8,13 +8,13 @@ use Rattle.std.specs.FinMap as map
 use Rattle.views.specs.Maps.{map_values, retain}
 use Rattle.sys_abi.specs.declared.identity.RealPid.{RealPid}
 use Rattle.sys_abi.specs.declared.signals.TheConstants.{SIGCHLD}
-use Rattle.proc_book.specs.RealOrder.{real_cmp}
+use Rattle.sys_abi.specs.Orders.{real_pid_cmp}
 use Rattle.proc_book.specs.declared.process.Process.{Process}
 use Rattle.proc_book.specs.Changes.{at_key}
 use Rattle.proc_book.specs.Processes.{is_live, is_child_of, raised, zombie}
 
 abbrev pub Processes : Type 0
-Processes = map.FinMap real_cmp Process
+Processes = map.FinMap real_pid_cmp Process
 
 abbrev pub is_zombie_child : RealPid → Process → Bool
 is_zombie_child p process = is_child_of p process && not (is_live process)

@@ -3,4 +3,3 @@ pub mod Ends
 pub mod LentProcess
 pub mod Processes
 pub mod Procs
-pub mod RealOrder

@@ -11,25 +11,22 @@ use Rattle.std.specs.Ordering.{eq_by_cmp}
 use Rattle.std.specs.FinMap as map
 use Rattle.sys_abi.specs.declared.identity.RealPid.{RealPid}
 use Rattle.proc_book.specs.declared.process.Process.{Process}
-use Rattle.proc_book.specs.declared.process.Life.{Life}
-use Rattle.proc_book.specs.declared.process.Life.TheVariants.{Live, Zombie}
+use Rattle.sys_abi.specs.declared.life.Life.{Life}
+use Rattle.sys_abi.specs.declared.life.Life.TheVariants.{Live, Zombie}
 use Rattle.proc_book.specs.Changes.{at_key}
-use Rattle.proc_book.specs.RealOrder.{real_cmp}
+use Rattle.sys_abi.specs.Orders.{real_pid_cmp}
 use Rattle.sys_abi.specs.Signals.{has_signal, with_signal, without_signal}
+use Rattle.sys_abi.specs.Lives.{lives}
 
 abbrev pub newborn : Option RealPid → ℕ → Process
 newborn parent number = record { parent = parent; life = Live; pending = 0; threads = map.insert map.empty number 0 }
-
-abbrev pub lives : Life → Bool
-lives Live = true
-lives (Zombie status) = false
 
 abbrev pub is_live : Process → Bool
 is_live process = lives process.life
 
 abbrev pub is_parent : RealPid → Option RealPid → Bool
 is_parent p None = false
-is_parent p (Some parent) = eq_by_cmp real_cmp p parent
+is_parent p (Some parent) = eq_by_cmp real_pid_cmp p parent
 
 abbrev pub is_child_of : RealPid → Process → Bool
 is_child_of p process = is_parent p process.parent

@@ -19,11 +19,11 @@ use Rattle.std.specs.Coded.{Coded, code_by, coded×, coded_ℕ, coded_list}
 use Rattle.std.specs.FinMap as map
 use Rattle.views.specs.NumberMap.{is_above as is_after}
 use Rattle.sys_abi.specs.declared.identity.RealPid.{RealPid}
-use Rattle.proc_book.specs.RealOrder.{real_cmp, coded_real}
+use Rattle.sys_abi.specs.Orders.{real_pid_cmp, coded_real_pid}
 use Rattle.proc_book.specs.declared.process.Process.{Process}
 use Rattle.proc_book.specs.contracts.process.Process as process
-use Rattle.proc_book.specs.declared.process.Life.{Life}
-use Rattle.proc_book.specs.declared.process.Life.TheVariants.{Live, Zombie}
+use Rattle.sys_abi.specs.declared.life.Life.{Life}
+use Rattle.sys_abi.specs.declared.life.Life.TheVariants.{Live, Zombie}
 use Rattle.proc_book.specs.declared.waiting.Waiting.{Waiting}
 use Rattle.proc_book.specs.declared.waiting.Waiting.TheVariants.{NoChild, NotReady, Ended}
 use Rattle.proc_book.specs.declared.proc_fault.ProcFault.{ProcFault}
@@ -106,7 +106,7 @@ status_of process = status_by process.life
 
 abbrev pub is_above : Option RealPid → RealPid → Bool
 is_above None r = true
-is_above (Some above) r = is_lt (real_cmp above r)
+is_above (Some above) r = is_lt (real_pid_cmp above r)
 
 -- of one child
 abbrev pub wait_of : RealPid → Life → Waiting
@@ -156,4 +156,4 @@ AllHandedOut m next = (r : RealPid) (process : Process) → map.get m r ≡ Some
 
 abbrev pub coded_table : Coded ProcTable
 coded_table =
-    code_by (Processes × List ℕ) (coded× (map.code coded_real process.the_row.coded) (coded_list coded_ℕ)) (λ t. (t.processes, t.next)) (λ p. record { processes = p.0; next = p.1 }) (λ _. refl)
+    code_by (Processes × List ℕ) (coded× (map.code coded_real_pid process.the_row.coded) (coded_list coded_ℕ)) (λ t. (t.processes, t.next)) (λ p. record { processes = p.0; next = p.1 }) (λ _. refl)

@@ -19,7 +19,8 @@ mod procs;
 mod waiting;
 
 pub use proc_fault::ProcFault;
-pub use process::{Life, Process};
+pub use process::Process;
+pub use sys_abi::Life;
 pub use procs::Procs;
 
 #[cfg(test)]

@@ -11,16 +11,8 @@ use crate::limits::THREAD_LIMIT;
 use crate::proc_fault::ProcFault;
 use std::alloc::{AllocError, Global};
 use sys_abi::signals::{has_signal, with_signal, without_signal};
-use sys_abi::{RealPid, Signal};
+use sys_abi::{Life, RealPid, Signal};
 use views::number_map::NumberMap;
-
-/// Whether a process lives, or has ended and its parent has not waited for it (`man 2 wait4`).
-#[derive(Clone, Copy, Debug, PartialEq, Eq)]
-pub enum Life {
-    Live,
-    /// With the status that its parent reads.
-    Zombie(u32),
-}
 
 /// A process: its live parent, if it has one, its life, the signals that are pending for it, and for each of its
 /// threads those that are pending for that thread.

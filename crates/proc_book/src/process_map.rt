@@ -21,13 +21,13 @@ pub(crate) struct ProcessMap {
 
 impl Model for ProcessMap {
     ghost use Rattle.std.specs.FinMap as map;
-    ghost use Rattle.proc_book.specs.RealOrder.{real_cmp, coded_real};
+    ghost use Rattle.sys_abi.specs.Orders.{real_pid_cmp, coded_real_pid};
     ghost use Rattle.proc_book.specs.declared.process.Process.{Process};
     ghost use Rattle.proc_book.specs.contracts.process.Process as process;
 
-    ghost Value = { map.FinMap real_cmp Process };
+    ghost Value = { map.FinMap real_pid_cmp Process };
 
-    ghost coded = { map.code coded_real process.the_row.coded };
+    ghost coded = { map.code coded_real_pid process.the_row.coded };
 
     ghost view = { λ a. map.from_entries a.entries.entries };
 }

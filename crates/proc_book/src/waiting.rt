@@ -2,7 +2,7 @@ ghost use Rattle.std.specs.Prelude.{◌≡◌, None};
 ghost use Rattle.std.specs.FinMap as map;
 ghost use Rattle.proc_book.specs.Procs as words;
 
-use crate::process::Life;
+use sys_abi::Life;
 use crate::process_map::ProcessMap;
 use sys_abi::RealPid;
 

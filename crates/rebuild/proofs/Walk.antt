@@ -5,7 +5,6 @@ use Rattle.std.specs.Prelude.{◌≢◌, ◌==◌, IsTrue}
 use Rattle.std.proofs.lemmas.Bool.Decides.{nat_tests}
 use Rattle.std.proofs.lemmas.List.{drop_all}
 use Rattle.std.proofs.lemmas.List.Sums.{count_by-le-length}
-use Rattle.plain_machine.specs.Kernel.{lives}
 use Rattle.image_codec.specs.declared.shared.ProcessEntry.{ProcessEntry}
 use Rattle.image_codec.specs.declared.process_image.ProcImage.{ProcImage}
 use Rattle.image_codec.specs.declared.shared.Shared.{Shared}
@@ -17,6 +16,7 @@ use Rattle.image_codec.specs.SharedFormat.{SpellsShared, DamagedShared}
 use Rattle.image_codec.specs.Sets.{SpellsImages, DamagedImages, SpellsFiles, DamagedFiles, live_count}
 use Rattle.rebuild.specs.declared.decode.Decoded.{Decoded}
 use Rattle.rebuild.specs.Places.{IsDamageOf}
+use Rattle.sys_abi.specs.Lives.{lives}
 
 -- the images so far, with those of the files that are left, are those of all files, and no others are
 pub record Continues (shared : Shared) (all : List (List ℕ)) (images : List ProcImage) (file : ℕ) (left : List (List ℕ)) : Type 0 where

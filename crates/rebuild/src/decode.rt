@@ -2,8 +2,8 @@ ghost use Rattle.std.specs.Prelude.{◌≡◌, ◌+◌, ◌^◌, ◌<◌, List, 
 ghost use Rattle.image_codec.specs.declared.process_image.ProcImage.{ProcImage};
 ghost use Rattle.image_codec.specs.Files.{IsRead};
 ghost use Rattle.image_codec.specs.Sets.{live_count, SpellsFiles, DamagedFiles, SpellsImages, DamagedImages};
-ghost use Rattle.plain_machine.specs.Kernel.{lives};
 ghost use Rattle.rebuild.specs.Places.{IsDamageOf};
+ghost use Rattle.sys_abi.specs.Lives.{lives};
 
 use image_codec::{
     Damage, ProcImage, ProcessEntry, ReadFault, SetBytes, Shared, read_process, read_shared,

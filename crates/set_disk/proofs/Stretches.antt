@@ -11,7 +11,7 @@ use Rattle.set_disk.specs.Files.{Files}
 use Rattle.set_disk.specs.Crash.{AfterStep, IsSettled}
 use Rattle.set_disk.specs.Moments.{Passes, LeavesOnly}
 
-either : {A B C : Type 0} → A ⊎ B → (A → C) → (B → C) → C
+pub either : {A B C : Type 0} → A ⊎ B → (A → C) → (B → C) → C
 either (inl a) f g = f a
 either (inr b) f g = g b
 

@@ -3,7 +3,6 @@
 --     contents files name           the bytes of the file
 --     overwritten at bytes old      the bytes of a file after a write at an offset within it or at its end
 --     with_write, with_cut          the files after that write, and after a cut to a length
---     read_from at n bytes          what a read of n bytes at an offset gives, fewer at the file's end
 use Rattle.std.specs.Prelude.{ℕ, ◌+◌, List, [], ◌++◌, length, take, drop, unwrap_or}
 use Rattle.std.specs.Option.{option_map_or}
 use Rattle.std.specs.declared.cmp.Ordering.{Ordering}
@@ -31,6 +30,3 @@ with_write files name at bytes = map.insert files name (overwritten at bytes (co
 -- a cut makes no file
 abbrev pub with_cut : Files → FileName → ℕ → Files
 with_cut files name len = option_map_or (λ bytes. map.insert files name (take len bytes)) (map.get files name) files
-
-abbrev pub read_from : ℕ → ℕ → List ℕ → List ℕ
-read_from at n bytes = take n (drop at bytes)

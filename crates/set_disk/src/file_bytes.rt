@@ -1,5 +1,6 @@
 ghost use Rattle.std.specs.Prelude.{◌≡◌, ◌≤◌, ◌++◌, [], length, take, drop, IfOk, OnOk, OnErr};
-ghost use Rattle.set_disk.specs.Files.{overwritten, read_from};
+ghost use Rattle.set_disk.specs.Files.{overwritten};
+ghost use Rattle.views.specs.Bytes.{read_from};
 
 use std::alloc::{AllocError, Global};
 use std::marker::Model;

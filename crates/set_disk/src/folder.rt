@@ -1,10 +1,11 @@
 ghost use Rattle.std.specs.Prelude.{◌≡◌, ℕ, ◌++◌, ◌≤◌, Option, Some, None, length, drop, option_map, IfOk, IfSome, OnOk};
 ghost use Rattle.std.specs.Option.{ForSome};
 ghost use Rattle.std.specs.FinMap as map;
-ghost use Rattle.set_disk.specs.Files.{Files, contents, read_from, with_write, with_cut};
+ghost use Rattle.set_disk.specs.Files.{Files, contents, with_write, with_cut};
 ghost use Rattle.set_disk.specs.Crash.{CutOrNot, IsSettled, Same, Takes, Torn};
 ghost use Rattle.set_disk.specs.Faults.{HasCause};
 ghost use Rattle.set_disk.specs.Moments.{Passes};
+ghost use Rattle.views.specs.Bytes.{read_from};
 
 use crate::disk_fault::DiskFault;
 use crate::file_name::FileName;

@@ -1,11 +1,12 @@
 ghost use Rattle.std.specs.Prelude.{◌≡◌, ◌≤◌, ◌<◌, ◌++◌, [], length, take, drop, option_map, IfOk, IfSome, OnOk, OnErr};
 ghost use Rattle.std.specs.FinMap as map;
-ghost use Rattle.set_disk.specs.Files.{contents, read_from, with_write, with_cut};
+ghost use Rattle.set_disk.specs.Files.{contents, with_write, with_cut};
 ghost use Rattle.set_disk.specs.Crash.{CutOrNot, IsSettled, Same, Takes, Torn};
 ghost use Rattle.set_disk.specs.Moments.{Passes};
 ghost use Rattle.set_disk.specs.Faults.{HasCause};
 ghost use Rattle.set_disk.specs.History.{image_after, is_due};
 ghost use Rattle.set_disk.specs.InMemory.{Answers, LeftSince, MayLeaveNow, faults_of, moment_of, reads_of};
+ghost use Rattle.views.specs.Bytes.{read_from};
 
 use crate::call::Call;
 use crate::disk_fault::DiskFault;

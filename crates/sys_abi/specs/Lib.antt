@@ -4,3 +4,5 @@ pub mod Orders
 pub mod Requests
 pub mod Signals
 pub mod Clones
+pub mod Flags
+pub mod Lives

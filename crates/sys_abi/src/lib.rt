@@ -22,6 +22,7 @@ pub mod delivery;
 pub mod errors;
 pub mod flags;
 pub mod identity;
+pub mod life;
 #[cfg(test)]
 mod map_tests;
 pub mod page;
@@ -41,6 +42,7 @@ pub use by_slot::BySlot;
 pub use cloning::{CloneForm, clone_form};
 pub use delivery::{At, Delivered, Delivering, Given, IdleThread};
 pub use identity::{ConnId, DescId, Dir, Fd, RealAddr, RealPid, Signal, Slot, Tid, VPid, VirtAddr};
+pub use life::Life;
 pub use page::Page;
 pub use record::{Cause, Kind, Record};
 pub use reply::{Errno, Reply};

@@ -9,17 +9,6 @@ use Rattle.vfs_files.specs.Room.{is_past}
 use Rattle.vfs_files.specs.FileTable.{Contents, bytes_of, contents, with_write, truncated, is_too_big}
 use Rattle.vfs_files.proofs.Sums.{bytes_of-insert, bytes_among, bytes_of-remove}
 
-pub on_some : {A : Type 0} {r : Option A} {a : A} {P : Type 0} → r ≡ Some a → OnSome r P → P
-on_some {P = P} is h = subst (λ o. OnSome o P) is h
-
-pub on_ok_then : {A E : Type 0} {P Q : Type 0} (r : Result A E) → OnOk r P → (P → Q) → OnOk r Q
-on_ok_then (Ok a) h f = f h
-on_ok_then (Err e) h f = tt
-
-pub on_err_then : {A E : Type 0} {P Q : Type 0} (r : Result A E) → OnErr r P → (P → Q) → OnErr r Q
-on_err_then (Ok a) h f = tt
-on_err_then (Err e) h f = f h
-
 pub if_ok_then : {A E : Type 0} {P Q : A → Type 0} (r : Result A E) → IfOk r P → ((a : A) → P a → Q a) → IfOk r Q
 if_ok_then (Ok a) h f = f a h
 if_ok_then (Err e) h f = tt

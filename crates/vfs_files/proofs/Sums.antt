@@ -9,19 +9,7 @@ use Rattle.std.specs.FinMap.Entries.{below_all, by_order}
 use Rattle.std.proofs.lemmas.List.Sums.{sum_by-cons}
 use Rattle.views.proofs.MapLaws.{get_remove_same, insert_remove_same, remove_absent, values-empty}
 use Rattle.vfs_files.specs.FileTable.{Contents, bytes_of, contents}
-
-first : (a b : Bool) → T (a && b) → T a
-first true b p = tt
-first false b p = p
-
-second : (a b : Bool) → T (a && b) → T b
-second true b p = p
-second false b p = absurd p
-
-less : (r : Ordering) → T (is_lt r) → r ≡ Less
-less Less p = refl
-less Equal p = absurd p
-less Greater p = absurd p
+use Rattle.views.proofs.Tests.{first, second, less}
 
 total : List (ℕ × List ℕ) → ℕ
 total es = sum_by length (mapped (λ e. e.1) es)

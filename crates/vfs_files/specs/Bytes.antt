@@ -3,7 +3,6 @@
 --     filled at bytes              zeros after the bytes, up to the offset
 --     overwritten at piece bytes   the piece in place of the bytes from an offset on, and past their end
 --     written at piece bytes       the bytes after a write; an empty piece changes nothing
---     read_from at n bytes         the bytes from an offset on, at most n
 use Rattle.std.specs.Prelude.{ℕ, ◌+◌, ◌-◌, List, [], ◌∷◌, ◌++◌, length, take, drop, replicate}
 
 abbrev pub filled : ℕ → List ℕ → List ℕ
@@ -15,6 +14,3 @@ overwritten at piece bytes = take at bytes ++ piece ++ drop (at + length piece) 
 abbrev pub written : ℕ → List ℕ → List ℕ → List ℕ
 written at [] bytes = bytes
 written at (byte ∷ piece) bytes = overwritten at (byte ∷ piece) (filled at bytes)
-
-abbrev pub read_from : ℕ → ℕ → List ℕ → List ℕ
-read_from at n bytes = take n (drop at bytes)

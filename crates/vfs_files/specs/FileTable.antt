@@ -17,6 +17,7 @@ use Rattle.vfs_files.specs.declared.file_fault.FileFault.{FileFault}
 use Rattle.vfs_files.specs.declared.file_fault.FileFault.TheVariants.{NoEntry, Exists, Space}
 use Rattle.vfs_files.specs.Bytes.{written}
 use Rattle.vfs_files.specs.Names.{Names, without_file}
+use Rattle.sys_abi.specs.Flags.{has_flag}
 
 abbrev pub Contents : Type 0
 Contents = map.FinMap nat_cmp (List ℕ)
@@ -42,9 +43,6 @@ truncated files file = option_map_or (λ bytes. map.insert files file []) (map.g
 abbrev pub is_too_big : Contents → ℕ → ℕ → List ℕ → Bool
 is_too_big files file at [] = false
 is_too_big files file at (byte ∷ piece) = nat_lt TOTAL_LIMIT (bytes_of (with_write files file at (byte ∷ piece))) || nat_lt LAST_END (at + length (byte ∷ piece))
-
-abbrev pub has_flag : ℕ → ℕ → Bool
-has_flag flags flag = flags / flag % 2 == 1
 
 -- as many files stand as may, or no number is left
 abbrev pub is_full : FileTable → Bool

@@ -3,9 +3,9 @@ ghost use Rattle.std.specs.Option.{option_copied};
 ghost use Rattle.std.specs.FinMap as map;
 ghost use Rattle.views.specs.NumberMap.{is_above};
 ghost use Rattle.vfs_files.specs.declared.limits.TheConstants.{FILE_LIMIT, TOTAL_LIMIT};
-ghost use Rattle.vfs_files.specs.Bytes.{read_from};
 ghost use Rattle.vfs_files.specs.Names.{IsNameOf};
 ghost use Rattle.vfs_files.specs.FileTable as table;
+ghost use Rattle.views.specs.Bytes.{read_from};
 
 use crate::file_bytes::FileBytes;
 use crate::file_fault::FileFault;

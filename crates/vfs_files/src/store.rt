@@ -2,8 +2,8 @@
 ghost use Rattle.std.specs.Prelude.{◌≡◌, ◌≢◌, ◌⊎◌, ◌+◌, ◌≤◌, ℕ, List, [], None, Some, Err, false, IsTrue, length, IsSome, IfSome, IfNone, IfOk, OnOk, OnErr, IsOkUnless};
 ghost use Rattle.std.specs.FinMap as map;
 ghost use Rattle.vfs_files.specs.declared.limits.TheConstants.{TOTAL_LIMIT};
-ghost use Rattle.vfs_files.specs.Bytes.{read_from};
 ghost use Rattle.vfs_files.specs.FileTable as table;
+ghost use Rattle.views.specs.Bytes.{read_from};
 
 use crate::file_bytes::FileBytes;
 use crate::file_fault::FileFault;

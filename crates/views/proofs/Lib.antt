@@ -4,3 +4,5 @@ pub mod NextKeys
 pub mod MapLaws
 pub mod MapValues
 pub mod SeenKeys
+pub mod Outcomes
+pub mod Tests

@@ -4,29 +4,19 @@
 --     EachEntry P es     P of each key and its value, by recursion over the list
 --     each_entry, at_entry      of each look-up, and so of each entry; and back
 --     none_among-values, some_among-values      whether a test of the values finds one
-use Rattle.std.proofs.Common.{◌≡◌, Ordering, Less, Equal, Greater, Bool, true, false, cond, T, ◌&&◌, ◌||◌, List, [], ◌∷◌, map as mapped, refl, sym, ap, subst, ◌∙◌}
+--     find_below         a key below all others is not found
+use Rattle.std.proofs.Common.{◌≡◌, Ordering, Bool, true, false, cond, T, ◌||◌, List, [], ◌∷◌, map as mapped, refl, sym, ap, subst, ◌∙◌}
 use Rattle.std.specs.Prelude.{Option, Some, None, is_some, filter}
 use Rattle.std.specs.Option.{option_map, unwrap_or}
 use Rattle.std.specs.List.{list_any}
-use Rattle.std.specs.Ordering.{is_eq, is_lt, eq_by_cmp}
+use Rattle.std.specs.Ordering.{is_eq, eq_by_cmp}
 use Rattle.std.specs.Cmp.{IsTotalOrder}
 use Rattle.std.specs.FinMap as map
 use Rattle.std.specs.FinMap.{FinMap, IsAntisymmetric, is_sorted, find}
 use Rattle.std.specs.FinMap.Entries.{below_all}
 use Rattle.views.specs.Maps.{map_values, retain, option_filter}
 use Rattle.views.proofs.MapLaws.{same_key, key_tied, true_false, get-retain}
-
-both : (a b : Bool) → T a → T b → T (a && b)
-both true b p q = q
-both false b p q = p
-
-first : (a b : Bool) → T (a && b) → T a
-first true b p = tt
-first false b p = p
-
-second : (a b : Bool) → T (a && b) → T b
-second true b p = p
-second false b p = absurd p
+use Rattle.views.proofs.Tests.{both, first, second, less}
 
 abbrev with_values : {K X Y : Type 0} (f : X → Y) → List (K × X) → List (K × Y)
 with_values f es = mapped (λ e. (e.0, f e.1)) es
@@ -85,16 +75,11 @@ map_values-remove {X = X} {Y = Y} {R = R} o exact f m k = map.same_map o exact _
     inside true x = refl
     inside false x = refl
 
-less : (r : Ordering) → T (is_lt r) → r ≡ Less
-less Less p = refl
-less Equal p = absurd p
-less Greater p = absurd p
-
 abbrev kept : {K X : Type 0} (p : K → X → Bool) → List (K × X) → List (K × X)
 kept p es = filter (λ e. p e.0 e.1) es
 
 module _ {K X : Type 0} (R : K → K → Ordering) where
-  find_below : (q : K) (es : List (K × X)) → T (below_all R q es) → find R q es ≡ None
+  pub find_below : (q : K) (es : List (K × X)) → T (below_all R q es) → find R q es ≡ None
   find_below q [] h = refl
   find_below q (e ∷ es) h = ap (λ r. cond (is_eq r) (Some e.1) (find R q es)) (less _ (first _ _ h)) ∙ find_below q es (second _ _ h)
 

@@ -1,3 +1,4 @@
 pub mod Faults
 pub mod NumberMap
 pub mod Maps
+pub mod Bytes

@@ -10,9 +10,9 @@ use Rattle.sys_abi.specs.declared.cloning.CloneForm.TheVariants.{Fork, Thread}
 use Rattle.sys_abi.specs.Clones.{clone_form}
 use Rattle.plain_machine.specs.declared.kernel.PlainKernel.{PlainKernel}
 use Rattle.plain_machine.specs.Memory.{low_bytes}
-use Rattle.plain_machine.specs.Buffers.{has_flag}
 use Rattle.plain_machine.specs.Attempts.{Try, Fails, Gives, Served, ◌>>◌, need}
 use Rattle.plain_machine.specs.Kernel.{thread_count, with_next_thread}
+use Rattle.sys_abi.specs.Flags.{has_flag}
 
 abbrev pub THREAD_LIMIT : ℕ
 THREAD_LIMIT = 64

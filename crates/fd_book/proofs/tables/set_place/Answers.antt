@@ -2,10 +2,10 @@ use Rattle.std.proofs.Common.{None, refl, subst}
 use Rattle.std.specs.Prelude.{IsSome}
 use Rattle.std.specs.BTreeMap as tree
 use Rattle.views.proofs.TreeMaps.{view-insert}
-use Rattle.fd_book.specs.Orders.{real_pid_cmp}
-use Rattle.fd_book.proofs.OrderLaws.{real_pid_total, real_pid_exact}
 use Rattle.fd_book.proofs.TableViews.{set_told, seen_at}
 use Rattle.fd_book.proofs.tables.set_place.Goals as goal
+use Rattle.sys_abi.specs.Orders.{real_pid_cmp}
+use Rattle.sys_abi.proofs.OrderLaws.{real_pid_total, real_pid_exact}
 
 pub returns-in-Some-clause-set : goal.returns-in-Some-clause-set
 returns-in-Some-clause-set c =

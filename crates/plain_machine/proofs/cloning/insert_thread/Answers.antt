@@ -3,8 +3,9 @@ use Rattle.std.specs.FinMap as map
 use Rattle.views.proofs.MapLaws.{insert_same}
 use Rattle.sys_abi.proofs.OrderLaws.{vpid_total, vpid_exact}
 use Rattle.plain_machine.specs.Kernel.{with_thread}
-use Rattle.plain_machine.proofs.Lends.{on_some, on_ok_then, on_err_then, changed-found}
+use Rattle.plain_machine.proofs.Lends.{changed-found}
 use Rattle.plain_machine.proofs.cloning.insert_thread.Goals as goal
+use Rattle.views.proofs.Outcomes.{on_some, on_ok_then, on_err_then}
 
 pub returns-in-Some-clause-ok : goal.returns-in-Some-clause-ok
 returns-in-Some-clause-ok c = on_ok_then c.add_thread.result c.add_thread.ensures.ok (λ is.

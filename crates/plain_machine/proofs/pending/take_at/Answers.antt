@@ -1,8 +1,9 @@
 use Rattle.std.proofs.Common.{ap, ◌∙◌}
 use Rattle.std.specs.FinMap as map
 use Rattle.plain_machine.specs.Kernel.{taken_from}
-use Rattle.plain_machine.proofs.Lends.{on_some, changed-found}
+use Rattle.plain_machine.proofs.Lends.{changed-found}
 use Rattle.plain_machine.proofs.pending.take_at.Goals as goal
+use Rattle.views.proofs.Outcomes.{on_some}
 
 pub returns-in-Some : goal.returns-in-Some
 returns-in-Some c =

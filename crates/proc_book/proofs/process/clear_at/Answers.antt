@@ -1,8 +1,9 @@
 use Rattle.std.proofs.Common.{ap, ◌∙◌}
 use Rattle.std.specs.FinMap as map
 use Rattle.sys_abi.specs.Signals.{without_signal}
-use Rattle.proc_book.proofs.Lends.{on_some, changed-found}
+use Rattle.proc_book.proofs.Lends.{changed-found}
 use Rattle.proc_book.proofs.process.clear_at.Goals as goal
+use Rattle.views.proofs.Outcomes.{on_some}
 
 pub returns-in-Some : goal.returns-in-Some
 returns-in-Some c =

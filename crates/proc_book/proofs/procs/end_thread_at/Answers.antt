@@ -1,8 +1,9 @@
 use Rattle.std.proofs.Common.{ap, ◌∙◌}
 use Rattle.std.specs.FinMap as map
 use Rattle.proc_book.specs.Procs.{without_thread}
-use Rattle.proc_book.proofs.Lends.{on_some, changed-found}
+use Rattle.proc_book.proofs.Lends.{changed-found}
 use Rattle.proc_book.proofs.procs.end_thread_at.Goals as goal
+use Rattle.views.proofs.Outcomes.{on_some}
 
 pub returns-in-Some : goal.returns-in-Some
 returns-in-Some c =

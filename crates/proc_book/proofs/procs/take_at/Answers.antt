@@ -1,8 +1,9 @@
 use Rattle.std.proofs.Common.{ap, ◌∙◌}
 use Rattle.std.specs.FinMap as map
 use Rattle.proc_book.specs.Processes.{after_take}
-use Rattle.proc_book.proofs.Lends.{on_some, changed-found}
+use Rattle.proc_book.proofs.Lends.{changed-found}
 use Rattle.proc_book.proofs.procs.take_at.Goals as goal
+use Rattle.views.proofs.Outcomes.{on_some}
 
 pub returns-in-Some-clause-taken : goal.returns-in-Some-clause-taken
 returns-in-Some-clause-taken c =

@@ -1,8 +1,9 @@
 use Rattle.std.proofs.Common.{◌+◌, [], ap, ◌∙◌}
 use Rattle.std.specs.FinMap as map
 use Rattle.vfs_files.specs.FileTable.{bytes_of}
-use Rattle.vfs_files.proofs.Changes.{on_some, truncated-found, sum-truncated}
+use Rattle.vfs_files.proofs.Changes.{truncated-found, sum-truncated}
 use Rattle.vfs_files.proofs.store.empty_file.Goals as goal
+use Rattle.views.proofs.Outcomes.{on_some}
 
 pub returns-clause-files : goal.returns-clause-files
 returns-clause-files c =

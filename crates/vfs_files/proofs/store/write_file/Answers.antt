@@ -5,8 +5,9 @@ use Rattle.std.specs.FinMap as map
 use Rattle.std.specs.FinMap.{nat_cmp-IsAntisymmetric}
 use Rattle.views.proofs.MapLaws.{insert_same}
 use Rattle.vfs_files.specs.Bytes.{written}
-use Rattle.vfs_files.proofs.Changes.{on_some, on_ok_then, on_err_then, if_ok_then, contents-found, found_among, sum-write, too_big-is_past, sum-equal}
+use Rattle.vfs_files.proofs.Changes.{if_ok_then, contents-found, found_among, sum-write, too_big-is_past, sum-equal}
 use Rattle.vfs_files.proofs.store.write_file.Goals as goal
+use Rattle.views.proofs.Outcomes.{on_some, on_ok_then, on_err_then}
 
 pub write_within-requires-clause-among : goal.write_within-requires-clause-among
 write_within-requires-clause-among c = found_among c.args.files.now c.args.file c.args.total c.in-Some.bytes.now c.in-Some.ensures.value c.requires.sum

@@ -1,8 +1,8 @@
 use Rattle.std.proofs.Common.{None, sym, ◌∙◌, arith}
 use Rattle.views.proofs.TreeMaps.{view-insert}
-use Rattle.fd_book.proofs.OrderLaws.{real_pid_total, real_pid_exact}
 use Rattle.fd_book.proofs.TableViews.{seen_at, copied_same, copied_others}
 use Rattle.fd_book.proofs.tables.Tables.copy.Goals as goal
+use Rattle.sys_abi.proofs.OrderLaws.{real_pid_total, real_pid_exact}
 
 pub returns-in_default-clause-same : goal.returns-in_default-clause-same
 returns-in_default-clause-same c = λ fd.

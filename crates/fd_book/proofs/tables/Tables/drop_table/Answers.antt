@@ -1,7 +1,7 @@
 use Rattle.views.proofs.TreeMaps.{view-remove}
-use Rattle.fd_book.proofs.OrderLaws.{real_pid_total, real_pid_exact}
 use Rattle.fd_book.proofs.TableViews.{dropped_same}
 use Rattle.fd_book.proofs.tables.Tables.drop_table.Goals as goal
+use Rattle.sys_abi.proofs.OrderLaws.{real_pid_total, real_pid_exact}
 
 pub returns : goal.returns
 returns c =

@@ -1,8 +1,8 @@
 use Rattle.std.proofs.Common.{sym, subst, ◌∙◌}
 use Rattle.std.specs.List.Sorted.{IsStrictlySortedBy}
-use Rattle.fd_book.specs.Orders.{real_pid_cmp}
 use Rattle.fd_book.proofs.Holders.{all_listed, sorted_holders, listed_holders}
 use Rattle.fd_book.proofs.tables.Tables.holders.Goals as goal
+use Rattle.sys_abi.specs.Orders.{real_pid_cmp}
 
 pub returns-clause-sorted : goal.returns-clause-sorted
 returns-clause-sorted c =

@@ -1,8 +1,8 @@
 use Rattle.views.proofs.TreeMaps.{view-insert}
 use Rattle.fd_book.specs.Books.{slot}
-use Rattle.fd_book.proofs.OrderLaws.{real_pid_total, real_pid_exact}
 use Rattle.fd_book.proofs.TableViews.{seen, told_insert, put_new}
 use Rattle.fd_book.proofs.tables.Tables.put.Goals as goal
+use Rattle.sys_abi.proofs.OrderLaws.{real_pid_total, real_pid_exact}
 
 pub returns-then-set_place-clause-ok : goal.returns-then-set_place-clause-ok
 returns-then-set_place-clause-ok c =

@@ -4,8 +4,9 @@ use Rattle.std.specs.FinMap as map
 use Rattle.plain_machine.specs.Memory.{Memory}
 use Rattle.plain_machine.specs.Start.{with_pages}
 use Rattle.guest_mem.specs.Pages.{IsFree, without_pages}
-use Rattle.guest_mem.proofs.PageRuns.{with_zeroed, len-with_pages, without-with}
+use Rattle.guest_mem.proofs.PageRuns.{len-with_pages, without-with}
 use Rattle.guest_mem.proofs.space.Space.map.Goals as goal
+use Rattle.plain_machine.proofs.PageByPage.{with_more}
 
 free_front : (m : Memory) (page n count : ℕ) → n ≤ count → IsFree m page count → IsFree m page n
 free_front m page n count within free = λ number from below. free number from (omega arith)
@@ -25,7 +26,7 @@ pub loop-number-preserved : goal.loop-number-preserved
 loop-number-preserved c =
     c.in-Ok.ensures.ok
     ∙ ap (λ (m : Memory). map.insert m (c.args.page + c.loop-number.number) (record { rights = c.args.rights; page = replicate 4096 0 })) c.loop-number.invariant
-    ∙ with_zeroed c.args.self.now c.args.page c.loop-number.number c.args.rights
+    ∙ with_more c.args.self.now c.args.page c.loop-number.number c.args.rights
 
 pub returns-in_default-clause-err : goal.returns-in_default-clause-err
 returns-in_default-clause-err c =

@@ -3,8 +3,9 @@ use Rattle.std.specs.Prelude.{replicate}
 use Rattle.std.specs.FinMap as map
 use Rattle.plain_machine.specs.Memory.{Memory}
 use Rattle.plain_machine.specs.Start.{with_pages}
-use Rattle.guest_mem.proofs.PageRuns.{with_zeroed, insert_one_more}
+use Rattle.guest_mem.proofs.PageRuns.{insert_one_more}
 use Rattle.guest_mem.proofs.space.Space.with_zeroed.Goals as goal
+use Rattle.plain_machine.proofs.PageByPage.{with_more}
 
 pub loop-number-init : goal.loop-number-init
 unfolding with_pages
@@ -15,7 +16,7 @@ loop-number-preserved c = record {
   pages =
       c.in_ok-insert_zeroed.ensures.ok
       ∙ ap (λ (m : Memory). map.insert m (c.args.page + c.loop-number.number) (record { rights = c.args.rights; page = replicate 4096 0 })) c.loop-number.invariant.pages
-      ∙ with_zeroed c.args.self.now c.args.page c.loop-number.number c.args.rights;
+      ∙ with_more c.args.self.now c.args.page c.loop-number.number c.args.rights;
   room = omega (
     arith,
     ap (λ (m : Memory). map.len m) c.in_ok-insert_zeroed.ensures.ok,

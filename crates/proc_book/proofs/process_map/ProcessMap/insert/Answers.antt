@@ -1,10 +1,10 @@
 use Rattle.std.proofs.Common.{ap, ◌∙◌}
-use Rattle.proc_book.proofs.OrderLaws.{real_total, real_exact}
+use Rattle.sys_abi.proofs.OrderLaws.{real_pid_total, real_pid_exact}
 use Rattle.std.specs.FinMap as map
 use Rattle.views.proofs.TreeMaps.{view-insert}
 use Rattle.proc_book.proofs.process_map.ProcessMap.insert.Goals as goal
 
 pub returns-clause-ok : goal.returns-clause-ok
 returns-clause-ok c =
-    view-insert real_total real_exact c.self.inside.entries c.insert.new.self c.args.key c.args.value c.in_ok-insert.ensures.updates.0
+    view-insert real_pid_total real_pid_exact c.self.inside.entries c.insert.new.self c.args.key c.args.value c.in_ok-insert.ensures.updates.0
     ∙ ap (λ m. map.insert m c.args.key c.args.value) c.self.view_is

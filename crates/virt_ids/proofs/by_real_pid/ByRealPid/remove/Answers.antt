@@ -1,8 +1,8 @@
 use Rattle.std.proofs.Common.{ap, ◌∙◌}
-use Rattle.virt_ids.proofs.OrderLaws.{real_pid_total, real_pid_exact}
 use Rattle.std.specs.FinMap as map
 use Rattle.views.proofs.TreeMaps.{get-seen, view-remove}
 use Rattle.virt_ids.proofs.by_real_pid.ByRealPid.remove.Goals as goal
+use Rattle.sys_abi.proofs.OrderLaws.{real_pid_total, real_pid_exact}
 
 pub returns-clause-before : goal.returns-clause-before
 returns-clause-before g c = get-seen real_pid_total c.self.inside.entries c.args.self.now c.args.key _ c.remove.ensures.value c.self.view_is

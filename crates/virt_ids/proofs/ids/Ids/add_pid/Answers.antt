@@ -1,10 +1,10 @@
 use Rattle.std.proofs.Common.{refl, sym, ap, subst, ◌∙◌}
 use Rattle.std.specs.Cmp.{nat_cmp_total}
 use Rattle.std.specs.FinMap.{nat_cmp-IsAntisymmetric}
-use Rattle.virt_ids.proofs.OrderLaws.{real_pid_total, real_pid_exact}
 use Rattle.virt_ids.specs.Pairs.{AreInverse}
 use Rattle.virt_ids.proofs.PairLaws.{one_to_one_seen, taken_back, paired, undone}
 use Rattle.virt_ids.proofs.ids.Ids.add_pid.Goals as goal
+use Rattle.sys_abi.proofs.OrderLaws.{real_pid_total, real_pid_exact}
 
 pub returns-then-contains_key-clause-one_to_one : goal.returns-then-contains_key-clause-one_to_one
 returns-then-contains_key-clause-one_to_one c = one_to_one_seen c.self.inside.real_pids _ c.self.inside.virt_pids c.self.invariant.0 (ap (λ p. p.pids) c.self.view_is)
