@@ -3,7 +3,7 @@ ghost use Rattle.std.specs.Option.{option_copied};
 ghost use Rattle.std.specs.List.Sorted.{IsStrictlySortedBy};
 ghost use Rattle.std.specs.FinMap as map;
 ghost use Rattle.sys_abi.specs.declared.identity.RealPid.{RealPid};
-ghost use Rattle.fd_book.specs.Orders.{real_pid_cmp};
+ghost use Rattle.sys_abi.specs.Orders.{real_pid_cmp};
 ghost use Rattle.fd_book.specs.Books.{slot, is_after, is_held, IsHolder};
 ghost use Rattle.fd_book.specs.Numbers.{NoneOpen, IsLowestOpen, free_below, first_above};
 

@@ -15,7 +15,7 @@ use crate::page_image::{
 use crate::shared::{ProcessEntry, Shared, ThreadEntry};
 use crate::thread_image::{ThreadImage, put_threads, threads_at};
 use crate::waiters::{put_waiters, waiters_at};
-use plain_machine::{Life, SignalAction, Waiter};
+use plain_machine::{SignalAction, Waiter};
 use std::alloc::{AllocError, Global};
 use sys_abi::VPid;
 use sys_abi::page::PAGE_SIZE;
@@ -38,10 +38,7 @@ pub struct ProcImage {
 fn is_alive(process: &ProcessEntry) -> bool
     ensures { result ≡ is_alive process.now.life }
 {
-    match process.life {
-        Life::Live => true,
-        Life::Zombie(_) => false,
-    }
+    process.life.is_live()
 }
 
 /// The live process at this place.

@@ -1,7 +1,6 @@
 // The tests of the shared image's fields, each after the fields before it, and those at the end of the file.
 ghost use Rattle.std.specs.Prelude.{◌≡◌};
 ghost use Rattle.std.specs.List.{list_all, list_any};
-ghost use Rattle.plain_machine.specs.Kernel as kernel;
 ghost use Rattle.image_codec.specs.SharedTests as field;
 
 use crate::shared::{
@@ -57,15 +56,6 @@ fn has_thread(process: &ProcessEntry, n: u32) -> bool
     process.threads.iter().any(|thread| thread.tid == n)
 }
 
-fn is_live(life: Life) -> bool
-    ensures { result ≡ kernel.lives life }
-{
-    match life {
-        Life::Live => true,
-        Life::Zombie(_) => false,
-    }
-}
-
 fn is_thread_of_some(processes: &[ProcessEntry], n: u32) -> bool
     ensures { result ≡ list_any (field.has_thread n) processes.now }
 {
@@ -93,13 +83,13 @@ pub fn is_process_number(next_id: u32, front: &[ProcessEntry], n: u32) -> bool
 pub fn is_pending(life: Life, n: u32) -> bool
     ensures { result ≡ field.is_pending life n }
 {
-    n < 1 << 31 && (is_live(life) || n == 0)
+    n < 1 << 31 && (life.is_live() || n == 0)
 }
 
 pub fn is_thread_count(life: Life, n: u32) -> bool
     ensures { result ≡ field.is_thread_count life n }
 {
-    if is_live(life) {
+    if life.is_live() {
         1 <= n && n <= THREAD_LIMIT
     } else {
         n == 0
@@ -109,7 +99,7 @@ pub fn is_thread_count(life: Life, n: u32) -> bool
 pub fn is_descriptor_count(life: Life, n: u32) -> bool
     ensures { result ≡ field.is_descriptor_count life n }
 {
-    n <= 256 && (is_live(life) || n == 0)
+    n <= 256 && (life.is_live() || n == 0)
 }
 
 fn is_live_process(process: &ProcessEntry, n: u32) -> bool

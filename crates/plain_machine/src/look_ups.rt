@@ -6,19 +6,7 @@ ghost use Rattle.plain_machine.specs.Tests as tests;
 
 use crate::description::{Description, Descriptor};
 use crate::kernel::PlainKernel;
-use sys_abi::Life;
 use sys_abi::{BySlot, DescId, Slot, VPid};
-
-impl Life {
-    pub fn is_live(self) -> bool
-        ensures { result ≡ words.lives self }
-    {
-        match self {
-            Life::Live => true,
-            Life::Zombie(_) => false,
-        }
-    }
-}
 
 impl PlainKernel {
     /// Whether the process is there and has not ended.

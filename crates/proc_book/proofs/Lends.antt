@@ -1,6 +1,6 @@
 -- What a borrow of one entry of a map leaves.
-use Rattle.std.proofs.Common.{◌≡◌, Ordering, subst, ap}
-use Rattle.std.specs.Prelude.{Option, Some, Result, Ok, Err, OnOk, OnErr, OnSome}
+use Rattle.std.proofs.Common.{◌≡◌, Ordering, ap}
+use Rattle.std.specs.Prelude.{Some}
 use Rattle.std.specs.Option.{option_map_or}
 use Rattle.std.specs.FinMap as map
 use Rattle.std.specs.FinMap.{FinMap}

@@ -6,12 +6,11 @@
 --     raised t s process         the signal is pending for the process, or for this thread alone
 --     has_either, after_take     the signal is pending for the thread or the process;  without it, at the thread first
 --     zombie status process      it has ended
-use Rattle.std.specs.Prelude.{ℕ, Bool, true, false, ◌&&◌, ◌||◌, Option, Some, None, is_some, unwrap_or, if◌then◌else◌}
+use Rattle.std.specs.Prelude.{ℕ, Bool, false, ◌&&◌, ◌||◌, Option, Some, None, is_some, unwrap_or, if◌then◌else◌}
 use Rattle.std.specs.Ordering.{eq_by_cmp}
 use Rattle.std.specs.FinMap as map
 use Rattle.sys_abi.specs.declared.identity.RealPid.{RealPid}
 use Rattle.proc_book.specs.declared.process.Process.{Process}
-use Rattle.sys_abi.specs.declared.life.Life.{Life}
 use Rattle.sys_abi.specs.declared.life.Life.TheVariants.{Live, Zombie}
 use Rattle.proc_book.specs.Changes.{at_key}
 use Rattle.sys_abi.specs.Orders.{real_pid_cmp}

@@ -46,10 +46,7 @@ impl Process {
     pub fn is_live(&self) -> bool
         ensures { result ≡ words.is_live self.now }
     {
-        match self.life {
-            Life::Live => true,
-            Life::Zombie(_) => false,
-        }
+        self.life.is_live()
     }
 
     /// Whether its parent is that one.

@@ -8,7 +8,6 @@ ghost use Rattle.sys_abi.specs.Lives.{lives};
 use image_codec::{
     Damage, ProcImage, ProcessEntry, ReadFault, SetBytes, Shared, read_process, read_shared,
 };
-use plain_machine::Life;
 use std::alloc::Global;
 use views::list_of::ListOf;
 
@@ -47,10 +46,7 @@ pub fn decode_set(alloc: Global, set: &SetBytes) -> Result<Decoded, ReadFault>
 fn lives(process: &ProcessEntry) -> bool
     ensures { result ≡ lives process.now.life }
 {
-    match process.life {
-        Life::Live => true,
-        Life::Zombie(_) => false,
-    }
+    process.life.is_live()
 }
 
 #[tactic(auto, unfolding(image_codec::specs::Sets::live_count))]

@@ -1,6 +1,6 @@
 -- What a change of one file does to the bytes of all.
-use Rattle.std.proofs.Common.{◌≡◌, ℕ, ◌+◌, ◌-◌, ◌≤◌, List, [], ◌∷◌, length, refl, sym, ap, subst, ◌∙◌, arith}
-use Rattle.std.specs.Prelude.{◌||◌, nat_lt, Option, Some, unwrap_or, Result, Ok, Err, OnOk, OnErr, OnSome, IfOk}
+use Rattle.std.proofs.Common.{◌≡◌, ℕ, ◌+◌, ◌-◌, ◌≤◌, List, [], ◌∷◌, length, refl, sym, ap, ◌∙◌, arith}
+use Rattle.std.specs.Prelude.{◌||◌, nat_lt, Option, Some, unwrap_or, Result, Ok, Err, IfOk}
 use Rattle.std.specs.Option.{option_map_or}
 use Rattle.std.specs.FinMap as map
 use Rattle.vfs_files.specs.declared.limits.TheConstants.{TOTAL_LIMIT, LAST_END}

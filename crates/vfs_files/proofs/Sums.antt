@@ -1,5 +1,5 @@
 -- How many bytes all files have, after a change of one.
-use Rattle.std.proofs.Common.{◌≡◌, ℕ, ◌+◌, ◌≤◌, T, ◌&&◌, Ordering, Less, Equal, Greater, Bool, true, false, cond, List, [], ◌∷◌, map as mapped, length, refl, ap, ◌∙◌, arith}
+use Rattle.std.proofs.Common.{◌≡◌, ℕ, ◌+◌, ◌≤◌, T, Less, Equal, Greater, cond, List, [], ◌∷◌, map as mapped, length, refl, ap, ◌∙◌, arith}
 use Rattle.std.specs.Prelude.{Option, Some, None, unwrap_or, sum_by}
 use Rattle.std.specs.Ordering.{is_lt, is_eq, nat_cmp}
 use Rattle.std.specs.Cmp.{nat_cmp_total}

@@ -6,7 +6,6 @@ use Rattle.std.specs.FinMap.{IsAntisymmetric, nat_cmp-IsAntisymmetric}
 use Rattle.std.proofs.lemmas.Cmp.{on_total, then_total}
 use Rattle.std.proofs.lemmas.Map.Lookups.{exact_pairs}
 use Rattle.virt_ids.specs.Orders.{real_address_cmp}
-use Rattle.sys_abi.specs.Orders.{real_pid_cmp}
 
 pub real_address_total : IsTotalOrder real_address_cmp
 real_address_total = then_total (on_total (λ a. a.node) nat_cmp_total) (on_total (λ a. a.port) nat_cmp_total)

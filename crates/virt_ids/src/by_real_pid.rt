@@ -15,7 +15,7 @@ pub struct ByRealPid<V> {
 
 impl<V> Model for ByRealPid<V> {
     ghost use Rattle.std.specs.FinMap as map;
-    ghost use Rattle.virt_ids.specs.Orders.{real_pid_cmp, coded_real_pid};
+    ghost use Rattle.sys_abi.specs.Orders.{real_pid_cmp, coded_real_pid};
 
     ghost Value = { map.FinMap real_pid_cmp V };
 
