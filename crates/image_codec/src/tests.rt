@@ -177,11 +177,16 @@ fn start_of_a_program_both_ways(rt: HostRuntime) -> Result<(), Fail> {
     Ok(())
 }
 
+// The process with its first page and the one for a handler's return.
+fn two_pages(alloc: Global) -> Result<Vec<u8>, AllocError> {
+    image(alloc, &[(0x10, 5), (0x80000, 5)], 2)
+}
+
 #[test]
-fn damaged_process_images(rt: HostRuntime) -> Result<(), Fail> {
+fn a_changed_byte_of_a_process_image_is_damage(rt: HostRuntime) -> Result<(), Fail> {
     let alloc = rt.alloc();
     let shared = shared(alloc)?;
-    let bytes = image(alloc, &[(0x10, 5), (0x80000, 5)], 2)?;
+    let bytes = two_pages(alloc)?;
     assert_eq!(rt; bytes.len(), 8750);
     for (at, value, offset) in [
         (3, 0, 0),
@@ -210,11 +215,29 @@ fn damaged_process_images(rt: HostRuntime) -> Result<(), Fail> {
         let fault = read_process(alloc, 2, other.as_slice(), &shared).err();
         assert_eq!(rt; fault, damage_at(2, offset));
     }
+    Ok(())
+}
+
+#[test]
+fn a_process_image_that_is_cut_is_damaged_at_its_end(rt: HostRuntime) -> Result<(), Fail> {
+    let alloc = rt.alloc();
+    let shared = shared(alloc)?;
+    let bytes = two_pages(alloc)?;
     for len in [0, 7, 11, 23, 27, 28, 4124, 8597, 8609, 8749] {
         let cut = bytes.as_slice().get(..len).unwrap_or(&[]);
         let fault = read_process(alloc, 2, cut, &shared).err();
         assert_eq!(rt; fault, damage_at(2, len as u64));
     }
+    Ok(())
+}
+
+#[test]
+fn a_process_image_under_another_file_is_damaged_at_its_number(
+    rt: HostRuntime,
+) -> Result<(), Fail> {
+    let alloc = rt.alloc();
+    let shared = shared(alloc)?;
+    let bytes = two_pages(alloc)?;
     for file in [0, 1, 3] {
         let fault = read_process(alloc, file, bytes.as_slice(), &shared).err();
         assert_eq!(rt; fault, damage_at(file, 8));
@@ -234,7 +257,7 @@ fn pages_out_of_place(rt: HostRuntime) -> Result<(), Fail> {
         let fault = read_process(alloc, 2, bytes.as_slice(), &shared).err();
         assert_eq!(rt; fault, damage_at(2, offset));
     }
-    let mut longer = image(alloc, &[(0x10, 5), (0x80000, 5)], 2)?;
+    let mut longer = two_pages(alloc)?;
     longer.push(0)?;
     let fault = read_process(alloc, 2, longer.as_slice(), &shared).err();
     assert_eq!(rt; fault, damage_at(2, 8750));

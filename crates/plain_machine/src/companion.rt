@@ -26,5 +26,7 @@ pub mod registers;
 pub mod steps;
 pub mod table;
 #[cfg(test)]
+mod test_process;
+#[cfg(test)]
 mod tests;
 pub mod waking;

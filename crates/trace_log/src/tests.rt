@@ -1,4 +1,6 @@
 use crate::{Schedule, Trace, TraceFault, log_text};
+use std::alloc::Global;
+use std::process::Abort;
 use std::test::Fail;
 use sys_abi::{Cause, ConnId, Dir, Fd, Kind, Record, Signal, Tid, VPid};
 
@@ -9,7 +11,7 @@ const PROCESS: VPid = VPid(40000);
 
 // Process 40001 is 0x9C41, thread 40002 is 0x9C42.
 #[rattlefmt::skip]
-const EACH_KIND: [[u8; 16]; 12] = [
+const CALLS_CHANNELS_AND_SETS: [[u8; 16]; 7] = [
     [2, 0, 0, 0, 0x41, 0x9C, 0, 0, 0x42, 0x9C, 0, 0, 0, 0, 0, 0],
     [3, 31, 0, 0, 0x41, 0x9C, 0, 0, 0x42, 0x9C, 0, 0, 0, 0, 0, 0],
     [4, 1, 0, 0, 0x41, 0x9C, 0, 0, 7, 0, 0, 0, 0, 0, 1, 0],
@@ -17,6 +19,10 @@ const EACH_KIND: [[u8; 16]; 12] = [
     [6, 1, 0, 0, 0x41, 0x9C, 0, 0, 7, 0, 0, 0, 3, 0, 0, 0],
     [7, 1, 0, 0, 0x41, 0x9C, 0, 0, 7, 0, 0, 0, 3, 0, 0, 0],
     [8, 0, 0, 0, 0, 0, 0, 0, 2, 1, 0, 0, 0, 0, 0, 0],
+];
+
+#[rattlefmt::skip]
+const WITHOUT_A_SET: [[u8; 16]; 5] = [
     [9, 1, 255, 0, 0x41, 0x9C, 0, 0, 5, 0, 0, 0, 0, 0, 0, 0],
     [9, 1, 3, 0, 0x41, 0x9C, 0, 0, 6, 0, 0, 0, 0, 0, 0, 0],
     [9, 2, 0, 0, 0, 0, 0, 0, 0, 0, 0, 0, 0, 0, 0, 0],
@@ -80,8 +86,22 @@ fn file_of_a_trace(rt: HostRuntime) -> Result<(), Fail> {
     Ok(())
 }
 
+// Asserts that the trace is written as these bytes, and read from them.
+fn assert_both_ways<R: Abort>(
+    rt: &R,
+    alloc: Global,
+    trace: &Trace,
+    expected: &[u8],
+) -> Result<(), Fail> {
+    let bytes = trace.to_bytes(alloc)?;
+    assert_eq!(rt; bytes.as_slice(), expected);
+    let read = Trace::from_bytes(alloc, expected)?;
+    assert_eq!(rt; read.as_slice(), trace.as_slice());
+    Ok(())
+}
+
 #[test]
-fn bytes_of_each_kind(rt: HostRuntime) -> Result<(), Fail> {
+fn bytes_of_calls_channels_and_sets(rt: HostRuntime) -> Result<(), Fail> {
     let alloc = rt.alloc();
     let p = VPid(40001);
     let dir = Dir {
@@ -89,7 +109,7 @@ fn bytes_of_each_kind(rt: HostRuntime) -> Result<(), Fail> {
         side: 1,
     };
     let mut trace = Trace::new(alloc);
-    trace.reserve(12)?;
+    trace.reserve(7)?;
     trace.append(Record::Call { p, t: Tid(40002) });
     trace.append(Record::Deliver {
         p,
@@ -103,6 +123,15 @@ fn bytes_of_each_kind(rt: HostRuntime) -> Result<(), Fail> {
     trace.append(Record::Drained { dir, n: 3 });
     trace.append(Record::Refilled { dir, n: 3 });
     trace.append(Record::Complete { generation: 258 });
+    assert_both_ways(&rt, alloc, &trace, CALLS_CHANNELS_AND_SETS.as_flattened())
+}
+
+#[test]
+fn bytes_of_checkpoints_without_a_set(rt: HostRuntime) -> Result<(), Fail> {
+    let alloc = rt.alloc();
+    let p = VPid(40001);
+    let mut trace = Trace::new(alloc);
+    trace.reserve(5)?;
     trace.append(Record::Refused {
         cause: Cause::Unsupported {
             p,
@@ -124,11 +153,7 @@ fn bytes_of_each_kind(rt: HostRuntime) -> Result<(), Fail> {
         cause: Cause::Memory,
     });
     trace.append(Record::Lapsed);
-    let bytes = trace.to_bytes(alloc)?;
-    assert_eq!(rt; bytes.as_slice(), EACH_KIND.as_flattened());
-    let read = Trace::from_bytes(alloc, EACH_KIND.as_flattened())?;
-    assert_eq!(rt; read.as_slice(), trace.as_slice());
-    Ok(())
+    assert_both_ways(&rt, alloc, &trace, WITHOUT_A_SET.as_flattened())
 }
 
 #[test]
@@ -159,16 +184,19 @@ fn a_rest_is_bad_at_its_place(rt: HostRuntime) -> Result<(), Fail> {
     Ok(())
 }
 
-#[test]
-fn lines_of_a_log(rt: HostRuntime) -> Result<(), Fail> {
-    let unsupported = |pid, fd, kind| Record::Refused {
+fn unsupported(pid: u32, fd: u32, kind: Kind) -> Record {
+    Record::Refused {
         cause: Cause::Unsupported {
             p: VPid(pid),
             fd: Fd(fd),
             kind,
         },
-    };
-    let drained = |n| Record::Drained {
+    }
+}
+
+// Seven checkpoints, the third of which drains twice.
+fn checkpoints() -> [Record; 10] {
+    let drained = Record::Drained {
         dir: Dir {
             conn: ConnId {
                 pid: PROCESS,
@@ -176,16 +204,16 @@ fn lines_of_a_log(rt: HostRuntime) -> Result<(), Fail> {
             },
             side: 0,
         },
-        n,
+        n: 65536,
     };
-    let trace = [
+    [
         unsupported(40001, 5, Kind::Datagram),
         Record::Refused {
             cause: Cause::DiskFault,
         },
         Record::Cut { generation: 1 },
-        drained(65536),
-        drained(65536),
+        drained,
+        drained,
         Record::Complete { generation: 1 },
         unsupported(40000, 3, Kind::Counter),
         Record::Refused {
@@ -193,8 +221,12 @@ fn lines_of_a_log(rt: HostRuntime) -> Result<(), Fail> {
         },
         Record::Complete { generation: 2 },
         Record::Lapsed,
-    ];
-    let text = log_text(rt.alloc(), &trace)?;
+    ]
+}
+
+#[test]
+fn lines_of_a_log(rt: HostRuntime) -> Result<(), Fail> {
+    let text = log_text(rt.alloc(), &checkpoints())?;
     let lines = "checkpoint 1 refused: process 40001 descriptor 5 is a datagram pair
 checkpoint 2 refused: disk fault
 checkpoint 3 complete: generation 1, drained 131072

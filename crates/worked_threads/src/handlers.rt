@@ -4,7 +4,10 @@ use crate::scripts::{
 };
 use dmtcp_top::Status;
 use std::alloc::{AllocError, Global};
+use std::process::Abort;
+use std::sync::Wait;
 use std::test::Fail;
+use std::thread::Threads;
 use sys_abi::calls::{
     CLONE, EXIT, FUTEX, MMAP, RT_SIGACTION, RT_SIGPROCMASK, RT_SIGRETURN, SCHED_YIELD, TGKILL,
 };
@@ -66,6 +69,22 @@ fn a_handler_blocks_what_its_action_says_until_it_returns(rt: HostRuntime) -> Re
     Ok(())
 }
 
+/// Asserts that a signal ends the process before it writes, by the last of so many records.
+fn assert_ended_by<R: Abort + Wait + Threads + Sync>(
+    rt: &R,
+    alloc: Global,
+    steps: &[Step],
+    signal: u32,
+    count: usize,
+) -> Result<(), AllocError> {
+    let left = run_steps(rt, alloc, steps)?;
+    assert_eq!(rt; left.status, Status::Done);
+    assert_eq!(rt; left.out.bytes(), b"".as_slice());
+    assert_eq!(rt; left.records().len(), count);
+    assert_eq!(rt; left.records().last(), Some(&delivered(FIRST, signal)));
+    Ok(())
+}
+
 /// Blocks all signals, and sends itself 10 and 9.
 const KILLED: [Step; 3] = [
     Step(RT_SIGPROCMASK, [2, EVERY_SIGNAL, 0, 8, 0], 0),
@@ -75,11 +94,7 @@ const KILLED: [Step; 3] = [
 
 #[test]
 fn no_mask_blocks_signal_9(rt: HostRuntime) -> Result<(), Fail> {
-    let left = run_steps(&rt, rt.alloc(), &KILLED)?;
-    assert_eq!(rt; left.status, Status::Done);
-    assert_eq!(rt; left.out.bytes(), b"".as_slice());
-    assert_eq!(rt; left.records().len(), 7);
-    assert_eq!(rt; left.records().last(), Some(&delivered(FIRST, 9)));
+    assert_ended_by(&rt, rt.alloc(), &KILLED, 9, 7)?;
     Ok(())
 }
 
@@ -110,11 +125,7 @@ fn sixty_four_handlers_in_one_another_return(rt: HostRuntime) -> Result<(), Fail
 #[test]
 fn the_sixty_fifth_handler_ends_the_process(rt: HostRuntime) -> Result<(), Fail> {
     let steps = nested(rt.alloc(), 65, false)?;
-    let left = run_steps(&rt, rt.alloc(), steps.as_slice())?;
-    assert_eq!(rt; left.status, Status::Done);
-    assert_eq!(rt; left.out.bytes(), b"".as_slice());
-    assert_eq!(rt; left.records().len(), 197);
-    assert_eq!(rt; left.records().last(), Some(&delivered(FIRST, 10)));
+    assert_ended_by(&rt, rt.alloc(), steps.as_slice(), 10, 197)?;
     Ok(())
 }
 

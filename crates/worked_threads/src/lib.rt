@@ -19,6 +19,8 @@ mod local_calls;
 #[cfg(test)]
 mod mappings;
 #[cfg(test)]
+mod outcomes;
+#[cfg(test)]
 mod registers;
 #[cfg(test)]
 mod replays;

@@ -1,3 +1,4 @@
+use crate::outcomes::assert_left;
 use dmtcp_top::Status;
 use std::test::Fail;
 use worked_rows::records::{CALL, FIRST, delivered, user};
@@ -54,9 +55,7 @@ const MAPS: [u32; 42] = [
 #[test]
 fn heap_and_mapping_can_be_written_until_they_are_taken_away(rt: HostRuntime) -> Result<(), Fail> {
     let left = run_code(&rt, rt.alloc(), &MAPS, b"")?;
-    assert_eq!(rt; left.status, Status::Done);
-    let expected = [0, 0x10, 1, 0, 0, 0x20, 1, 0, 0, 0, 0, 0x40, b'h', b'i'];
-    assert_eq!(rt; left.out.bytes(), expected.as_slice());
+    let written = [0, 0x10, 1, 0, 0, 0x20, 1, 0, 0, 0, 0, 0x40, b'h', b'i'];
     let expected = [
         user(2),
         CALL,
@@ -75,6 +74,6 @@ fn heap_and_mapping_can_be_written_until_they_are_taken_away(rt: HostRuntime) ->
         user(2),
         delivered(FIRST, 11),
     ];
-    assert_eq!(rt; left.records(), expected.as_slice());
+    assert_left(&rt, &left, Status::Done, &written, &expected);
     Ok(())
 }

@@ -1,6 +1,8 @@
 use crate::halves::assert_restarts;
+use crate::outcomes::assert_left;
 use dmtcp_top::Status;
 use std::alloc::{AllocError, Global};
+use std::process::Abort;
 use std::sync::Wait;
 use std::test::Fail;
 use std::thread::Threads;
@@ -53,11 +55,9 @@ fn a_handler_starts_with_its_signal_and_returns_to_the_program(
     rt: HostRuntime,
 ) -> Result<(), Fail> {
     let left = run_code(&rt, rt.alloc(), &HANDLED, b"")?;
-    assert_eq!(rt; left.status, Status::Done);
-    let expected = [
+    let written = [
         10, 0, 0, 0, 0, 0, 0, 0x80, 0xA0, 0xFF, 0xFF, 0x7F, 0xAC, 0xFF, 0xFF, 0x7F, 0, 0, 0, 0,
     ];
-    assert_eq!(rt; left.out.bytes(), expected.as_slice());
     let expected = [
         user(9),
         CALL,
@@ -73,7 +73,7 @@ fn a_handler_starts_with_its_signal_and_returns_to_the_program(
         user(2),
         CALL,
     ];
-    assert_eq!(rt; left.records(), expected.as_slice());
+    assert_left(&rt, &left, Status::Done, &written, &expected);
     Ok(())
 }
 
@@ -161,9 +161,7 @@ fn of_two_pending() -> [Record; 24] {
 #[test]
 fn two_pending_signals_are_delivered_in_two_turns(rt: HostRuntime) -> Result<(), Fail> {
     let left = run_code(&rt, rt.alloc(), &TWO_PENDING, b"")?;
-    assert_eq!(rt; left.status, Status::Done);
-    assert_eq!(rt; left.out.bytes(), [10, 12].as_slice());
-    assert_eq!(rt; left.records(), of_two_pending().as_slice());
+    assert_left(&rt, &left, Status::Done, &[10, 12], &of_two_pending());
     Ok(())
 }
 
@@ -218,9 +216,7 @@ fn a_trap_whose_signal_is_masked_or_ignored_ends_the_process(rt: HostRuntime) ->
     // The mask blocks the signal; it lets the signal through, and the handler is 1.
     for (handler, how) in [(0x0482_8293, 0x0000_0513), (0x0010_0293, 0x0010_0513)] {
         let left = trapped(&rt, rt.alloc(), handler, how)?;
-        assert_eq!(rt; left.status, Status::Done);
-        assert_eq!(rt; left.out.bytes(), b"".as_slice());
-        assert_eq!(rt; left.records(), expected.as_slice());
+        assert_left(&rt, &left, Status::Done, b"", &expected);
     }
     Ok(())
 }
@@ -228,8 +224,6 @@ fn a_trap_whose_signal_is_masked_or_ignored_ends_the_process(rt: HostRuntime) ->
 #[test]
 fn a_trap_whose_signal_has_a_handler_enters_it(rt: HostRuntime) -> Result<(), Fail> {
     let left = trapped(&rt, rt.alloc(), 0x0482_8293, 0x0010_0513)?;
-    assert_eq!(rt; left.status, Status::Done);
-    assert_eq!(rt; left.out.bytes(), b"x".as_slice());
     let expected = [
         user(8),
         CALL,
@@ -241,7 +235,7 @@ fn a_trap_whose_signal_has_a_handler_enters_it(rt: HostRuntime) -> Result<(), Fa
         user(2),
         CALL,
     ];
-    assert_eq!(rt; left.records(), expected.as_slice());
+    assert_left(&rt, &left, Status::Done, b"x", &expected);
     Ok(())
 }
 
@@ -280,8 +274,6 @@ const TRAPS_WHILE_PENDING: [u32; 28] = [
 #[test]
 fn a_trap_leaves_its_signal_pending(rt: HostRuntime) -> Result<(), Fail> {
     let left = run_code(&rt, rt.alloc(), &TRAPS_WHILE_PENDING, b"x")?;
-    assert_eq!(rt; left.status, Status::Done);
-    assert_eq!(rt; left.out.bytes(), b"xx".as_slice());
     let expected = [
         user(11),
         CALL,
@@ -296,7 +288,7 @@ fn a_trap_leaves_its_signal_pending(rt: HostRuntime) -> Result<(), Fail> {
         user(2),
         CALL,
     ];
-    assert_eq!(rt; left.records(), expected.as_slice());
+    assert_left(&rt, &left, Status::Done, b"xx", &expected);
     Ok(())
 }
 
@@ -316,9 +308,8 @@ const SENDS: [u32; 9] = [
 #[test]
 fn an_ignored_signal_is_one_record(rt: HostRuntime) -> Result<(), Fail> {
     let left = run_code(&rt, rt.alloc(), &SENDS, b"")?;
-    assert_eq!(rt; left.status, Status::Done);
     let expected = [user(5), CALL, delivered(FIRST, 17), user(2), CALL];
-    assert_eq!(rt; left.records(), expected.as_slice());
+    assert_left(&rt, &left, Status::Done, b"", &expected);
     Ok(())
 }
 
@@ -327,9 +318,8 @@ fn a_signal_without_a_handler_ends_the_process(rt: HostRuntime) -> Result<(), Fa
     let mut code = SENDS;
     code[3] = 0x00A0_0613;
     let left = run_code(&rt, rt.alloc(), &code, b"")?;
-    assert_eq!(rt; left.status, Status::Done);
     let expected = [user(5), CALL, delivered(FIRST, 10)];
-    assert_eq!(rt; left.records(), expected.as_slice());
+    assert_left(&rt, &left, Status::Done, b"", &expected);
     Ok(())
 }
 
@@ -384,12 +374,9 @@ const INTERRUPTED: [u32; 46] = [
     0x0000_8067,
 ];
 
-#[test]
-fn a_handler_interrupts_a_wait(rt: HostRuntime) -> Result<(), Fail> {
-    let left = run_code(&rt, rt.alloc(), &INTERRUPTED, b"")?;
-    assert_eq!(rt; left.status, Status::Done);
-    assert_eq!(rt; left.out.bytes(), [0xFC, 0xFF, 0xFF, 0xFF].as_slice());
-    let expected = [
+/// What it does until the handler has returned and the thread has exited.
+fn until_interrupted() -> [Record; 13] {
+    [
         user(11),
         CALL,
         user(7),
@@ -403,12 +390,35 @@ fn a_handler_interrupts_a_wait(rt: HostRuntime) -> Result<(), Fail> {
         CALL,
         user_of(SECOND, 2),
         call_of(SECOND),
-        user(5),
-        CALL,
-        user(2),
-        CALL,
-    ];
-    assert_eq!(rt; left.records(), expected.as_slice());
+    ]
+}
+
+/// Asserts that a run did that, and then ended with this status and left these bytes and further records.
+fn assert_interrupted<R: Abort>(
+    rt: &R,
+    left: &Left,
+    status: Status,
+    out: &[u8],
+    further: &[Record],
+) {
+    assert_eq!(rt; left.status, status);
+    assert_eq!(rt; left.out.bytes(), out);
+    let first = until_interrupted();
+    assert_eq!(rt; left.records().get(..13), Some(first.as_slice()));
+    assert_eq!(rt; left.records().get(13..), Some(further));
+}
+
+#[test]
+fn a_handler_interrupts_a_wait(rt: HostRuntime) -> Result<(), Fail> {
+    let left = run_code(&rt, rt.alloc(), &INTERRUPTED, b"")?;
+    let further = [user(5), CALL, user(2), CALL];
+    assert_interrupted(
+        &rt,
+        &left,
+        Status::Done,
+        &[0xFC, 0xFF, 0xFF, 0xFF],
+        &further,
+    );
     Ok(())
 }
 
@@ -417,25 +427,7 @@ fn a_wait_begins_again_where_the_handler_asks_for_that(rt: HostRuntime) -> Resul
     let mut code = INTERRUPTED;
     code[4] = 0x1000_0337;
     let left = run_code(&rt, rt.alloc(), &code, b"")?;
-    assert_eq!(rt; left.status, Status::Stuck);
-    assert_eq!(rt; left.out.bytes(), b"".as_slice());
-    let expected = [
-        user(11),
-        CALL,
-        user(7),
-        CALL,
-        user(6),
-        CALL,
-        user_of(SECOND, 6),
-        call_of(SECOND),
-        delivered(FIRST, 10),
-        user(2),
-        CALL,
-        user_of(SECOND, 2),
-        call_of(SECOND),
-        CALL,
-    ];
-    assert_eq!(rt; left.records(), expected.as_slice());
+    assert_interrupted(&rt, &left, Status::Stuck, b"", &[CALL]);
     Ok(())
 }
 
@@ -467,9 +459,8 @@ const MASKED_WAIT: [u32; 21] = [
 #[test]
 fn a_signal_that_is_masked_wakes_nobody(rt: HostRuntime) -> Result<(), Fail> {
     let left = run_code(&rt, rt.alloc(), &MASKED_WAIT, b"")?;
-    assert_eq!(rt; left.status, Status::Stuck);
     let expected = [user(8), CALL, user(5), CALL, user(5), CALL];
-    assert_eq!(rt; left.records(), expected.as_slice());
+    assert_left(&rt, &left, Status::Stuck, b"", &expected);
     Ok(())
 }
 

@@ -1,4 +1,5 @@
 use crate::halves::assert_restarts;
+use crate::outcomes::assert_left;
 use dmtcp_top::Status;
 use set_disk::MemFolder;
 use std::alloc::{AllocError, Global};
@@ -23,11 +24,9 @@ const WAITS: [u32; 6] = [
 #[test]
 fn a_sole_thread_that_waits_is_stuck(rt: HostRuntime) -> Result<(), Fail> {
     let left = run_code(&rt, rt.alloc(), &WAITS, b"")?;
-    assert_eq!(rt; left.status, Status::Stuck);
+    assert_left(&rt, &left, Status::Stuck, b"", &[user(5), CALL]);
     assert_eq!(rt; left.status.code(), 19);
     assert_eq!(rt; left.log.bytes(), b"stuck\n".as_slice());
-    assert_eq!(rt; left.out.bytes(), b"".as_slice());
-    assert_eq!(rt; left.records(), [user(5), CALL].as_slice());
     Ok(())
 }
 
@@ -88,10 +87,9 @@ fn a_thread_that_waits_is_restarted_and_stuck_again(rt: HostRuntime) -> Result<(
     Ok(())
 }
 
-/// Makes a thread that writes `a` and exits, waits until its end has cleared the word that held its number, writes `b`
-/// and exits with 0.
-const JOINS: [u32; 36] = [
-    0xFC01_0113,
+/// Makes a thread, which begins at the tenth instruction behind these, and waits until its end has cleared the word that
+/// held its number.
+const MAKES_AND_JOINS: [u32; 17] = [
     0x0031_1537,
     0xF005_0513,
     0xC001_0593,
@@ -109,6 +107,21 @@ const JOINS: [u32; 36] = [
     0x0620_0893,
     0x0000_0073,
     0xFE5F_F06F,
+];
+
+/// A program that does this between other things.
+fn joining(alloc: Global, before: &[u32], behind: &[u32]) -> Result<Vec<u32>, AllocError> {
+    let mut code = before.to_vec(alloc)?;
+    code.extend_from_slice(&MAKES_AND_JOINS)?;
+    code.extend_from_slice(behind)?;
+    Ok(code)
+}
+
+/// Makes room on the stack.
+const MAKES_ROOM: [u32; 1] = [0xFC01_0113];
+
+/// Writes `b` and exits with 0. The thread writes `a` and exits.
+const BOTH_WRITE: [u32; 18] = [
     0x0010_0513,
     0x0000_0597,
     0x0455_8593,
@@ -131,9 +144,8 @@ const JOINS: [u32; 36] = [
 
 #[test]
 fn a_thread_waits_for_the_end_of_another(rt: HostRuntime) -> Result<(), Fail> {
-    let left = run_code(&rt, rt.alloc(), &JOINS, b"ab")?;
-    assert_eq!(rt; left.status, Status::Done);
-    assert_eq!(rt; left.out.bytes(), b"ab".as_slice());
+    let code = joining(rt.alloc(), &MAKES_ROOM, &BOTH_WRITE)?;
+    let left = run_code(&rt, rt.alloc(), code.as_slice(), b"ab")?;
     // The new thread's turn comes in the round after its clone, and none comes to the one that waits.
     let expected = [
         user(8),
@@ -149,13 +161,12 @@ fn a_thread_waits_for_the_end_of_another(rt: HostRuntime) -> Result<(), Fail> {
         user(2),
         CALL,
     ];
-    assert_eq!(rt; left.records(), expected.as_slice());
+    assert_left(&rt, &left, Status::Done, b"ab", &expected);
     Ok(())
 }
 
-/// Handles signal 10 by writing `a` and `b`, each by a call of its own. Makes a thread that sends itself the signal, writes
-/// `c` and exits; waits for its end, writes `d` and exits with 0.
-const SIGNALS_ITSELF: [u32; 63] = [
+/// Gives signal 10 a handler.
+const HANDLES: [u32; 10] = [
     0xFC01_0113,
     0x0000_0297,
     0x0D02_8293,
@@ -166,23 +177,11 @@ const SIGNALS_ITSELF: [u32; 63] = [
     0x0080_0693,
     0x0860_0893,
     0x0000_0073,
-    0x0031_1537,
-    0xF005_0513,
-    0xC001_0593,
-    0x0001_0613,
-    0x0000_0693,
-    0x0001_0713,
-    0x0DC0_0893,
-    0x0000_0073,
-    0x0405_0463,
-    0x0001_2603,
-    0x0006_0E63,
-    0x0001_0513,
-    0x0000_0593,
-    0x0000_0693,
-    0x0620_0893,
-    0x0000_0073,
-    0xFE5F_F06F,
+];
+
+/// Writes `d` and exits with 0. The thread sends itself the signal, writes `c` and exits. The handler writes `a` and `b`,
+/// each by a call of its own.
+const SIGNALS_ITSELF: [u32; 36] = [
     0x0010_0513,
     0x0000_0597,
     0x08F5_8593,
@@ -254,10 +253,9 @@ fn undisturbed() -> [Record; 25] {
 
 #[test]
 fn a_thread_sends_itself_a_signal_while_another_waits(rt: HostRuntime) -> Result<(), Fail> {
-    let left = run_code(&rt, rt.alloc(), &SIGNALS_ITSELF, b"abcd")?;
-    assert_eq!(rt; left.status, Status::Done);
-    assert_eq!(rt; left.out.bytes(), b"abcd".as_slice());
-    assert_eq!(rt; left.records(), undisturbed().as_slice());
+    let code = joining(rt.alloc(), &HANDLES, &SIGNALS_ITSELF)?;
+    let left = run_code(&rt, rt.alloc(), code.as_slice(), b"abcd")?;
+    assert_left(&rt, &left, Status::Done, b"abcd", &undisturbed());
     Ok(())
 }
 
@@ -268,5 +266,6 @@ fn two_threads_are_restarted_where_one_waits_and_one_is_in_a_handler(
     // The first waits; the signal is pending, its handler begins, has written `a`, then `b`, has returned; `c` stands on
     // the console; the first is awake.
     let places = [6, 10, 11, 13, 15, 17, 19, 21];
-    assert_restarts(&rt, rt.alloc(), &SIGNALS_ITSELF, b"abcd", &places)
+    let code = joining(rt.alloc(), &HANDLES, &SIGNALS_ITSELF)?;
+    assert_restarts(&rt, rt.alloc(), code.as_slice(), b"abcd", &places)
 }

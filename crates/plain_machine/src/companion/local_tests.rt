@@ -1,42 +1,16 @@
 // What calls leave and answer that a process answers alone, where one page may be read, written and executed.
+use crate::UserPart;
 use crate::companion::local::local_row;
-use crate::{Frame, Regs, ThreadPart, UserPart};
+use crate::companion::test_process::{THREAD, with_one_page};
 use std::alloc::{AllocError, Global};
 use std::test::Fail;
-use sys_abi::{Page, Request, Tid};
-use views::list_of::ListOf;
-use views::number_map::NumberMap;
+use sys_abi::{Page, Request};
 
-const THREAD: Tid = Tid(40_000);
-
-/// A process with the page at 0x10000, a heap that begins at 0x20000, and one thread. The word at 0x10000 is 5.
+/// That process. Its heap begins at 0x20000, and the word at 0x10000 is 5.
 fn user(alloc: Global) -> Result<UserPart, AllocError> {
     let mut page = Page::zeroed(alloc)?;
     page.set_byte(0, 5);
-    let mut memory = NumberMap::new(alloc);
-    memory.insert(0x10, Frame { rights: 7, page })?;
-    let mut threads = NumberMap::new(alloc);
-    threads.insert(THREAD.0, thread(alloc))?;
-    Ok(UserPart {
-        memory,
-        break_start: 0x20000,
-        break_end: 0x20000,
-        threads,
-        actions: ListOf::new(alloc),
-        waiters: ListOf::new(alloc),
-    })
-}
-
-fn thread(alloc: Global) -> ThreadPart {
-    ThreadPart {
-        regs: Regs {
-            x: [0; 32],
-            pc: 0x0001_0000,
-        },
-        mask: 0,
-        clear_tid: 0,
-        contexts: ListOf::new(alloc),
-    }
+    with_one_page(alloc, page, 0x20000)
 }
 
 /// What a call answers at once: the word in a0.

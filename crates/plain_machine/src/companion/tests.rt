@@ -1,12 +1,11 @@
 // A program of six words, put together by hand, on a page that may be read, written and executed.
 use crate::companion::memory::bytes_at;
 use crate::companion::steps::{UserStep, user_step, user_steps};
-use crate::{Frame, Plain, PlainKernel, Regs, ReplayFault, Right, ThreadPart, UserPart, replay};
+use crate::companion::test_process::{THREAD, with_one_page};
+use crate::{Plain, PlainKernel, ReplayFault, Right, UserPart, replay};
 use std::alloc::{AllocError, Global};
 use std::test::Fail;
 use sys_abi::{ByPid, Page, Record, Request, Tid, VPid};
-use views::list_of::ListOf;
-use views::number_map::NumberMap;
 
 /// `addi t0, zero, -2`, `auipc t1, 0`, `sb t0, 64(t1)`, `lb t2, 64(t1)`, `mul t2, t2, t0`, `ecall`.
 const PROGRAM: [u8; 24] = [
@@ -14,36 +13,11 @@ const PROGRAM: [u8; 24] = [
     0xB3, 0x83, 0x53, 0x02, 0x73, 0x00, 0x00, 0x00,
 ];
 
-const THREAD: Tid = Tid(40_000);
-
 /// A process with the program at 0x10000, where its one thread starts.
 fn user(alloc: Global) -> Result<UserPart, AllocError> {
     let mut page = Page::zeroed(alloc)?;
     page.write(0, &PROGRAM);
-    let mut memory = NumberMap::new(alloc);
-    memory.insert(0x10, Frame { rights: 7, page })?;
-    let mut threads = NumberMap::new(alloc);
-    threads.insert(THREAD.0, thread(alloc))?;
-    Ok(UserPart {
-        memory,
-        break_start: 0,
-        break_end: 0,
-        threads,
-        actions: ListOf::new(alloc),
-        waiters: ListOf::new(alloc),
-    })
-}
-
-fn thread(alloc: Global) -> ThreadPart {
-    ThreadPart {
-        regs: Regs {
-            x: [0; 32],
-            pc: 0x0001_0000,
-        },
-        mask: 0,
-        clear_tid: 0,
-        contexts: ListOf::new(alloc),
-    }
+    with_one_page(alloc, page, 0)
 }
 
 #[test]
