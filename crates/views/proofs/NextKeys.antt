@@ -15,7 +15,7 @@ use Rattle.std.specs.Map.Iter.{TakesFirst, deref_pair}
 use Rattle.views.specs.NumberMap.{is_above, bound_above}
 use Rattle.views.proofs.TreeMaps.{view, keys-view}
 
-pub first : {A : Type 0} → List A → Option A
+unfoldable pub first : {A : Type 0} → List A → Option A
 first [] = None
 first (x ∷ xs) = Some x
 
