@@ -17,7 +17,7 @@ nobody_lives : (k : PlainKernel) → ((q : VPid) → is_live k q ≡ false) → 
 unfolding has_life is_live
 nobody_lives k dead = none_among-values vpid_total vpid_exact (λ process. is_life process.life) k.processes (λ q process is. sym (ap is_live_process is) ∙ dead q)
 
-somebody_lives : (k : PlainKernel) (q : VPid) → is_live k q ≡ true → has_life k ≡ true
+pub somebody_lives : (k : PlainKernel) (q : VPid) → is_live k q ≡ true → has_life k ≡ true
 unfolding has_life is_live
 somebody_lives k q alive = elim (map.get k.processes q) as (λ o. map.get k.processes q ≡ o → is_live_process o ≡ true → has_life k ≡ true) [
   | None ↦ λ is e. true_false (sym e)

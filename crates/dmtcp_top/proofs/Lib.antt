@@ -22,6 +22,8 @@ pub mod Ables
 pub mod NextTurns
 pub mod DueRecords
 pub mod Quanta
+pub mod Determined
+pub mod OneOrder
 pub mod Standstill
 pub mod Starts
 pub mod Endings

@@ -23,11 +23,11 @@ pub record Pushed (schedule : Schedule) (g h next : Plain) (at here : Standing) 
   pub order : in_rounds schedule g at (records ++ r ∷ []) ≡ true
   pub ends : walk schedule g at (records ++ r ∷ []) ≡ Some (standing_after schedule h next here r)
 
-left_true : (a b : Bool) → (a && b) ≡ true → a ≡ true
+pub left_true : (a b : Bool) → (a && b) ≡ true → a ≡ true
 left_true true b both = refl
 left_true false b both = both
 
-right_true : (a b : Bool) → (a && b) ≡ true → b ≡ true
+pub right_true : (a b : Bool) → (a && b) ≡ true → b ≡ true
 right_true true b both = both
 right_true false b both = true_false (sym both)
 

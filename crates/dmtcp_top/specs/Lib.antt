@@ -13,6 +13,7 @@ pub mod Keeping
 pub mod UnderWay
 pub mod Ends
 pub mod Endings
+pub mod OneOrder
 pub mod Promise
 pub mod Loads
 pub mod Abilities

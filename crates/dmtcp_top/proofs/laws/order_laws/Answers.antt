@@ -1,0 +1,17 @@
+use Rattle.dmtcp_top.proofs.OneOrder.{one_order, one_trace, ends_there, one_end, one_answer}
+use Rattle.dmtcp_top.proofs.laws.order_laws.Goals as goal
+
+pub returns-clause-order : goal.returns-clause-order
+returns-clause-order c = one_order
+
+pub returns-clause-trace : goal.returns-clause-trace
+returns-clause-trace c = one_trace
+
+pub returns-clause-over : goal.returns-clause-over
+returns-clause-over c = ends_there
+
+pub returns-clause-end : goal.returns-clause-end
+returns-clause-end c = one_end
+
+pub returns-clause-answer : goal.returns-clause-answer
+returns-clause-answer c = one_answer

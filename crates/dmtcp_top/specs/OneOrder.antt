@@ -1,0 +1,59 @@
+-- The rounds leave no choice: from one state they make one run, whenever checkpoints are asked for on the way and whatever comes of them.
+--     work_in records      the records of work among these, in their order
+--     OneOrder             of two traces from one state the work of the shorter begins that of the longer
+--     OneTrace             and where none asks for checkpoints the shorter trace begins the longer one
+--     EndsThere            once nobody lives no more work is done
+--     OneEnd               two runs in which nobody lives at the end are one
+--     OneAnswer            so two calls that begin with one state, launch or restart, show the same where both end as done
+use Rattle.std.specs.Prelude.{◌≡◌, ℕ, ◌≤◌, true, List, [], ◌∷◌, ◌++◌, filter, length, take, Some, None}
+use Rattle.sys_abi.specs.declared.record.Record.{Record}
+use Rattle.plain_machine.specs.declared.plain.Plain.{Plain}
+use Rattle.plain_machine.specs.Runs.{run, console}
+use Rattle.plain_machine.specs.Tests.{is_work, ended}
+use Rattle.plain_machine.specs.Valid.{IsValid}
+use Rattle.trace_log.specs.declared.requests.Schedule.{Schedule}
+use Rattle.trace_log.specs.Requests.{is_mark}
+use Rattle.dmtcp_top.specs.declared.status.Status.TheVariants.{Done}
+use Rattle.dmtcp_top.specs.Rounds.{GoesInRounds}
+use Rattle.dmtcp_top.specs.RunEnds.{IsRun}
+use Rattle.dmtcp_top.specs.Sessions.{Sunk, Session, Took}
+use Rattle.dmtcp_top.specs.Ends.{Ends}
+
+abbrev pub work_in : List Record → List Record
+work_in records = filter is_work records
+
+abbrev pub OneOrder : Type 0
+OneOrder =
+    (schedule other : Schedule) (g : Plain) (a b : List Record)
+    → GoesInRounds schedule g a → GoesInRounds other g b → length (work_in a) ≤ length (work_in b) → work_in a ≡ take (length (work_in a)) (work_in b)
+
+abbrev pub OneTrace : Type 0
+OneTrace =
+    (schedule other : Schedule) (g last final : Plain) (room more : ℕ) (a b : List Record)
+    → schedule.every ≡ None → other.every ≡ None → IsRun schedule g room a last → IsRun other g more b final → length a ≤ length b → a ≡ take (length a) b
+
+abbrev pub EndsThere : Type 0
+EndsThere =
+    (schedule : Schedule) (g last : Plain) (records : List Record) (r : Record)
+    → IsValid g → run g records ≡ Some last → ended last ≡ true → GoesInRounds schedule g (records ++ r ∷ []) → is_mark r ≡ true
+
+-- the same work, the same bytes on the console and the same state at the end
+pub record AreOne (g : Plain) (a b : List Record) (last final : Plain) : Type 0 where
+  pub work : work_in a ≡ work_in b
+  pub shown : console g a ≡ console g b
+  pub state : last ≡ final
+
+abbrev pub OneEnd : Type 0
+OneEnd =
+    (schedule other : Schedule) (g last final : Plain) (a b : List Record)
+    → IsValid g → GoesInRounds schedule g a → GoesInRounds other g b → run g a ≡ Some last → run g b ≡ Some final → ended last ≡ true → ended final ≡ true → AreOne g a b last final
+
+-- the same work, and the same bytes on the console
+pub record ShowOne (a b : Session) : Type 0 where
+  pub work : work_in a.trace ≡ work_in b.trace
+  pub bytes : List ℕ
+  pub first : Took a.console bytes
+  pub second : Took b.console bytes
+
+abbrev pub OneAnswer : Type 0
+OneAnswer = (g : Plain) (a b : Session) (log other : Sunk) → IsValid g → a.start ≡ Some g → b.start ≡ Some g → Ends Done a log → Ends Done b other → ShowOne a b
