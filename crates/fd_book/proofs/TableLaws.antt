@@ -16,7 +16,7 @@ use Rattle.fd_book.specs.Tables.{at_place, entries_from, all_entries, descriptor
 use Rattle.fd_book.proofs.OrderLaws.{real_slot_total, real_slot_exact}
 use Rattle.fd_book.proofs.Places.{past_places}
 use Rattle.views.proofs.MapValues.{find_below}
-use Rattle.views.proofs.Tests.{first, second}
+use Rattle.views.proofs.Passes.{first, second}
 use Rattle.sys_abi.specs.Orders.{real_pid_cmp}
 use Rattle.sys_abi.proofs.OrderLaws.{real_pid_total, real_pid_exact}
 
