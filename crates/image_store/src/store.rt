@@ -133,6 +133,9 @@ impl Store {
         ensures told { SameTold (F.reads disk.old) (F.reads disk.new) }
         ensures refused { IfErr result IsOutside }
         ensures cause { HasCause result StoreFault.DiskFault (F.faults disk.old) (F.faults disk.new) }
+
+        // Where the folder never wants for memory, a call that does has not touched it.
+        ensures own { (F.may_want → ⊥) → result ≡ Err StoreFault.Memory → disk.new ≡ disk.old }
     {
         let generation = self.next();
         let slot = slot_to_write(self.last);

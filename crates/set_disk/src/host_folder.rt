@@ -1,4 +1,4 @@
-ghost use Rattle.std.specs.Prelude.{◌≡◌, ◌≤◌, None, length, IfOk};
+ghost use Rattle.std.specs.Prelude.{◌≡◌, ◌≤◌, None, length, IfOk, ⊤};
 ghost use Rattle.set_disk.specs.Faults.{HasCause};
 ghost use Rattle.set_disk.specs.Untold.{AnyImage, AnySince, host_faults, one_moment};
 
@@ -83,6 +83,8 @@ impl<R: Files + AllocGlobal + Clone + Drop> Folder for HostFolder<R> {
     ghost left_since = { AnySince };
 
     ghost faults = { host_faults };
+
+    ghost may_want = { ⊤ };
 
     ghost reads_left = { λ _ _ _. tt };
 
