@@ -44,3 +44,4 @@ pub mod Loads
 pub mod Carried
 pub mod RoundTrips
 pub mod Restored
+pub mod OneRestart

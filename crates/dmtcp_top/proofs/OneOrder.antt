@@ -1,5 +1,6 @@
 -- The rounds leave no choice, and once nobody lives or can go on no more work is done.
 --     one_order, one_trace, ends_there, one_end, one_ending, one_answer
+--     one_ended      one_ending, of runs that have ended
 use Rattle.std.proofs.Common.{◌≡◌, ℕ, zero, ◌<◌, ◌≤◌, Bool, true, false, cond, not, List, [], ◌∷◌, ◌++◌, length, take, Option, Some, None, inl, inr, refl, sym, ap, subst, ◌∙◌, arith}
 use Rattle.std.specs.Prelude.{◌⊎◌, ◌&&◌, ◌||◌, option_and_then, All}
 use Rattle.std.specs.Option.{option_map}
@@ -269,7 +270,7 @@ one_end schedule other g last final a b valid first second runs also over too =
     }
 
 -- where a run ended
-abbrev EndsAt : RunEnd → Plain → ℕ → ℕ → Type 0
+abbrev pub EndsAt : RunEnd → Plain → ℕ → ℕ → Type 0
 EndsAt RunDone last count room = ended last ≡ true
 EndsAt RunBudget last count room = (ended last ≡ false) × (count ≡ room)
 EndsAt RunStuck last count room = IsStuck last × (count < room)
@@ -297,7 +298,7 @@ one_kind first RunMemory last count room e f = absurd f
 one_kind RunSinkFault second last count room e f = absurd e
 one_kind RunMemory second last count room e f = absurd e
 
-record EndedRun (end : RunEnd) (schedule : Schedule) (g : Plain) (room : ℕ) (a : List Record) : Type 0 where
+pub record EndedRun (end : RunEnd) (schedule : Schedule) (g : Plain) (room : ℕ) (a : List Record) : Type 0 where
   pub last : Plain
   pub is : IsRun schedule g room a last
   pub there : EndsAt end last (length a) room
@@ -349,10 +350,8 @@ equal_lengths n m less more = omega arith
 at_most_same : (n m : ℕ) → n ≡ m → m ≤ n
 at_most_same n m same = omega arith
 
-pub one_ending : OneEnding
-one_ending schedule other g room a b first second shown log also more valid none none_too answer answer_too ends ends_too =
-    let one = ended_run first schedule g room a shown log answer ends in
-    let two = ended_run second other g room b also more answer_too ends_too in
+pub one_ended : (schedule other : Schedule) (g : Plain) (room : ℕ) (a b : List Record) (first second : RunEnd) → IsValid g → schedule.every ≡ None → other.every ≡ None → EndedRun first schedule g room a → EndedRun second other g room b → (first ≡ second) × (a ≡ b)
+one_ended schedule other g room a b first second valid none none_too one two =
     let fewer = no_longer_run schedule other g one.last two.last room a b valid none none_too one.is two.is (rests_or_full first one.last (length a) room one.there) in
     let no_fewer = no_longer_run other schedule g two.last one.last room b a valid none_too none two.is one.is (rests_or_full second two.last (length b) room two.there) in
     let count = equal_lengths (length a) (length b) no_fewer fewer in
@@ -361,6 +360,10 @@ one_ending schedule other g room a b first second shown log also more valid none
       one_kind first second two.last (length b) room (subst (λ h. EndsAt first h (length b) room) state (subst (λ n. EndsAt first one.last n room) count one.there)) two.there,
       same,
     )
+
+pub one_ending : OneEnding
+one_ending schedule other g room a b first second shown log also more valid none none_too answer answer_too ends ends_too =
+    one_ended schedule other g room a b first second valid none none_too (ended_run first schedule g room a shown log answer ends) (ended_run second other g room b also more answer_too ends_too)
 
 -- the run of a call that ended as done, from the state with which it began
 record IsOver (session : Session) (g : Plain) : Type 0 where

@@ -5,7 +5,8 @@
 --     EndsThere            once nobody lives or can go on no more work is done
 --     OneEnd               so two runs to such an end are one
 --     OneEnding            and where none asks for checkpoints two runs with as much room end alike, with one trace
---     OneAnswer            so two calls that begin with one state, launch or restart, show the same where both end as done
+--     OneRestart           so restarts from one set, without checkpoints, answer one and leave one trace
+--     OneAnswer            and two calls that begin with one state, launch or restart, show the same where both end as done
 use Rattle.std.specs.Prelude.{◌≡◌, ◌⊎◌, ℕ, ◌≤◌, true, List, [], ◌∷◌, ◌++◌, filter, length, take, Some, None}
 use Rattle.sys_abi.specs.declared.record.Record.{Record}
 use Rattle.plain_machine.specs.declared.plain.Plain.{Plain}
@@ -14,7 +15,12 @@ use Rattle.plain_machine.specs.Tests.{is_work, ended, IsStuck}
 use Rattle.plain_machine.specs.Valid.{IsValid}
 use Rattle.trace_log.specs.declared.requests.Schedule.{Schedule}
 use Rattle.trace_log.specs.Requests.{is_mark}
-use Rattle.dmtcp_top.specs.declared.status.Status.TheVariants.{Done}
+use Rattle.set_disk.specs.Files.{Files as Folder}
+use Rattle.dmtcp_top.specs.declared.settings.Settings.{Settings}
+use Rattle.dmtcp_top.specs.declared.status.Status.{Status}
+use Rattle.dmtcp_top.specs.declared.status.Status.TheVariants.{Done, Budget, Stuck}
+use Rattle.dmtcp_top.specs.Words.{IsRestart}
+use Rattle.dmtcp_top.specs.Sets.{SpellsSet}
 use Rattle.dmtcp_top.specs.Rounds.{GoesInRounds}
 use Rattle.dmtcp_top.specs.declared.run_end.RunEnd.{RunEnd}
 use Rattle.dmtcp_top.specs.declared.run_end.RunEnd.TheVariants.{SinkFault, Memory}
@@ -66,6 +72,19 @@ OneEnding =
     (schedule other : Schedule) (g : Plain) (room : ℕ) (a b : List Record) (first second : RunEnd) (console log also more : Sunk)
     → IsValid g → schedule.every ≡ None → other.every ≡ None → IsAnswer first → IsAnswer second → EndsRun first schedule g room a console log → EndsRun second other g room b also more
     → (first ≡ second) × (a ≡ b)
+
+-- the statuses with which a run answers
+abbrev pub Answers : Status → Type 0
+Answers Done = Unit {0}
+Answers Budget = Unit {0}
+Answers Stuck = Unit {0}
+Answers _ = ⊥
+
+abbrev pub OneRestart : Type 0
+OneRestart =
+    (files : Folder) (generation : ℕ) (g : Plain) (settings : Settings) (a b : Session) (first second : Status) (log other : Sunk)
+    → IsValid g → SpellsSet files generation g → settings.every ≡ None → IsRestart a.words settings → IsRestart b.words settings → a.folder ≡ Some files → b.folder ≡ Some files
+    → Answers first → Answers second → Ends first a log → Ends second b other → (first ≡ second) × (a.trace ≡ b.trace)
 
 -- the same work, and the same bytes on the console
 pub record ShowOne (a b : Session) : Type 0 where

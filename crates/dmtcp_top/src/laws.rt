@@ -1,5 +1,5 @@
 ghost use Rattle.dmtcp_top.specs.Promise.{OneState, RoundTrip};
-ghost use Rattle.dmtcp_top.specs.OneOrder.{OneOrder, OneTrace, EndsThere, OneEnd, OneEnding, OneAnswer};
+ghost use Rattle.dmtcp_top.specs.OneOrder.{OneOrder, OneTrace, EndsThere, OneEnd, OneEnding, OneRestart, OneAnswer};
 
 /// Laws of the sets that calls leave and restarts take. It does nothing. A folder's set spells one state at most, so where
 /// it is one of a run's cuts, a restart goes on from exactly the state there.
@@ -16,5 +16,6 @@ pub fn order_laws()
     ensures over { EndsThere }
     ensures end { OneEnd }
     ensures ending { OneEnding }
+    ensures restart { OneRestart }
     ensures answer { OneAnswer }
 {}
