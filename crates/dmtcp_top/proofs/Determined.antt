@@ -1,5 +1,6 @@
 -- At a place in the rounds one record of work is due that is a step.
 --     one_record      two that are due and are steps are the same
+--     has_asked       a call that is served is that of a thread which stands at one
 use Rattle.std.proofs.Common.{◌≡◌, ℕ, zero, ◌<◌, ◌≤◌, Bool, true, false, not, Option, Some, None, inl, inr, refl, sym, ap, subst, ◌∙◌, arith, tests}
 use Rattle.std.proofs.lemmas.Bool.{cases_order}
 use Rattle.std.specs.Prelude.{◌==◌, ◌&&◌, ◌||◌, ◌⊎◌, is_some, nat_le}
@@ -78,7 +79,7 @@ is_turn g here (Refused cause) due = true_false (sym due)
 is_turn g here Lapsed due = true_false (sym due)
 
 -- where a thread of a process that may be there stands
-abbrev at_step : Option UserPart → ℕ → UserStep
+abbrev pub at_step : Option UserPart → ℕ → UserStep
 at_step None t = NoThread
 at_step (Some user) t = user_step user t
 
@@ -115,7 +116,7 @@ unfolding outcome
 has_run g p t n o goes = (ran g p t.0 n (map.get g.users p)).each o goes
 
 -- a call is served where the thread stands at one
-record HasAsked (found : Option UserPart) (t : ℕ) : Type 0 where
+pub record HasAsked (found : Option UserPart) (t : ℕ) : Type 0 where
   pub q : Request
   pub asks : at_step found t ≡ Asks q
 
@@ -130,7 +131,7 @@ asked : (g : Plain) (p : VPid) (t : ℕ) (found : Option UserPart) → Giving (o
 asked g p t None = nothing
 asked g p t (Some user) = asked_at g p t user (user_step user t) refl
 
-has_asked : (g : Plain) (p : VPid) (t : Tid) (o : Outcome) → outcome g (Call p t) ≡ Some o → HasAsked (map.get g.users p) t.0
+pub has_asked : (g : Plain) (p : VPid) (t : Tid) (o : Outcome) → outcome g (Call p t) ≡ Some o → HasAsked (map.get g.users p) t.0
 unfolding outcome
 has_asked g p t o goes = (asked g p t.0 (map.get g.users p)).each o goes
 

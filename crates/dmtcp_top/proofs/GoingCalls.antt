@@ -11,6 +11,7 @@ use Rattle.sys_abi.specs.declared.cloning.CloneForm.{CloneForm}
 use Rattle.sys_abi.specs.declared.cloning.CloneForm.TheVariants.{Fork, Thread}
 use Rattle.sys_abi.specs.Clones.{clone_form}
 use Rattle.sys_abi.specs.Requests.{is_local}
+use Rattle.plain_machine.specs.declared.plain.Plain.{Plain}
 use Rattle.plain_machine.specs.declared.kernel.PlainKernel.{PlainKernel}
 use Rattle.plain_machine.specs.declared.user_part.UserPart.{UserPart}
 use Rattle.plain_machine.specs.declared.description.Object.{Object}
@@ -101,23 +102,23 @@ pub serve_settles : (k : PlainKernel) (p : VPid) (t : ℕ) (q : Request) (given 
 unfolding serve
 serve_settles k p t q given = settles k (row k p t q given) (row_ready k p t q given)
 
-is_there : {A B : Type 0} (f : A → B) (o : Option A) → is_some (option_map f o) ≡ is_some o
+pub is_there : {A B : Type 0} (f : A → B) (o : Option A) → is_some (option_map f o) ≡ is_some o
 is_there f None = refl
 is_there f (Some a) = refl
 
-module _ (k : PlainKernel) (p : VPid) (t : Tid) (user : UserPart) (q : Request) where
-  served_goes : (served : Option Served) → is_some served ≡ true → is_some (outcome_of_serve (single k p user) p t.0 user q served) ≡ true
+module _ (g : Plain) (p : VPid) (t : Tid) (user : UserPart) (q : Request) where
+  served_goes : (served : Option Served) → is_some served ≡ true → is_some (outcome_of_serve g p t.0 user q served) ≡ true
   served_goes None there = cc
   served_goes (Some served) there = refl
 
-  kind_goes : (given : List ℕ) (local : Bool) → is_some (cond local (Some (quiet (with_user (single k p user) p (local_row user t.0 q)))) (outcome_of_serve (single k p user) p t.0 user q (serve k p t.0 q given))) ≡ true
+  kind_goes : (given : List ℕ) (local : Bool) → is_some (cond local (Some (quiet (with_user g p (local_row user t.0 q)))) (outcome_of_serve g p t.0 user q (serve g.kernel p t.0 q given))) ≡ true
   kind_goes given true = refl
-  kind_goes given false = served_goes (serve k p t.0 q given) (serve_settles k p t.0 q given)
+  kind_goes given false = served_goes (serve g.kernel p t.0 q given) (serve_settles g.kernel p t.0 q given)
 
-  lent_goes : (given : Option (List ℕ)) → is_some (outcome_of_lent (single k p user) p t.0 user q given) ≡ true
+  pub lent_goes : (given : Option (List ℕ)) → is_some (outcome_of_lent g p t.0 user q given) ≡ true
   lent_goes None = refl
   lent_goes (Some given) = kind_goes given (is_local q)
 
-  pub call_goes : is_live k p ≡ true → user_step user t.0 ≡ Asks q → is_some (step (single k p user) (Call p t)) ≡ true
-  call_goes alive asks =
-      is_there (λ (o : Outcome). o.state) (outcome (single k p user) (Call p t)) ∙ ap is_some (asked k p t user q alive asks) ∙ lent_goes (lent user.memory q)
+pub call_goes : (k : PlainKernel) (p : VPid) (t : Tid) (user : UserPart) (q : Request) → is_live k p ≡ true → user_step user t.0 ≡ Asks q → is_some (step (single k p user) (Call p t)) ≡ true
+call_goes k p t user q alive asks =
+    is_there (λ (o : Outcome). o.state) (outcome (single k p user) (Call p t)) ∙ ap is_some (asked k p t user q alive asks) ∙ lent_goes (single k p user) p t user q (lent user.memory q)

@@ -23,6 +23,7 @@ pub mod NextTurns
 pub mod DueRecords
 pub mod Quanta
 pub mod Determined
+pub mod AtRest
 pub mod OneOrder
 pub mod Standstill
 pub mod Starts
@@ -43,3 +44,4 @@ pub mod Loads
 pub mod Carried
 pub mod RoundTrips
 pub mod Restored
+pub mod OneRestart

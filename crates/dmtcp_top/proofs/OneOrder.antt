@@ -1,34 +1,34 @@
--- The rounds leave no choice, and once nobody lives no more work is done.
---     one_order, one_trace, ends_there, one_end, one_answer
-use Rattle.std.proofs.Common.{◌≡◌, ℕ, zero, ◌≤◌, Bool, true, false, cond, not, List, [], ◌∷◌, ◌++◌, length, take, Option, Some, None, refl, sym, ap, subst, ◌∙◌, arith}
-use Rattle.std.specs.Prelude.{◌&&◌, ◌||◌, is_some, option_and_then, All}
+-- The rounds leave no choice, and once nobody lives or can go on no more work is done.
+--     one_order, one_trace, ends_there, one_end, one_ending, one_answer
+--     one_ended      one_ending, of runs that have ended
+use Rattle.std.proofs.Common.{◌≡◌, ℕ, zero, ◌<◌, ◌≤◌, Bool, true, false, cond, not, List, [], ◌∷◌, ◌++◌, length, take, Option, Some, None, inl, inr, refl, sym, ap, subst, ◌∙◌, arith}
+use Rattle.std.specs.Prelude.{◌⊎◌, ◌&&◌, ◌||◌, option_and_then, All}
 use Rattle.std.specs.Option.{option_map}
-use Rattle.std.specs.FinMap as map
+use Rattle.std.proofs.lemmas.List.{take_all}
 use Rattle.std.proofs.lemmas.List.Elements.{All-head, All-tail}
 use Rattle.views.proofs.MapLaws.{true_false}
-use Rattle.sys_abi.specs.declared.identity.VPid.{VPid}
 use Rattle.sys_abi.specs.declared.record.Record.{Record}
 use Rattle.sys_abi.specs.declared.record.Record.TheVariants.{User, Call, Deliver, Arrive, Cut, Drained, Refilled, Complete, Refused, Lapsed}
 use Rattle.plain_machine.specs.declared.plain.Plain.{Plain}
-use Rattle.plain_machine.specs.declared.user_part.UserPart.{UserPart}
-use Rattle.plain_machine.specs.Kernel.{is_live}
-use Rattle.plain_machine.specs.Records.{Outcome, outcome, step, quiet, outcome_of_user, outcome_of_call, outcome_of_signal}
+use Rattle.plain_machine.specs.Records.{Outcome, outcome, step, quiet}
 use Rattle.plain_machine.specs.Runs.{run, console, console_from}
-use Rattle.plain_machine.specs.Tests.{ended, is_work}
+use Rattle.plain_machine.specs.Tests.{ended, is_work, IsStuck}
 use Rattle.plain_machine.specs.Valid.{IsValid}
 use Rattle.plain_machine.proofs.StepBounds.{step_keeps_valid}
 use Rattle.trace_log.specs.declared.requests.Schedule.{Schedule}
 use Rattle.trace_log.specs.Requests.{is_mark}
 use Rattle.trace_log.proofs.RequestMarks.{has_no_marks}
 use Rattle.dmtcp_top.specs.Rounds.{Place, Standing, is_due_at, is_due, waits, moved, then_so, standing_after, in_rounds, first_standing, new_round}
-use Rattle.dmtcp_top.specs.RunEnds.{IsRun}
+use Rattle.dmtcp_top.specs.declared.run_end.RunEnd.{RunEnd}
+use Rattle.dmtcp_top.specs.declared.run_end.RunEnd.TheVariants.{Done as RunDone, Budget as RunBudget, Stuck as RunStuck, SinkFault as RunSinkFault, Memory as RunMemory}
+use Rattle.dmtcp_top.specs.RunEnds.{IsRun, EndsRun}
 use Rattle.dmtcp_top.specs.Launches.{origin, schedule_in}
-use Rattle.dmtcp_top.specs.Sessions.{Session, Took}
+use Rattle.dmtcp_top.specs.Sessions.{Sunk, Session, Took}
 use Rattle.dmtcp_top.specs.Ends.{Finished}
-use Rattle.dmtcp_top.specs.OneOrder.{work_in, OneOrder, OneTrace, EndsThere, OneEnd, OneAnswer}
+use Rattle.dmtcp_top.specs.OneOrder.{work_in, OneOrder, OneTrace, EndsThere, OneEnd, OneEnding, OneAnswer, ComesToRest, IsAnswer}
 use Rattle.dmtcp_top.proofs.Walks.{left_true, right_true, mark_stays}
 use Rattle.dmtcp_top.proofs.Running.{work_no_mark, mark_is_quiet}
-use Rattle.dmtcp_top.proofs.Endings.{somebody_lives}
+use Rattle.dmtcp_top.proofs.AtRest.{at_rest}
 use Rattle.dmtcp_top.proofs.Determined.{one_record}
 
 -- the first of the records, and the rest of them
@@ -187,32 +187,6 @@ one_trace schedule other g last final room more a b none also first second less 
     (subst (λ l. work_in a ≡ take (length (work_in a)) l) two
     (one_order schedule other g a b first.order second.order (subst (λ l. length l ≤ length (work_in b)) (sym one) (subst (λ l. length a ≤ length l) (sym two) less))))
 
--- once nobody lives no work is a step
-dead_part : (g : Plain) (p : VPid) → IsValid g → ended g ≡ true → (found : Option UserPart) → map.get g.users p ≡ found → found ≡ None
-dead_part g p valid over None is = refl
-dead_part g p valid over (Some user) is =
-    let alive : is_live g.kernel p ≡ true = sym (valid.alive p) ∙ ap is_some is in
-    true_false (sym over ∙ ap not (somebody_lives g.kernel p alive))
-
-nobody_there : (g : Plain) (p : VPid) → IsValid g → ended g ≡ true → map.get g.users p ≡ None
-nobody_there g p valid over = dead_part g p valid over (map.get g.users p) refl
-
-no_outcome : {A : Type 0} (o : Outcome) → None ≡ Some o → A
-no_outcome o is = absurd (cc)
-
-no_work : {A : Type 0} (g : Plain) (r : Record) (o : Outcome) → IsValid g → ended g ≡ true → is_work r ≡ true → outcome g r ≡ Some o → A
-unfolding outcome
-no_work g (User p t n) o valid over work goes = no_outcome o (sym (ap (outcome_of_user g p t.0 n) (nobody_there g p valid over)) ∙ goes)
-no_work g (Call p t) o valid over work goes = no_outcome o (sym (ap (outcome_of_call g p t.0) (nobody_there g p valid over)) ∙ goes)
-no_work g (Deliver p t s) o valid over work goes = no_outcome o (sym (ap (outcome_of_signal g p t.0 s.0) (nobody_there g p valid over)) ∙ goes)
-no_work g (Arrive dir n) o valid over work goes = true_false (sym work)
-no_work g (Cut generation) o valid over work goes = true_false (sym work)
-no_work g (Drained dir n) o valid over work goes = true_false (sym work)
-no_work g (Refilled dir n) o valid over work goes = true_false (sym work)
-no_work g (Complete generation) o valid over work goes = true_false (sym work)
-no_work g (Refused cause) o valid over work goes = true_false (sym work)
-no_work g Lapsed o valid over work goes = true_false (sym work)
-
 run_keeps_valid : (g last : Plain) (records : List Record) → IsValid g → run g records ≡ Some last → IsValid last
 unfolding run
 run_keeps_valid g last [] valid runs = subst IsValid (some_same g last runs) valid
@@ -236,9 +210,9 @@ last_of schedule g last at (x ∷ rest) r order runs =
     let first = first_of schedule g at x (rest ++ r ∷ []) order in
     last_of schedule first.o.state last (standing_after schedule g first.o.state at x) rest r first.later (sym (runs_further g x first.o rest first.goes) ∙ runs)
 
-by_mark : (g : Plain) (at : Standing) (r : Record) (o : Outcome) (b : Bool) → is_mark r ≡ b → IsValid g → ended g ≡ true → outcome g r ≡ Some o → is_due g at r ≡ true → b ≡ true
+by_mark : (g : Plain) (at : Standing) (r : Record) (o : Outcome) (b : Bool) → is_mark r ≡ b → IsValid g → ComesToRest g → outcome g r ≡ Some o → is_due g at r ≡ true → b ≡ true
 by_mark g at r o true is valid over goes due = refl
-by_mark g at r o false is valid over goes due = no_work g r o valid over (plain_is_work g at r due is) goes
+by_mark g at r o false is valid over goes due = at_rest g r o valid over (plain_is_work g at r due is) goes
 
 pub ends_there : EndsThere
 ends_there schedule g last records r valid runs over order =
@@ -250,12 +224,12 @@ record SameEnd (a b : List Record) (last final : Plain) : Type 0 where
   pub works : a ≡ b
   pub state : last ≡ final
 
-same_end : (g last final : Plain) (place : Option Place) (a b : List Record) → Works g place a last → Works g place b final → IsValid last → IsValid final → ended last ≡ true → ended final ≡ true → SameEnd a b last final
+same_end : (g last final : Plain) (place : Option Place) (a b : List Record) → Works g place a last → Works g place b final → IsValid last → IsValid final → ComesToRest last → ComesToRest final → SameEnd a b last final
 same_end g last final place [] [] first second valid also over too = record { works = refl; state = sym first ∙ second }
 same_end g last final place [] (y ∷ b) first second valid also over too =
-    no_work g y second.0 (subst IsValid (sym first) valid) (subst (λ h. ended h ≡ true) (sym first) over) (due_is_work g place y second.2) second.1
+    at_rest g y second.0 (subst IsValid (sym first) valid) (subst ComesToRest (sym first) over) (due_is_work g place y second.2) second.1
 same_end g last final place (x ∷ a) [] first second valid also over too =
-    no_work g x first.0 (subst IsValid (sym second) also) (subst (λ h. ended h ≡ true) (sym second) too) (due_is_work g place x first.2) first.1
+    at_rest g x first.0 (subst IsValid (sym second) also) (subst ComesToRest (sym second) too) (due_is_work g place x first.2) first.1
 same_end g last final place (x ∷ a) (y ∷ b) first second valid also over too =
     let both = alike g last final place x y a b first second in
     let more = same_end both.next last final both.there a b both.first both.second valid also over too in
@@ -295,6 +269,102 @@ one_end schedule other g last final a b valid first second runs also over too =
       state = same.state;
     }
 
+-- where a run ended
+abbrev pub EndsAt : RunEnd → Plain → ℕ → ℕ → Type 0
+EndsAt RunDone last count room = ended last ≡ true
+EndsAt RunBudget last count room = (ended last ≡ false) × (count ≡ room)
+EndsAt RunStuck last count room = IsStuck last × (count < room)
+EndsAt RunSinkFault last count room = ⊥
+EndsAt RunMemory last count room = ⊥
+
+is_stuck_lives : {A : Type 0} (g : Plain) → ended g ≡ true → IsStuck g → A
+is_stuck_lives g over stuck = true_false (sym over ∙ ap not stuck.lives)
+
+not_below : {A : Type 0} (count room : ℕ) → count ≡ room → count < room → A
+not_below count room all some = absurd (omega arith)
+
+one_kind : (first second : RunEnd) (last : Plain) (count room : ℕ) → EndsAt first last count room → EndsAt second last count room → first ≡ second
+one_kind RunDone RunDone last count room e f = refl
+one_kind RunDone RunBudget last count room e f = true_false (sym e ∙ f.0)
+one_kind RunDone RunStuck last count room e f = is_stuck_lives last e f.0
+one_kind RunBudget RunDone last count room e f = true_false (sym f ∙ e.0)
+one_kind RunBudget RunBudget last count room e f = refl
+one_kind RunBudget RunStuck last count room e f = not_below count room e.1 f.1
+one_kind RunStuck RunDone last count room e f = is_stuck_lives last f e.0
+one_kind RunStuck RunBudget last count room e f = not_below count room f.1 e.1
+one_kind RunStuck RunStuck last count room e f = refl
+one_kind first RunSinkFault last count room e f = absurd f
+one_kind first RunMemory last count room e f = absurd f
+one_kind RunSinkFault second last count room e f = absurd e
+one_kind RunMemory second last count room e f = absurd e
+
+pub record EndedRun (end : RunEnd) (schedule : Schedule) (g : Plain) (room : ℕ) (a : List Record) : Type 0 where
+  pub last : Plain
+  pub is : IsRun schedule g room a last
+  pub there : EndsAt end last (length a) room
+
+ended_run : (end : RunEnd) (schedule : Schedule) (g : Plain) (room : ℕ) (a : List Record) (shown log : Sunk) → IsAnswer end → EndsRun end schedule g room a shown log → EndedRun end schedule g room a
+ended_run RunDone schedule g room a shown log answer ends = record { last = ends.0.shown.state; is = ends.0.shown.run; there = ends.0.nobody }
+ended_run RunBudget schedule g room a shown log answer ends = record { last = ends.0.shown.state; is = ends.0.shown.run; there = (ends.0.somebody, ends.0.full) }
+ended_run RunStuck schedule g room a shown log answer ends = record { last = ends.0.shown.state; is = ends.0.shown.run; there = (ends.0.stuck, ends.0.roomy) }
+ended_run RunSinkFault schedule g room a shown log answer ends = absurd answer
+ended_run RunMemory schedule g room a shown log answer ends = absurd answer
+
+rests_or_full : (end : RunEnd) (last : Plain) (count room : ℕ) → EndsAt end last count room → ComesToRest last ⊎ (count ≡ room)
+rests_or_full RunDone last count room there = inl (inl there)
+rests_or_full RunBudget last count room there = inr there.1
+rests_or_full RunStuck last count room there = inl (inr there.0)
+rests_or_full RunSinkFault last count room there = absurd there
+rests_or_full RunMemory last count room there = absurd there
+
+-- from the same place no work is longer than one that comes to rest
+none_longer : (b : List Record) → length {A = Record} [] ≤ length b
+none_longer b = grind arith
+
+both_longer : (x y : Record) (a b : List Record) → length b ≤ length a → length (y ∷ b) ≤ length (x ∷ a)
+both_longer x y a b less = grind arith
+
+no_longer : (g last final : Plain) (place : Option Place) (a b : List Record) → Works g place a last → Works g place b final → IsValid last → ComesToRest last → length b ≤ length a
+no_longer g last final place a [] first second valid rests = none_longer a
+no_longer g last final place [] (y ∷ b) first second valid rests =
+    at_rest g y second.0 (subst IsValid (sym first) valid) (subst ComesToRest (sym first) rests) (due_is_work g place y second.2) second.1
+no_longer g last final place (x ∷ a) (y ∷ b) first second valid rests =
+    let both = alike g last final place x y a b first second in
+    both_longer x y a b (no_longer both.next last final both.there a b both.first both.second valid rests)
+
+works_of : (schedule : Schedule) (g last : Plain) (room : ℕ) (a : List Record) → schedule.every ≡ None → IsRun schedule g room a last → Works g (new_round g) a last
+works_of schedule g last room a none is =
+    let one = stripped schedule g (first_standing schedule g) a is.order in
+    let here : one.last ≡ last = some_same one.last last (sym one.runs ∙ is.steps) in
+    subst (λ l. Works g (new_round g) l last) (work_of_run schedule g last room a none is) (subst (λ h. Works g (new_round g) (work_in a) h) here one.works)
+
+no_longer_run : (schedule other : Schedule) (g last final : Plain) (room : ℕ) (a b : List Record) → IsValid g → schedule.every ≡ None → other.every ≡ None → IsRun schedule g room a last → IsRun other g room b final → ComesToRest last ⊎ (length a ≡ room)
+    → length b ≤ length a
+no_longer_run schedule other g last final room a b valid none also first second (inl rests) =
+    no_longer g last final (new_round g) a b (works_of schedule g last room a none first) (works_of other g final room b also second) (run_keeps_valid g last a valid first.steps) rests
+no_longer_run schedule other g last final room a b valid none also first second (inr full) = subst (λ n. length b ≤ n) (sym full) second.fits
+
+equal_lengths : (n m : ℕ) → n ≤ m → m ≤ n → n ≡ m
+equal_lengths n m less more = omega arith
+
+at_most_same : (n m : ℕ) → n ≡ m → m ≤ n
+at_most_same n m same = omega arith
+
+pub one_ended : (schedule other : Schedule) (g : Plain) (room : ℕ) (a b : List Record) (first second : RunEnd) → IsValid g → schedule.every ≡ None → other.every ≡ None → EndedRun first schedule g room a → EndedRun second other g room b → (first ≡ second) × (a ≡ b)
+one_ended schedule other g room a b first second valid none none_too one two =
+    let fewer = no_longer_run schedule other g one.last two.last room a b valid none none_too one.is two.is (rests_or_full first one.last (length a) room one.there) in
+    let no_fewer = no_longer_run other schedule g two.last one.last room b a valid none_too none two.is one.is (rests_or_full second two.last (length b) room two.there) in
+    let count = equal_lengths (length a) (length b) no_fewer fewer in
+    let same : a ≡ b = one_trace schedule other g one.last two.last room room a b none none_too one.is two.is no_fewer ∙ take_all (length a) b (at_most_same (length a) (length b) count) in
+    let state : one.last ≡ two.last = some_same one.last two.last (sym one.is.steps ∙ ap (run g) same ∙ two.is.steps) in (
+      one_kind first second two.last (length b) room (subst (λ h. EndsAt first h (length b) room) state (subst (λ n. EndsAt first one.last n room) count one.there)) two.there,
+      same,
+    )
+
+pub one_ending : OneEnding
+one_ending schedule other g room a b first second shown log also more valid none none_too answer answer_too ends ends_too =
+    one_ended schedule other g room a b first second valid none none_too (ended_run first schedule g room a shown log answer ends) (ended_run second other g room b also more answer_too ends_too)
+
 -- the run of a call that ended as done, from the state with which it began
 record IsOver (session : Session) (g : Plain) : Type 0 where
   pub schedule : Schedule
@@ -319,5 +389,5 @@ pub one_answer : OneAnswer
 one_answer g a b log other valid began began_too ends ends_too =
     let one = is_over a g began ends.reached.0 in
     let two = is_over b g began_too ends_too.reached.0 in
-    let same = one_end one.schedule two.schedule g one.last two.last a.trace b.trace valid one.order two.order one.runs two.runs one.over two.over in
+    let same = one_end one.schedule two.schedule g one.last two.last a.trace b.trace valid one.order two.order one.runs two.runs (inl one.over) (inl two.over) in
     record { work = same.work; bytes = console g a.trace; first = one.shown; second = subst (Took b.console) (sym same.shown) two.shown }

@@ -150,11 +150,11 @@ has_no_signal set s none = by (is_signal s) refl
     by false is = ap (λ b. not (bit_and set (cond b (2 ^ (s - 1)) 0) == 0)) is ∙ ap (λ n. not (n == 0)) nothing
 
 -- the arrival of all bytes leaves the user parts and the pending signals
-users_arrived : (g : Plain) → (full_arrive g).users ≡ g.users
+pub users_arrived : (g : Plain) → (full_arrive g).users ≡ g.users
 unfolding full_arrive
 users_arrived g = refl
 
-pending_arrived : (g : Plain) (p : VPid) (t : ℕ) → pending (full_arrive g).kernel p t ≡ pending g.kernel p t
+pub pending_arrived : (g : Plain) (p : VPid) (t : ℕ) → pending (full_arrive g).kernel p t ≡ pending g.kernel p t
 unfolding full_arrive pending
 pending_arrived g p t = refl
 

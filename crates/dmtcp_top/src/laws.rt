@@ -1,5 +1,5 @@
 ghost use Rattle.dmtcp_top.specs.Promise.{OneState, RoundTrip};
-ghost use Rattle.dmtcp_top.specs.OneOrder.{OneOrder, OneTrace, EndsThere, OneEnd, OneAnswer};
+ghost use Rattle.dmtcp_top.specs.OneOrder.{OneOrder, OneTrace, EndsThere, OneEnd, OneEnding, OneRestart, OneAnswer};
 
 /// Laws of the sets that calls leave and restarts take. It does nothing. A folder's set spells one state at most, so where
 /// it is one of a run's cuts, a restart goes on from exactly the state there.
@@ -9,11 +9,13 @@ pub fn restart_laws()
 {}
 
 /// Laws of the order in which the threads run. It does nothing. A state's rounds make one run, whenever checkpoints are
-/// asked for on the way and whatever comes of them, and it is over once nobody lives.
+/// asked for on the way and whatever comes of them, and it is over once nobody lives or can go on.
 pub fn order_laws()
     ensures order { OneOrder }
     ensures trace { OneTrace }
     ensures over { EndsThere }
     ensures end { OneEnd }
+    ensures ending { OneEnding }
+    ensures restart { OneRestart }
     ensures answer { OneAnswer }
 {}

@@ -1,4 +1,5 @@
-use Rattle.dmtcp_top.proofs.OneOrder.{one_order, one_trace, ends_there, one_end, one_answer}
+use Rattle.dmtcp_top.proofs.OneOrder.{one_order, one_trace, ends_there, one_end, one_ending, one_answer}
+use Rattle.dmtcp_top.proofs.OneRestart.{one_restart}
 use Rattle.dmtcp_top.proofs.laws.order_laws.Goals as goal
 
 pub returns-clause-order : goal.returns-clause-order
@@ -12,6 +13,12 @@ returns-clause-over c = ends_there
 
 pub returns-clause-end : goal.returns-clause-end
 returns-clause-end c = one_end
+
+pub returns-clause-ending : goal.returns-clause-ending
+returns-clause-ending c = one_ending
+
+pub returns-clause-restart : goal.returns-clause-restart
+returns-clause-restart c = one_restart
 
 pub returns-clause-answer : goal.returns-clause-answer
 returns-clause-answer c = one_answer
