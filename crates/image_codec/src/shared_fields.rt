@@ -105,7 +105,7 @@ pub fn is_descriptor_count(life: Life, n: u32) -> bool
 fn is_live_process(process: &ProcessEntry, n: u32) -> bool
     ensures { result ≡ field.is_live_process n process.now }
 {
-    process.pid.0 == n && is_live(process.life)
+    process.pid.0 == n && process.life.is_live()
 }
 
 fn is_alive(processes: &[ProcessEntry], n: u32) -> bool
