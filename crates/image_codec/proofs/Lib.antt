@@ -21,6 +21,7 @@ pub mod SetLaws
 pub mod SharedLaws
 pub mod StartImages
 pub mod Texts
+pub mod UserImages
 pub mod Waiting
 pub mod WholeFiles
 pub mod Writing

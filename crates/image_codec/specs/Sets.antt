@@ -4,6 +4,7 @@
 --     DamagedFiles files file n      the files spell none: n is the place of the first damage, which is in the file of this index
 --     SpellsSet manifest files g state      the set of the generation g spells this plain state
 --     OneStateOfSet      a set spells one state of one generation at most
+--     OneSetOfState      a state has one set of a generation at most
 -- Source: docs/FORMATS.md, "Whole sets".
 use Rattle.std.specs.Prelude.{◌≡◌, ◌≢◌, ℕ, ◌+◌, ◌⊎◌, List, [], ◌∷◌, length, count_by, map as each}
 use Rattle.std.specs.FinMap as map
@@ -69,3 +70,9 @@ abbrev pub OneStateOfSet : Type 0
 OneStateOfSet =
     (manifest : List ℕ) (files : List (List ℕ)) (g h : ℕ) (state other : Plain)
     → SpellsSet manifest files g state → SpellsSet manifest files h other → (g ≡ h) × (state ≡ other)
+
+-- the other way round: the bytes of the manifest and of each file are those of the state
+abbrev pub OneSetOfState : Type 0
+OneSetOfState =
+    (manifest other : List ℕ) (files others : List (List ℕ)) (g : ℕ) (state : Plain)
+    → SpellsSet manifest files g state → SpellsSet other others g state → (manifest ≡ other) × (files ≡ others)
