@@ -26,7 +26,6 @@ pub mod Standstill
 pub mod Starts
 pub mod Endings
 pub mod Conclusions
-pub mod FilesApart
 pub mod SetLaws
 pub mod Decisions
 pub mod Arrivals

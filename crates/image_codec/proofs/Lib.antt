@@ -17,6 +17,7 @@ pub mod ProcessLaws
 pub mod ReturnContent
 pub mod Rising
 pub mod SameThreads
+pub mod SetDamages
 pub mod SetLaws
 pub mod SharedLaws
 pub mod StartImages

@@ -3,7 +3,7 @@ ghost use Rattle.image_codec.specs.Files.{FileLaws};
 ghost use Rattle.image_codec.specs.Manifests.{SpellsManifest, DamagedManifest};
 ghost use Rattle.image_codec.specs.OneProcess.{ImageHasOneProcess, ImageIsKernel, ImageHasNextId, ImagesHaveSameThreads, SameThreadsHaveTids, OtherThreadsKeepImage};
 ghost use Rattle.image_codec.specs.ProcessImages.{SpellsProcess, DamagedProcess};
-ghost use Rattle.image_codec.specs.Sets.{OneStateOfSet, OneSetOfState};
+ghost use Rattle.image_codec.specs.Sets.{OneStateOfSet, OneSetOfState, FilesApart, FilesEither, OneDamageOfFiles};
 ghost use Rattle.image_codec.specs.SharedFormat.{SpellsShared, DamagedShared};
 ghost use Rattle.image_codec.specs.StartImages.{StartHasImage};
 
@@ -28,4 +28,12 @@ pub fn image_laws()
     ensures threads { ImagesHaveSameThreads }
     ensures tids { SameThreadsHaveTids }
     ensures kept { OtherThreadsKeepImage }
+{}
+
+/// The laws of the shared image and the images of processes together. It does nothing. They spell values or are damaged,
+/// and never both, and their first damage is at one place of one file.
+pub fn set_laws()
+    ensures apart { FilesApart }
+    ensures place { OneDamageOfFiles }
+    ensures either { FilesEither }
 {}
