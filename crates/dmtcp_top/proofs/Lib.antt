@@ -29,7 +29,6 @@ pub mod Standstill
 pub mod Starts
 pub mod Endings
 pub mod Conclusions
-pub mod FilesApart
 pub mod SetLaws
 pub mod Decisions
 pub mod Arrivals

@@ -7,12 +7,12 @@ use Rattle.image_codec.specs.declared.damage.Damage.{Damage}
 use Rattle.image_codec.specs.declared.process_image.ProcImage.{ProcImage}
 use Rattle.image_codec.specs.declared.shared.Shared.{Shared}
 use Rattle.image_codec.specs.Sets.{SpellsFiles, DamagedFiles}
+use Rattle.image_codec.proofs.SetDamages.{files_apart}
 use Rattle.image_store.specs.Slots.{last}
 use Rattle.image_store.specs.FoundSets.{FoundSet, set_of, last_set, IsSet, HasSet}
 use Rattle.image_store.specs.SetDamages.{IsFirstDamage, HasDamage}
 use Rattle.image_store.proofs.SetLaws.{one_set, apart}
 use Rattle.dmtcp_top.specs.Sets.{SpellsSet, SpoilsSet}
-use Rattle.dmtcp_top.proofs.FilesApart.{files_apart}
 
 pub record SetLaws : Type 0 where
   pub one : (found : Option FoundSet) (g h : ℕ) (images others : List (List ℕ)) → HasSet found g images → HasSet found h others → images ≡ others

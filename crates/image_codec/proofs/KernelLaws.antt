@@ -36,12 +36,12 @@ use Rattle.image_codec.specs.KernelParts.{kernel_of, process_entry, maker_entry,
 use Rattle.image_codec.specs.KernelImages.{shared_of, IsImage, object_image, description_image, thread_image, descriptor_image, process_image, is_of, maker_or}
 use Rattle.image_codec.proofs.Rising.{RisesFrom, IsAfter, each_rising, sorted_rising, sorted_append, entries_made, undone, all_from}
 
-both_true : (a b : Bool) → IsTrue (a && b) → IsTrue a × IsTrue b
+pub both_true : (a b : Bool) → IsTrue (a && b) → IsTrue a × IsTrue b
 both_true true true h = (refl, refl)
 both_true true false h = cc
 both_true false b h = cc
 
-nat_below : (a b : ℕ) → IsTrue (nat_lt a b) → nat_cmp a b ≡ Less
+pub nat_below : (a b : ℕ) → IsTrue (nat_lt a b) → nat_cmp a b ≡ Less
 nat_below a b h = grind (arith, nat_tests)
 
 -- a number above the one before
@@ -55,9 +55,13 @@ thread_rises : (next_id : ℕ) (earlier : List ProcessEntry) (front : List Threa
 thread_rises next_id earlier front thread h =
     after_number _ _ ((both_true _ _ ((both_true _ _ h.number.1).0)).0)
 
+pub tids_rise : (next_id : ℕ) (earlier : List ProcessEntry) (threads : List ThreadEntry) → EachFrom (ThreadFits next_id earlier) [] threads
+    → RisesFrom nat_cmp None (mapped (λ (t : ThreadEntry). t.tid) threads)
+tids_rise next_id earlier threads h = each_rising nat_cmp (λ (t : ThreadEntry). t.tid) (ThreadFits next_id earlier) (thread_rises next_id earlier) [] threads h
+
 pub thread_entries : (next_id : ℕ) (earlier : List ProcessEntry) (threads : List ThreadEntry) → EachFrom (ThreadFits next_id earlier) [] threads
     → map.entries (map.from_entries {R = nat_cmp} (mapped signals_entry threads)) ≡ mapped signals_entry threads
-thread_entries next_id earlier threads h = entries_made nat_cmp_total signals_entry threads (each_rising nat_cmp (λ (t : ThreadEntry). t.tid) (ThreadFits next_id earlier) (thread_rises next_id earlier) [] threads h)
+thread_entries next_id earlier threads h = entries_made nat_cmp_total signals_entry threads (tids_rise next_id earlier threads h)
 
 threads_back : (next_id : ℕ) (earlier : List ProcessEntry) (threads : List ThreadEntry) → EachFrom (ThreadFits next_id earlier) [] threads
     → mapped thread_image (map.entries (map.from_entries {R = nat_cmp} (mapped signals_entry threads))) ≡ threads
@@ -243,6 +247,14 @@ process_rises next_id channels descriptions front process h = after_pid (field.l
     after_pid None h = tt
     after_pid (Some before) h = nat_below before.pid.0 process.pid.0 h
 
+pids_rise : (next_id : ℕ) (channels : List ChannelImage) (descriptions : List DescriptionImage) (processes : List ProcessEntry) → EachFrom (ProcessFits next_id channels descriptions) [] processes
+    → RisesFrom vpid_cmp None (pids processes)
+pids_rise next_id channels descriptions processes h =
+    each_rising vpid_cmp (λ (e : ProcessEntry). e.pid) (ProcessFits next_id channels descriptions) (process_rises next_id channels descriptions) [] processes h
+
+pub pids_sorted : (s : Shared) → SharedFits s → IsStrictlySortedBy vpid_cmp (mapped (λ (e : ProcessEntry). e.pid) s.processes)
+pids_sorted s h = sorted_rising vpid_cmp vpid_total None (pids s.processes) (pids_rise s.next_id s.channels s.descriptions s.processes h.processes)
+
 keeps_own : (next_id : ℕ) (channels : List ChannelImage) (descriptions : List DescriptionImage) (front : List ProcessEntry) (process : ProcessEntry) → ProcessFits next_id channels descriptions front process → KeepsOwn process
 keeps_own next_id channels descriptions front process h =
     sorted_rising nat_cmp nat_cmp_total None _ (each_rising nat_cmp (λ (d : DescriptorEntry). d.number) (DescriptorFits descriptions) (number_rises descriptions) [] process.descriptors h.descriptors)
@@ -275,8 +287,7 @@ processes_back : (next_id : ℕ) (channels : List ChannelImage) (descriptions : 
     → k.processes ≡ map.from_entries (mapped process_entry processes) → k.makers ≡ map.from_entries (mapped maker_entry processes) → k.descriptors ≡ map.from_entries (flat_map descriptor_entries processes)
     → mapped (process_image k) (map.entries k.processes) ≡ processes
 processes_back next_id channels descriptions k processes h of_processes makers of_descriptors =
-    let rising : RisesFrom vpid_cmp None (pids processes) =
-    each_rising vpid_cmp (λ (e : ProcessEntry). e.pid) (ProcessFits next_id channels descriptions) (process_rises next_id channels descriptions) [] processes h in
+    let rising = pids_rise next_id channels descriptions processes h in
     let sorted = sorted_rising vpid_cmp vpid_total None (pids processes) rising in
     let slots : map.entries k.descriptors ≡ flat_map descriptor_entries processes =
     ap map.entries of_descriptors ∙ descriptors_entries processes sorted (all_from (ProcessFits next_id channels descriptions) KeepsOwn (keeps_own next_id channels descriptions) [] processes h) in

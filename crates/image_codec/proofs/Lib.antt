@@ -17,10 +17,12 @@ pub mod ProcessLaws
 pub mod ReturnContent
 pub mod Rising
 pub mod SameThreads
+pub mod SetDamages
 pub mod SetLaws
 pub mod SharedLaws
 pub mod StartImages
 pub mod Texts
+pub mod UserImages
 pub mod Waiting
 pub mod WholeFiles
 pub mod Writing

@@ -13,11 +13,11 @@ pub number-is : (number : Option ℕ) (n : ℕ) → IsTrue (is_number number n) 
 number-is None n h = cc
 number-is (Some number) n h = let same : number ≡ n = grind (arith, nat_tests) in ap Some same
 
-drop-at : (xs : List ℕ) (i x : ℕ) → slice_get xs i ≡ Some x → drop i xs ≡ x ∷ drop (i + 1) xs
+pub drop-at : {X : Type 0} (xs : List X) (i : ℕ) (x : X) → slice_get xs i ≡ Some x → drop i xs ≡ x ∷ drop (i + 1) xs
 drop-at [] zero x h = cc
 drop-at [] (suc i) x h = cc
-drop-at (y ∷ xs) zero x h = let same : y ≡ x = cc in ap (λ (z : ℕ). z ∷ xs) same
-drop-at (y ∷ xs) (suc i) x h =
+drop-at {X} (y ∷ xs) zero x h = let same : y ≡ x = cc in ap (λ (z : X). z ∷ xs) same
+drop-at {X} (y ∷ xs) (suc i) x h =
     let next : suc (i + 1) ≡ suc i + 1 = omega arith in
     drop-at xs i x h ∙ ap (λ (j : ℕ). x ∷ drop j (y ∷ xs)) next
 

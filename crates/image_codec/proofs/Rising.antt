@@ -62,7 +62,7 @@ module _ {K : Type 0} (R : K → K → Ordering) where
       both [] h = below.0
       both (p ∷ ks) h = (h.0, both ks h.1)
 
-keys-mapped : {K V X : Type 0} (f : X → K × V) (items : List X) → keys_of (mapped f items) ≡ mapped (λ x. (f x).0) items
+pub keys-mapped : {K V X : Type 0} (f : X → K × V) (items : List X) → keys_of (mapped f items) ≡ mapped (λ x. (f x).0) items
 keys-mapped f [] = refl
 keys-mapped f (x ∷ items) = ap (λ ks. (f x).0 ∷ ks) (keys-mapped f items)
 

@@ -5,7 +5,7 @@
 --     DamagedProcess pid tids text n      the bytes are no image of it, and n is the place where they break the format
 --     pid_at, tids_at shared file      the process whose image is this file: the live ones in order from file 2 on
 -- Source: docs/FORMATS.md, "Process image".
-use Rattle.std.specs.Prelude.{◌≡◌, ℕ, ◌-◌, ◌&&◌, ◌^◌, ◌<◌, nat_lt, Bool, true, false, IsTrue, List, [], ◌∷◌, ◌++◌, length, map as each_of, filter, drop, slice_get, slice_index, codes, All, Option, Some, None, if◌then◌else◌}
+use Rattle.std.specs.Prelude.{◌≡◌, ℕ, ◌-◌, ◌&&◌, nat_lt, Bool, true, false, IsTrue, List, [], ◌∷◌, ◌++◌, length, map as each_of, filter, drop, slice_get, slice_index, codes, All, Option, Some, None, if◌then◌else◌}
 use Rattle.std.specs.List.{flat_map}
 use Rattle.std.specs.Option.{option_map, option_map_or}
 use Rattle.sys_abi.specs.declared.life.Life.{Life}

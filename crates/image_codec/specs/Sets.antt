@@ -4,8 +4,11 @@
 --     DamagedFiles files file n      the files spell none: n is the place of the first damage, which is in the file of this index
 --     SpellsSet manifest files g state      the set of the generation g spells this plain state
 --     OneStateOfSet      a set spells one state of one generation at most
+--     OneSetOfState      a state has one set of a generation at most
+--     FilesApart, FilesEither      no files spell values and are damaged, and all files of bytes do one of both
+--     OneDamageOfFiles      files have one first damage at most
 -- Source: docs/FORMATS.md, "Whole sets".
-use Rattle.std.specs.Prelude.{◌≡◌, ◌≢◌, ℕ, ◌+◌, ◌⊎◌, List, [], ◌∷◌, length, count_by, map as each}
+use Rattle.std.specs.Prelude.{◌≡◌, ◌≢◌, ℕ, ◌+◌, ◌<◌, ◌⊎◌, List, [], ◌∷◌, length, slice_index, count_by, All, map as each}
 use Rattle.std.specs.FinMap as map
 use Rattle.sys_abi.specs.declared.identity.VPid.{VPid}
 use Rattle.plain_machine.specs.declared.user_part.UserPart.{UserPart}
@@ -69,3 +72,23 @@ abbrev pub OneStateOfSet : Type 0
 OneStateOfSet =
     (manifest : List ℕ) (files : List (List ℕ)) (g h : ℕ) (state other : Plain)
     → SpellsSet manifest files g state → SpellsSet manifest files h other → (g ≡ h) × (state ≡ other)
+
+-- the other way round: the bytes of the manifest and of each file are those of the state
+abbrev pub OneSetOfState : Type 0
+OneSetOfState =
+    (manifest other : List ℕ) (files others : List (List ℕ)) (g : ℕ) (state : Plain)
+    → SpellsSet manifest files g state → SpellsSet other others g state → (manifest ≡ other) × (files ≡ others)
+
+-- files that spell values are damaged nowhere
+abbrev pub FilesApart : Type 0
+FilesApart = (files : List (List ℕ)) (damaged n : ℕ) (shared : Shared) (images : List ProcImage) → SpellsFiles files shared images → DamagedFiles files damaged n → ⊥
+
+-- the first damage is in one file, at one place of it
+abbrev pub OneDamageOfFiles : Type 0
+OneDamageOfFiles = (files : List (List ℕ)) (damaged other n m : ℕ) → DamagedFiles files damaged n → DamagedFiles files other m → (damaged ≡ other) × (n ≡ m)
+
+-- files of bytes, however many, spell values or are damaged somewhere
+abbrev pub FilesEither : Type 0
+FilesEither =
+    (files : List (List ℕ)) → All (λ text. (i : ℕ) → slice_index text i < 256) files
+    → ((shared : Shared) × (images : List ProcImage) × SpellsFiles files shared images) ⊎ ((damaged : ℕ) × (n : ℕ) × DamagedFiles files damaged n)

@@ -9,10 +9,10 @@
 //! The shared image stands for a kernel part: [`shared_image`] makes the one of a kernel part, [`restored_kernel`] the
 //! kernel part of one. `specs/Sets.antt` says which plain state a whole set spells.
 //!
-//! Proved: all of that, for every value and all bytes, and [`image_laws`]. A reader takes no more memory than the bytes
-//! that are there account for. Not proved here: that an image is that of a running process. The formats are this
-//! project's own (`docs/FORMATS.md`) and restate no standard. So far there is one process, and the console is the only
-//! thing that is open.
+//! Proved: all of that, for every value and all bytes, [`image_laws`], and of whole sets [`set_laws`]. A reader takes no
+//! more memory than the bytes that are there account for. Not proved here: that an image is that of a running process.
+//! The formats are this project's own (`docs/FORMATS.md`) and restate no standard. So far there is one process, and the
+//! console is the only thing that is open.
 #![tactic(auto)]
 
 mod actions;
@@ -33,7 +33,7 @@ pub mod thread_image;
 mod waiters;
 
 pub use damage::{Damage, ReadFault};
-pub use file_laws::image_laws;
+pub use file_laws::{image_laws, set_laws};
 pub use kernel_image::shared_image;
 pub use kernel_of_image::restored_kernel;
 pub use manifest::{Manifest, read_manifest, write_manifest};

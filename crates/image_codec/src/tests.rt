@@ -1,7 +1,7 @@
 use crate::fields::{put_bytes, put_u8, put_u32};
 use crate::{
     Damage, Manifest, ProcessEntry, ReadFault, Shared, ThreadEntry, image_laws, read_manifest,
-    read_process, write_manifest, write_process,
+    read_process, set_laws, write_manifest, write_process,
 };
 use plain_machine::Life;
 use std::alloc::{AllocError, Global};
@@ -152,6 +152,7 @@ fn image(alloc: Global, pages: &[(u32, u8)], count: u32) -> Result<Vec<u8>, Allo
 fn start_of_a_program_both_ways(rt: HostRuntime) -> Result<(), Fail> {
     let alloc = rt.alloc();
     image_laws();
+    set_laws();
     let mut pages = Vec::new(alloc);
     pages.push((0x10, 5))?;
     for number in 0x7FFC0..0x80000 {

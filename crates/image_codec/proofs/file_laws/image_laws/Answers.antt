@@ -4,7 +4,7 @@ use Rattle.image_codec.proofs.ManifestLaws as manifest
 use Rattle.image_codec.proofs.OneProcess.{one_of_image}
 use Rattle.image_codec.proofs.ProcessFiles as process
 use Rattle.image_codec.proofs.SameThreads.{images_have_same_threads, same_threads_have_tids}
-use Rattle.image_codec.proofs.SetLaws.{one_state_of_set}
+use Rattle.image_codec.proofs.SetLaws.{one_set_of_state, one_state_of_set}
 use Rattle.image_codec.proofs.SharedLaws as shared
 use Rattle.image_codec.proofs.StartImages.{start_has_image}
 use Rattle.image_codec.proofs.file_laws.image_laws.Goals as goal
@@ -20,6 +20,9 @@ returns-clause-shared c = shared.laws
 
 pub returns-clause-set : goal.returns-clause-set
 returns-clause-set c = one_state_of_set
+
+pub returns-clause-spelling : goal.returns-clause-spelling
+returns-clause-spelling c = one_set_of_state
 
 pub returns-clause-start : goal.returns-clause-start
 returns-clause-start c = start_has_image
