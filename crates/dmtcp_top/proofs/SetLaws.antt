@@ -1,5 +1,5 @@
 -- What a folder's set spells, it spells in one way, and no set both spells a state and is damaged.
-use Rattle.std.proofs.Common.{◌≡◌, ℕ, List, Option, Some, None, inl, inr, sym, ap, subst, ◌∙◌}
+use Rattle.std.proofs.Common.{◌≡◌, ℕ, List, Option, Some, None, inl, inr, refl, sym, ap, subst, ◌∙◌}
 use Rattle.std.specs.Prelude.{◌⊎◌, option_map}
 use Rattle.set_disk.specs.Files.{Files}
 use Rattle.plain_machine.specs.declared.plain.Plain.{Plain}
@@ -7,12 +7,13 @@ use Rattle.image_codec.specs.declared.damage.Damage.{Damage}
 use Rattle.image_codec.specs.declared.process_image.ProcImage.{ProcImage}
 use Rattle.image_codec.specs.declared.shared.Shared.{Shared}
 use Rattle.image_codec.specs.Sets.{SpellsFiles, DamagedFiles}
-use Rattle.image_codec.proofs.SetDamages.{files_apart}
+use Rattle.image_codec.proofs.SetDamages.{files_apart, one_damage_of_files}
 use Rattle.image_store.specs.Slots.{last}
 use Rattle.image_store.specs.FoundSets.{FoundSet, set_of, last_set, IsSet, HasSet}
 use Rattle.image_store.specs.SetDamages.{IsFirstDamage, HasDamage}
-use Rattle.image_store.proofs.SetLaws.{one_set, apart}
+use Rattle.image_store.proofs.SetLaws.{one_set, apart, one_damage}
 use Rattle.dmtcp_top.specs.Sets.{SpellsSet, SpoilsSet}
+use Rattle.dmtcp_top.specs.Promise.{OneDamage}
 
 pub record SetLaws : Type 0 where
   pub one : (found : Option FoundSet) (g h : ℕ) (images others : List (List ℕ)) → HasSet found g images → HasSet found h others → images ≡ others
@@ -48,3 +49,27 @@ set_laws = record {
   whole = apart;
   apart = files_apart;
 }
+
+inside : {A : Type 0} (a b : A) → Some a ≡ Some b → a ≡ b
+inside a b is = cc
+
+abbrev Spoils : FoundSet → Damage → Type 0
+Spoils found damage = IsFirstDamage found damage ⊎ ((images : List (List ℕ)) × (IsSet found found.generation images × DamagedFiles images damage.file damage.offset))
+
+-- of one set that was found
+one_of_found : (found : FoundSet) (damage other : Damage) → Spoils found damage → Spoils found other → damage ≡ other
+one_of_found found damage other (inl first) (inl second) = one_damage (Some found) damage other (found, refl, first) (found, refl, second)
+one_of_found found damage other (inl first) (inr (images, second)) = absurd (apart (Some found) found.generation images damage (found, refl, second.0) (found, refl, first))
+one_of_found found damage other (inr (images, first)) (inl second) = absurd (apart (Some found) found.generation images other (found, refl, first.0) (found, refl, second))
+one_of_found found damage other (inr (images, first)) (inr (others, second)) =
+    let same : others ≡ images = (one_set (Some found) found.generation found.generation others images (found, refl, second.0) (found, refl, first.0)).1 in
+    let place = one_damage_of_files images damage.file other.file damage.offset other.offset first.1 (subst (λ files. DamagedFiles files other.file other.offset) same second.1) in
+    λ i. record { file = place.0 i; offset = place.1 i }
+
+pub one_spoil : OneDamage
+one_spoil files slot other damage beside first second =
+    let same : second.found ≡ first.found = inside second.found first.found (sym second.counts ∙ first.counts) in
+    (
+      sym first.place ∙ ap (λ (found : FoundSet). found.slot) (sym same) ∙ second.place,
+      one_of_found first.found damage beside first.damaged (subst (λ (found : FoundSet). Spoils found beside) same second.damaged),
+    )

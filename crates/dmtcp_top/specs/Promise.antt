@@ -3,17 +3,19 @@
 --     StaysWhole ..                      what a crash leaves, what stays complete, and how often the folder failed
 --     IsPromised ..                      both
 --     RoundTrip                          what a restart goes on from
+--     NotBoth, OneDamage                 a set that counts spells a state or is damaged, at one place
 use Rattle.std.specs.Prelude.{◌≡◌, ◌⊎◌, ℕ, List, Option, Some}
 use Rattle.std.specs.Option.{ForSome}
 use Rattle.sys_abi.specs.declared.record.Record.{Record}
 use Rattle.set_disk.specs.Files.{Files as Folder}
 use Rattle.set_disk.specs.Moments.{LeavesOnly}
 use Rattle.plain_machine.specs.declared.plain.Plain.{Plain}
+use Rattle.image_codec.specs.declared.damage.Damage.{Damage}
 use Rattle.dmtcp_top.specs.declared.status.Status.{Status}
 use Rattle.dmtcp_top.specs.Sessions.{Sunk, Session}
 use Rattle.trace_log.specs.Requests.{CutAt}
 use Rattle.dmtcp_top.specs.Ends.{Ends}
-use Rattle.dmtcp_top.specs.Sets.{SpellsSet}
+use Rattle.dmtcp_top.specs.Sets.{SpellsSet, SpoilsSet}
 use Rattle.dmtcp_top.specs.Keeping.{IsOpening, SpellsCut, KeepsComplete, CountsFaults}
 
 pub record SpellsCutOf (start : Option Plain) (trace : List Record) (image : Folder) : Type 0 where
@@ -41,3 +43,11 @@ abbrev pub RoundTrip : Type 0
 RoundTrip =
     (g : Plain) (records : List Record) (files : Folder) (generation : ℕ) (state : Plain)
     → SpellsCut g records files → SpellsSet files generation state → CutAt g records generation state
+
+-- the set that counts spells a state or is damaged, not both
+abbrev pub NotBoth : Type 0
+NotBoth = (files : Folder) (generation slot : ℕ) (g : Plain) (damage : Damage) → SpellsSet files generation g → SpoilsSet files slot damage → ⊥
+
+-- where it is damaged, it is so at one place first
+abbrev pub OneDamage : Type 0
+OneDamage = (files : Folder) (slot other : ℕ) (damage beside : Damage) → SpoilsSet files slot damage → SpoilsSet files other beside → (slot ≡ other) × (damage ≡ beside)
