@@ -8,7 +8,7 @@
 //! Proved: each call does to the maps what its clause says and leaves the rest as it was; `Taken` comes exactly where
 //! the channel is there; want of memory changes nothing, and it never comes where the maker of a process is only
 //! changed. Not proved: how long a call takes. Nothing here restates a standard; the addresses are those of
-//! `man 7 ip`, and a channel with both ends closed is gone, as after the last `close` of `man 2 close`.
+//! `man 7 ip`, and a channel goes when its last open end is closed, as after the last `close` of `man 2 close`.
 #![tactic(auto)]
 
 mod conn;

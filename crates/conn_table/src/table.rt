@@ -1,4 +1,4 @@
-ghost use Rattle.std.specs.Prelude.{◌≡◌, ◌<◌, ◌↔◌, Ok, Err, find, is_some, true, false, IsSome, OnOk, OnErr};
+ghost use Rattle.std.specs.Prelude.{◌≡◌, ◌<◌, ◌≤◌, ◌↔◌, Ok, Err, find, is_some, true, false, IsSome, OnOk, OnErr};
 ghost use Rattle.std.specs.Option.{option_copied};
 ghost use Rattle.std.specs.List.{list_any};
 ghost use Rattle.std.specs.Ordering.{eq_by_cmp};
@@ -60,12 +60,15 @@ impl ConnTable {
         self.conns.keys().copied().find(|id| is_above(above, *id))
     }
 
-    /// Closes a side of a channel. A channel with both sides closed is gone. Where there is no such channel nothing
-    /// changes.
+    /// Closes a side of a channel. The channel goes when its last open end is closed. Where there is no such channel,
+    /// or no such side, nothing changes.
     pub fn drop_end(&mut self, id: ConnId, side: u8)
-        requires { side < 2 }
-        ensures { self.new ≡ record self.old { conns = conns.after_end side self.old.conns id } }
+        ensures closed { side < 2 → self.new ≡ record self.old { conns = conns.after_end side self.old.conns id } }
+        ensures none { 2 ≤ side → self.new ≡ self.old }
     {
+        if side > 1 {
+            return;
+        }
         if !close_end(&mut self.conns, id, side) {
             self.conns.remove(id);
         }

@@ -39,6 +39,11 @@ fn channels_come_and_go(rt: HostRuntime) -> Result<(), Fail> {
         table.get(conn.id).map(|left| left.open_ends),
         Some([false, true])
     );
+    table.drop_end(conn.id, 2);
+    assert_eq!(rt;
+        table.get(conn.id).map(|left| left.open_ends),
+        Some([false, true])
+    );
     table.drop_end(conn.id, 1);
     assert_eq!(rt; table.get(conn.id), None);
     Ok(())

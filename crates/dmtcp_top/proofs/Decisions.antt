@@ -17,7 +17,7 @@ use Rattle.dmtcp_top.specs.Sets.{SpellsSet, SpoilsSet}
 use Rattle.dmtcp_top.specs.Sessions.{Sunk, Session, session, IsInput}
 use Rattle.dmtcp_top.specs.Launches.{LaunchAsked, RestartAsked, Begun}
 use Rattle.dmtcp_top.specs.Launches.Begun.{ByLaunch, ByRestart}
-use Rattle.dmtcp_top.specs.Ends.{Ends, IsAsked, IsDecided, Reaches, RunsOn, NeedsStore}
+use Rattle.dmtcp_top.specs.Ends.{Ends, FileDecides, IsAsked, IsDecided, Reaches, RunsOn, NeedsStore}
 use Rattle.dmtcp_top.specs.Ends.NeedsStore.{ToLaunch, ToRestart}
 use Rattle.dmtcp_top.proofs.SetLaws.{SetLaws, none_spelled, none_spoilt, spelled_or_spoilt}
 
@@ -128,34 +128,40 @@ module _ (called : Session) (line : List ℕ) where
     bad_file : {P : Type 0} (content : List ℕ) → Begun called → map.get held asked.name ≡ Some content → first_fault content ≢ None → P
     bad_file content begun is breaks = begun_file begun (λ file there fine. absurd (breaks (ap first_fault (inner content file (sym is ∙ there)) ∙ fine)))
 
-    missing_decided : (status : Status) → Reaches status called line → status ≢ InputFault → status ≢ DiskFault → status ≢ Memory → (status ≡ Missing) ↔ (map.get held asked.name ≡ None)
-    missing_decided Done r fault disk memory = (λ is. absurd (cc), λ none. no_file r.0.begun none)
-    missing_decided Usage r fault disk memory = (λ is. absurd (cc), λ none. none_launched asked r.1)
-    missing_decided InputFault r fault disk memory = absurd (fault refl)
-    missing_decided Missing r fault disk memory = (λ is. same_input r.asked None r.input, λ none. refl)
-    missing_decided BadElf r fault disk memory = (λ is. absurd (cc), λ none. none_some r.file (sym none ∙ same_input r.asked (Some r.file) r.input))
-    missing_decided SinkFault r fault disk memory = absurd r
-    missing_decided DiskFault r fault disk memory = absurd (disk refl)
-    missing_decided NoSet r fault disk memory = (λ is. absurd (cc), λ none. against_both asked r.asked)
-    missing_decided Damaged r fault disk memory = (λ is. absurd (cc), λ none. against_both asked r.asked)
-    missing_decided Budget r fault disk memory = (λ is. absurd (cc), λ none. no_file r.begun none)
-    missing_decided Stuck r fault disk memory = (λ is. absurd (cc), λ none. no_file r.0.begun none)
-    missing_decided Memory r fault disk memory = absurd (memory refl)
+    -- the folder is needed for a file that is a program
+    needed_file : {P : Type 0} → NeedsStore called → ((file : List ℕ) → map.get held asked.name ≡ Some file → first_fault file ≡ None → P) → P
+    needed_file (ToLaunch other file every input fine) next = next file (same_input other (Some file) input) fine
+    needed_file (ToRestart restart) next = against_both asked restart
+
+    missing_decided : (status : Status) → Reaches status called line → status ≢ InputFault → status ≢ Memory → (status ≡ Missing) ↔ (map.get held asked.name ≡ None)
+    missing_decided Done r fault memory = (λ is. absurd (cc), λ none. no_file r.0.begun none)
+    missing_decided Usage r fault memory = (λ is. absurd (cc), λ none. none_launched asked r.1)
+    missing_decided InputFault r fault memory = absurd (fault refl)
+    missing_decided Missing r fault memory = (λ is. same_input r.asked None r.input, λ none. refl)
+    missing_decided BadElf r fault memory = (λ is. absurd (cc), λ none. none_some r.file (sym none ∙ same_input r.asked (Some r.file) r.input))
+    missing_decided SinkFault r fault memory = absurd r
+    missing_decided DiskFault r fault memory = (λ is. absurd (cc), λ none. needed_file r.needs (λ file there fine. none_some file (sym none ∙ there)))
+    missing_decided NoSet r fault memory = (λ is. absurd (cc), λ none. against_both asked r.asked)
+    missing_decided Damaged r fault memory = (λ is. absurd (cc), λ none. against_both asked r.asked)
+    missing_decided Budget r fault memory = (λ is. absurd (cc), λ none. no_file r.begun none)
+    missing_decided Stuck r fault memory = (λ is. absurd (cc), λ none. no_file r.0.begun none)
+    missing_decided Memory r fault memory = absurd (memory refl)
 
     module _ (file : List ℕ) (is : map.get held asked.name ≡ Some file) where
-      bad_decided : (status : Status) → Reaches status called line → status ≢ InputFault → status ≢ DiskFault → status ≢ Memory → (status ≡ BadElf) ↔ (first_fault file ≢ None)
-      bad_decided Done r fault disk memory = (λ e. absurd (cc), λ breaks. bad_file file r.0.begun is breaks)
-      bad_decided Usage r fault disk memory = (λ e. absurd (cc), λ breaks. none_launched asked r.1)
-      bad_decided InputFault r fault disk memory = absurd (fault refl)
-      bad_decided Missing r fault disk memory = (λ e. absurd (cc), λ breaks. none_some file (sym (same_input r.asked None r.input) ∙ is))
-      bad_decided BadElf r fault disk memory = (λ e. λ fine. none_some r.fault (sym fine ∙ ap first_fault (inner file r.file (sym is ∙ same_input r.asked (Some r.file) r.input)) ∙ r.rule), λ breaks. refl)
-      bad_decided SinkFault r fault disk memory = absurd r
-      bad_decided DiskFault r fault disk memory = absurd (disk refl)
-      bad_decided NoSet r fault disk memory = (λ e. absurd (cc), λ breaks. against_both asked r.asked)
-      bad_decided Damaged r fault disk memory = (λ e. absurd (cc), λ breaks. against_both asked r.asked)
-      bad_decided Budget r fault disk memory = (λ e. absurd (cc), λ breaks. bad_file file r.begun is breaks)
-      bad_decided Stuck r fault disk memory = (λ e. absurd (cc), λ breaks. bad_file file r.0.begun is breaks)
-      bad_decided Memory r fault disk memory = absurd (memory refl)
+      bad_decided : (status : Status) → Reaches status called line → status ≢ InputFault → status ≢ Memory → (status ≡ BadElf) ↔ (first_fault file ≢ None)
+      bad_decided Done r fault memory = (λ e. absurd (cc), λ breaks. bad_file file r.0.begun is breaks)
+      bad_decided Usage r fault memory = (λ e. absurd (cc), λ breaks. none_launched asked r.1)
+      bad_decided InputFault r fault memory = absurd (fault refl)
+      bad_decided Missing r fault memory = (λ e. absurd (cc), λ breaks. none_some file (sym (same_input r.asked None r.input) ∙ is))
+      bad_decided BadElf r fault memory = (λ e. λ fine. none_some r.fault (sym fine ∙ ap first_fault (inner file r.file (sym is ∙ same_input r.asked (Some r.file) r.input)) ∙ r.rule), λ breaks. refl)
+      bad_decided SinkFault r fault memory = absurd r
+      bad_decided DiskFault r fault memory =
+          (λ e. absurd (cc), λ breaks. needed_file r.needs (λ other there fine. absurd (breaks (ap first_fault (inner file other (sym is ∙ there)) ∙ fine))))
+      bad_decided NoSet r fault memory = (λ e. absurd (cc), λ breaks. against_both asked r.asked)
+      bad_decided Damaged r fault memory = (λ e. absurd (cc), λ breaks. against_both asked r.asked)
+      bad_decided Budget r fault memory = (λ e. absurd (cc), λ breaks. bad_file file r.begun is breaks)
+      bad_decided Stuck r fault memory = (λ e. absurd (cc), λ breaks. bad_file file r.0.begun is breaks)
+      bad_decided Memory r fault memory = absurd (memory refl)
 
       launch_decided : (status : Status) → Reaches status called line → status ≢ InputFault → status ≢ DiskFault → first_fault file ≡ None → RunsOn status
       launch_decided Done r fault disk fine = inl refl
@@ -196,20 +202,37 @@ module _ (called : Session) (line : List ℕ) where
     setless_decided Memory r disk memory = absurd (memory refl)
 
     module _ (laws : SetLaws) where
-      spoilt_decided : (slot : ℕ) (damage : Damage) → SpoilsSet files slot damage → (status : Status) → Reaches status called line → status ≢ DiskFault → status ≢ Memory → status ≡ Damaged
-      spoilt_decided slot damage spoils Done r disk memory = begun_set r.0.begun (λ generation g spells. absurd (spelled_or_spoilt laws files generation g slot damage spells spoils))
-      spoilt_decided slot damage spoils Usage r disk memory = none_restarted asked r.1
-      spoilt_decided slot damage spoils InputFault r disk memory = against_both r.asked asked
-      spoilt_decided slot damage spoils Missing r disk memory = against_both r.asked asked
-      spoilt_decided slot damage spoils BadElf r disk memory = against_both r.asked asked
-      spoilt_decided slot damage spoils SinkFault r disk memory = absurd r
-      spoilt_decided slot damage spoils DiskFault r disk memory = absurd (disk refl)
-      spoilt_decided slot damage spoils NoSet r disk memory =
+      spoiled : (slot : ℕ) (damage : Damage) → SpoilsSet files slot damage → (status : Status) → Reaches status called line → status ≢ DiskFault → status ≢ Memory → status ≡ Damaged
+      spoiled slot damage spoils Done r disk memory = begun_set r.0.begun (λ generation g spells. absurd (spelled_or_spoilt laws files generation g slot damage spells spoils))
+      spoiled slot damage spoils Usage r disk memory = none_restarted asked r.1
+      spoiled slot damage spoils InputFault r disk memory = against_both r.asked asked
+      spoiled slot damage spoils Missing r disk memory = against_both r.asked asked
+      spoiled slot damage spoils BadElf r disk memory = against_both r.asked asked
+      spoiled slot damage spoils SinkFault r disk memory = absurd r
+      spoiled slot damage spoils DiskFault r disk memory = absurd (disk refl)
+      spoiled slot damage spoils NoSet r disk memory =
           absurd (none_spoilt files slot damage (told (λ there. set_that_counts there ≡ None) called.folder files reads r.none) spoils)
-      spoilt_decided slot damage spoils Damaged r disk memory = refl
-      spoilt_decided slot damage spoils Budget r disk memory = begun_set r.begun (λ generation g spells. absurd (spelled_or_spoilt laws files generation g slot damage spells spoils))
-      spoilt_decided slot damage spoils Stuck r disk memory = begun_set r.0.begun (λ generation g spells. absurd (spelled_or_spoilt laws files generation g slot damage spells spoils))
-      spoilt_decided slot damage spoils Memory r disk memory = absurd (memory refl)
+      spoiled slot damage spoils Damaged r disk memory = refl
+      spoiled slot damage spoils Budget r disk memory = begun_set r.begun (λ generation g spells. absurd (spelled_or_spoilt laws files generation g slot damage spells spoils))
+      spoiled slot damage spoils Stuck r disk memory = begun_set r.0.begun (λ generation g spells. absurd (spelled_or_spoilt laws files generation g slot damage spells spoils))
+      spoiled slot damage spoils Memory r disk memory = absurd (memory refl)
+
+      spoilt_in : (status : Status) → Reaches status called line → status ≡ Damaged → (slot : ℕ) × ((damage : Damage) × SpoilsSet files slot damage)
+      spoilt_in Damaged r is = (r.slot, (r.damage, told (λ there. SpoilsSet there r.slot r.damage) called.folder files reads r.spoilt))
+      spoilt_in Done r is = absurd (cc)
+      spoilt_in Usage r is = absurd (cc)
+      spoilt_in InputFault r is = absurd (cc)
+      spoilt_in Missing r is = absurd (cc)
+      spoilt_in BadElf r is = absurd (cc)
+      spoilt_in SinkFault r is = absurd (cc)
+      spoilt_in DiskFault r is = absurd (cc)
+      spoilt_in NoSet r is = absurd (cc)
+      spoilt_in Budget r is = absurd (cc)
+      spoilt_in Stuck r is = absurd (cc)
+      spoilt_in Memory r is = absurd (cc)
+
+      spoilt_decided : (status : Status) → Reaches status called line → status ≢ DiskFault → status ≢ Memory → (status ≡ Damaged) ↔ ((slot : ℕ) × ((damage : Damage) × SpoilsSet files slot damage))
+      spoilt_decided status reached disk memory = (spoilt_in status reached, λ there. spoiled there.0 there.1.0 there.1.1 status reached disk memory)
 
       restart_decided : (generation : ℕ) (g : Plain) → SpellsSet files generation g → (status : Status) → Reaches status called line → status ≢ DiskFault → RunsOn status
       restart_decided generation g spells Done r disk = inl refl
@@ -227,30 +250,41 @@ module _ (called : Session) (line : List ℕ) where
       restart_decided generation g spells Stuck r disk = inr (inr (inl refl))
       restart_decided generation g spells Memory r disk = inr (inr (inr refl))
 
-  decided_by : SetLaws → (status : Status) → Reaches status called line → status ≢ InputFault → status ≢ DiskFault → IsDecided status called
-  decided_by laws status reached fault disk = record {
-    usage = usage_decided status reached;
-    missing = λ held asked holds memory. missing_decided held asked holds status reached fault disk memory;
-    bad = λ held asked file holds is memory. bad_decided held asked holds file is status reached fault disk memory;
-    launches = λ held asked file holds is fine. launch_decided held asked holds file is status reached fault disk fine;
-    setless = λ files asked reads memory. setless_decided files asked reads status reached disk memory;
-    spoilt = λ files slot damage asked reads spoils memory. spoilt_decided files asked reads laws slot damage spoils status reached disk memory;
-    restarts = λ files generation g asked reads spells. restart_decided files asked reads laws generation g spells status reached disk;
-  }
+-- but for the failure of a sink the call came to its status
+reached_of : (status : Status) (called : Session) (log : Sunk) → Ends status called log → status ≢ SinkFault → (line : List ℕ) × Reaches status called line
+reached_of Done called log ends sink = (ends.last, ends.reached)
+reached_of Usage called log ends sink = (ends.last, ends.reached)
+reached_of InputFault called log ends sink = (ends.last, ends.reached)
+reached_of Missing called log ends sink = (ends.last, ends.reached)
+reached_of BadElf called log ends sink = (ends.last, ends.reached)
+reached_of SinkFault called log ends sink = absurd (sink refl)
+reached_of DiskFault called log ends sink = (ends.last, ends.reached)
+reached_of NoSet called log ends sink = (ends.last, ends.reached)
+reached_of Damaged called log ends sink = (ends.last, ends.reached)
+reached_of Budget called log ends sink = (ends.last, ends.reached)
+reached_of Stuck called log ends sink = (ends.last, ends.reached)
+reached_of Memory called log ends sink = (ends.last, ends.reached)
+
+pub words_decide : (status : Status) (called : Session) (log : Sunk) → Ends status called log → status ≢ SinkFault → (status ≡ Usage) ↔ AskNothing called.words
+words_decide status called log ends sink = let there = reached_of status called log ends sink in usage_decided called there.0 status there.1
+
+pub file_decides : (status : Status) (called : Session) (log : Sunk) → Ends status called log → status ≢ InputFault → status ≢ SinkFault → FileDecides status called
+file_decides status called log ends fault sink =
+    let there = reached_of status called log ends sink in
+    record {
+      missing = λ held asked holds memory. missing_decided called there.0 held asked holds status there.1 fault memory;
+      bad = λ held asked file holds is memory. bad_decided called there.0 held asked holds file is status there.1 fault memory;
+    }
 
 pub decided : SetLaws → (status : Status) (called : Session) (log : Sunk) → Ends status called log → status ≢ InputFault → status ≢ SinkFault → status ≢ DiskFault → IsDecided status called
-decided laws Done called log ends fault sink disk = decided_by called ends.last laws Done ends.reached fault disk
-decided laws Usage called log ends fault sink disk = decided_by called ends.last laws Usage ends.reached fault disk
-decided laws InputFault called log ends fault sink disk = absurd (fault refl)
-decided laws Missing called log ends fault sink disk = decided_by called ends.last laws Missing ends.reached fault disk
-decided laws BadElf called log ends fault sink disk = decided_by called ends.last laws BadElf ends.reached fault disk
-decided laws SinkFault called log ends fault sink disk = absurd (sink refl)
-decided laws DiskFault called log ends fault sink disk = absurd (disk refl)
-decided laws NoSet called log ends fault sink disk = decided_by called ends.last laws NoSet ends.reached fault disk
-decided laws Damaged called log ends fault sink disk = decided_by called ends.last laws Damaged ends.reached fault disk
-decided laws Budget called log ends fault sink disk = decided_by called ends.last laws Budget ends.reached fault disk
-decided laws Stuck called log ends fault sink disk = decided_by called ends.last laws Stuck ends.reached fault disk
-decided laws Memory called log ends fault sink disk = decided_by called ends.last laws Memory ends.reached fault disk
+decided laws status called log ends fault sink disk =
+    let there = reached_of status called log ends sink in
+    record {
+      launches = λ held asked file holds is fine. launch_decided called there.0 held asked holds file is status there.1 fault disk fine;
+      setless = λ files asked reads memory. setless_decided called there.0 files asked reads status there.1 disk memory;
+      spoilt = λ files asked reads memory. spoilt_decided called there.0 files asked reads laws status there.1 disk memory;
+      restarts = λ files generation g asked reads spells. restart_decided called there.0 files asked reads laws generation g spells status there.1 disk;
+    }
 
 -- with whatever state a run began
 module _ (words : List (List ℕ)) (files : Option Files) (folder : Option Folder) (start other : Option Plain) (trace : List Record) (console : Sunk) where
@@ -260,14 +294,15 @@ module _ (words : List (List ℕ)) (files : Option Files) (folder : Option Folde
   restart_asked : RestartAsked (session words files folder other trace console) → RestartAsked (session words files folder start trace console)
   restart_asked asked = record { settings = asked.settings; words = asked.words }
 
+  pub file_decides_anyhow : (status : Status) → FileDecides status (session words files folder start trace console) → FileDecides status (session words files folder other trace console)
+  unfolding launch_asked
+  file_decides_anyhow status is = record { missing = λ held asked. is.missing held (launch_asked asked); bad = λ held asked. is.bad held (launch_asked asked) }
+
   pub decided_anyhow : (status : Status) → IsDecided status (session words files folder start trace console) → IsDecided status (session words files folder other trace console)
   unfolding launch_asked
   decided_anyhow status is = record {
-    usage = is.usage;
-    missing = λ held asked. is.missing held (launch_asked asked);
-    bad = λ held asked. is.bad held (launch_asked asked);
     launches = λ held asked. is.launches held (launch_asked asked);
     setless = λ there asked. is.setless there (restart_asked asked);
-    spoilt = λ there slot damage asked. is.spoilt there slot damage (restart_asked asked);
+    spoilt = λ there asked. is.spoilt there (restart_asked asked);
     restarts = λ there generation g asked. is.restarts there generation g (restart_asked asked);
   }

@@ -1,6 +1,7 @@
 -- How a call ends: for each status what holds of the trace, the console and the log, in one line.
 --     Reaches status session last     the call came to this status, with which this last line belongs on the log
 --     Ends status session log         the same with what the log took
+--     FileDecides status session      what the program's file decides, where no input and no sink failed
 --     IsDecided status session        which status comes where nothing outside failed
 use Rattle.std.specs.Prelude.{◌≡◌, ◌≢◌, ℕ, ◌⊎◌, ◌↔◌, List, [], ◌++◌, take, Some, None, IfSome}
 use Rattle.std.specs.FinMap as map
@@ -155,14 +156,15 @@ Ends status session log = Logged status session log
 abbrev pub RunsOn : Status → Type 0
 RunsOn status = (status ≡ Done) ⊎ (status ≡ Budget) ⊎ (status ≡ Stuck) ⊎ (status ≡ Memory)
 
--- where no input, no sink and not the folder failed, the words, the files that the inputs hold and those of the folder decide which status comes, but for
--- want of memory
-pub record IsDecided (status : Status) (session : Session) : Type 0 where
-  pub usage : (status ≡ Usage) ↔ AskNothing session.words
+-- where no input and no sink failed, whether the program's file is there and keeps the rules decides between two answers, but for want of memory
+pub record FileDecides (status : Status) (session : Session) : Type 0 where
   pub missing : (held : Files) (asked : LaunchAsked session) → session.files ≡ Some held → status ≢ Memory → (status ≡ Missing) ↔ (map.get held asked.name ≡ None)
   pub bad : (held : Files) (asked : LaunchAsked session) (file : List ℕ) → session.files ≡ Some held → map.get held asked.name ≡ Some file → status ≢ Memory
       → (status ≡ BadElf) ↔ (first_fault file ≢ None)
+
+-- where no input, no sink and not the folder failed, the program's file and the files of the folder decide which status comes, but for want of memory
+pub record IsDecided (status : Status) (session : Session) : Type 0 where
   pub launches : (held : Files) (asked : LaunchAsked session) (file : List ℕ) → session.files ≡ Some held → map.get held asked.name ≡ Some file → first_fault file ≡ None → RunsOn status
   pub setless : (files : Folder) → RestartAsked session → session.folder ≡ Some files → status ≢ Memory → (status ≡ NoSet) ↔ (set_that_counts files ≡ None)
-  pub spoilt : (files : Folder) (slot : ℕ) (damage : Damage) → RestartAsked session → session.folder ≡ Some files → SpoilsSet files slot damage → status ≢ Memory → status ≡ Damaged
+  pub spoilt : (files : Folder) → RestartAsked session → session.folder ≡ Some files → status ≢ Memory → (status ≡ Damaged) ↔ ((slot : ℕ) × ((damage : Damage) × SpoilsSet files slot damage))
   pub restarts : (files : Folder) (generation : ℕ) (g : Plain) → RestartAsked session → session.folder ≡ Some files → SpellsSet files generation g → RunsOn status

@@ -1,10 +1,10 @@
-ghost use Rattle.std.specs.Prelude.{◌≡◌, ◌⊎◌, [], Option, map, string_bytes};
+ghost use Rattle.std.specs.Prelude.{◌≡◌, ◌⊎◌, ◌↔◌, [], Option, map, string_bytes};
 ghost use Rattle.views.specs.Faults.{Rose};
 ghost use Rattle.plain_machine.specs.declared.plain.Plain.{Plain};
 ghost use Rattle.dmtcp_top.specs.Sessions.{session, sunk};
-ghost use Rattle.dmtcp_top.specs.Ends.{IsDecided};
+ghost use Rattle.dmtcp_top.specs.Ends.{FileDecides, IsDecided};
 ghost use Rattle.dmtcp_top.specs.Promise.{IsPromised};
-ghost use Rattle.dmtcp_top.specs.Words.{MakesNoCheckpoints};
+ghost use Rattle.dmtcp_top.specs.Words.{AskNothing, MakesNoCheckpoints};
 
 use crate::carry_out::carry_out;
 use crate::status::Status;
@@ -48,7 +48,18 @@ pub fn dmtcp<R: Wait + Threads + Sync, I: Inputs, O: Sink, L: Sink, F: Folder>(
         Rose (O.faults out.old) (O.faults out.new) ⊎ Rose (L.faults log.old) (L.faults log.new) }
     ensures disk_failed { result ≡ Status.DiskFault → Rose (F.faults disk.old) (F.faults disk.new) }
 
-    // Where nothing outside failed, what the call was given decides the status, but for want of memory.
+    // Where no sink failed the words decide whether it is Usage; where no input failed either, the program's file whether
+    // it is missing or bad; and where nothing outside failed, what the call was given decides the rest, but for want of
+    // memory.
+    ensures usage { (Rose (O.faults out.old) (O.faults out.new) → ⊥)
+        → (Rose (L.faults log.old) (L.faults log.new) → ⊥)
+        → (result ≡ Status.Usage) ↔ AskNothing (map string_bytes words.now) }
+    ensures file { (Rose (I.faults inputs.old) (I.faults inputs.new) → ⊥)
+        → (Rose (O.faults out.old) (O.faults out.new) → ⊥)
+        → (Rose (L.faults log.old) (L.faults log.new) → ⊥)
+        → (start : Option Plain) → FileDecides result
+        (session (map string_bytes words.now) (I.held inputs.old) (F.reads disk.old) start trace.new.records
+        (sunk (O.taken out.old) (O.taken out.new))) }
     ensures decided { (Rose (I.faults inputs.old) (I.faults inputs.new) → ⊥)
         → (Rose (O.faults out.old) (O.faults out.new) → ⊥)
         → (Rose (L.faults log.old) (L.faults log.new) → ⊥)
@@ -84,6 +95,15 @@ pub fn run_words<I: Inputs, O: Sink, L: Sink, F: Folder>(
     ensures sink_failed { result ≡ Status.SinkFault →
         Rose (O.faults out.old) (O.faults out.new) ⊎ Rose (L.faults log.old) (L.faults log.new) }
     ensures disk_failed { result ≡ Status.DiskFault → Rose (F.faults disk.old) (F.faults disk.new) }
+    ensures usage { (Rose (O.faults out.old) (O.faults out.new) → ⊥)
+        → (Rose (L.faults log.old) (L.faults log.new) → ⊥)
+        → (result ≡ Status.Usage) ↔ AskNothing (map string_bytes words.now) }
+    ensures file { (Rose (I.faults inputs.old) (I.faults inputs.new) → ⊥)
+        → (Rose (O.faults out.old) (O.faults out.new) → ⊥)
+        → (Rose (L.faults log.old) (L.faults log.new) → ⊥)
+        → (start : Option Plain) → FileDecides result
+        (session (map string_bytes words.now) (I.held inputs.old) (F.reads disk.old) start trace.new.records
+        (sunk (O.taken out.old) (O.taken out.new))) }
     ensures decided { (Rose (I.faults inputs.old) (I.faults inputs.new) → ⊥)
         → (Rose (O.faults out.old) (O.faults out.new) → ⊥)
         → (Rose (L.faults log.old) (L.faults log.new) → ⊥)

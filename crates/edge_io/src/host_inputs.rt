@@ -52,6 +52,7 @@ fn read_file<R: Files>(
     let file = match File::open(files, name) {
         Ok(file) => file,
         Err(error) if error.kind() == ErrorKind::NotFound => return Ok(None),
+        Err(error) if error.kind() == ErrorKind::OutOfMemory => return Err(InputFault::Memory),
         Err(_) => return Err(InputFault::Failed),
     };
     let mut bytes = Vec::new(alloc);

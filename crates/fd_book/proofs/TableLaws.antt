@@ -1,8 +1,8 @@
 -- A look-up among the descriptors of all processes is one at a place of the process's table, and what a change of one place does to them.
-use Rattle.std.proofs.Common.{◌≡◌, ◌≢◌, ◌<◌, ◌+◌, ℕ, zero, suc, Ordering, Less, Equal, Greater, Bool, true, false, cond, T, ◌&&◌, List, [], ◌∷◌, ◌++◌, refl, sym, ap, subst, ◌∙◌, arith, inl, inr, zero-add}
+use Rattle.std.proofs.Common.{◌≡◌, ◌≢◌, ◌<◌, ◌+◌, ℕ, zero, suc, Ordering, true, false, cond, T, List, [], ◌∷◌, ◌++◌, refl, sym, ap, subst, ◌∙◌, arith, inl, inr, zero-add}
 use Rattle.std.specs.Prelude.{Option, Some, None, option_and_then}
 use Rattle.std.specs.Option.{option_or}
-use Rattle.std.specs.Ordering.{is_eq, is_lt, eq_by_cmp}
+use Rattle.std.specs.Ordering.{eq_by_cmp}
 use Rattle.std.specs.FinMap as map
 use Rattle.std.specs.FinMap.{FinMap, find, is_sorted}
 use Rattle.std.specs.FinMap.Entries.{below_all}
@@ -16,7 +16,7 @@ use Rattle.fd_book.specs.Tables.{at_place, entries_from, all_entries, descriptor
 use Rattle.fd_book.proofs.OrderLaws.{real_slot_total, real_slot_exact}
 use Rattle.fd_book.proofs.Places.{past_places}
 use Rattle.views.proofs.MapValues.{find_below}
-use Rattle.views.proofs.Tests.{first, second}
+use Rattle.views.proofs.Passes.{first, second}
 use Rattle.sys_abi.specs.Orders.{real_pid_cmp}
 use Rattle.sys_abi.proofs.OrderLaws.{real_pid_total, real_pid_exact}
 

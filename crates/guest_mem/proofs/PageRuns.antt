@@ -3,17 +3,16 @@
 --     insert_one_more                             a page put adds one at most
 --     without-with                                pages taken away that were just put there
 --     without_skip, without_next                  more taken away, where none of these is there, or only the last one is
-use Rattle.std.proofs.Common.{◌≡◌, ◌≢◌, ℕ, zero, suc, ◌+◌, ◌-◌, ◌*◌, ◌≤◌, ◌<◌, Bool, true, false, cond, ◌&&◌, List, [], ◌∷◌, take, drop, refl, sym, ap, ◌∙◌, arith, ⊎_elim, inl, inr, add-zero, add-one}
-use Rattle.std.specs.Prelude.{None, ◌⊎◌, is_some, not, nat_le, nat_lt, replicate}
+use Rattle.std.proofs.Common.{◌≡◌, ◌≢◌, ℕ, zero, suc, ◌+◌, ◌-◌, ◌≤◌, ◌<◌, true, false, cond, List, refl, sym, ap, ◌∙◌, arith, ⊎_elim, inl, inr, add-zero}
+use Rattle.std.specs.Prelude.{None, ◌⊎◌, is_some}
 use Rattle.std.specs.Cmp.{nat_cmp_total}
 use Rattle.std.specs.FinMap as map
-use Rattle.std.proofs.lemmas.Bool.{cases_eq, cases_lt}
-use borrow.Author.Tests.{le-leb, lt-leb, lt-ltb, le-ltb}
-use Rattle.views.proofs.MapLaws.{get_insert_other, get_remove_same, get_remove_other, get-retain}
+use Rattle.std.proofs.lemmas.Bool.{cases_lt}
+use Rattle.views.proofs.MapLaws.{get_insert_other}
 use Rattle.plain_machine.specs.declared.memory.Frame.{Frame}
 use Rattle.plain_machine.specs.Memory.{Memory}
-use Rattle.plain_machine.specs.Start.{with_pages, page_of}
-use Rattle.guest_mem.specs.Pages.{is_among, IsFree, without_pages}
+use Rattle.plain_machine.specs.Start.{with_pages}
+use Rattle.guest_mem.specs.Pages.{IsFree, without_pages}
 use Rattle.plain_machine.proofs.PageByPage.{get_inside, get_outside, place, without_more}
 
 pub get-with_pages_other : (m : Memory) (page n rights : ℕ) (content : List ℕ) (q : ℕ) → (q < page) ⊎ (page + n ≤ q) → map.get (with_pages m page n rights content) q ≡ map.get m q
@@ -46,20 +45,6 @@ pub insert_one_more : (m : Memory) (page : ℕ) (frame : Frame) (limit : ℕ) �
 insert_one_more m page frame limit within =
     rw (map.len-insert nat_cmp_total m page frame)
     (elim (is_some (map.get m page)) as (λ found. cond found (map.len m) (map.len m + 1) ≤ limit + 1) [ true ↦ omega arith | false ↦ omega arith ])
-
-    beside : (q : ℕ) → (q ≡ page + n → ⊥) → ((page ≤ q) × (q < page + n)) ⊎ ((q < page) ⊎ (page + n ≤ q)) → map.get (map.remove (without_pages m page n) (page + n)) q ≡ map.get (without_pages m page (n + 1)) q
-    beside q differ (inl among) = removed q differ ∙ get_inside m page n q among.0 among.1 ∙ sym (get_inside m page (n + 1) q among.0 (omega arith))
-    beside q differ (inr (inl below)) = removed q differ ∙ get_outside m page n q (inl below) ∙ sym (get_outside m page (n + 1) q (inl below))
-    beside q differ (inr (inr above)) = removed q differ ∙ get_outside m page n q (inr above) ∙ sym (get_outside m page (n + 1) q (inr (omega arith)))
-
-    same : (q : ℕ) → map.get (map.remove (without_pages m page n) (page + n)) q ≡ map.get (without_pages m page (n + 1)) q
-    same q =
-        ⊎_elim
-        (λ (last : q ≡ page + n).
-        ap (map.get (map.remove (without_pages m page n) (page + n))) last ∙ get_remove_same nat_cmp_total map.nat_cmp-IsAntisymmetric (without_pages m page n) (page + n)
-        ∙ sym (get_inside m page (n + 1) q (omega arith) (omega arith)))
-        (λ (differ : q ≡ page + n → ⊥). beside q differ (place page n q))
-        (cases_eq q (page + n))
 
 pub without_skip : (m : Memory) (page n k : ℕ) → n ≤ k → ((q : ℕ) → page + n ≤ q → q < page + k → map.get (without_pages m page n) q ≡ None)
     → without_pages m page n ≡ without_pages m page k

@@ -115,7 +115,7 @@ fn a_clone_makes_a_thread(rt: HostRuntime) -> Result<(), Fail> {
     assert_eq!(rt; new.x[2], 0x7FFF_8000);
     assert_eq!(rt; new.x[4], 0x1234);
     assert_eq!(rt; new.x[10], 0);
-    assert_eq!(rt; new.pc, caller.pc);
+    assert_eq!(rt; new.pc, caller.pc.wrapping_add(4));
     assert_eq!(rt; guest.threads.clear_tid(NEW.0), Some(WORD));
     assert_eq!(rt; guest.next_thread(40_000), Some(NEW));
     Ok(())

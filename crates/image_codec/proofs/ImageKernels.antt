@@ -17,6 +17,8 @@ use Rattle.sys_abi.specs.declared.identity.DescId.{DescId}
 use Rattle.sys_abi.specs.Orders.{vpid_cmp, slot_cmp, desc_cmp, dir_cmp}
 use Rattle.sys_abi.proofs.OrderLaws.{vpid_total, vpid_exact, slot_total, slot_exact, desc_total, desc_exact, dir_total, dir_exact}
 use Rattle.plain_machine.specs.declared.kernel.PlainKernel.{PlainKernel}
+use Rattle.plain_machine.specs.declared.process.Process.{Process}
+use Rattle.plain_machine.specs.declared.process.Maker.{Maker}
 use Rattle.sys_abi.specs.declared.life.Life.{Life}
 use Rattle.plain_machine.specs.declared.description.Descriptor.{Descriptor}
 use Rattle.plain_machine.specs.Kernel.{is_held, refers_to}
@@ -34,6 +36,7 @@ use Rattle.image_codec.specs.KernelParts.{kernel_of, process_entry, maker_entry,
 use Rattle.image_codec.specs.KernelImages.{shared_of, process_image, descriptor_image, is_of}
 use Rattle.image_codec.specs.OneProcess.{ImageIsKernel, ImageHasNextId}
 use Rattle.image_codec.proofs.KernelLaws.{shared_of-kernel_of, thread_entries}
+use Rattle.plain_machine.proofs.Entries.{len_with}
 use Rattle.image_codec.proofs.OneProcess.{OneEntry, one_process, processes_are, one_is_live}
 
 -- tests
@@ -187,10 +190,18 @@ module _ (s : Shared) (is : IsShared s) (one : OneEntry s) where
   kernel_is : IsKernel (kernel_of s)
   unfolding kernel_of
   kernel_is =
+      let Made = λ (ps : List ProcessEntry) (p : VPid). is_some (map.get (map.from_entries {R = vpid_cmp} (each maker_entry ps)) p) ≡ true in
       let Known = λ (ps : List ProcessEntry) (p : VPid). is_some (map.get (map.from_entries {R = vpid_cmp} (each process_entry ps)) p) ≡ true in
       record {
         first_id = from_le 40000 s.next_id (and_first (nat_le 40000 s.next_id) _ is.fields.next_id.1);
         last_id = from_lt s.next_id (2 ^ 31) (and_second (nat_le 40000 s.next_id) _ is.fields.next_id.1);
+        count = subst (λ n. n ≤ 128) (sym (ap map.len (processes_are s one)))
+            (let most = len_with vpid_total map.empty one.process.pid (process_entry one.process).1 in let none = map.len-empty vpid_cmp Process in omega arith);
+        made = subst (λ (ps : List ProcessEntry). Each (map.from_entries {R = vpid_cmp} (each process_entry ps)) (λ p process. Made ps p)) (sym one.listed)
+            (each_made vpid_total vpid_exact (λ p process. Made (one.process ∷ []) p) (each process_entry (one.process ∷ []))
+            (ap is_some (get_insert_same vpid_total vpid_exact map.empty one.process.pid (maker_entry one.process).1), tt));
+        hosts = subst (λ (ps : List ProcessEntry). Each (map.from_entries {R = vpid_cmp} (each maker_entry ps)) (λ p (maker : Maker). maker.host < 16)) (sym one.listed)
+            (each_made vpid_total vpid_exact (λ p (maker : Maker). maker.host < 16) (each maker_entry (one.process ∷ [])) (from_lt one.process.host 16 one.fits.host.1, tt));
         processes = subst (λ (ps : List ProcessEntry). Each (map.from_entries {R = vpid_cmp} (each process_entry ps)) (IsProcess s.next_id)) (sym one.listed)
             (each_made vpid_total vpid_exact (IsProcess s.next_id) (each process_entry (one.process ∷ [])) (process_is s one, tt));
         makers = subst (λ (ps : List ProcessEntry). Each (map.from_entries {R = vpid_cmp} (each maker_entry ps)) (λ p maker. Known ps p)) (sym one.listed)

@@ -22,6 +22,7 @@ pub fn write_gate<F: Folder>(disk: &mut F, slot: u32, gate: u8) -> Result<(), Di
     ensures told { SameTold (F.reads disk.old) (F.reads disk.new) }
     ensures crash { Passes F.moment F.may_leave F.left_since (Torn (manifest_name slot) 0 1) disk.old disk.new }
     ensures cause { HasCause result DiskFault.Failed (F.faults disk.old) (F.faults disk.new) }
+    ensures want { result ≡ Err DiskFault.Memory → F.may_want }
 {
     disk.write_at(FileName { slot, index: 0 }, 0, &[gate])?;
     disk.sync()
@@ -37,6 +38,7 @@ pub fn close_gate<F: Folder>(disk: &mut F, slot: u32, gate: Option<u8>) -> Resul
     ensures told { SameTold (F.reads disk.old) (F.reads disk.new) }
     ensures crash { Passes F.moment F.may_leave F.left_since (closing_step slot gate) disk.old disk.new }
     ensures cause { HasCause result DiskFault.Failed (F.faults disk.old) (F.faults disk.new) }
+    ensures want { result ≡ Err DiskFault.Memory → F.may_want }
 {
     match gate {
         None => write_gate(disk, slot, CLOSED),

@@ -1,10 +1,11 @@
-ghost use Rattle.std.specs.Prelude.{◌≡◌, ◌+◌, suc, ◌-◌, ◌^◌, ◌<◌, ◌≤◌, All, length, IfOk, OnOk};
+ghost use Rattle.std.specs.Prelude.{◌≡◌, ◌+◌, suc, ◌-◌, ◌^◌, ◌<◌, ◌≤◌, All, length, IfOk, IfErr, OnOk};
 ghost use Rattle.std.specs.Option.{ForSome};
 ghost use Rattle.set_disk.specs.Moments.{LeavesOnly};
 ghost use Rattle.image_store.specs.FoundSets.{last_set};
 ghost use Rattle.image_store.specs.StoreRuns.{IsOneOf, IsSmall};
 ghost use Rattle.image_store.specs.StoreStates.{FitsFolder, next_generation};
 ghost use Rattle.image_store.specs.StoreCrashes.{OldOrNew, SameTold};
+ghost use Rattle.image_store.specs.StoreCauses.{HasCause, IsOutside};
 
 use crate::store::Store;
 use crate::store_fault::StoreFault;
@@ -30,6 +31,8 @@ fn put_or_open<F: Folder>(
     ensures reads { ForSome (F.reads disk.old) (λ files. ForSome (F.reads disk.new)
         (OldOrNew (last_set files) (next_generation store) set.now.files)) }
     ensures told { SameTold (F.reads disk.old) (F.reads disk.new) }
+    ensures refused { IfErr result IsOutside }
+    ensures cause { HasCause result StoreFault.DiskFault (F.faults disk.old) (F.faults disk.new) }
 {
     let generation = store.next();
     match store.put_set(alloc, disk, set) {
@@ -51,6 +54,11 @@ pub fn put_all<F: Folder>(
     requires small { All IsSmall sets.now }
 
     ensures fits { IfOk result (λ after. FitsFolder after (F.reads disk.new) (F.may_leave disk.new)) }
+
+    // Each set has had its generation.
+    ensures next { IfOk result (λ after. next_generation after ≡ next_generation store + length sets.now) }
+    ensures refused { IfErr result IsOutside }
+    ensures cause { HasCause result StoreFault.DiskFault (F.faults disk.old) (F.faults disk.new) }
 
     // A crash at any moment leaves the set that counted before, or one of these.
     ensures crash { ForSome (F.reads disk.old) (λ files.

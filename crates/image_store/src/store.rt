@@ -113,6 +113,9 @@ impl Store {
         ensures generation { IfOk result (λ done. done.1 ≡ next_generation self) }
         ensures last { IfOk result (λ done. IsSomeAnd done.0.last (λ info. info.generation ≡ next_generation self)) }
         ensures next { IfOk result (λ done. next_generation done.0 ≡ suc (next_generation self)) }
+
+        // It lies in the slot that did not count, slot 0 where none counted.
+        ensures store { IfOk result (λ done. done.0 ≡ with_set self (slot_to_write self.last) (next_generation self)) }
         ensures fits { IfOk result (λ done. FitsFolder done.0 (F.reads disk.new) (F.may_leave disk.new)) }
 
         // A crash at any moment of the call leaves the set that counted before, or the new one.
@@ -130,6 +133,9 @@ impl Store {
         ensures told { SameTold (F.reads disk.old) (F.reads disk.new) }
         ensures refused { IfErr result IsOutside }
         ensures cause { HasCause result StoreFault.DiskFault (F.faults disk.old) (F.faults disk.new) }
+
+        // Where the folder never wants for memory, a call that does has not touched it.
+        ensures own { (F.may_want → ⊥) → result ≡ Err StoreFault.Memory → disk.new ≡ disk.old }
     {
         let generation = self.next();
         let slot = slot_to_write(self.last);

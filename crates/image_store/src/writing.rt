@@ -49,6 +49,7 @@ fn write_file<F: Folder>(disk: &mut F, name: FileName, bytes: &[u8]) -> Result<(
     ensures told { SameTold (F.reads disk.old) (F.reads disk.new) }
     ensures crash { Passes F.moment F.may_leave F.left_since (OnlyFile name) disk.old disk.new }
     ensures cause { HasCause result DiskFault.Failed (F.faults disk.old) (F.faults disk.new) }
+    ensures want { result ≡ Err DiskFault.Memory → F.may_want }
 {
     disk.cut(name, 0)?;
     disk.write_at(name, 0, bytes)
@@ -62,6 +63,7 @@ fn write_images<F: Folder>(disk: &mut F, slot: u32, images: &[ListOf<u8>]) -> Re
     ensures told { SameTold (F.reads disk.old) (F.reads disk.new) }
     ensures crash { Passes F.moment F.may_leave F.left_since (KeepsManifest slot) disk.old disk.new }
     ensures cause { HasCause result DiskFault.Failed (F.faults disk.old) (F.faults disk.new) }
+    ensures want { result ≡ Err DiskFault.Memory → F.may_want }
 {
     for (i, image) in images.iter().enumerate() {
         let index = i as u32 + 1;
@@ -79,6 +81,7 @@ fn write_body<F: Folder>(disk: &mut F, slot: u32, manifest: &[u8]) -> Result<(),
     ensures told { SameTold (F.reads disk.old) (F.reads disk.new) }
     ensures crash { Passes F.moment F.may_leave F.left_since (KeepsGate slot) disk.old disk.new }
     ensures cause { HasCause result DiskFault.Failed (F.faults disk.old) (F.faults disk.new) }
+    ensures want { result ≡ Err DiskFault.Memory → F.may_want }
 {
     let name = FileName { slot, index: 0 };
     disk.write_at(name, 1, &manifest[1..])?;
@@ -102,6 +105,7 @@ fn fill_slot<F: Folder>(
     ensures told { SameTold (F.reads disk.old) (F.reads disk.new) }
     ensures crash { Passes F.moment F.may_leave F.left_since (KeepsGate slot) disk.old disk.new }
     ensures cause { HasCause result DiskFault.Failed (F.faults disk.old) (F.faults disk.new) }
+    ensures want { result ≡ Err DiskFault.Memory → F.may_want }
 {
     write_images(disk, slot, images)?;
     write_body(disk, slot, manifest)?;
@@ -129,6 +133,7 @@ pub fn write_set<F: Folder>(
     ensures crash { ForSome (F.reads disk.old) (λ files.
         LeavesOnly F.moment F.left_since disk.old disk.new (IsInPut slot files manifest.now images.now)) }
     ensures cause { HasCause result DiskFault.Failed (F.faults disk.old) (F.faults disk.new) }
+    ensures want { result ≡ Err DiskFault.Memory → F.may_want }
 {
     close_gate(disk, slot, gate)?;
     fill_slot(disk, slot, images, manifest)?;

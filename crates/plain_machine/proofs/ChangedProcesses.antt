@@ -1,7 +1,8 @@
 -- The processes of a kernel part with a change of one of them.
 --     each_changed      what holds of each one afterwards      changed_test      what a test tells of each      changed_other      the others are as they were
-use Rattle.std.proofs.Common.{◌≡◌, ◌≢◌, Bool, refl, sym, ap, subst, ◌∙◌, ⊎_elim}
-use Rattle.std.specs.Prelude.{Option, Some, None}
+--     changed_len      there are as many
+use Rattle.std.proofs.Common.{◌≡◌, ◌≢◌, ◌+◌, Bool, cond, refl, sym, ap, subst, ◌∙◌, ⊎_elim}
+use Rattle.std.specs.Prelude.{Option, Some, None, is_some}
 use Rattle.std.specs.FinMap as map
 use Rattle.views.proofs.MapLaws.{get_insert_same, get_insert_other, same_or_other}
 use Rattle.sys_abi.specs.declared.identity.VPid.{VPid}
@@ -32,6 +33,13 @@ module _ (processes : Processes) (p : VPid) (change : Process → Process) where
   pub changed_test : (test : Option Process → Bool) → ((process : Process) → map.get processes p ≡ Some process → test (Some (change process)) ≡ test (Some process)) → (q : VPid)
       → test (map.get (changed_at processes p change) q) ≡ test (map.get processes q)
   changed_test test same q = test_by test (map.get processes p) refl same q
+
+  len_by : (found : Option Process) → map.get processes p ≡ found → map.len (changed_by processes p change found) ≡ map.len processes
+  len_by None there = refl
+  len_by (Some process) there = map.len-insert vpid_total processes p (change process) ∙ ap (λ found. cond (is_some found) (map.len processes) (map.len processes + 1)) there
+
+  pub changed_len : map.len (changed_at processes p change) ≡ map.len processes
+  changed_len = len_by (map.get processes p) refl
 
   other_by : (found : Option Process) (q : VPid) → q ≢ p → map.get (changed_by processes p change found) q ≡ map.get processes q
   other_by None q other = refl

@@ -1,7 +1,7 @@
 -- A delivery, from what it came to.
 --     enters      one that enters the handler      stays, kept      one that doesn't
 use Rattle.std.proofs.Common.{◌≡◌, ◌≢◌, ℕ, Bool, true, false, cond, refl, sym, ap, subst, ◌∙◌}
-use Rattle.std.specs.Prelude.{◌==◌, ◌&&◌, ◌||◌, Option, Some, None, nat_lt, length, IfSome}
+use Rattle.std.specs.Prelude.{◌==◌, ◌&&◌, ◌||◌, Option, Some, nat_lt, length, IfSome}
 use Rattle.std.specs.FinMap as map
 use Rattle.sys_abi.specs.declared.delivery.Delivered.{Delivered}
 use Rattle.sys_abi.specs.declared.delivery.Delivered.TheVariants as came

@@ -1,11 +1,27 @@
 -- The entries of a map with one more, and with one less.
-use Rattle.std.proofs.Common.{◌≡◌, ◌≢◌, true, sym, ap, subst, ◌∙◌, ⊎_elim}
+use Rattle.std.proofs.Common.{◌≡◌, ◌≢◌, ℕ, ◌+◌, ◌-◌, ◌≤◌, Bool, true, false, cond, sym, ap, subst, ◌∙◌, arith, ⊎_elim}
 use Rattle.std.specs.Prelude.{Some, None, is_some}
 use Rattle.std.specs.declared.cmp.Ordering.{Ordering}
 use Rattle.std.specs.Cmp.{IsTotalOrder}
 use Rattle.std.specs.FinMap as map
 use Rattle.views.proofs.MapLaws.{get_insert_same, get_insert_other, same_or_other}
 use Rattle.plain_machine.specs.Valid.{Each}
+
+most_with : (b : Bool) (n m : ℕ) → m ≡ cond b n (n + 1) → m ≤ n + 1
+most_with true n m is = omega arith
+most_with false n m is = omega arith
+
+most_without : (b : Bool) (n m : ℕ) → m ≡ cond b (n - 1) n → m ≤ n
+most_without true n m is = omega arith
+most_without false n m is = omega arith
+
+-- how many there are
+module _ {K X : Type 0} {R : K → K → Ordering} (o : IsTotalOrder R) where
+  pub len_with : (m : map.FinMap R X) (k : K) (v : X) → map.len (map.insert m k v) ≤ map.len m + 1
+  len_with m k v = most_with (map.contains_key m k) (map.len m) _ (map.len-insert o m k v)
+
+  pub len_without : (m : map.FinMap R X) (k : K) → map.len (map.remove m k) ≤ map.len m
+  len_without m k = most_without (map.contains_key m k) (map.len m) _ (map.len-remove o m k)
 
 -- an entry of a map with one more is the new one, or was there
 module _ {K X : Type 0} {R : K → K → Ordering} (o : IsTotalOrder R) (exact : map.IsAntisymmetric R) where

@@ -1,7 +1,7 @@
 -- The words of the bytes that a call reads.
 --     word_in_bytes      a word is the sum of its bytes, and those past the end are 0
 --     low_word           the four bytes of a word
-use Rattle.std.proofs.Common.{◌≡◌, ℕ, zero, suc, ◌+◌, ◌*◌, ◌/◌, ◌%◌, List, [], ◌∷◌, take, drop, refl, ap, ◌∙◌, get_or, arith}
+use Rattle.std.proofs.Common.{◌≡◌, ℕ, zero, suc, ◌+◌, ◌*◌, ◌/◌, ◌%◌, List, [], ◌∷◌, take, drop, refl, ap, get_or, arith}
 use Rattle.plain_machine.specs.Memory.{little_endian, low_bytes}
 use Rattle.plain_machine.specs.Rows.Handlers.{word_in}
 

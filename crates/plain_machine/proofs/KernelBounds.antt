@@ -23,8 +23,8 @@ use Rattle.plain_machine.specs.declared.description.Descriptor.{Descriptor}
 use Rattle.plain_machine.specs.Kernel.{is_live, is_live_process, is_held, refers_to, is_slot_of, after_end, signals_of, with_signals, taken_from, raised_at, at_process, after_take, after_raise, thread_count_in, thread_count, has_thread_in, has_thread, without_thread, with_thread, with_next_thread}
 use Rattle.plain_machine.specs.Start.{FIRST_PID}
 use Rattle.plain_machine.specs.Valid.{IsSignalSet, IsGivenOut, FitsLife, IsProcess, IsKernel, Each}
-use Rattle.plain_machine.proofs.Entries.{each_with}
-use Rattle.plain_machine.proofs.ChangedProcesses.{each_changed, changed_test}
+use Rattle.plain_machine.proofs.Entries.{each_with, len_without}
+use Rattle.plain_machine.proofs.ChangedProcesses.{each_changed, changed_test, changed_len}
 use Rattle.plain_machine.proofs.SignalBounds.{set_without, set_with, none_without}
 use Rattle.plain_machine.proofs.ThreadKeys.{same_there, same_len}
 use Rattle.plain_machine.proofs.KernelThreads.{there_if_signal}
@@ -77,7 +77,12 @@ module _ (k : PlainKernel) (p : VPid) (is : IsKernel k) where
   end_keeps = record {
     first_id = is.first_id;
     last_id = is.last_id;
+    count = let less = len_without vpid_total k.processes p in let few = is.count in omega arith;
     processes = process_after;
+    made = λ q process found.
+        ap is_some (get_remove_other vpid_total vpid_exact k.makers p q (not_removed vpid_total vpid_exact k.processes p q process found))
+        ∙ is.made q process (still_there vpid_total vpid_exact k.processes p q process found);
+    hosts = λ q maker found. is.hosts q maker (still_there vpid_total vpid_exact k.makers p q maker found);
     makers = λ q maker found.
         ap is_some (get_remove_other vpid_total vpid_exact k.processes p q (not_removed vpid_total vpid_exact k.makers p q maker found))
         ∙ is.makers q maker (still_there vpid_total vpid_exact k.makers p q maker found);
@@ -103,6 +108,9 @@ module _ (k : PlainKernel) (p : VPid) (change : Process → Process) (next : ℕ
     first_id = first;
     last_id = last;
     processes = each_changed k.processes p change (IsProcess next) new (λ q process found. old q process (is.processes q process found));
+    count = subst (λ n. n ≤ 128) (sym (changed_len k.processes p change)) is.count;
+    made = each_changed k.processes p change (λ q process. is_some (map.get k.makers q) ≡ true) (λ process there. is.made p process there) is.made;
+    hosts = is.hosts;
     makers = λ q maker found. changed_test k.processes p change is_some (λ process there. refl) q ∙ is.makers q maker found;
     descriptors = λ at descriptor found.
         let was = is.descriptors at descriptor found in

@@ -1,6 +1,6 @@
 -- What a borrow of one entry of a map leaves.
-use Rattle.std.proofs.Common.{◌≡◌, subst, ap}
-use Rattle.std.specs.Prelude.{Option, Some, OnSome, Result, Ok, Err, OnOk, OnErr}
+use Rattle.std.proofs.Common.{◌≡◌, ap}
+use Rattle.std.specs.Prelude.{Some}
 use Rattle.std.specs.FinMap as map
 use Rattle.sys_abi.specs.declared.identity.VPid.{VPid}
 use Rattle.plain_machine.specs.declared.process.Process.{Process}

@@ -48,3 +48,4 @@ pub mod Delivering
 pub mod LentLengths
 pub mod RunRecords
 pub mod CallRecords
+pub mod AnsweredBytes

@@ -21,7 +21,7 @@ use Rattle.plain_machine.specs.Start.{Launched, NamedFile, FIRST_PID, console_of
 use Rattle.plain_machine.specs.Valid.{IsKernel, IsProcess, IsDescriptor, IsGivenOut, IsSignalSet, IsUser, IsValid, SameThreads, Each}
 use Rattle.plain_machine.specs.Launches.{IsLaunched}
 use Rattle.plain_machine.specs.Laws.{StartIsValid}
-use Rattle.plain_machine.proofs.Entries.{each_with, there_with, no_entry}
+use Rattle.plain_machine.proofs.Entries.{each_with, there_with, no_entry, len_with}
 use Rattle.plain_machine.proofs.StartPages.{all_tail}
 use Rattle.plain_machine.proofs.StartUsers.{one_entry, start_user_is}
 
@@ -106,12 +106,17 @@ module _ (k : PlainKernel) (p host : ℕ) (is : IsKernel k) (next : k.next_id �
   console_held = some_among-values slot_total slot_exact (refers_to (console_of p)) _ (slot (pid p) 2) (console_descriptor p)
       (get_insert_same slot_total slot_exact _ (slot (pid p) 2) (console_descriptor p)) (key_tied desc_total desc_exact (console_of p))
 
-  pub process_added : p + 1 < 2 ^ 31 → IsKernel (with_process k p host)
+  pub process_added : map.len k.processes < 128 → host < 16 → p + 1 < 2 ^ 31 → IsKernel (with_process k p host)
   unfolding with_process
-  process_added last = record {
+  process_added few low last = record {
     first_id = let first = is.first_id in omega arith;
     last_id = last;
     processes = each_with vpid_total vpid_exact (IsProcess (p + 1)) k.processes (pid p) (start_process p) (new_process p (let first = is.first_id in omega arith)) (λ q process other found. old_process q process (is.processes q process found));
+    count = let most = len_with vpid_total k.processes (pid p) (start_process p) in omega arith;
+    made = each_with vpid_total vpid_exact (λ q process. is_some (map.get (map.insert k.makers (pid p) (record { host = host; made = 1 })) q) ≡ true) k.processes (pid p) (start_process p)
+        (ap is_some (get_insert_same vpid_total vpid_exact k.makers (pid p) (record { host = host; made = 1 })))
+        (λ q process other found. there_with vpid_total vpid_exact k.makers (pid p) (record { host = host; made = 1 }) q (is.made q process found));
+    hosts = each_with vpid_total vpid_exact (λ q maker. maker.host < 16) k.makers (pid p) (record { host = host; made = 1 }) low (λ q maker other found. is.hosts q maker found);
     makers = each_with vpid_total vpid_exact (λ q maker. is_some (map.get (map.insert k.processes (pid p) (start_process p)) q) ≡ true) k.makers (pid p) _
         (ap is_some (get_insert_same vpid_total vpid_exact k.processes (pid p) (start_process p)))
         (λ q maker other found. there_with vpid_total vpid_exact k.processes (pid p) (start_process p) q (is.makers q maker found));
@@ -145,12 +150,12 @@ threads_added k users p host user old new q process u known found =
     (λ q process other known v there. old q process v known (sym (get_insert_other vpid_total vpid_exact users (pid p) user q other) ∙ there))
     q process known u found
 
-pub launched_valid : (k : PlainKernel) (users : map.FinMap vpid_cmp UserPart) (p : ℕ) (launched : Launched) → k.next_id ≡ p → p + 1 < 2 ^ 31 → IsLaunched launched → IsValid (record { kernel = k; users = users })
+pub launched_valid : (k : PlainKernel) (users : map.FinMap vpid_cmp UserPart) (p : ℕ) (launched : Launched) → k.next_id ≡ p → map.len k.processes < 128 → p + 1 < 2 ^ 31 → IsLaunched launched → IsValid (record { kernel = k; users = users })
     → IsValid (record { kernel = with_process k p launched.host; users = map.insert users (pid p) (start_user launched.program launched.arguments p) })
-launched_valid k users p launched next last starts is =
+launched_valid k users p launched next few last starts is =
     let user = start_user launched.program launched.arguments p in
     record {
-      kernel = process_added k p launched.host is.kernel next last;
+      kernel = process_added k p launched.host is.kernel next few starts.host last;
       users = each_with vpid_total vpid_exact (λ q u. IsUser u) users (pid p) user (start_user_is launched p starts (omega arith)) (λ q u other found. is.users q u found);
       alive = λ q. ⊎_elim
           (λ here. subst (λ x. is_some (map.get (map.insert users (pid p) user) x) ≡ is_live (with_process k p launched.host) x) (sym here)
@@ -164,14 +169,19 @@ next_after : (k : PlainKernel) (p host : ℕ) → (with_process k p host).next_i
 unfolding with_process
 next_after k p host = refl
 
+count_after : (k : PlainKernel) (p host : ℕ) → map.len (with_process k p host).processes ≤ map.len k.processes + 1
+unfolding with_process
+count_after k p host = len_with vpid_total k.processes (pid p) (start_process p)
+
 -- the processes of a job's programs, one after the other
-launched_all : (jobs : List Launched) (k : PlainKernel) (users : map.FinMap vpid_cmp UserPart) (p : ℕ) → k.next_id ≡ p → p + length jobs < 2 ^ 31 → All IsLaunched jobs → IsValid (record { kernel = k; users = users })
+launched_all : (jobs : List Launched) (k : PlainKernel) (users : map.FinMap vpid_cmp UserPart) (p : ℕ) → k.next_id ≡ p → map.len k.processes + length jobs ≤ 128 → p + length jobs < 2 ^ 31 → All IsLaunched jobs → IsValid (record { kernel = k; users = users })
     → IsValid (record { kernel = with_processes k p jobs; users = with_users users p jobs })
 unfolding with_processes with_users
-launched_all [] k users p next fits are is = is
-launched_all (launched ∷ rest) k users p next fits are is =
-    launched_all rest (with_process k p launched.host) _ (p + 1) (next_after k p launched.host) (omega arith) (all_tail IsLaunched launched rest are)
-    (launched_valid k users p launched next (omega arith) (are 0 launched (omega arith)) is)
+launched_all [] k users p next few fits are is = is
+launched_all (launched ∷ rest) k users p next few fits are is =
+    let most = count_after k p launched.host in
+    launched_all rest (with_process k p launched.host) _ (p + 1) (next_after k p launched.host) (omega arith) (omega arith) (all_tail IsLaunched launched rest are)
+    (launched_valid k users p launched next (omega arith) (omega arith) (are 0 launched (omega arith)) is)
 
 -- named files are no part of what is valid
 file_valid : (k : PlainKernel) (users : map.FinMap vpid_cmp UserPart) (file : NamedFile) → IsValid (record { kernel = k; users = users }) → IsValid (record { kernel = with_file k file; users = users })
@@ -180,8 +190,11 @@ file_valid k users file is = record {
   kernel = record {
     first_id = is.kernel.first_id;
     last_id = is.kernel.last_id;
+    count = is.kernel.count;
     processes = is.kernel.processes;
+    made = is.kernel.made;
     makers = is.kernel.makers;
+    hosts = is.kernel.hosts;
     descriptors = λ at descriptor found. let old = is.kernel.descriptors at descriptor found in record { number = old.number; alive = old.alive; described = old.described };
     descriptions = is.kernel.descriptions;
     directions = is.kernel.directions;
@@ -205,13 +218,29 @@ unfolding with_files
 files_next [] k = refl
 files_next (file ∷ rest) k = files_next rest (with_file k file) ∙ file_next k file
 
+file_processes : (k : PlainKernel) (file : NamedFile) → (with_file k file).processes ≡ k.processes
+unfolding with_file
+file_processes k file = refl
+
+files_processes : (files : List NamedFile) (k : PlainKernel) → (with_files k files).processes ≡ k.processes
+unfolding with_files
+files_processes [] k = refl
+files_processes (file ∷ rest) k = files_processes rest (with_file k file) ∙ file_processes k file
+
+nobody_at_first : map.len empty_kernel.processes ≡ 0
+unfolding empty_kernel
+nobody_at_first = map.len-empty vpid_cmp Process
+
 empty_valid : IsValid (record { kernel = empty_kernel; users = map.empty })
 unfolding empty_kernel is_live
 empty_valid = record {
   kernel = record {
     first_id = omega arith;
     last_id = omega arith;
+    count = let none = map.len-empty vpid_cmp Process in omega arith;
     processes = λ q process found. absurd (no_entry vpid_total vpid_exact q process found);
+    made = λ q process found. absurd (no_entry vpid_total vpid_exact q process found);
+    hosts = λ q maker found. absurd (no_entry vpid_total vpid_exact q maker found);
     makers = λ q maker found. absurd (no_entry vpid_total vpid_exact q maker found);
     descriptors = λ at descriptor found. absurd (no_entry slot_total slot_exact at descriptor found);
     descriptions = λ d description found. absurd (no_entry desc_total desc_exact d description found);
@@ -229,4 +258,5 @@ empty_next = refl
 pub start_is_valid : StartIsValid
 unfolding start start_kernel
 start_is_valid jobs files few are =
-    launched_all jobs (with_files empty_kernel files) map.empty FIRST_PID (files_next files empty_kernel ∙ empty_next) (omega arith) are (files_valid files empty_kernel map.empty empty_valid)
+    let none : map.len (with_files empty_kernel files).processes ≡ 0 = ap map.len (files_processes files empty_kernel) ∙ nobody_at_first in
+    launched_all jobs (with_files empty_kernel files) map.empty FIRST_PID (files_next files empty_kernel ∙ empty_next) (omega arith) (omega arith) are (files_valid files empty_kernel map.empty empty_valid)

@@ -128,7 +128,8 @@ unfolding word_at
 entry_is file place are = word_of_bytes (slice_range file place (place + 4)) (All-take IsByte _ _ (All-drop IsByte place file are))
 
 pub read_is_launched : ReadIsLaunched
-read_is_launched host file arguments bytes texts placed few = record {
+read_is_launched host file arguments bytes texts placed few low = record {
+  host = low;
   loadable = record { placed = placed; pages = few };
   entry = entry_is file 24 bytes;
   bytes = segments_are file (e_phnum file) bytes;

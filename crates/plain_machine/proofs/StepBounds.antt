@@ -192,8 +192,11 @@ module _ (g : Plain) (is : IsValid g) where
     kernel = record {
       first_id = is.kernel.first_id;
       last_id = is.kernel.last_id;
+      count = is.kernel.count;
       processes = is.kernel.processes;
+      made = is.kernel.made;
       makers = is.kernel.makers;
+      hosts = is.kernel.hosts;
       descriptors = λ at descriptor found. let old = is.kernel.descriptors at descriptor found in record { number = old.number; alive = old.alive; described = old.described };
       descriptions = is.kernel.descriptions;
       directions = each_direction dir _ (arrived direction n (is.kernel.directions dir direction there) fits);

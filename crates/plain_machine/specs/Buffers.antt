@@ -2,7 +2,7 @@
 -- Source: `man 2` of each call; a length is cut to 65,536, and a path ends with its first zero byte, within 256 bytes.
 --     reads_of q      what the call reads      writes_of q size      what its answer may write, where size is the length of the address that it writes
 --     lent memory q   the bytes that it reads, none where some buffer isn't readable or writable as needed (EFAULT)
-use Rattle.std.specs.Prelude.{◌==◌, ◌||◌, ℕ, zero, suc, ◌+◌, ◌/◌, ◌%◌, ◌≤◌, min, Bool, List, [], ◌∷◌, ◌++◌, Option, Some, None, is_some, unwrap_or, option_and_then, if◌then◌else◌}
+use Rattle.std.specs.Prelude.{◌==◌, ◌||◌, ℕ, zero, suc, ◌+◌, ◌≤◌, min, Bool, List, [], ◌∷◌, ◌++◌, Option, Some, None, is_some, unwrap_or, option_and_then, if◌then◌else◌}
 use Rattle.std.specs.Option.{option_map}
 use Rattle.std.specs.List.{list_all}
 use Rattle.sys_abi.specs.declared.request.Request.{Request}

@@ -1,6 +1,6 @@
 -- Words on a kernel part: look-ups, and changes, each of which a call's row names.
 -- Source: `man 2 open` (descriptors and open descriptions), `man 2 credentials` (processes), `man 7 signal` (pending signals).
-use Rattle.std.specs.Prelude.{◌==◌, ℕ, ◌+◌, Bool, true, false, not, ◌&&◌, ◌||◌, ◌%◌, nat_le, bit_or, Option, Some, None, is_some, unwrap_or, option_and_then, if◌then◌else◌}
+use Rattle.std.specs.Prelude.{◌==◌, ℕ, ◌+◌, Bool, false, not, ◌&&◌, ◌||◌, ◌%◌, nat_le, bit_or, Option, Some, None, is_some, unwrap_or, option_and_then, if◌then◌else◌}
 use Rattle.std.specs.List.{list_any}
 use Rattle.std.specs.Ordering.{eq_by_cmp}
 use Rattle.std.specs.FinMap as map
@@ -12,7 +12,6 @@ use Rattle.sys_abi.specs.Signals.{has_signal, with_signal, without_signal}
 use Rattle.plain_machine.specs.declared.kernel.PlainKernel.{PlainKernel}
 use Rattle.plain_machine.specs.declared.process.Process.{Process}
 use Rattle.plain_machine.specs.declared.process.Maker.{Maker}
-use Rattle.sys_abi.specs.declared.life.Life.{Life}
 use Rattle.plain_machine.specs.declared.description.Description.{Description}
 use Rattle.plain_machine.specs.declared.description.Descriptor.{Descriptor}
 use Rattle.sys_abi.specs.Lives.{lives}

@@ -1,5 +1,5 @@
 -- Laws of runs, each of which the contract of `run_laws` promises.
-use Rattle.std.specs.Prelude.{◌≡◌, ◌≢◌, ◌≤◌, ℕ, Bool, true, List, [], ◌∷◌, ◌++◌, length, Option, Some, None, All}
+use Rattle.std.specs.Prelude.{◌≡◌, ◌≢◌, ◌<◌, ◌≤◌, ℕ, Bool, true, List, [], ◌∷◌, ◌++◌, length, Option, Some, None, All}
 use Rattle.std.specs.FinMap as map
 use Rattle.sys_abi.specs.declared.identity.VPid.{VPid}
 use Rattle.sys_abi.specs.declared.reply.Reply.{Reply}
@@ -48,7 +48,7 @@ StepKeepsValid = (g next : Plain) (r : Record) → IsValid g → step g r ≡ So
 -- what a program of a file gives a job, where the file's reader accepts it
 abbrev pub ReadIsLaunched : Type 0
 ReadIsLaunched =
-    (host : ℕ) (file arguments : List ℕ) → All IsByte file → All IsByte arguments → All IsWellPlaced (program_of file).segments → page_count (program_of file).segments ≤ 1536
+    (host : ℕ) (file arguments : List ℕ) → All IsByte file → All IsByte arguments → All IsWellPlaced (program_of file).segments → page_count (program_of file).segments ≤ 1536 → host < 16
     → IsLaunched (record { host = host; program = program_of file; arguments = arguments })
 
 -- a process's part is valid at its start, and stays so over its steps and over the answers to its calls

@@ -6,9 +6,13 @@
 --     wake n address user               the first n threads that wait on the word are awake, or all of them
 --     after_thread_end user t           it is gone; the word that its end clears is 0, and the first that waits there is awake
 --     new_thread ..                     the thread that a clone makes of its caller
+--     with_new_thread ..                with it, where the caller's call has its answer
+--     with_called_thread user t new q   with it, where the caller still stands at the call q
 use Rattle.std.specs.Prelude.{◌==◌, ℕ, zero, suc, ◌+◌, Bool, not, List, [], ◌∷◌, ◌++◌, filter, find, Option, Some, None, unwrap_or, if◌then◌else◌}
 use Rattle.std.specs.FinMap as map
 use Rattle.sys_abi.specs.declared.flags.TheConstants.{CLONE_CHILD_CLEARTID, CLONE_SETTLS}
+use Rattle.sys_abi.specs.declared.request.Request.{Request}
+use Rattle.sys_abi.specs.declared.request.Request.TheVariants.{Clone}
 use Rattle.plain_machine.specs.declared.regs.Regs.{Regs}
 use Rattle.plain_machine.specs.declared.user_part.UserPart.{UserPart}
 use Rattle.plain_machine.specs.declared.user_part.ThreadPart.{ThreadPart}
@@ -99,3 +103,14 @@ with_new_thread_by user new flags stack tls child_tid (Some caller) = with_threa
 
 unfoldable pub with_new_thread : UserPart → ℕ → ℕ → ℕ → ℕ → ℕ → ℕ → UserPart
 with_new_thread user t new flags stack tls child_tid = with_new_thread_by user new flags stack tls child_tid (map.get user.threads t)
+
+-- the same, where the caller still stands at the call
+abbrev pub with_called_thread_by : UserPart → ℕ → ℕ → ℕ → ℕ → ℕ → Option ThreadPart → UserPart
+with_called_thread_by user new flags stack tls child_tid None = user
+with_called_thread_by user new flags stack tls child_tid (Some caller) =
+    with_thread user new (new_thread (after_call caller 0) flags stack tls child_tid) user.memory
+
+unfoldable pub with_called_thread : UserPart → ℕ → ℕ → Request → UserPart
+with_called_thread user t new (Clone flags stack parent_tid tls child_tid) =
+    with_called_thread_by user new flags stack tls child_tid (map.get user.threads t)
+with_called_thread user t new _ = user

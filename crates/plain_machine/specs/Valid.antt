@@ -68,11 +68,15 @@ pub record IsDirection (direction : Direction) : Type 0 where
   pub arrived : direction.arrived ≤ length direction.left
   pub size : length direction.left ≤ 65536
 
+-- at most 128 processes; each of them has a maker, on one of 16 hosts, and nobody else has one
 pub record IsKernel (k : PlainKernel) : Type 0 where
   pub first_id : FIRST_PID ≤ k.next_id
   pub last_id : k.next_id < 2 ^ 31
+  pub count : map.len k.processes ≤ 128
   pub processes : Each k.processes (IsProcess k.next_id)
+  pub made : Each k.processes (λ p process. is_some (map.get k.makers p) ≡ true)
   pub makers : Each k.makers (λ p maker. is_some (map.get k.processes p) ≡ true)
+  pub hosts : Each k.makers (λ p maker. maker.host < 16)
   pub descriptors : Each k.descriptors (IsDescriptor k)
   pub descriptions : Each k.descriptions (λ d description. is_held k.descriptors d ≡ true)
   pub directions : Each k.directions (λ dir direction. IsDirection direction)

@@ -33,7 +33,7 @@ pub struct Channel {
 #[derive(Drop)]
 pub struct Direction {
     pub left: ListOf<u8>,
-    pub arrived: u32,
+    pub arrived: u64,
     pub ended: bool,
     pub unread: bool,
 }

@@ -50,12 +50,12 @@ pub use laws::{run_laws, worked_examples};
 pub use memory::{Frame, Right};
 pub use plain::Plain;
 pub use process::{Maker, Process};
-pub use sys_abi::Life;
 pub use regs::Regs;
 pub use replaying::{ReplayFault, replay};
 pub use serve::Answer;
 pub use served::{Served, serve_slowly};
 pub use start::{FIRST_PID, NOBODY};
+pub use sys_abi::Life;
 pub use user_part::{Context, SignalAction, ThreadPart, UserPart, Waiter};
 
 #[cfg(test)]

@@ -1,4 +1,4 @@
-ghost use Rattle.std.specs.Prelude.{◌≡◌, ◌≤◌, false, [], None, length, IfOk, OnErr};
+ghost use Rattle.std.specs.Prelude.{◌≡◌, ◌≤◌, false, [], None, length, IfOk, IfSome, OnErr};
 ghost use Rattle.sys_abi.specs.declared.reply.Reply.TheVariants.{Value};
 ghost use Rattle.sys_abi.specs.declared.transfer.TheConstants.{TRANSFER_LIMIT};
 ghost use Rattle.plain_machine.specs.Rows.Write as write;
@@ -24,9 +24,28 @@ pub struct Answer {
 
 impl PlainKernel {
     /// Serves a call of a thread, where `given` are the bytes that the call reads. It answers None where the call waits.
-    /// Then, and after a failed allocation, the kernel part is as before.
-    #[tactic(auto, unfolding(crate::specs::Serve::serve, crate::specs::Serve::row, crate::specs::Rows::End::exit_group_row, crate::specs::Rows::End::exit_row))]
+    /// Then, and after a failed allocation, the kernel part is as before. An answer has at most 8 bytes for the guest: the
+    /// number of a new thread, in two places.
     pub fn serve(
+        &mut self,
+        alloc: Global,
+        p: VPid,
+        t: Tid,
+        request: &Request,
+        given: &[u8],
+    ) -> Result<Option<Answer>, AllocError>
+        requires { length given.now ≤ TRANSFER_LIMIT }
+        ensures ok { IfOk result (λ answer. serve self.old p t.0 request.now given.now ≡ answer_told self.new given.now answer) }
+        ensures few { IfOk result (λ answer. IfSome answer (λ answer. length answer.bytes ≤ 8)) }
+        ensures waits { IfOk result (λ answer. answer ≡ None → self.new ≡ self.old) }
+        ensures err { OnErr result (self.new ≡ self.old) }
+    {
+        self.serve_by_row(alloc, p, t, request, given)
+    }
+
+    /// The same, apart from how many bytes it answers: a row a call.
+    #[tactic(auto, unfolding(crate::specs::Serve::serve, crate::specs::Serve::row, crate::specs::Rows::End::exit_group_row, crate::specs::Rows::End::exit_row))]
+    fn serve_by_row(
         &mut self,
         alloc: Global,
         p: VPid,

@@ -20,8 +20,8 @@ mod waiting;
 
 pub use proc_fault::ProcFault;
 pub use process::Process;
-pub use sys_abi::Life;
 pub use procs::Procs;
+pub use sys_abi::Life;
 
 #[cfg(test)]
 mod tests;

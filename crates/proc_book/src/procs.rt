@@ -9,12 +9,11 @@ use crate::ends::{end, raise_at};
 use crate::limits::{PROCESS_LIMIT, THREAD_LIMIT};
 use crate::proc_fault::ProcFault;
 use crate::process::Process;
-use sys_abi::Life;
 use crate::process_map::ProcessMap;
 use crate::waiting::{Waiting, wait_for};
 use std::alloc::{AllocError, Global};
 use std::marker::Model;
-use sys_abi::{RealPid, Signal};
+use sys_abi::{Life, RealPid, Signal};
 
 /// The processes of all nodes, and for each node the number that it hands out next.
 #[derive(Drop)]

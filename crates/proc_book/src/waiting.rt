@@ -2,9 +2,8 @@ ghost use Rattle.std.specs.Prelude.{◌≡◌, None};
 ghost use Rattle.std.specs.FinMap as map;
 ghost use Rattle.proc_book.specs.Procs as words;
 
-use sys_abi::Life;
 use crate::process_map::ProcessMap;
-use sys_abi::RealPid;
+use sys_abi::{Life, RealPid};
 
 /// What a wait finds.
 #[derive(Clone, Copy, Debug, PartialEq, Eq)]

@@ -31,6 +31,9 @@ pub trait Folder {
     /// How many faults there have been.
     ghost faults: { Self → ℕ };
 
+    /// Want of memory comes only where this holds.
+    ghost may_want: { Type 0 };
+
     /// The length of the file in bytes, or `None` for a file that is not there.
     fn len(&mut self, name: FileName) -> Result<Option<u64>, DiskFault>
         ensures told { IfOk result (λ len. IfSome (reads self.old)
@@ -38,7 +41,8 @@ pub trait Folder {
 
         ensures same { reads self.new ≡ reads self.old }
         ensures crash { Passes moment may_leave left_since Same self.old self.new }
-        ensures cause { HasCause result (faults self.old) (faults self.new) };
+        ensures cause { HasCause result (faults self.old) (faults self.new) }
+        ensures want { result ≡ Err DiskFault.Memory → may_want };
 
     /// Reads from an offset in bytes, and answers how many bytes were placed at the front of `buf`:
     /// fewer than its length only at the file's end. Of a file that is not there it places none.
@@ -53,7 +57,8 @@ pub trait Folder {
 
         ensures same { reads self.new ≡ reads self.old }
         ensures crash { Passes moment may_leave left_since Same self.old self.new }
-        ensures cause { HasCause result (faults self.old) (faults self.new) };
+        ensures cause { HasCause result (faults self.old) (faults self.new) }
+        ensures want { result ≡ Err DiskFault.Memory → may_want };
 
     /// Writes over what is there and past the file's end, and makes the file if it is not there.
     /// After `Failed` the written range may hold any bytes.
@@ -70,7 +75,8 @@ pub trait Folder {
         ensures crash { Passes moment may_leave left_since (Torn name at (length bytes.now)) self.old self.new }
         ensures memory_crash { result ≡ Err DiskFault.Memory
             → Passes moment may_leave left_since Same self.old self.new }
-        ensures cause { HasCause result (faults self.old) (faults self.new) };
+        ensures cause { HasCause result (faults self.old) (faults self.new) }
+        ensures want { result ≡ Err DiskFault.Memory → may_want };
 
     /// Cuts the file to a length in bytes. A file that is not there is no fault and is not made.
     /// After `Failed` the cut may have happened or not.
@@ -87,7 +93,8 @@ pub trait Folder {
         ensures crash { Passes moment may_leave left_since (CutOrNot name len) self.old self.new }
         ensures memory_crash { result ≡ Err DiskFault.Memory
             → Passes moment may_leave left_since Same self.old self.new }
-        ensures cause { HasCause result (faults self.old) (faults self.new) };
+        ensures cause { HasCause result (faults self.old) (faults self.new) }
+        ensures want { result ≡ Err DiskFault.Memory → may_want };
 
     /// Makes all that reads give durable. After an error nothing new is settled.
     fn sync(&mut self) -> Result<(), DiskFault>
@@ -95,7 +102,8 @@ pub trait Folder {
 
         ensures same { reads self.new ≡ reads self.old }
         ensures crash { Passes moment may_leave left_since Same self.old self.new }
-        ensures cause { HasCause result (faults self.old) (faults self.new) };
+        ensures cause { HasCause result (faults self.old) (faults self.new) }
+        ensures want { result ≡ Err DiskFault.Memory → may_want };
 
     /// What reads give is one of the images that a crash may leave.
     ghost reads_left: { (folder : Self) (files : Files) → reads folder ≡ Some files → may_leave folder files };

@@ -7,7 +7,7 @@ use std::io::{ErrorKind, Read, Seek, SeekFrom, Write};
 use std::rt::Files;
 use std::{fs, io};
 
-fn fault_of(error: io::Error) -> DiskFault {
+pub fn fault_of(error: io::Error) -> DiskFault {
     match error.kind() {
         ErrorKind::OutOfMemory => DiskFault::Memory,
         _ => DiskFault::Failed,
@@ -122,7 +122,7 @@ fn sync_all<R: Files + AllocGlobal + Clone + Drop>(rt: &R, path: &str) -> io::Re
 }
 
 /// Whether a host file's name is that of a file of the folder.
-fn is_used(name: &str) -> bool {
+pub fn is_used(name: &str) -> bool {
     let Some((slot, index)) = name
         .strip_prefix('s')
         .and_then(|rest| rest.strip_suffix(".img"))
@@ -130,5 +130,11 @@ fn is_used(name: &str) -> bool {
     else {
         return false;
     };
-    slot.parse::<u32>().is_ok() && index.parse::<u32>().is_ok()
+    is_number(slot) && is_number(index)
+}
+
+/// Whether the text is a number as the folder writes it: digits, with no 0 in front of others.
+fn is_number(text: &str) -> bool {
+    let is_short = text.len() == 1 || !text.starts_with('0');
+    is_short && text.bytes().all(|byte| byte.is_ascii_digit()) && text.parse::<u32>().is_ok()
 }

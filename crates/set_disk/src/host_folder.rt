@@ -1,11 +1,11 @@
-ghost use Rattle.std.specs.Prelude.{◌≡◌, ◌≤◌, None, length, IfOk};
+ghost use Rattle.std.specs.Prelude.{◌≡◌, ◌≤◌, None, length, IfOk, ⊤};
 ghost use Rattle.set_disk.specs.Faults.{HasCause};
 ghost use Rattle.set_disk.specs.Untold.{AnyImage, AnySince, host_faults, one_moment};
 
 use crate::disk_fault::DiskFault;
 use crate::file_name::FileName;
 use crate::folder::Folder;
-use crate::host_files::{cut_file, length_of, read_file, sync_folder, write_file};
+use crate::host_files::{cut_file, fault_of, length_of, read_file, sync_folder, write_file};
 use std::alloc::{AllocError, Global};
 use std::fs;
 use std::io::ErrorKind;
@@ -52,7 +52,7 @@ impl<R: Files + AllocGlobal + Clone + Drop> HostFolder<R> {
             return Ok(());
         }
         match fs::create_dir(&self.rt, self.path.as_str()) {
-            Err(error) if error.kind() != ErrorKind::AlreadyExists => Err(DiskFault::Failed),
+            Err(error) if error.kind() != ErrorKind::AlreadyExists => Err(fault_of(error)),
             _ => {
                 self.is_made = true;
                 Ok(())
@@ -83,6 +83,8 @@ impl<R: Files + AllocGlobal + Clone + Drop> Folder for HostFolder<R> {
     ghost left_since = { AnySince };
 
     ghost faults = { host_faults };
+
+    ghost may_want = { ⊤ };
 
     ghost reads_left = { λ _ _ _. tt };
 

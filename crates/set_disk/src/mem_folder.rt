@@ -1,4 +1,4 @@
-ghost use Rattle.std.specs.Prelude.{◌≡◌, ◌≤◌, ◌<◌, ◌++◌, [], length, take, drop, option_map, IfOk, IfSome, OnOk, OnErr};
+ghost use Rattle.std.specs.Prelude.{◌≡◌, ◌≤◌, ◌<◌, ◌++◌, [], length, take, drop, option_map, IfOk, IfSome, OnOk, OnErr, ⊤};
 ghost use Rattle.std.specs.FinMap as map;
 ghost use Rattle.set_disk.specs.Files.{contents, with_write, with_cut};
 ghost use Rattle.set_disk.specs.Crash.{CutOrNot, IsSettled, Same, Takes, Torn};
@@ -135,6 +135,8 @@ impl Folder for MemFolder {
 
     ghost faults = { faults_of };
 
+    ghost may_want = { ⊤ };
+
     ghost reads_left = { laws.reads_left };
 
     ghost untold = { laws.untold };
@@ -150,6 +152,7 @@ impl Folder for MemFolder {
         ensures same { reads_of self.new ≡ reads_of self.old }
         ensures crash { Passes moment_of MayLeaveNow LeftSince Same self.old self.new }
         ensures cause { HasCause result (faults_of self.old) (faults_of self.new) }
+        ensures want { result ≡ Err DiskFault.Memory → ⊤ }
     {
         self.make(Request::Look)?;
         Ok(self.files.get(name).map(|file| file.len() as u64))
@@ -166,6 +169,7 @@ impl Folder for MemFolder {
         ensures same { reads_of self.new ≡ reads_of self.old }
         ensures crash { Passes moment_of MayLeaveNow LeftSince Same self.old self.new }
         ensures cause { HasCause result (faults_of self.old) (faults_of self.new) }
+        ensures want { result ≡ Err DiskFault.Memory → ⊤ }
     {
         self.make(Request::Look)?;
         match self.files.get(name) {
@@ -186,6 +190,7 @@ impl Folder for MemFolder {
         ensures memory_crash { result ≡ Err DiskFault.Memory
             → Passes moment_of MayLeaveNow LeftSince Same self.old self.new }
         ensures cause { HasCause result (faults_of self.old) (faults_of self.new) }
+        ensures want { result ≡ Err DiskFault.Memory → ⊤ }
     {
         let bytes = ListOf::from_vec(Vec::from_slice(self.alloc, bytes)?);
         self.make(Request::Write { name, at, bytes })
@@ -203,6 +208,7 @@ impl Folder for MemFolder {
         ensures memory_crash { result ≡ Err DiskFault.Memory
             → Passes moment_of MayLeaveNow LeftSince Same self.old self.new }
         ensures cause { HasCause result (faults_of self.old) (faults_of self.new) }
+        ensures want { result ≡ Err DiskFault.Memory → ⊤ }
     {
         self.make(Request::Cut { name, len })
     }
@@ -213,6 +219,7 @@ impl Folder for MemFolder {
         ensures same { reads_of self.new ≡ reads_of self.old }
         ensures crash { Passes moment_of MayLeaveNow LeftSince Same self.old self.new }
         ensures cause { HasCause result (faults_of self.old) (faults_of self.new) }
+        ensures want { result ≡ Err DiskFault.Memory → ⊤ }
     {
         self.make(Request::Sync)
     }

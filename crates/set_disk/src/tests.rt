@@ -1,3 +1,4 @@
+use crate::host_files::is_used;
 use crate::{DiskFault, FileName, Folder, HostFolder, MemFolder};
 use std::alloc::{AllocError, Global};
 use std::fs;
@@ -157,5 +158,22 @@ fn a_folder_of_the_host(rt: HostRuntime) -> Result<(), Fail> {
     let mut nowhere = HostFolder::new(&rt, alloc, "set_disk_missing/folder")?;
     let failed = nowhere.sync();
     assert_eq!(&rt; failed, Err(DiskFault::Failed));
+    Ok(())
+}
+
+#[test]
+fn names_of_files_of_a_folder(rt: HostRuntime) -> Result<(), Fail> {
+    for name in ["s0_1.img", "s10_0.img"] {
+        assert!(&rt; is_used(name), "{name}");
+    }
+    for name in [
+        "s00_1.img",
+        "s+0_1.img",
+        "s0_01.img",
+        "s_1.img",
+        "s0_1.img.",
+    ] {
+        assert!(&rt; !is_used(name), "{name}");
+    }
     Ok(())
 }

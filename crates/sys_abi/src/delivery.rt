@@ -10,7 +10,8 @@ pub type Given = [u8; 16];
 /// Where a thread stands when a signal is to be delivered to it.
 #[derive(Clone, Copy, Debug, PartialEq, Eq)]
 pub enum At {
-    /// At an instruction that goes on, or that traps with another signal, or waiting on a word.
+    /// Anywhere else: at an instruction that goes on, at a trap with another signal, at a call that its process answers
+    /// alone or that faults, or waiting on a word.
     Code,
     /// At a trap with that very signal.
     Trap,

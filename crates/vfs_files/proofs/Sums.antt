@@ -9,7 +9,7 @@ use Rattle.std.specs.FinMap.Entries.{below_all, by_order}
 use Rattle.std.proofs.lemmas.List.Sums.{sum_by-cons}
 use Rattle.views.proofs.MapLaws.{get_remove_same, insert_remove_same, remove_absent, values-empty}
 use Rattle.vfs_files.specs.FileTable.{Contents, bytes_of, contents}
-use Rattle.views.proofs.Tests.{first, second, less}
+use Rattle.views.proofs.Passes.{first, second, less}
 
 total : List (ℕ × List ℕ) → ℕ
 total es = sum_by length (mapped (λ e. e.1) es)

@@ -5,4 +5,4 @@ pub mod MapLaws
 pub mod MapValues
 pub mod SeenKeys
 pub mod Outcomes
-pub mod Tests
+pub mod Passes

@@ -16,7 +16,7 @@ use Rattle.std.specs.FinMap.{FinMap, IsAntisymmetric, is_sorted, find}
 use Rattle.std.specs.FinMap.Entries.{below_all}
 use Rattle.views.specs.Maps.{map_values, retain, option_filter}
 use Rattle.views.proofs.MapLaws.{same_key, key_tied, true_false, get-retain}
-use Rattle.views.proofs.Tests.{both, first, second, less}
+use Rattle.views.proofs.Passes.{both, first, second, less}
 
 abbrev with_values : {K X Y : Type 0} (f : X → Y) → List (K × X) → List (K × Y)
 with_values f es = mapped (λ e. (e.0, f e.1)) es

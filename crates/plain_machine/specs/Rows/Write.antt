@@ -1,4 +1,4 @@
--- write(fd, buffer, count) (`man 2 write`): EBADF unless the descriptor is open for writing. The console takes all of it.
+-- write(fd, buffer, count) (`man 2 write`): EBADF unless the descriptor is open for writing. The console takes all that was read, at most 65,536 bytes.
 use Rattle.std.specs.Prelude.{ℕ, List, length}
 use Rattle.sys_abi.specs.declared.identity.VPid.{VPid}
 use Rattle.sys_abi.specs.declared.errors.TheConstants.{EBADF, ENOSYS}

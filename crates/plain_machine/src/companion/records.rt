@@ -1,4 +1,4 @@
-ghost use Rattle.std.specs.Prelude.{◌≡◌, ◌≤◌, ◌+◌, length, IfOk};
+ghost use Rattle.std.specs.Prelude.{◌≡◌, ◌≤◌, ◌+◌, ◌&&◌, nat_le, length, Some, None, IfOk, if◌then◌else◌};
 ghost use Rattle.std.specs.FinMap as map;
 ghost use Rattle.sys_abi.specs.declared.transfer.TheConstants.{TRANSFER_LIMIT};
 ghost use Rattle.plain_machine.specs.Buffers.{lent};
@@ -20,7 +20,6 @@ use crate::served::{Served, serve_slowly};
 use crate::user_part::UserPart;
 use std::alloc::{AllocError, Global};
 use sys_abi::signals::{has_signal, without_signals};
-use sys_abi::transfer::TRANSFER_LIMIT;
 use sys_abi::{Delivered, Dir, Record, Request, Signal, Tid, VPid, is_local};
 use views::duplicate::Duplicate;
 use views::number_map::NumberMap;
@@ -147,11 +146,14 @@ fn serve(
     let Some(answer) = g.kernel.serve(alloc, p, t, request, given)? else {
         return Ok(false);
     };
-    let bytes = answer.bytes.as_slice();
-    if bytes.len() > TRANSFER_LIMIT {
-        return Err(AllocError);
-    }
-    put(alloc, &mut user, t, request, answer.reply, bytes)?;
+    put(
+        alloc,
+        &mut user,
+        t,
+        request,
+        answer.reply,
+        answer.bytes.as_slice(),
+    )?;
     g.users.insert(p, user)?;
     keep_living(g);
     Ok(true)
@@ -255,29 +257,40 @@ fn arrive(alloc: Global, g: &mut Plain, dir: Dir, n: u32) -> Result<bool, AllocE
     let Some(direction) = g.kernel.directions.get(dir) else {
         return Ok(false);
     };
-    if n < 1 || direction.left.len() < direction.arrived as usize + n as usize {
+    let Some(count) = count_after(direction, n) else {
         return Ok(false);
-    }
-    let after = arrived(alloc, direction, n)?;
+    };
+    let after = arrived(alloc, direction, count)?;
     g.kernel.directions.insert(dir, after)?;
     Ok(true)
 }
 
-/// A direction of which so many more bytes have arrived.
-fn arrived(alloc: Global, direction: &Direction, n: u32) -> Result<Direction, AllocError>
+/// How many bytes of a direction have arrived once so many more have, where as many were sent.
+fn count_after(direction: &Direction, n: u32) -> Option<u64>
+    ensures { result ≡ (if nat_le 1 n && nat_le (direction.now.arrived + n) (length direction.now.left) then Some (direction.now.arrived + n) else None) }
+{
+    let sent = direction.left.len() as u64;
+    if n < 1 || sent < direction.arrived {
+        return None;
+    }
+    if sent - direction.arrived < n as u64 {
+        return None;
+    }
+    Some(direction.arrived + n as u64)
+}
+
+/// A direction of which so many bytes have arrived.
+fn arrived(alloc: Global, direction: &Direction, count: u64) -> Result<Direction, AllocError>
     ensures { IfOk result (λ after. after ≡ record {
       left = direction.now.left;
-      arrived = direction.now.arrived + n;
+      arrived = count;
       ended = direction.now.ended;
       unread = direction.now.unread;
     }) }
 {
-    let Some(arrived) = direction.arrived.checked_add(n) else {
-        return Err(AllocError);
-    };
     Ok(Direction {
         left: direction.left.duplicate(alloc)?,
-        arrived,
+        arrived: count,
         ended: direction.ended,
         unread: direction.unread,
     })

@@ -1,4 +1,4 @@
-use Rattle.std.proofs.Common.{◌≤◌, sym, subst}
+use Rattle.std.proofs.Common.{◌≤◌, sym, subst, arith}
 use Rattle.std.specs.Prelude.{All}
 use Rattle.elf32.specs.declared.program.Program.{Program}
 use Rattle.elf32.specs.Pages.{page_count}
@@ -17,5 +17,5 @@ returns-in-Ok c =
       read,
       λ arguments bytes.
           subst (λ (p : Program). IsLaunched (record { host = 0; program = p; arguments = arguments })) (sym read)
-          (read_is_launched 0 c.args.file.now arguments (all_bytes c.args.file.now c.type_inv.file) bytes placed pages),
+          (read_is_launched 0 c.args.file.now arguments (all_bytes c.args.file.now c.type_inv.file) bytes placed pages (omega arith)),
     )

@@ -7,6 +7,7 @@ use Rattle.image_store.specs.FoundSets.{last_set}
 use Rattle.image_store.specs.StoreRuns.{IsOneOf}
 use Rattle.image_store.specs.StoreStates.{next_generation}
 use Rattle.image_store.specs.StoreCrashes.{OldOrNew}
+use Rattle.image_store.proofs.Causes.{counts, counts_none, counts_then}
 use Rattle.image_store.proofs.Passing.{leaves_only, passes_none, told_still, told_then}
 use Rattle.image_store.proofs.RunSteps.{one_more}
 use Rattle.image_store.proofs.runs.put_all.Goals as goal
@@ -17,6 +18,7 @@ loop-set-init g c = record {
   next = omega arith;
   told = refl;
   reads = λ files is now is_now. inl (ap last_set (same_Some now files (sym is_now ∙ is)));
+  count = counts_none _;
   crash = λ files is. leaves_only {may_leave = g.F.Folder.may_leave} files (λ image. IsOneOf (last_set files) (next_generation c.args.store) c.args.sets.now (last_set image)) (passes_none Same (λ f. refl) c.args.disk.now) (g.met.F.Folder.only_now c.args.disk.now) (c.requires.fits files is).settled (inl refl) (λ image same. inl (ap last_set same));
 }
 
@@ -41,6 +43,7 @@ loop-set-preserved g c =
           let still = told_still (g.F.Folder.reads c.args.disk.now) (g.F.Folder.reads c.loop-set.disk) files c.loop-set.invariant.told is in
           one_more (last_set files) (next_generation c.args.store) (next_generation c.loop-set.store) c.args.sets.now c.loop-set.set-index c.set-item.result (last_set still.0) (last_set after) there c.loop-set.invariant.next
           (c.loop-set.invariant.reads files is still.0 still.1) (c.put_or_open.ensures.reads still.0 still.1 after is_after);
+      count = counts_then c.loop-set.invariant.count (counts c.put_or_open.ensures.cause);
       crash = λ files is.
           let P = λ (image : Files). IsOneOf (last_set files) (next_generation c.args.store) c.args.sets.now (last_set image) in
           let still = told_still (g.F.Folder.reads c.args.disk.now) (g.F.Folder.reads c.loop-set.disk) files c.loop-set.invariant.told is in

@@ -5,6 +5,7 @@ use Rattle.image_store.specs.FoundSets.{last_set}
 use Rattle.image_store.specs.StoreRuns.{IsOneOf}
 use Rattle.image_store.specs.StoreStates.{FitsFolder, next_generation}
 use Rattle.image_store.specs.StoreCrashes.{SameTold}
+use Rattle.image_store.proofs.Causes.{Counts}
 use Rattle.image_store.proofs.runs.put_all.Given as goal
 
 -- the sets so far, and the store that fits after them
@@ -16,5 +17,6 @@ invariant-loop-set g l =
       next : next_generation l.store ≡ next_generation l.fn.store + l.set-index;
       told : SameTold (folder.reads l.fn.disk) (folder.reads l.disk);
       reads : ForSome (folder.reads l.fn.disk) (λ files. ForSome (folder.reads l.disk) (λ now. IsOneOf (last_set files) (next_generation l.fn.store) l.sets (last_set now)));
+      count : Counts (folder.faults l.fn.disk) (folder.faults l.disk);
       crash : ForSome (folder.reads l.fn.disk) (λ files. LeavesOnly folder.moment folder.left_since l.fn.disk l.disk (λ image. IsOneOf (last_set files) (next_generation l.fn.store) l.sets (last_set image)));
     }
