@@ -1,6 +1,7 @@
 -- What a machine that is made of the values of a set is: one that stands for the state that the set spells, and that can be checkpointed.
 --     IsOneImage      the files are two, and the images one
 --     restored_is_ready, restored_state_is      the machine
+--     set_is_valid      what a set's files spell is valid
 use Rattle.std.proofs.Common.{◌≡◌, ◌≢◌, ℕ, ◌-◌, ◌<◌, slice_index_or, true, List, [], ◌∷◌, length, refl, sym, ap, subst, ◌∙◌, ⊎_elim, arith}
 use Rattle.std.specs.Prelude.{All, Option, Some, None, is_some, map as each}
 use Rattle.std.specs.FinMap as map
@@ -28,8 +29,10 @@ use Rattle.image_codec.proofs.ImageKernels.{image_is_kernel}
 use Rattle.image_codec.proofs.SameThreads.{images_have_same_threads}
 use Rattle.guest_proc.specs.Guests.{GuestPart}
 use Rattle.guest_proc.proofs.FittingImages.{first_of}
+use Rattle.guest_proc.proofs.RebuiltUsers.{rebuilt_user}
 use Rattle.dmtcp_top.specs.declared.machine.Machine.{Machine}
 use Rattle.dmtcp_top.specs.Machines.{IsReady, only, plain_of, single}
+use Rattle.dmtcp_top.specs.OneOrder.{SetIsValid}
 use Rattle.dmtcp_top.proofs.Outcomes.{users_while_live}
 use Rattle.plain_machine.proofs.StartPages.{all_tail}
 
@@ -123,13 +126,23 @@ module _ (s : Shared) (images : List ProcImage) (is : IsOneImage s images) where
   threads q process u known found =
       subst (SameThreads process) (found_once p q user u found).1 (images_have_same_threads s is.text is.image q process is.shared is.process known).1
 
-  image_is_valid : IsUser user → IsValid (single (kernel_of s) p user)
-  image_is_valid valid = subst IsValid (sym stands) (record {
+  parts_are_valid : IsUser user → IsValid g
+  parts_are_valid valid = record {
     kernel = image_is_kernel s is.shared;
     users = λ q u found. subst IsUser (found_once p q user u found).1 valid;
     alive = alive;
     threads = threads;
-  })
+  }
+
+  image_is_valid : IsUser user → IsValid (single (kernel_of s) p user)
+  image_is_valid valid = subst IsValid (sym stands) (parts_are_valid valid)
+
+  state_is_valid : (state : Plain) → IsStateOf s images state → IsValid state
+  state_is_valid state parts =
+      let users : state.users ≡ only p user = parts.users ∙ ap (λ (list : List ProcImage). map.from_entries (each user_entry list)) is.images_are in
+      let whole : state ≡ g =
+      ap (λ (k : PlainKernel). let h : Plain = record { kernel = k; users = state.users } in h) parts.kernel ∙ ap (λ users. let h : Plain = record { kernel = kernel_of s; users = users } in h) users in
+      subst IsValid (sym whole) (parts_are_valid (rebuilt_user (pid_at s 2) (tids_at s 2) is.text is.image is.process is.bytes))
 
   module _ (m : Machine) (kernel : m.kernel ≡ kernel_of s) (guest : m.guest ≡ guest_of is.image) where
     part : m.guest.user ≡ user
@@ -156,3 +169,7 @@ module _ (s : Shared) (images : List ProcImage) (is : IsOneImage s images) where
       valid = subst IsValid (sym same_state) (image_is_valid (subst IsUser part valid));
       imaged = λ now. subst HasImage (sym kernel) (s, record { spelled = is.shared; kernel = refl });
     }
+
+pub set_is_valid : SetIsValid
+set_is_valid images state bytes spells =
+    state_is_valid spells.shared spells.processes (one_image images spells.shared spells.processes bytes spells.spelled) state spells.stands

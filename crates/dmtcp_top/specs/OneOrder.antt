@@ -6,13 +6,14 @@
 --     OneEnd               so two runs to such an end are one
 --     OneEnding            and where none asks for checkpoints two runs with as much room end alike, with one trace
 --     OneRestart           so restarts from one set, without checkpoints, answer one and leave one trace
+--     SetIsValid           whose state is valid, as that of a launch is
 --     OneAnswer            and two calls that begin with one state, launch or restart, show the same where both end as done
-use Rattle.std.specs.Prelude.{◌≡◌, ◌⊎◌, ℕ, ◌≤◌, true, List, [], ◌∷◌, ◌++◌, filter, length, take, Some, None}
+use Rattle.std.specs.Prelude.{◌≡◌, ◌⊎◌, ℕ, ◌≤◌, true, List, [], ◌∷◌, ◌++◌, filter, length, take, Some, None, All}
 use Rattle.sys_abi.specs.declared.record.Record.{Record}
 use Rattle.plain_machine.specs.declared.plain.Plain.{Plain}
 use Rattle.plain_machine.specs.Runs.{run, console}
 use Rattle.plain_machine.specs.Tests.{is_work, ended, IsStuck}
-use Rattle.plain_machine.specs.Valid.{IsValid}
+use Rattle.plain_machine.specs.Valid.{IsByte, IsValid}
 use Rattle.trace_log.specs.declared.requests.Schedule.{Schedule}
 use Rattle.trace_log.specs.Requests.{is_mark}
 use Rattle.set_disk.specs.Files.{Files as Folder}
@@ -20,7 +21,7 @@ use Rattle.dmtcp_top.specs.declared.settings.Settings.{Settings}
 use Rattle.dmtcp_top.specs.declared.status.Status.{Status}
 use Rattle.dmtcp_top.specs.declared.status.Status.TheVariants.{Done, Budget, Stuck}
 use Rattle.dmtcp_top.specs.Words.{IsRestart}
-use Rattle.dmtcp_top.specs.Sets.{SpellsSet}
+use Rattle.dmtcp_top.specs.Sets.{SpellsState, SpellsSet}
 use Rattle.dmtcp_top.specs.Rounds.{GoesInRounds}
 use Rattle.dmtcp_top.specs.declared.run_end.RunEnd.{RunEnd}
 use Rattle.dmtcp_top.specs.declared.run_end.RunEnd.TheVariants.{SinkFault, Memory}
@@ -85,6 +86,10 @@ OneRestart =
     (files : Folder) (generation : ℕ) (g : Plain) (settings : Settings) (a b : Session) (first second : Status) (log other : Sunk)
     → IsValid g → SpellsSet files generation g → settings.every ≡ None → IsRestart a.words settings → IsRestart b.words settings → a.folder ≡ Some files → b.folder ≡ Some files
     → Answers first → Answers second → Ends first a log → Ends second b other → (first ≡ second) × (a.trace ≡ b.trace)
+
+-- what a set's files spell is valid
+abbrev pub SetIsValid : Type 0
+SetIsValid = (images : List (List ℕ)) (g : Plain) → All (λ file. All IsByte file) images → SpellsState images g → IsValid g
 
 -- the same work, and the same bytes on the console
 pub record ShowOne (a b : Session) : Type 0 where

@@ -1,5 +1,5 @@
 ghost use Rattle.dmtcp_top.specs.Promise.{NotBoth, OneDamage, OneState, RoundTrip};
-ghost use Rattle.dmtcp_top.specs.OneOrder.{OneOrder, OneTrace, EndsThere, OneEnd, OneEnding, OneRestart, OneAnswer};
+ghost use Rattle.dmtcp_top.specs.OneOrder.{OneOrder, OneTrace, EndsThere, OneEnd, OneEnding, OneRestart, SetIsValid, OneAnswer};
 
 /// Laws of the sets that calls leave and restarts take. It does nothing. A folder's set spells one state at most, so where
 /// it is one of a run's cuts, a restart goes on from exactly the state there. A set that counts never both spells a state
@@ -20,5 +20,6 @@ pub fn order_laws()
     ensures end { OneEnd }
     ensures ending { OneEnding }
     ensures restart { OneRestart }
+    ensures valid { SetIsValid }
     ensures answer { OneAnswer }
 {}

@@ -1,5 +1,6 @@
 use Rattle.dmtcp_top.proofs.OneOrder.{one_order, one_trace, ends_there, one_end, one_ending, one_answer}
 use Rattle.dmtcp_top.proofs.OneRestart.{one_restart}
+use Rattle.dmtcp_top.proofs.Restored.{set_is_valid}
 use Rattle.dmtcp_top.proofs.laws.order_laws.Goals as goal
 
 pub returns-clause-order : goal.returns-clause-order
@@ -19,6 +20,9 @@ returns-clause-ending c = one_ending
 
 pub returns-clause-restart : goal.returns-clause-restart
 returns-clause-restart c = one_restart
+
+pub returns-clause-valid : goal.returns-clause-valid
+returns-clause-valid c = set_is_valid
 
 pub returns-clause-answer : goal.returns-clause-answer
 returns-clause-answer c = one_answer
