@@ -68,8 +68,7 @@ one_of_found found damage other (inr (images, first)) (inr (others, second)) =
 
 pub one_spoil : OneDamage
 one_spoil files slot other damage beside first second =
-    let same : second.found ≡ first.found = inside second.found first.found (sym second.counts ∙ first.counts) in
-    (
+    let same : second.found ≡ first.found = inside second.found first.found (sym second.counts ∙ first.counts) in (
       sym first.place ∙ ap (λ (found : FoundSet). found.slot) (sym same) ∙ second.place,
       one_of_found first.found damage beside first.damaged (subst (λ (found : FoundSet). Spoils found beside) same second.damaged),
     )
