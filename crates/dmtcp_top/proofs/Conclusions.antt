@@ -1,5 +1,5 @@
 -- How a call ends, from how it came to its end and what became of the last line.
-use Rattle.std.proofs.Common.{◌≡◌, ◌≢◌, ℕ, zero, suc, List, [], ◌++◌, take, Option, inl, inr, refl, sym, ap, subst, ◌∙◌, append-nil}
+use Rattle.std.proofs.Common.{◌≡◌, ◌≢◌, ℕ, zero, suc, List, [], ◌∷◌, ◌++◌, take, Option, inl, inr, refl, sym, ap, subst, ◌∙◌, append-nil}
 use Rattle.edge_io.specs.Sink.{appended}
 use Rattle.trace_log.specs.LogText.{log_text}
 use Rattle.dmtcp_top.specs.declared.status.Status.{Status}
