@@ -1,0 +1,5 @@
+pub mod Stages
+pub mod Members
+pub mod Rows
+pub mod Barriers
+pub mod Calls
