@@ -1,0 +1,4 @@
+pub mod Entries
+pub mod Holders
+pub mod Voting
+pub mod Elections
