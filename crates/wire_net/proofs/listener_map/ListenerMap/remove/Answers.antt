@@ -1,0 +1,13 @@
+use Rattle.std.proofs.Common.{ap, ◌∙◌}
+use Rattle.wire_net.proofs.OrderLaws.{real_address_total, real_address_exact}
+use Rattle.std.specs.FinMap as map
+use Rattle.views.proofs.TreeMaps.{get-seen, view-remove}
+use Rattle.wire_net.proofs.listener_map.ListenerMap.remove.Goals as goal
+
+pub returns-clause-before : goal.returns-clause-before
+returns-clause-before c = get-seen real_address_total c.self.inside.entries c.args.self.now c.args.key _ c.remove.ensures.value c.self.view_is
+
+pub returns-clause-removed : goal.returns-clause-removed
+returns-clause-removed c =
+    view-remove real_address_total real_address_exact c.self.inside.entries c.remove.new.self c.args.key c.remove.ensures.updates.0
+    ∙ ap (λ m. map.remove m c.args.key) c.self.view_is

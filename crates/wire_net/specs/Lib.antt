@@ -1,0 +1,10 @@
+pub mod Changes
+pub mod Channels
+pub mod CutRooms
+pub mod Directions
+pub mod LentListener
+pub mod Listeners
+pub mod Networks
+pub mod Orders
+pub mod Reserves
+pub mod Whereabouts

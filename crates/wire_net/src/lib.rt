@@ -1,0 +1,46 @@
+//! The network between all nodes: listeners with the connections that wait to be accepted, and channels, each with two
+//! directions whose bytes pass three queues in turn, that of the sender, the wire and that of the receiver.
+//!
+//! To a caller a [`Net`] is a finite map of listeners by their ports and a finite map of channels by their names. A
+//! direction of a channel is its three byte lists, which hold at most 65,536 bytes together, whether its sender has ended
+//! it, whether its receiver reads no more, and how many bytes it has taken so far. A channel knows which of its ends are
+//! open, and goes with the last one. A [`CutRoom`] is all room that a checkpoint's agents need to empty the queues and to
+//! fill them again; `whereabouts` says where the bytes of a direction are meanwhile.
+//!
+//! Proved: each call does to the maps what its clause says and leaves the rest as it was; each refusal comes exactly
+//! where its call says, and changes nothing; a move from queue to queue changes the whereabouts of no direction. The
+//! queues are rings whose room is taken by `pair` and `connect`: to send, to receive, to look, to end, to close and to
+//! move bytes takes no memory. Not proved: how long a call takes. `man 2 socketpair`, `man 2 listen`, `man 2 connect`,
+//! `man 2 accept` and `man 2 shutdown` are what the words restate; the limits, the ports and when bytes move are this
+//! project's own.
+#![tactic(auto)]
+
+mod agents;
+mod channel;
+mod closing;
+mod cut_room;
+mod lane;
+pub mod limits;
+mod listener;
+mod listener_map;
+mod listening;
+mod moving;
+mod net;
+mod net_fault;
+mod place;
+mod readers;
+mod rings;
+mod room;
+
+pub use agents::{AgentEnd, Stepped};
+pub use channel::Channel;
+pub use cut_room::{CutRoom, DirBytes, DirNotes, DrainedNet, RoomParts};
+pub use lane::Lane;
+pub use listener::{ConnQueue, Listener};
+pub use net::Net;
+pub use net_fault::NetFault;
+pub use place::Place;
+pub use room::Room;
+
+#[cfg(test)]
+mod tests;

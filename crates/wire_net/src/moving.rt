@@ -1,0 +1,66 @@
+//! Calls on a direction of a channel that may not be there.
+ghost use Rattle.std.specs.Prelude.{◌≡◌, ◌≤◌, min, take, length, IfOk, OnErr};
+ghost use Rattle.wire_net.specs.Directions as lanes;
+ghost use Rattle.wire_net.specs.Channels as words;
+ghost use Rattle.wire_net.specs.Networks as answers;
+
+use crate::channel::Channel;
+use crate::net_fault::NetFault;
+use crate::place::Place;
+use sys_abi::{ByConn, Dir, Transfer};
+
+pub(crate) fn send_on(channels: &mut ByConn<Channel>, d: Dir, piece: &[u8]) -> Result<u32, NetFault>
+    ensures answer { result ≡ answers.send_answer_on (words.direction_at channels.old d) (length piece.now) }
+    ensures ok { IfOk result (λ count. channels.new ≡ words.at_direction channels.old d (lanes.after_send (take count piece.now))) }
+    ensures err { OnErr result (channels.new ≡ channels.old) }
+{
+    let Some(channel) = channels.get_mut(d.conn) else {
+        return Err(NetFault::NotConnected);
+    };
+    channel.send(d.side, piece)
+}
+
+pub(crate) fn receive_on(
+    channels: &mut ByConn<Channel>,
+    d: Dir,
+    n: u32,
+    xfer: &mut Transfer,
+) -> Result<u32, NetFault>
+    requires { n ≤ 65536 }
+    ensures answer { result ≡ answers.receive_answer_on (words.direction_at channels.old d) n }
+    ensures ok { IfOk result (λ count. channels.new ≡ words.at_direction channels.old d (lanes.after_receive count)) }
+    ensures taken { IfOk result (λ count. xfer.new ≡ take count (answers.received_on (words.direction_at channels.old d))) }
+    ensures err { OnErr result (channels.new ≡ channels.old) }
+    ensures kept { OnErr result (xfer.new ≡ xfer.old) }
+{
+    let Some(channel) = channels.get_mut(d.conn) else {
+        return Err(NetFault::NotConnected);
+    };
+    channel.receive(d.side, n, xfer)
+}
+
+pub(crate) fn end_on(channels: &mut ByConn<Channel>, d: Dir)
+    ensures { channels.new ≡ words.at_direction channels.old d lanes.after_end }
+{
+    if let Some(channel) = channels.get_mut(d.conn) {
+        channel.end(d.side);
+    }
+}
+
+pub(crate) fn stop_reading_on(channels: &mut ByConn<Channel>, d: Dir)
+    ensures { channels.new ≡ words.at_direction channels.old d lanes.after_stop_reading }
+{
+    if let Some(channel) = channels.get_mut(d.conn) {
+        channel.stop_reading(d.side);
+    }
+}
+
+pub(crate) fn move_on(channels: &mut ByConn<Channel>, d: Dir, from: Place, n: u32) -> u32
+    ensures moved { result ≡ min n (length (answers.bytes_on from (words.direction_at channels.old d))) }
+    ensures after { channels.new ≡ words.at_direction channels.old d (lanes.after_move from n) }
+{
+    let Some(channel) = channels.get_mut(d.conn) else {
+        return 0;
+    };
+    channel.move_bytes(d.side, from, n)
+}
