@@ -1,0 +1,9 @@
+pub mod Numbers
+pub mod Keys
+pub mod Given
+pub mod Settings
+pub mod ProgramWords
+pub mod ProgramLists
+pub mod Forms
+pub mod Walks
+pub mod Defaults

@@ -1,0 +1,5 @@
+use Rattle.job_words.proofs.Forms.{one_command}
+use Rattle.job_words.proofs.reader.word_laws.Goals as goal
+
+pub returns : goal.returns
+returns c = one_command

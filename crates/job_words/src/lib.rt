@@ -1,0 +1,31 @@
+//! The words of the command line, and the job that they ask for.
+//!
+//! To a caller [`read_words`] takes the words behind the program's own name and gives a [`Job`]: a launch of programs, a
+//! restart, the worked ring, or the forms of the command line, each with its options under their names and with the
+//! defaults filled in. A program's arguments come as the bytes that a process is started with, each string with its zero
+//! byte. `specs/Commands.antt` says which words a command line has, `specs/Jobs.antt` what it asks for.
+//!
+//! Proved: the job is that of a command which spells these words; the answer is [`WordFault::Usage`] exactly where no
+//! command spells them, which is known before any memory is taken; and no words are of two commands. The values of a
+//! restart and of a ring are those that `clap` finds, whose contract says what it makes of the words; that the words are
+//! of the grammar is tested first, so that no parse fails but for want of memory. Not proved: that memory is wanted only
+//! where there is none (the tests have ample memory). The grammar is this project's own; a program's argument strings
+//! are those of the System V ABI.
+#![tactic(auto)]
+
+mod files;
+mod job;
+mod number;
+mod option_key;
+mod options;
+mod parsed;
+mod programs;
+mod reader;
+mod word_fault;
+
+pub use job::{Job, LaunchJob, NamedProgram, RestartJob, RingJob};
+pub use reader::{read_words, word_laws};
+pub use word_fault::WordFault;
+
+#[cfg(test)]
+mod tests;
