@@ -4,6 +4,7 @@
 --     whereabouts-at_direction     and so also where agents hold a part of them
 --     whereabouts-move             a move from queue to queue
 --     whereabouts-none             without agents
+--     stream-send, stream-receive  the bytes of a direction after a send, and after what was received
 use Rattle.std.proofs.Common.{◌≡◌, ℕ, ◌==◌, Bool, true, false, List, ◌++◌, take, drop, append_assoc, refl, sym, ap, ◌∙◌, inl, inr}
 use Rattle.std.specs.Prelude.{Option, Some, None, if◌then◌else◌}
 use Rattle.std.specs.Option.{option_map, option_map_or}
@@ -17,7 +18,7 @@ use Rattle.sys_abi.proofs.OrderLaws.{conn_total, conn_exact}
 use Rattle.wire_net.specs.declared.channel.Channel.{Channel}
 use Rattle.wire_net.specs.declared.place.Place.{Place}
 use Rattle.wire_net.specs.declared.place.Place.TheVariants.{Send, Wire}
-use Rattle.wire_net.specs.Directions.{Direction, after_move}
+use Rattle.wire_net.specs.Directions.{Direction, after_send, after_receive, after_move}
 use Rattle.wire_net.specs.Channels.{Channels, direction_of, at_side, direction_at, at_direction}
 use Rattle.wire_net.specs.Networks.{Network}
 use Rattle.wire_net.specs.Whereabouts.{Agents, stream, stream_on, reverse, placed, whereabouts}
@@ -74,3 +75,12 @@ whereabouts-move t agents d e place n = whereabouts-at_direction t agents d e (a
 
 pub whereabouts-none : (t : Network) (d : Dir) → whereabouts t map.empty d ≡ stream_on (direction_at t.channels d)
 whereabouts-none t d = ap (placed (stream_on (direction_at t.channels d)) (stream_on (direction_at t.channels (reverse d)))) (map.get-empty dir_cmp d)
+
+pub stream-send : (piece : List ℕ) (direction : Direction) → stream (after_send piece direction) ≡ stream direction ++ piece
+stream-send piece direction = sym (append_assoc (direction.received ++ direction.wire) direction.sent piece)
+
+pub stream-receive : (n : ℕ) (direction : Direction) → take n direction.received ++ stream (after_receive n direction) ≡ stream direction
+stream-receive n direction =
+    sym (append_assoc (take n direction.received) (drop n direction.received ++ direction.wire) direction.sent)
+    ∙ ap (λ bytes. bytes ++ direction.sent) (sym (append_assoc (take n direction.received) (drop n direction.received) direction.wire)
+    ∙ ap (λ bytes. bytes ++ direction.wire) (take-append-drop n direction.received))

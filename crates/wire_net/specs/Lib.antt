@@ -2,6 +2,7 @@ pub mod Changes
 pub mod Channels
 pub mod CutRooms
 pub mod Directions
+pub mod Laws
 pub mod LentListener
 pub mod Listeners
 pub mod Networks

@@ -8,11 +8,11 @@
 //! fill them again; `whereabouts` says where the bytes of a direction are meanwhile.
 //!
 //! Proved: each call does to the maps what its clause says and leaves the rest as it was; each refusal comes exactly
-//! where its call says, and changes nothing; a move from queue to queue changes the whereabouts of no direction. The
-//! queues are rings whose room is taken by `pair` and `connect`: to send, to receive, to look, to end, to close and to
-//! move bytes takes no memory. Not proved: how long a call takes. `man 2 socketpair`, `man 2 listen`, `man 2 connect`,
-//! `man 2 accept` and `man 2 shutdown` are what the words restate; the limits, the ports and when bytes move are this
-//! project's own.
+//! where its call says, and changes nothing; bytes come out of a direction as they went in, and a move from queue to
+//! queue changes the whereabouts of none ([`net_laws`]). The queues are rings whose room is taken by `pair` and
+//! `connect`: to send, to receive, to look, to end, to close and to move bytes takes no memory. Not proved: how long a
+//! call takes. `man 2 socketpair`, `man 2 listen`, `man 2 connect`, `man 2 accept` and `man 2 shutdown` are what the
+//! words restate; the limits, the ports and when bytes move are this project's own.
 #![tactic(auto)]
 
 mod agents;
@@ -20,6 +20,7 @@ mod channel;
 mod closing;
 mod cut_room;
 mod lane;
+mod laws;
 pub mod limits;
 mod listener;
 mod listener_map;
@@ -36,6 +37,7 @@ pub use agents::{AgentEnd, Stepped};
 pub use channel::Channel;
 pub use cut_room::{CutRoom, DirBytes, DirNotes, DrainedNet, RoomParts};
 pub use lane::Lane;
+pub use laws::net_laws;
 pub use listener::{ConnQueue, Listener};
 pub use net::Net;
 pub use net_fault::NetFault;
