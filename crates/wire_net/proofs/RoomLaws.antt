@@ -1,11 +1,13 @@
 -- Notes for each named direction, one more at a time, and the names of all of them.
-use Rattle.std.proofs.Common.{◌≡◌, ℕ, ◌+◌, ◌<◌, ◌≤◌, get_or, take, length, List, [], ◌∷◌, ◌++◌, refl, sym, ap, ◌∙◌}
+use Rattle.std.proofs.Common.{◌≡◌, ℕ, ◌+◌, ◌<◌, ◌≤◌, get_or, take, length, List, [], ◌∷◌, ◌++◌, refl, sym, ap, subst, ◌∙◌}
+use Rattle.std.specs.Prelude.{All}
 use Rattle.std.proofs.lemmas.List.{take_more, take_all}
+use Rattle.std.proofs.lemmas.List.Elements.{All-nil, All-cons, All-map}
 use Rattle.wire_net.specs.declared.cut_room.DirBytes.{DirBytes}
 use Rattle.wire_net.specs.declared.cut_room.DirNotes.{DirNotes}
 use Rattle.wire_net.specs.declared.cut_room.RoomParts.{RoomParts}
 use Rattle.wire_net.specs.Reserves.{Reserve, reserve}
-use Rattle.wire_net.specs.CutRooms.{Named, names_of, new_notes, all_notes, new_parts}
+use Rattle.wire_net.specs.CutRooms.{Named, names_of, new_notes, all_notes, new_parts, HasRoom}
 
 pub names_of-all_notes : (lengths : List Named) → names_of (all_notes lengths) ≡ lengths
 names_of-all_notes [] = refl
@@ -35,3 +37,10 @@ pub whole-made : (transfer : List ℕ) (notes : List DirNotes) (lists : Reserve 
     → parts transfer notes lists ≡ new_parts (names_of notes)
 whole-made transfer notes lists lengths first second third =
     (λ i. parts (first i) (second i) (third i)) ∙ ap new_parts (sym (names_of-made notes lengths second))
+
+pub room-made : (lengths : List Named) (notes : List DirNotes) → notes ≡ all_notes lengths → All HasRoom notes
+room-made lengths notes is = subst (All HasRoom) (sym is) (All-map HasRoom new_notes lengths (all_empty lengths))
+  where
+    all_empty : (names : List Named) → All (λ named. HasRoom (new_notes named)) names
+    all_empty [] = All-nil (λ (named : Named). HasRoom (new_notes named))
+    all_empty (named ∷ names) = All-cons (λ (named : Named). HasRoom (new_notes named)) named names refl (all_empty names)

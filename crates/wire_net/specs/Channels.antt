@@ -4,9 +4,10 @@
 --     at_side side f channel         f of that direction
 --     without_end side channel       the end of the side is closed: its outgoing direction is ended, its incoming one unread
 --     is_open channel                an end is open
+--     is_live channel                bytes may still pass both ways
 --     after_close side m id          that end of the channel is closed, if it is there; it is gone where no end of it is open then
 --     after_closes side m ids        likewise for each channel of a list, one after the other
-use Rattle.std.specs.Prelude.{◌==◌, ℕ, ◌-◌, Bool, true, false, List, [], ◌∷◌, slice_set, Option, Some, None, if◌then◌else◌}
+use Rattle.std.specs.Prelude.{◌==◌, ℕ, ◌-◌, Bool, true, false, ◌&&◌, List, [], ◌∷◌, slice_set, Option, Some, None, if◌then◌else◌}
 use Rattle.std.specs.Option.{option_map, option_map_or}
 use Rattle.std.specs.List.{list_any}
 use Rattle.std.specs.FinMap as map
@@ -15,7 +16,7 @@ use Rattle.sys_abi.specs.declared.identity.Dir.{Dir}
 use Rattle.sys_abi.specs.Orders.{conn_cmp}
 use Rattle.wire_net.specs.declared.channel.Channel.{Channel}
 use Rattle.wire_net.specs.Changes.{at_key}
-use Rattle.wire_net.specs.Directions.{Direction, unused, after_end, after_stop_reading}
+use Rattle.wire_net.specs.Directions.{Direction, unused, is_flowing, after_end, after_stop_reading}
 
 abbrev pub Channels : Type 0
 Channels = map.FinMap conn_cmp Channel
@@ -37,6 +38,12 @@ without_end side channel = with_closed_end side (at_side (1 - side) after_stop_r
 
 abbrev pub is_open : Channel → Bool
 is_open channel = list_any (λ open_end. open_end) channel.open_ends
+
+abbrev pub is_live : Channel → Bool
+is_live channel = is_flowing channel.first && is_flowing channel.second
+
+abbrev pub is_live_at : Channels → ConnId → Bool
+is_live_at m id = option_map_or is_live (map.get m id) false
 
 -- the direction of a channel that is there
 abbrev pub direction_at : Channels → Dir → Option Direction

@@ -4,6 +4,7 @@
 --     new_notes named         nothing is noted of the direction, and there is room for two lists of the length
 --     new_parts lengths       all room for these directions
 --     IsWholeIf whole parts   if so, nothing of the room is used
+--     HasRoom notes           nothing has come back of the direction yet
 use Rattle.std.specs.Prelude.{◌≡◌, ℕ, Bool, true, List, [], map, length, None}
 use Rattle.sys_abi.specs.declared.identity.Dir.{Dir}
 use Rattle.wire_net.specs.Reserves.{reserve}
@@ -43,3 +44,7 @@ new_parts lengths = record { transfer = []; notes = all_notes lengths; lists = r
 
 abbrev pub IsWholeIf : Bool → RoomParts → Type 0
 IsWholeIf whole parts = whole ≡ true → parts ≡ new_parts (names_of parts.notes)
+
+-- the list of what comes back is empty, so that its room is there
+abbrev pub HasRoom : DirNotes → Type 0
+HasRoom notes = notes.returned.items ≡ []

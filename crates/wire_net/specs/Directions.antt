@@ -5,6 +5,7 @@
 --     room direction                   how many more they hold
 --     send_answer direction n          what sending n bytes answers: how many are taken, or why none is
 --     after_send piece direction       the piece stands behind all that was sent
+--     is_flowing direction             bytes may still pass: it is neither ended nor unread
 --     is_over direction                it is ended, and nothing stands in it
 --     receive_answer direction n       what reading at most n bytes answers: how many are read, or that none can be read yet
 --     after_receive n direction        so many bytes have been read
@@ -47,6 +48,9 @@ after_send piece direction = record direction {
   sent = direction.sent ++ piece;
   carried = min (direction.carried + length piece) (2 ^ 64 - 1);
 }
+
+abbrev pub is_flowing : Direction → Bool
+is_flowing direction = not direction.is_ended && not direction.is_unread
 
 abbrev pub is_over : Direction → Bool
 is_over direction = direction.is_ended && (standing direction == 0)

@@ -2,6 +2,7 @@ pub mod Changes
 pub mod Channels
 pub mod CutRooms
 pub mod Directions
+pub mod Ends
 pub mod Laws
 pub mod LentListener
 pub mod Listeners

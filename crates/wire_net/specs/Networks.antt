@@ -5,7 +5,7 @@
 --     send_answer_on, receive_answer_on      what a call on a direction answers, where its channel may not be there
 --     received_on, bytes_on          what stands in a queue of a direction, nothing where its channel is not there
 --     counts_of direction            the lengths of its three queues
-use Rattle.std.specs.Prelude.{ℕ, nat_le, length, List, [], ◌∷◌, slice_get, Option, Some, None, Result, Ok, Err, refl, if◌then◌else◌}
+use Rattle.std.specs.Prelude.{ℕ, nat_le, length, List, [], ◌∷◌, slice_get, Option, Some, None, Result, Err, refl, if◌then◌else◌}
 use Rattle.std.specs.Option.{ok_or}
 use Rattle.std.specs.Coded.{Coded, code_by, coded×, coded_ℕ}
 use Rattle.std.specs.FinMap as map

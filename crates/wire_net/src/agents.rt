@@ -1,3 +1,7 @@
+ghost use Rattle.std.specs.Prelude.{◌≡◌};
+ghost use Rattle.std.specs.Option.{option_copied};
+ghost use Rattle.wire_net.specs.Ends as words;
+
 use sys_abi::{ConnId, RealPid};
 
 /// What a step of an agent did.
@@ -17,4 +21,27 @@ pub struct AgentEnd {
     pub conn: ConnId,
     pub side: u8,
     pub agent: Option<RealPid>,
+}
+
+impl AgentEnd {
+    /// Whether it is the end of that side of the channel.
+    fn is_at(&self, conn: ConnId, side: u8) -> bool
+        ensures { result ≡ words.is_end_at conn side self.now }
+    {
+        self.conn.pid.0 == conn.pid.0 && self.conn.num == conn.num && self.side == side
+    }
+}
+
+fn end_of(ends: &[AgentEnd], conn: ConnId, side: u8) -> Option<&AgentEnd>
+    ensures { option_copied result ≡ words.end_of ends.now conn side }
+{
+    ends.iter().find(|end| end.is_at(conn, side))
+}
+
+/// The process that acts for an end of a channel, by a list of ends: none where the end is not listed, or nobody does.
+pub fn agent_of(ends: &[AgentEnd], conn: ConnId, side: u8) -> Option<RealPid>
+    ensures { result ≡ words.agent_of ends.now conn side }
+{
+    let end = end_of(ends, conn, side)?;
+    end.agent
 }

@@ -37,6 +37,16 @@ impl Channel {
         if side == 0 { &self.first } else { &self.second }
     }
 
+    /// Whether bytes may still pass both ways.
+    pub fn is_live(&self) -> bool
+        ensures { result ≡ words.is_live self.now }
+    {
+        if !self.first.is_flowing() {
+            return false;
+        }
+        self.second.is_flowing()
+    }
+
     pub(crate) fn send(&mut self, side: u8, piece: &[u8]) -> Result<u32, NetFault>
         ensures answer { result ≡ lanes.send_answer (words.direction_of side self.old) (length piece.now) }
         ensures ok { IfOk result (λ count. self.new ≡ words.at_side side (lanes.after_send (take count piece.now)) self.old) }

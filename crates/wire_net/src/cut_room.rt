@@ -1,4 +1,4 @@
-ghost use Rattle.std.specs.Prelude.{◌≡◌, true, false, IfOk};
+ghost use Rattle.std.specs.Prelude.{◌≡◌, true, false, All, IfOk};
 ghost use Rattle.wire_net.specs.CutRooms as words;
 
 use crate::room::Room;
@@ -50,7 +50,8 @@ pub struct RoomParts {
 }
 
 /// All room that the agents of a checkpoint need, taken before it begins. A contract sees the directions that it names
-/// with their lengths, and whether it is whole, which it is until its lists were handed out.
+/// with their lengths, and whether it is whole, which it is until its lists were handed out. That of what comes back is
+/// there all the time.
 #[derive(Drop)]
 pub struct CutRoom {
     parts: RoomParts,
@@ -58,13 +59,14 @@ pub struct CutRoom {
 }
 
 impl Model for CutRoom {
-    ghost use Rattle.wire_net.specs.CutRooms.{RoomView, names_of, IsWholeIf};
+    ghost use Rattle.std.specs.Prelude.{All};
+    ghost use Rattle.wire_net.specs.CutRooms.{RoomView, names_of, IsWholeIf, HasRoom};
 
     ghost Value = { RoomView };
 
     ghost view = { λ a. record { lengths = names_of a.parts.notes; is_whole = a.is_whole } };
 
-    ghost invariant = { λ a. IsWholeIf a.is_whole a.parts };
+    ghost invariant = { λ a. IsWholeIf a.is_whole a.parts × All HasRoom a.parts.notes };
 }
 
 impl CutRoom {
@@ -89,12 +91,14 @@ impl CutRoom {
     pub fn into_parts(self) -> RoomParts
         ensures names { words.names_of result.notes ≡ self.lengths }
         ensures whole { self.is_whole ≡ true → result ≡ words.new_parts self.lengths }
+        ensures room { All words.HasRoom result.notes }
     {
         self.parts
     }
 
     /// Room whose lists were handed out in part. It names the same directions, and is not whole.
     pub fn from_parts(parts: RoomParts) -> CutRoom
+        requires { All words.HasRoom parts.notes }
         ensures { result ≡ record { lengths = words.names_of parts.notes; is_whole = false } }
     {
         CutRoom {

@@ -135,6 +135,13 @@ impl Lane {
         }
     }
 
+    /// Whether bytes may still pass: it is neither ended nor unread.
+    pub(crate) fn is_flowing(&self) -> bool
+        ensures { result ≡ words.is_flowing self.now }
+    {
+        !self.is_ended && !self.is_unread
+    }
+
     /// Whether its sender sends no more.
     pub fn is_ended(&self) -> bool
         ensures { result ≡ self.now.is_ended }

@@ -52,6 +52,16 @@ impl Net {
         }
     }
 
+    /// Whether bytes may still pass both ways: the channel is there, and neither direction is ended or unread.
+    pub fn is_live(&self, id: ConnId) -> bool
+        ensures { result ≡ channels.is_live_at self.now.channels id }
+    {
+        match self.channels.get(id) {
+            None => false,
+            Some(channel) => channel.is_live(),
+        }
+    }
+
     /// How many bytes stand in the sender's queue, on the wire and in the receiver's queue.
     pub fn counts(&self, d: Dir) -> [u32; 3]
         requires { d.side < 2 }
