@@ -1,0 +1,16 @@
+//! What an agent sends behind the last byte of a direction, so that the reading agent knows where the direction ends.
+ghost use Rattle.std.specs.Prelude.{◌≡◌};
+ghost use Rattle.drain_core.specs.Tasks as words;
+
+use sys_abi::ConnId;
+
+/// The cookie of a channel: a magic word, the process that made the channel, and that process's running number.
+pub(crate) fn cookie_of(conn: ConnId) -> [u8; 16]
+    ensures { result ≡ words.cookie conn }
+{
+    let [p0, p1, p2, p3] = conn.pid.0.to_le_bytes();
+    let [n0, n1, n2, n3] = conn.num.to_le_bytes();
+    [
+        b'D', b'M', b'T', b'C', b'P', b'C', b'K', b'1', p0, p1, p2, p3, n0, n1, n2, n3,
+    ]
+}
