@@ -3,7 +3,7 @@
 --     note_dir, note_sender, note_reader     what a step leaves of the notes on a direction
 --     own_after                   the direction of an item after the step
 --     fits_after, named_after     the notes fit the network after a step
-use Rattle.std.proofs.Common.{◌≡◌, ◌≢◌, ℕ, ◌==◌, ◌+◌, Bool, true, false, List, [], ◌∷◌, ◌++◌, take, length, refl, sym, ap, ap₂, subst, ◌∙◌, append_assoc, inl, inr}
+use Rattle.std.proofs.Common.{◌≡◌, ◌≢◌, ℕ, ◌==◌, ◌+◌, Bool, true, false, List, [], ◌∷◌, ◌++◌, take, length, refl, sym, ap, ap₂, subst, ◌∙◌, inl, inr}
 use Rattle.std.specs.Prelude.{Option, Some, None, All, IsSome, is_some, ◌||◌, if◌then◌else◌}
 use Rattle.std.specs.Option.{option_map}
 use Rattle.std.specs.Ordering.{eq_by_cmp}
@@ -18,21 +18,11 @@ use Rattle.wire_net.specs.Channels.{Channels, direction_at, at_direction, is_liv
 use Rattle.wire_net.specs.Whereabouts.{stream_on}
 use Rattle.drain_core.specs.Tasks.{is_agent, readable, sendable, with_sent, noted_read, noted_sent, note_after, direction_after}
 use Rattle.drain_core.specs.Drains.{Notes, IsNoted, IsDraining, IsInStep, dirs_of, Apart, Fits, has_notes, notes_after, channels_after}
-use Rattle.drain_core.proofs.OneDirection.{direction_changed}
+use Rattle.wire_net.proofs.OneDirection.{direction_changed}
+pub use Rattle.wire_net.proofs.Items.{for_each, one_of}
 use Rattle.drain_core.proofs.OneDrain.{step_kept}
 use Rattle.drain_core.proofs.LiveChannels.{live_after}
 use Rattle.drain_core.proofs.Walk.{untouched, front_apart}
-
-pub for_each : (Q : DirNotes → Type 0) (notes : Notes) → ((front back : Notes) (x : DirNotes) → notes ≡ front ++ x ∷ back → Q x) → All Q notes
-for_each Q notes told = go [] notes refl
-  where
-    go : (front rest : Notes) → notes ≡ front ++ rest → All Q rest
-    go front [] is = All-nil Q
-    go front (x ∷ rest) is = All-cons Q x rest (told front rest x is) (go (front ++ x ∷ []) rest (is ∙ sym (append_assoc front (x ∷ []) rest)))
-
-pub one_of : (P : DirNotes → Type 0) (front back : Notes) (x : DirNotes) → All P (front ++ x ∷ back) → P x
-one_of P [] back x all = All-head P x back all
-one_of P (y ∷ front) back x all = one_of P front back x (All-tail P y (front ++ x ∷ back) all)
 
 pub front_of : (P : DirNotes → Type 0) (front rest : Notes) → All P (front ++ rest) → All P front
 front_of P [] rest all = All-nil P

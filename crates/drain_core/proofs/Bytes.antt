@@ -25,7 +25,7 @@ use Rattle.wire_net.specs.Whereabouts.{Held, stream_on, reverse, placed, whereab
 use Rattle.drain_core.specs.Tasks.{note_after, direction_after}
 use Rattle.drain_core.specs.Drains.{Notes, IsNoted, IsInStep, Fits, notes_after, channels_after}
 use Rattle.drain_core.specs.Holding.{held_of, agents_of}
-use Rattle.drain_core.proofs.OneDirection.{unchanged_direction, direction_beside}
+use Rattle.wire_net.proofs.OneDirection.{unchanged_direction, direction_beside}
 use Rattle.drain_core.proofs.OneStep.{with_channels}
 use Rattle.drain_core.proofs.OneDrain.{own, step_kept}
 use Rattle.drain_core.proofs.AllDirections.{one_of, note_dir, note_sender, aside_direction, own_after}

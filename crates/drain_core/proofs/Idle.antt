@@ -13,7 +13,7 @@ use Rattle.wire_net.specs.Directions.{Direction, after_receive}
 use Rattle.wire_net.specs.Channels.{Channels, direction_at}
 use Rattle.drain_core.specs.Tasks.{is_agent, has_sent, readable, sendable, reads, sends, noted_read, noted_sent, with_sent, note_after, direction_after}
 use Rattle.drain_core.specs.Drains.{Notes, IsNoted, reads_on, is_left, has_work, notes_after, channels_after}
-use Rattle.drain_core.proofs.OneDirection.{unchanged_direction}
+use Rattle.wire_net.proofs.OneDirection.{unchanged_direction}
 use Rattle.drain_core.proofs.OneDrain.{unsent_length}
 
 nothing_read : (p : RealPid) (x : DirNotes) (direction : Direction) → IsNoted x → (is_agent p x.reader && reads_on x) ≡ false → reads p x direction ≡ 0

@@ -1,7 +1,5 @@
-mod OneDirection
 mod OneStep
 mod Walk
-mod Pieces
 mod OneDrain
 mod AllDirections
 mod Bytes

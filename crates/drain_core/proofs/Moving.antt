@@ -21,10 +21,10 @@ use Rattle.wire_net.specs.Whereabouts.{stream, stream_on}
 use Rattle.wire_net.proofs.Streams.{stream-move}
 use Rattle.drain_core.specs.Drains.{Notes, IsNoted, IsInStep, Fits, has_notes}
 use Rattle.drain_core.specs.Work.{work_on, work_aside, work_of, work_at, work_left}
-use Rattle.drain_core.proofs.OneDirection.{direction_changed, direction_beside}
+use Rattle.wire_net.proofs.OneDirection.{direction_changed, direction_beside}
 use Rattle.drain_core.proofs.OneStep.{with_channels}
 use Rattle.drain_core.proofs.AllDirections.{for_each, one_of}
-use Rattle.drain_core.proofs.LiveChannels.{KeepsFlow, live_kept, move_flows}
+use Rattle.wire_net.proofs.LiveChannels.{KeepsFlow, live_kept, move_flows}
 use Rattle.drain_core.proofs.WorkLaws.{gain, sums}
 
 pub record KeepsBytes (f : Direction → Direction) : Type 0 where

@@ -14,7 +14,7 @@ use Rattle.wire_net.specs.Directions.{Direction, after_receive, after_send}
 use Rattle.wire_net.specs.Whereabouts.{stream}
 use Rattle.drain_core.specs.Tasks.{cookie, is_agent, unread, unsent, readable, sendable, reads, sends, with_piece, noted_read, noted_sent, with_sent, direction_after, note_after_on}
 use Rattle.drain_core.specs.Drains.{IsNoted, IsDraining}
-use Rattle.drain_core.proofs.Pieces.{drop_twice, drop_further, take_twice}
+use Rattle.wire_net.proofs.Pieces.{drop_twice, drop_further, take_twice}
 
 pub cookie-length : (id : ConnId) → length (cookie id) ≡ 16
 cookie-length id = refl

@@ -6,57 +6,24 @@
 --     Stepped                             what an agent read and sent in a step
 --     stepped                             that it did so
 --     step_notes, step_moves, step_net    what is noted after it, whether bytes were moved, and the network after it
-use Rattle.std.proofs.Common.{◌≡◌, ◌≢◌, ℕ, ◌==◌, ◌≤◌, Bool, true, false, cond, List, [], ◌∷◌, take, refl, sym, ap, ap₂, subst, ◌∙◌, arith}
-use Rattle.std.specs.Prelude.{Option, Some, None, Ok, Err, IfSome, nat_lt, not, ◌&&◌, ◌||◌, min, if◌then◌else◌}
+use Rattle.std.proofs.Common.{◌≡◌, ◌≢◌, ℕ, ◌==◌, ◌≤◌, Bool, true, false, List, [], ◌∷◌, take, refl, sym, ap, ap₂, subst, ◌∙◌, arith}
+use Rattle.std.specs.Prelude.{Option, Some, None, IfSome, nat_lt, ◌||◌, if◌then◌else◌}
 use Rattle.std.specs.Option.{option_map, option_map_or}
 use Rattle.std.proofs.lemmas.Bool.Decides.{nat_tests}
 use Rattle.views.proofs.MapLaws.{true_false}
 use Rattle.sys_abi.specs.declared.identity.Dir.{Dir}
 use Rattle.sys_abi.specs.declared.identity.RealPid.{RealPid}
 use Rattle.wire_net.specs.declared.cut_room.DirNotes.{DirNotes}
-use Rattle.wire_net.specs.declared.net_fault.NetFault.{NetFault}
-use Rattle.wire_net.specs.declared.net_fault.NetFault.TheVariants as fault
-use Rattle.wire_net.specs.Directions.{Direction, room, after_receive, after_send}
+use Rattle.wire_net.specs.Directions.{Direction, after_receive, after_send}
 use Rattle.wire_net.specs.Channels.{Channels, direction_at, at_direction}
-use Rattle.wire_net.specs.Networks.{Network, send_answer_on, received_on}
+use Rattle.wire_net.specs.Networks.{Network, received_on}
 use Rattle.drain_core.specs.Tasks.{unsent, reads, sends, moves, noted_read, noted_sent, with_sent, after_reading, direction_after, note_after}
 use Rattle.drain_core.specs.Drains.{IsFlowing}
-use Rattle.drain_core.proofs.OneDirection.{unchanged_direction, agreeing_changes, changed_twice, direction_changed}
-
-abbrev pub with_channels : Network → Channels → Network
-with_channels t m = record { nodes = t.nodes; port_base = t.port_base; listeners = t.listeners; channels = m }
-
-pub nothing_received : (t : Network) (d : Dir) → t ≡ with_channels t (at_direction t.channels d (after_receive 0))
-nothing_received t d = ap (with_channels t) (sym (unchanged_direction t.channels d (after_receive 0) (λ direction. refl)))
+pub use Rattle.wire_net.proofs.OneCall.{with_channels, nothing_received, some_sent}
+use Rattle.wire_net.proofs.OneDirection.{unchanged_direction, agreeing_changes, changed_twice, direction_changed}
 
 pub nothing_sent : (t : Network) (d : Dir) (x : DirNotes) → t ≡ with_channels t (at_direction t.channels d (with_sent 0 x))
 nothing_sent t d x = ap (with_channels t) (sym (unchanged_direction t.channels d (with_sent 0 x) (λ direction. refl)))
-
--- how many bytes were sent, where the direction goes on and some are to be sent
-answered : (direction : Direction) (k n : ℕ) (none full : Bool) → (k == 0) ≡ none → (room direction == 0) ≡ full → k ≢ 0
-    → Ok n ≡ cond (full && not none) (Err fault.NotReady) (Ok (min k (room direction))) → n ≢ 0
-answered direction k n true full none_is full_is some is = absurd (some (let zero : k ≡ 0 = grind (arith, nat_tests) in zero))
-answered direction k n false true none_is full_is some is = absurd (apart is)
-  where
-    apart : {why : NetFault} → Ok n ≡ Err why → ⊥
-    apart e = cc
-answered direction k n false false none_is full_is some is =
-    let same : n ≡ min k (room direction) = cc in
-    let room_left : room direction ≢ 0 = grind (arith, nat_tests) in
-    omega (arith, same, room_left, some)
-
-flowing : (direction : Direction) (k n : ℕ) (ended unread : Bool) → direction.is_ended ≡ ended → direction.is_unread ≡ unread → IsFlowing direction → k ≢ 0
-    → Ok n ≡ cond (ended || unread) (Err fault.Ended) (cond ((room direction == 0) && not (k == 0)) (Err fault.NotReady) (Ok (min k (room direction)))) → n ≢ 0
-flowing direction k n true unread ended_is unread_is flows some is = true_false (sym ended_is ∙ flows.goes_on)
-flowing direction k n false true ended_is unread_is flows some is = true_false (sym unread_is ∙ flows.is_read)
-flowing direction k n false false ended_is unread_is flows some is = answered direction k n (k == 0) (room direction == 0) refl refl some is
-
-pub some_sent : (found : Option Direction) (k n : ℕ) → IfSome found IsFlowing → k ≢ 0 → Ok n ≡ send_answer_on found k → n ≢ 0
-some_sent None k n flows some is = absurd (apart is)
-  where
-    apart : {why : NetFault} → Ok n ≡ Err why → ⊥
-    apart e = cc
-some_sent (Some direction) k n flows some is = flowing direction k n direction.is_ended direction.is_unread refl refl flows some is
 
 pub sent_some : (t : Network) (d : Dir) (x : DirNotes) (n : ℕ) → n ≢ 0
     → with_channels t (at_direction t.channels d (after_send (take n (unsent x)))) ≡ with_channels t (at_direction t.channels d (with_sent n x))

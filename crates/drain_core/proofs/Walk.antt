@@ -22,7 +22,7 @@ use Rattle.wire_net.specs.Networks.{Network}
 use Rattle.drain_core.specs.Tasks.{is_agent, moves, direction_after, note_after}
 use Rattle.drain_core.specs.Drains.{Notes, IsFlowing, IsNoted, IsInStep, dirs_of, Apart, Fits, notes_after, channels_after, moves_on, moves_any}
 use Rattle.drain_core.proofs.OneStep.{with_channels}
-use Rattle.drain_core.proofs.OneDirection.{direction_beside}
+use Rattle.wire_net.proofs.OneDirection.{direction_beside}
 
 pub record At (old : Notes) (i : ℕ) (x : DirNotes) : Type 0 where
   pub front : Notes

@@ -1,42 +1,30 @@
 -- A drain under way: what the agents have noted of each direction, and how that fits the network.
 -- Source: the DMTCP paper (IPDPS 2009), "drain kernel buffers".
---     IsFlowing direction        its sender may send and its receiver reads: so it is for both directions of a live channel
 --     IsNoted x                  what the notes on a direction keep by themselves
 --     IsDraining x direction     how the notes on a direction of a live channel fit it: behind its own bytes stands the part of the cookie that was
 --                                sent and not yet read
 --     IsAside m x                no agent drains the direction: its channel is not live, or not there
 --     IsUnderWay m x             the agents of both ends drain it
 --     Fits m notes               all notes fit the network, each direction noted once
---     has_notes d notes          there are notes on the direction
 --     notes_after, channels_after      the notes, and the network, after a step of an agent
 --     is_left, has_work          an agent has work left on a direction;  on any
 --     moves_any                  it can move bytes
 --     step_answer                what a step answers
 --     IsHeldUp p m notes         the agent has work left and can move nothing
 --     is_finished, is_done       the agents of a direction have finished, or its bytes have all reached the receiver's queue;  of all directions
-use Rattle.std.specs.Prelude.{◌≡◌, ◌≢◌, ◌==◌, ◌<◌, ◌≤◌, ◌⊎◌, ◌+◌, ◌-◌, min, nat_lt, Bool, true, false, not, ◌&&◌, ◌||◌, List, [], ◌∷◌, length, take, drop, map as each, Some, None, IsSome, IfSome, is_some, All, fold, if◌then◌else◌}
+use Rattle.std.specs.Prelude.{◌≡◌, ◌==◌, ◌<◌, ◌≤◌, ◌⊎◌, ◌+◌, ◌-◌, min, nat_lt, Bool, true, false, not, ◌&&◌, ◌||◌, [], length, take, drop, map as each, Some, None, IsSome, IfSome, is_some, All, fold}
 use Rattle.std.specs.Option.{option_map_or}
 use Rattle.std.specs.List.{list_any, list_all}
-use Rattle.std.specs.Ordering.{eq_by_cmp}
-use Rattle.sys_abi.specs.declared.identity.Dir.{Dir}
 use Rattle.sys_abi.specs.declared.identity.RealPid.{RealPid}
-use Rattle.sys_abi.specs.Orders.{dir_cmp}
 use Rattle.wire_net.specs.declared.agents.Stepped.{Stepped}
-use Rattle.wire_net.specs.declared.agents.Stepped.TheVariants as answer
 use Rattle.wire_net.specs.declared.cut_room.DirNotes.{DirNotes}
 use Rattle.wire_net.specs.declared.limits.TheConstants.{QUEUE_LIMIT}
 use Rattle.wire_net.specs.Directions.{Direction, standing}
 use Rattle.wire_net.specs.Channels.{Channels, direction_at, at_direction, is_live_at}
 use Rattle.wire_net.specs.Whereabouts.{stream, stream_on}
+pub use Rattle.wire_net.specs.Noted.{Notes, IsFlowing, dirs_of, Apart, has_notes, answer_of}
 use Rattle.drain_core.specs.declared.limits.TheConstants.{COOKIE_LENGTH}
 use Rattle.drain_core.specs.Tasks.{cookie, is_agent, has_sent, moves, direction_after, note_after}
-
-abbrev pub Notes : Type 0
-Notes = List DirNotes
-
-pub record IsFlowing (direction : Direction) : Type 0 where
-  pub goes_on : direction.is_ended ≡ false
-  pub is_read : direction.is_unread ≡ false
 
 pub record IsNoted (x : DirNotes) : Type 0 where
   pub side : x.dir.side < 2
@@ -70,23 +58,12 @@ pub record IsUnderWay (m : Channels) (x : DirNotes) : Type 0 where
 abbrev pub IsInStep : Channels → DirNotes → Type 0
 IsInStep m x = IsAside m x ⊎ IsUnderWay m x
 
-abbrev pub dirs_of : Notes → List Dir
-dirs_of notes = each (λ x. x.dir) notes
-
-abbrev pub Apart : List Dir → Type 0
-Apart [] = Unit {0}
-Apart (d ∷ ds) = All (λ e. e ≢ d) ds × Apart ds
-
 pub record Fits (m : Channels) (notes : Notes) : Type 0 where
   pub apart : Apart (dirs_of notes)
   pub noted : All IsNoted notes
   pub in_step : All (IsInStep m) notes
   -- agents drain the directions of live channels, and no others
   pub live : All (λ x. is_some x.sender ≡ is_live_at m x.dir.conn) notes
-
--- the direction is noted
-abbrev pub has_notes : Dir → Notes → Bool
-has_notes d notes = list_any (λ x. eq_by_cmp dir_cmp x.dir d) notes
 
 abbrev pub notes_after : RealPid → Channels → Notes → Notes
 notes_after p m notes = each (λ x. note_after p (direction_at m x.dir) x) notes
@@ -109,9 +86,6 @@ moves_on p m x = option_map_or (moves p x) (direction_at m x.dir) false
 
 abbrev pub moves_any : RealPid → Channels → Notes → Bool
 moves_any p m notes = list_any (moves_on p m) notes
-
-abbrev pub answer_of : Bool → Bool → Stepped
-answer_of has_work moved = if has_work then (if moved then answer.Moved else answer.Again) else answer.Finished
 
 abbrev pub step_answer : RealPid → Channels → Notes → Stepped
 step_answer p m notes = answer_of (has_work p notes) (moves_any p m notes)

@@ -2,28 +2,24 @@
 -- Source: the DMTCP paper (IPDPS 2009), "drain kernel buffers": each side sends a cookie and reads until it has read the other's. That the count of
 -- bytes is known at the suspension, and what a cookie has, is this project's own profile.
 --     cookie id                  a magic word, and the name of the channel
---     is_agent p named           the agent that is named is p
 --     unread x, unsent x         how many bytes the reading agent has still to read, cookie and all;  what is left of the cookie
 --     reads p x direction        how many bytes p reads in a step
 --     sends p x direction        how many bytes of the cookie p sends in a step
 --     direction_after, note_after      a direction, and what is noted of it, after a step of p
 --     moves p x direction        p moves bytes in a step
-use Rattle.std.specs.Prelude.{◌==◌, ℕ, ◌+◌, ◌-◌, min, nat_lt, Bool, false, ◌&&◌, ◌||◌, List, [], ◌∷◌, ◌++◌, codes, length, take, drop, Option, Some, None, if◌then◌else◌}
+use Rattle.std.specs.Prelude.{◌==◌, ℕ, ◌+◌, ◌-◌, min, nat_lt, Bool, ◌||◌, List, [], ◌∷◌, ◌++◌, codes, length, take, drop, Option, Some, None, if◌then◌else◌}
 use Rattle.std.specs.Int.{w32, to_le_bytes}
 use Rattle.sys_abi.specs.declared.identity.ConnId.{ConnId}
 use Rattle.sys_abi.specs.declared.identity.RealPid.{RealPid}
 use Rattle.sys_abi.specs.declared.transfer.TheConstants.{TRANSFER_LIMIT}
 use Rattle.wire_net.specs.declared.cut_room.DirNotes.{DirNotes}
 use Rattle.wire_net.specs.Reserves.{reserve}
+pub use Rattle.wire_net.specs.Noted.{is_agent}
 use Rattle.wire_net.specs.Directions.{Direction, room, after_receive, after_send}
 use Rattle.drain_core.specs.declared.limits.TheConstants.{COOKIE_LENGTH}
 
 abbrev pub cookie : ConnId → List ℕ
 cookie id = codes "DMTCPCK1" ++ to_le_bytes w32 id.pid.0 ++ to_le_bytes w32 id.num
-
-abbrev pub is_agent : RealPid → Option RealPid → Bool
-is_agent p None = false
-is_agent p (Some q) = (q.node == p.node) && (q.pid == p.pid)
 
 abbrev pub unread : DirNotes → ℕ
 unread x = x.count + COOKIE_LENGTH - x.read

@@ -5,19 +5,17 @@
 --     work_aside direction   of a direction that none drains: the bytes still to be moved
 --     work_left m notes      of all directions
 --     GoesOn m notes         an agent's step moves bytes, or bytes can be moved from queue to queue
-use Rattle.std.specs.Prelude.{◌≡◌, ◌<◌, ◌⊎◌, ◌*◌, ℕ, true, ◌+◌, ◌-◌, length, is_some, if◌then◌else◌}
+use Rattle.std.specs.Prelude.{◌≡◌, ◌⊎◌, ◌*◌, ℕ, true, ◌+◌, ◌-◌, length, is_some, if◌then◌else◌}
 use Rattle.std.specs.Option.{option_map_or}
 use Rattle.std.specs.List.{sum_by}
-use Rattle.sys_abi.specs.declared.identity.Dir.{Dir}
 use Rattle.sys_abi.specs.declared.identity.RealPid.{RealPid}
 use Rattle.wire_net.specs.declared.cut_room.DirNotes.{DirNotes}
-use Rattle.wire_net.specs.declared.place.Place.{Place}
 use Rattle.wire_net.specs.Directions.{Direction}
+pub use Rattle.wire_net.specs.Noted.{CanMove}
 use Rattle.wire_net.specs.Channels.{Channels, direction_at}
-use Rattle.wire_net.specs.Networks.{bytes_on}
 use Rattle.drain_core.specs.declared.limits.TheConstants.{COOKIE_LENGTH}
 use Rattle.drain_core.specs.Tasks.{has_sent}
-use Rattle.drain_core.specs.Drains.{Notes, has_notes, reads_on, moves_any}
+use Rattle.drain_core.specs.Drains.{Notes, reads_on, moves_any}
 
 abbrev pub work_aside : Direction → ℕ
 work_aside direction = 2 * length direction.sent + length direction.wire
@@ -38,14 +36,6 @@ work_at m x = option_map_or (work_of x) (direction_at m x.dir) 0
 
 abbrev pub work_left : Channels → Notes → ℕ
 work_left m notes = sum_by (work_at m) notes
-
--- bytes of a direction can be moved on
-pub record CanMove (m : Channels) (notes : Notes) : Type 0 where
-  pub dir : Dir
-  pub place : Place
-  pub side : dir.side < 2
-  pub noted : has_notes dir notes ≡ true
-  pub some : 0 < length (bytes_on place (direction_at m dir))
 
 -- somebody goes on with the drain
 abbrev pub GoesOn : Channels → Notes → Type 0

@@ -82,7 +82,7 @@ impl Drain {
     {
         let has_work = self.has_work(net, agent);
         let moved = step_all(&mut self.notes, net, &mut self.transfer, agent);
-        answer(has_work, moved)
+        Stepped::of(has_work, moved)
     }
 
     /// Whether the agent has work left: false exactly where `step` would answer `Finished`.
@@ -124,18 +124,5 @@ impl Drain {
             lists,
         });
         (drained, room)
-    }
-}
-
-/// What a step answers.
-fn answer(has_work: bool, moved: bool) -> Stepped
-    ensures { result ≡ words.answer_of has_work moved }
-{
-    if !has_work {
-        Stepped::Finished
-    } else if moved {
-        Stepped::Moved
-    } else {
-        Stepped::Again
     }
 }

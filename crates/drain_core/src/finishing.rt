@@ -2,11 +2,10 @@
 ghost use Rattle.std.specs.Prelude.{◌≡◌, ◌<◌, All};
 ghost use Rattle.drain_core.specs.Drains as words;
 
-use crate::agents::is_agent;
 use crate::limits::COOKIE_LENGTH;
 use crate::notes::has_sent;
 use sys_abi::RealPid;
-use wire_net::{DirNotes, Net};
+use wire_net::{DirNotes, Net, is_agent};
 
 /// Whether the agent of the reading end reads on.
 fn reads_on(notes: &DirNotes) -> bool

@@ -16,7 +16,6 @@
 //! bytes is known when the drain begins, and what a cookie has, is this project's own.
 #![tactic(auto)]
 
-mod agents;
 mod cookie;
 mod drain;
 mod finishing;

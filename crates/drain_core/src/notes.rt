@@ -7,12 +7,11 @@ ghost use Rattle.wire_net.specs.Networks.{received_on};
 ghost use Rattle.drain_core.specs.Tasks as words;
 ghost use Rattle.drain_core.specs.Drains.{IsNoted, IsFlowing};
 
-use crate::agents::is_agent;
 use crate::cookie::cookie_of;
 use crate::limits::COOKIE_LENGTH;
 use sys_abi::transfer::TRANSFER_LIMIT;
 use sys_abi::{RealPid, Transfer};
-use wire_net::{DirNotes, Net};
+use wire_net::{DirNotes, Net, is_agent};
 
 /// How many bytes the agent of the reading end has still to read.
 pub(crate) fn unread(notes: &DirNotes) -> u32

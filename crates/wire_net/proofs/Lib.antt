@@ -5,3 +5,8 @@ pub mod OrderLaws
 pub mod PortsInUse
 pub mod RoomLaws
 pub mod Streams
+pub mod Items
+pub mod LiveChannels
+pub mod OneCall
+pub mod OneDirection
+pub mod Pieces

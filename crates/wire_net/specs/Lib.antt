@@ -7,6 +7,7 @@ pub mod Laws
 pub mod LentListener
 pub mod Listeners
 pub mod Networks
+pub mod Noted
 pub mod Orders
 pub mod Reserves
 pub mod Whereabouts

@@ -1,6 +1,7 @@
 ghost use Rattle.std.specs.Prelude.{◌≡◌};
 ghost use Rattle.std.specs.Option.{option_copied};
 ghost use Rattle.wire_net.specs.Ends as words;
+ghost use Rattle.wire_net.specs.Noted as noted;
 
 use sys_abi::{ConnId, RealPid};
 
@@ -13,6 +14,21 @@ pub enum Stepped {
     Finished,
     /// It has work left and can move nothing yet.
     Again,
+}
+
+impl Stepped {
+    /// What a step answers, by whether work is left for the agent and whether it moved bytes.
+    pub fn of(has_work: bool, moved: bool) -> Stepped
+        ensures { result ≡ noted.answer_of has_work moved }
+    {
+        if !has_work {
+            Stepped::Finished
+        } else if moved {
+            Stepped::Moved
+        } else {
+            Stepped::Again
+        }
+    }
 }
 
 /// An end of a channel, and the process that acts for it in a checkpoint, if one does.
@@ -44,4 +60,14 @@ pub fn agent_of(ends: &[AgentEnd], conn: ConnId, side: u8) -> Option<RealPid>
 {
     let end = end_of(ends, conn, side)?;
     end.agent
+}
+
+/// Whether the agent that is named, if one is, is that process.
+pub fn is_agent(named: Option<RealPid>, p: RealPid) -> bool
+    ensures { result ≡ noted.is_agent p named }
+{
+    match named {
+        None => false,
+        Some(agent) => agent.node == p.node && agent.pid == p.pid,
+    }
 }

@@ -33,7 +33,7 @@ mod readers;
 mod rings;
 mod room;
 
-pub use agents::{AgentEnd, Stepped, agent_of};
+pub use agents::{AgentEnd, Stepped, agent_of, is_agent};
 pub use channel::Channel;
 pub use cut_room::{CutRoom, DirBytes, DirNotes, DrainedNet, RoomParts};
 pub use lane::Lane;

@@ -22,7 +22,7 @@ returns-clause-notes c =
     written_back (λ x. note_after c.args.agent (direction_at c.args.net.now.channels x.dir) x) c.self.inside.notes.len c.step_all-moved.new.all c.deref_mut.result.now c.self.inside.notes.items c.args.self.now
     c.step_all-moved.ensures.notes c.deref_mut.ensures.value c.self.view_is c.deref_mut.ensures.len
 
-seen : (c : goal.After-answer) → c.deref_mut.result.now ≡ c.args.self.now
+seen : (c : goal.After-of) → c.deref_mut.result.now ≡ c.args.self.now
 seen c = c.deref_mut.ensures.value ∙ c.self.view_is
 
 pub returns-clause-net : goal.returns-clause-net
@@ -31,7 +31,7 @@ returns-clause-net c =
 
 pub returns-clause-answer : goal.returns-clause-answer
 returns-clause-answer c =
-    c.answer.ensures ∙ ap₂ answer_of c.has_work-has_work.ensures (c.step_all-moved.ensures.moved ∙ ap (moves_any c.args.agent c.args.net.now.channels) (seen c))
+    c.of.ensures ∙ ap₂ answer_of c.has_work-has_work.ensures (c.step_all-moved.ensures.moved ∙ ap (moves_any c.args.agent c.args.net.now.channels) (seen c))
 
 pub returns-clause-fits : goal.returns-clause-fits
 returns-clause-fits c =

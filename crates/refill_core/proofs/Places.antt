@@ -1,0 +1,85 @@
+-- The notes on a direction at their place in the list.
+--     At, place               an item, with those before it and behind it
+--     found_here, further     whether an item is the first one on a direction
+--     at_place                an item is found at its direction
+--     set_is_put              an item is replaced
+use Rattle.std.proofs.Common.{◌≡◌, ◌≢◌, ℕ, ◌+◌, ◌<◌, ◌≤◌, suc, Bool, true, false, [], ◌∷◌, ◌++◌, take, drop, length, get_or, set, refl, sym, ap, ap₂, subst, ◌∙◌, arith}
+use Rattle.std.specs.Prelude.{Some, None, All, slice_get, if◌then◌else◌}
+use Rattle.std.specs.Ordering.{eq_by_cmp}
+use Rattle.std.proofs.Math.Seq.{drop-cons, set-append_seam}
+use Rattle.std.proofs.lemmas.List.{take-append-drop, length-take-le, drop_all, map-append}
+use Rattle.std.proofs.lemmas.Option.{slice_get-get_or}
+use Rattle.std.proofs.lemmas.List.Elements.{All-nil, All-cons, All-head, All-tail}
+use Rattle.views.proofs.MapLaws.{key_tied, other_key}
+use Rattle.sys_abi.specs.declared.identity.Dir.{Dir}
+use Rattle.sys_abi.specs.Orders.{dir_cmp}
+use Rattle.sys_abi.proofs.OrderLaws.{dir_total, dir_exact}
+use Rattle.wire_net.specs.declared.cut_room.DirNotes.{DirNotes}
+use Rattle.refill_core.specs.Refills.{Notes, dirs_of, Apart, notes_at, put_notes}
+use Rattle.refill_core.proofs.Bytes.{at_itself, front_apart}
+
+pub record At (old : Notes) (i : ℕ) (x : DirNotes) : Type 0 where
+  pub front : Notes
+  pub back : Notes
+  pub whole : old ≡ front ++ x ∷ back
+  pub many : length front ≡ i
+
+pub place : (old : Notes) (i : ℕ) (d : DirNotes) → i < length old → At old i (get_or old i d)
+place old i d below = record {
+  front = take i old;
+  back = drop (suc i) old;
+  whole = sym (take-append-drop i old) ∙ ap (λ (l : Notes). take i old ++ l) (drop-cons old i d below);
+  many = length-take-le i old (omega (arith, below));
+}
+
+-- the first item that was not passed over
+first_left : (d : Dir) (notes : Notes) (i : ℕ) (z : DirNotes) → i < length notes → notes_at d (drop i notes) ≡ notes_at d notes
+    → (if eq_by_cmp dir_cmp (get_or notes i z).dir d then Some (get_or notes i z) else notes_at d (drop (suc i) notes)) ≡ notes_at d notes
+first_left d notes i z below so_far = ap (notes_at d) (sym (drop-cons notes i z below)) ∙ so_far
+
+pub found_here : (d : Dir) (notes : Notes) (i : ℕ) (z : DirNotes) → i < length notes → z ≡ get_or notes i z → notes_at d (drop i notes) ≡ notes_at d notes → eq_by_cmp dir_cmp z.dir d ≡ true
+    → slice_get notes i ≡ notes_at d notes
+found_here d notes i z below is so_far tie =
+    slice_get-get_or notes i z below
+    ∙ sym (ap (λ (b : Bool). if b then Some (get_or notes i z) else notes_at d (drop (suc i) notes)) (ap (λ (v : DirNotes). eq_by_cmp dir_cmp v.dir d) (sym is) ∙ tie)) ∙ first_left d notes i z below so_far
+
+pub further : (d : Dir) (notes : Notes) (i : ℕ) (z : DirNotes) → i < length notes → z ≡ get_or notes i z → notes_at d (drop i notes) ≡ notes_at d notes → eq_by_cmp dir_cmp z.dir d ≡ false
+    → notes_at d (drop (i + 1) notes) ≡ notes_at d notes
+further d notes i z below is so_far tie =
+    let next : i + 1 ≡ suc i = omega arith in
+    ap (λ (k : ℕ). notes_at d (drop k notes)) next
+    ∙ sym (ap (λ (b : Bool). if b then Some (get_or notes i z) else notes_at d (drop (suc i) notes)) (ap (λ (v : DirNotes). eq_by_cmp dir_cmp v.dir d) (sym is) ∙ tie)) ∙ first_left d notes i z below so_far
+
+pub found_none : (d : Dir) (notes : Notes) (i : ℕ) → length notes ≤ i → notes_at d (drop i notes) ≡ notes_at d notes → None ≡ notes_at d notes
+found_none d notes i past so_far = sym (ap (notes_at d) (drop_all i notes past)) ∙ so_far
+
+pub at_place : (notes : Notes) (i : ℕ) (z : DirNotes) → i < length notes → Apart (dirs_of notes) → notes_at (get_or notes i z).dir notes ≡ Some (get_or notes i z)
+at_place notes i z below apart = let at = place notes i z below in at_itself notes at.front at.back (get_or notes i z) at.whole apart
+
+-- those on other directions stay
+untouched : (d : Dir) (v : DirNotes) (notes : Notes) → All (λ z. z.dir ≢ d) notes → put_notes d v notes ≡ notes
+untouched d v [] apart = refl
+untouched d v (z ∷ notes) apart =
+    ap₂ (λ (b : Bool) (l : Notes). (if b then v else z) ∷ l) (other_key dir_total dir_exact z.dir d (All-head (λ (y : DirNotes). y.dir ≢ d) z notes apart)) (untouched d v notes (All-tail (λ (y : DirNotes). y.dir ≢ d) z notes apart))
+
+put_middle : (v : DirNotes) (front back : Notes) (x : DirNotes) → All (λ z. z.dir ≢ x.dir) front → All (λ z. z.dir ≢ x.dir) back → put_notes x.dir v (front ++ x ∷ back) ≡ front ++ v ∷ back
+put_middle v front back x first last =
+    map-append (λ (z : DirNotes). if eq_by_cmp dir_cmp z.dir x.dir then v else z) front (x ∷ back)
+    ∙ ap₂ (λ (a b : Notes). a ++ b) (untouched x.dir v front first)
+    (ap₂ (λ (b : Bool) (l : Notes). (if b then v else x) ∷ l) (key_tied dir_total dir_exact x.dir) (untouched x.dir v back last))
+
+back_apart : (front back : Notes) (x : DirNotes) → Apart (dirs_of (front ++ x ∷ back)) → All (λ y. y.dir ≢ x.dir) back
+back_apart [] back x apart = of_dirs back apart.0
+  where
+    of_dirs : (notes : Notes) → All (λ e. e ≢ x.dir) (dirs_of notes) → All (λ y. y.dir ≢ x.dir) notes
+    of_dirs [] all = All-nil (λ (y : DirNotes). y.dir ≢ x.dir)
+    of_dirs (z ∷ notes) all = All-cons (λ (y : DirNotes). y.dir ≢ x.dir) z notes (All-head (λ e. e ≢ x.dir) z.dir (dirs_of notes) all) (of_dirs notes (All-tail (λ e. e ≢ x.dir) z.dir (dirs_of notes) all))
+back_apart (y ∷ front) back x apart = back_apart front back x apart.1
+
+pub set_is_put : (notes : Notes) (i : ℕ) (z v : DirNotes) → i < length notes → Apart (dirs_of notes) → set notes i v ≡ put_notes (get_or notes i z).dir v notes
+set_is_put notes i z v below apart =
+    let at = place notes i z below in
+    let x = get_or notes i z in
+    let here = subst (λ (l : Notes). Apart (dirs_of l)) at.whole apart in
+    ap₂ (λ (l : Notes) (k : ℕ). set l k v) at.whole (sym at.many) ∙ set-append_seam at.front x at.back v
+    ∙ sym (ap (put_notes x.dir v) at.whole ∙ put_middle v at.front at.back x (front_apart at.front at.back x here) (back_apart at.front at.back x here))

@@ -1,0 +1,33 @@
+use Rattle.std.proofs.Common.{◌≡◌, ap₂, ap, sym, ◌∙◌}
+use Rattle.refill_core.specs.Refills.{Notes, dirs_of}
+use Rattle.refill_core.specs.Work.{moved_any, answer_of}
+use Rattle.refill_core.specs.Stepping.{state}
+use Rattle.refill_core.proofs.Steps.{step_after, step_fits, step_dirs, step_kept, step_less, step_idle}
+use Rattle.refill_core.proofs.refill.Refill.step.Goals as goal
+
+seen : (c : goal.After-of) → c.deref_mut.result.now ≡ c.args.self.now
+seen c = c.deref_mut.ensures.value ∙ c.self.view_is
+
+pub returns-clause-after : goal.returns-clause-after
+returns-clause-after c =
+    step_after c.args.agent c.self.inside.notes.len c.step_all-moved.new.all c.deref_mut.result.now c.self.inside.notes.items c.args.self.now c.args.net.now c.step_all-moved.new.net
+    c.step_all-moved.ensures.after c.step_all-moved.auto.all c.deref_mut.ensures.value c.self.view_is c.deref_mut.ensures.len
+
+pub returns-clause-answer : goal.returns-clause-answer
+returns-clause-answer c =
+    c.of.ensures ∙ ap₂ answer_of c.has_work-has_work.ensures (c.step_all-moved.ensures.moved ∙ ap (λ (l : Notes). moved_any c.args.agent (dirs_of l) (state l c.args.net.now)) (seen c))
+
+pub returns-clause-fits : goal.returns-clause-fits
+returns-clause-fits c = step_fits c.args.agent _ c.args.self.now c.args.net.now c.step_all-moved.new.net c.requires (returns-clause-after c)
+
+pub returns-clause-named : goal.returns-clause-named
+returns-clause-named c = step_dirs c.args.agent _ c.args.self.now c.args.net.now c.step_all-moved.new.net c.requires (returns-clause-after c)
+
+pub returns-clause-kept : goal.returns-clause-kept
+returns-clause-kept c = λ d side. step_kept c.args.agent _ c.args.self.now c.args.net.now c.step_all-moved.new.net d side c.requires (returns-clause-after c)
+
+pub returns-clause-less : goal.returns-clause-less
+returns-clause-less c = λ moved. step_less c.args.agent _ c.args.self.now c.args.net.now c.step_all-moved.new.net c.requires (returns-clause-after c) (sym (returns-clause-answer c) ∙ moved)
+
+pub returns-clause-idle : goal.returns-clause-idle
+returns-clause-idle c = λ none. step_idle c.args.agent _ c.args.self.now c.args.net.now c.step_all-moved.new.net c.requires (returns-clause-after c) c.step_all-moved.ensures.net none

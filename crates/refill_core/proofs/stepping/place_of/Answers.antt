@@ -1,0 +1,16 @@
+use Rattle.std.proofs.Common.{sym, ap, ◌∙◌}
+use Rattle.std.specs.Ordering.{is_eq}
+use Rattle.refill_core.proofs.Places.{found_here, further, found_none}
+use Rattle.refill_core.proofs.stepping.place_of.Goals as goal
+
+pub returns-then-is_eq-clause-found : goal.returns-then-is_eq-clause-found
+returns-then-is_eq-clause-found c =
+    found_here c.args.d c.args.all.now c.loop-place.place c.index-all-place.result c.loop-place-test.true c.index-all-place.is c.loop-place.invariant
+    (ap is_eq (sym c.cmp.ensures) ∙ sym c.is_eq.ensures ∙ c.if-is_eq.true)
+
+pub loop-place-preserved : goal.loop-place-preserved
+loop-place-preserved c = further c.args.d c.args.all.now c.loop-place.place c.index-all-place.result c.loop-place-test.true c.index-all-place.is c.loop-place.invariant
+    (ap is_eq (sym c.cmp.ensures) ∙ sym c.is_eq.ensures ∙ c.if-is_eq.false)
+
+pub returns-clause-found : goal.returns-clause-found
+returns-clause-found c = found_none c.args.d c.args.all.now c.loop-place.place c.loop-place-test.false c.loop-place.invariant

@@ -1,0 +1,31 @@
+//! Filling the channels of all processes again after a checkpoint: the bytes that were drained of each direction go back
+//! to the side that sent them, and that side sends them again.
+//!
+//! A [`Refill`] owns the notes of the agents, the processes that act for the ends of the channels, and takes no memory. On
+//! each direction of a live channel its agent sends a frame, a length and the bytes that were drained of the other
+//! direction; behind it, once it has read the whole frame with its own direction's bytes off the other one, it sends
+//! these. In a step it first reads what has come and then sends what there is room for.
+//!
+//! Proved: each step leaves the bytes of every direction as they are, wherever they are: with the agent that drained them,
+//! in a frame, with the agent that got them back, or sent. What moves bytes leaves less to do, and while the refill is not
+//! done some agent's step or some move moves bytes. When it is done all bytes of each direction can be read, and they are
+//! what was drained of it ([`Refill::is_done`], [`refill_laws`]). Not proved: that the caller makes the steps and the
+//! moves. Not built: the notes with which a refill begins are made by its caller, and it is the caller who asks that they
+//! fit the network. The source is Ansel, Arya, Cooperman, "DMTCP: Transparent Checkpointing for Cluster Computations and
+//! the Desktop", 2009 (refill kernel buffers); the frame is this project's own.
+#![tactic(auto)]
+
+mod finishing;
+mod laws;
+pub mod limits;
+mod network;
+mod notes;
+mod refill;
+mod stepping;
+
+pub use laws::refill_laws;
+pub use refill::Refill;
+pub use wire_net::{RoomParts, Stepped};
+
+#[cfg(test)]
+mod tests;

@@ -1,0 +1,98 @@
+ghost use Rattle.std.specs.Prelude.{◌≡◌, ◌==◌, ◌<◌, true, false, All};
+ghost use Rattle.sys_abi.specs.declared.identity.Dir.{Dir};
+ghost use Rattle.wire_net.specs.declared.agents.Stepped.TheVariants.{Moved};
+ghost use Rattle.wire_net.specs.Whereabouts.{whereabouts};
+ghost use Rattle.refill_core.specs.Refills as words;
+ghost use Rattle.refill_core.specs.Holding.{agents_of};
+ghost use Rattle.refill_core.specs.Stepping.{state};
+ghost use Rattle.refill_core.specs.Work as work;
+
+use crate::finishing::{all_finished, has_work_left};
+use crate::stepping::step_all;
+use std::marker::Model;
+use sys_abi::{RealPid, Transfer};
+use views::list_of::ListOf;
+use wire_net::{DirBytes, DirNotes, Net, Room, RoomParts, Stepped};
+
+/// A refill under way. A contract sees what the agents have noted of each direction.
+#[derive(Drop)]
+pub struct Refill {
+    transfer: Transfer,
+    notes: Vec<DirNotes>,
+    lists: Room<DirBytes>,
+}
+
+impl Model for Refill {
+    ghost use Rattle.refill_core.specs.Refills.{Notes};
+
+    ghost Value = { Notes };
+
+    ghost view = { λ a. a.notes.items };
+}
+
+impl Refill {
+    /// A refill by its parts, whose notes say how far it has come. Takes no memory.
+    pub fn from_parts(parts: RoomParts) -> Refill
+        ensures { result ≡ parts.notes }
+    {
+        Refill {
+            transfer: parts.transfer,
+            notes: parts.notes.into_vec(),
+            lists: parts.lists,
+        }
+    }
+
+    /// The parts, with the notes as they stand. Takes no memory.
+    pub fn into_parts(self) -> RoomParts
+        ensures { result.notes ≡ self }
+    {
+        RoomParts {
+            transfer: self.transfer,
+            notes: ListOf::from_vec(self.notes),
+            lists: self.lists,
+        }
+    }
+
+    /// One step of an agent on all directions that it sends: it reads what has come of the frame with the direction's own
+    /// bytes, and sends what comes next, as far as there is room: the frame of the other direction, and behind it, once
+    /// its own bytes are back, these. Takes no memory.
+    pub fn step(&mut self, net: &mut Net, agent: RealPid) -> Stepped
+        requires { words.Fits net.old.channels self.old }
+        ensures answer { result ≡ work.step_answer agent (state self.old net.old) }
+        ensures after { state self.new net.new ≡ words.ends_after agent (words.dirs_of self.old) (state self.old net.old) }
+        ensures net { net.new ≡ record net.old { channels = net.new.channels } }
+        ensures fits { words.Fits net.new.channels self.new }
+        ensures named { words.dirs_of self.new ≡ words.dirs_of self.old }
+
+        // The bytes of each direction are the same, wherever they are.
+        ensures kept { (d : Dir) → d.side < 2 → whereabouts net.new (agents_of self.new) d ≡ whereabouts net.old (agents_of self.old) d }
+
+        // What moves bytes leaves less to do.
+        ensures less { result ≡ Moved → work.work_left net.new.channels self.new < work.work_left net.old.channels self.old }
+        ensures idle { work.has_work agent self.old ≡ false → (self.new ≡ self.old) × (net.new ≡ net.old) }
+    {
+        let has_work = self.has_work(net, agent);
+        let moved = step_all(&mut self.notes, net, &mut self.transfer, agent);
+        Stepped::of(has_work, moved)
+    }
+
+    /// Whether the agent has work left: false exactly where `step` would answer `Finished`.
+    pub fn has_work(&self, net: &Net, agent: RealPid) -> bool
+        requires { words.Fits net.now.channels self.now }
+        ensures { result ≡ work.has_work agent self.now }
+    {
+        has_work_left(&self.notes, agent)
+    }
+
+    /// Whether all agents have finished, and all bytes have reached their receivers' queues: false exactly where work is
+    /// left, and then somebody goes on. Where it is done, all bytes of each direction can be read.
+    pub fn is_done(&self, net: &Net) -> bool
+        requires { words.Fits net.now.channels self.now }
+        ensures done { result ≡ work.is_done net.now.channels self.now }
+        ensures work { result ≡ (work.work_left net.now.channels self.now == 0) }
+        ensures going { result ≡ false → work.GoesOn (state self.now net.now) }
+        ensures back { result ≡ true → All (words.IsBack (λ d. whereabouts net.now (agents_of self.now) d) net.now.channels) self.now }
+    {
+        all_finished(&self.notes, net)
+    }
+}
