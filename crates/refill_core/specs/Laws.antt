@@ -1,4 +1,4 @@
--- What a move of bytes from queue to queue does while agents refill.
+-- What moves of bytes from queue to queue do while agents refill, how a refill begins, and what it holds all along.
 --     MoveFits       the notes fit the network after it
 --     MoveLowers     less is left to do where bytes of a noted direction were moved
 --     BeginFits      the notes of a refill of which no byte has moved fit the network

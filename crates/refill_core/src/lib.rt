@@ -8,10 +8,10 @@
 //!
 //! Proved: each step leaves the bytes of every direction as they are, wherever they are: with the agent that drained them,
 //! in a frame, with the agent that got them back, or sent. What moves bytes leaves less to do, and while the refill is not
-//! done some agent's step or some move moves bytes. When it is done all bytes of each direction can be read, and they are
-//! what was drained of it ([`Refill::is_done`], [`refill_laws`]). Not proved: that the caller makes the steps and the
-//! moves. Not built: the notes with which a refill begins are made by its caller, and it is the caller who asks that they
-//! fit the network. The source is Ansel, Arya, Cooperman, "DMTCP: Transparent Checkpointing for Cluster Computations and
+//! done some agent's step or some move moves bytes. When it is done all bytes of each direction can be read, and of one
+//! that agents refilled they are what was drained of it ([`Refill::is_done`], [`refill_laws`]). Not proved: that the caller makes the steps and the
+//! moves. Not built: the notes with which a refill begins, and that fit the network, are made by
+//! its caller. The source is Ansel, Arya, Cooperman, "DMTCP: Transparent Checkpointing for Cluster Computations and
 //! the Desktop", 2009 (refill kernel buffers); the frame is this project's own.
 #![tactic(auto)]
 
@@ -25,7 +25,7 @@ mod stepping;
 
 pub use laws::refill_laws;
 pub use refill::Refill;
-pub use wire_net::{RoomParts, Stepped};
+pub use wire_net::{DirNotes, Stepped};
 
 #[cfg(test)]
 mod tests;

@@ -12,14 +12,13 @@ use crate::stepping::step_all;
 use std::marker::Model;
 use sys_abi::{RealPid, Transfer};
 use views::list_of::ListOf;
-use wire_net::{DirBytes, DirNotes, Net, Room, RoomParts, Stepped};
+use wire_net::{DirNotes, Net, Stepped};
 
 /// A refill under way. A contract sees what the agents have noted of each direction.
 #[derive(Drop)]
 pub struct Refill {
     transfer: Transfer,
     notes: Vec<DirNotes>,
-    lists: Room<DirBytes>,
 }
 
 impl Model for Refill {
@@ -31,26 +30,21 @@ impl Model for Refill {
 }
 
 impl Refill {
-    /// A refill by its parts, whose notes say how far it has come. Takes no memory.
-    pub fn from_parts(parts: RoomParts) -> Refill
-        ensures { result ≡ parts.notes }
+    /// A refill by its notes, which say how far it has come. What the transfer holds is lost. Takes no memory.
+    pub fn from_notes(notes: ListOf<DirNotes>, transfer: Transfer) -> Refill
+        ensures { result ≡ notes }
     {
         Refill {
-            transfer: parts.transfer,
-            notes: parts.notes.into_vec(),
-            lists: parts.lists,
+            transfer,
+            notes: notes.into_vec(),
         }
     }
 
-    /// The parts, with the notes as they stand. Takes no memory.
-    pub fn into_parts(self) -> RoomParts
-        ensures { result.notes ≡ self }
+    /// The notes as they stand. Takes no memory.
+    pub fn into_notes(self) -> ListOf<DirNotes>
+        ensures { result ≡ self }
     {
-        RoomParts {
-            transfer: self.transfer,
-            notes: ListOf::from_vec(self.notes),
-            lists: self.lists,
-        }
+        ListOf::from_vec(self.notes)
     }
 
     /// One step of an agent on all directions that it sends: it reads what has come of the frame with the direction's own

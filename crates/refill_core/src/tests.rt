@@ -11,7 +11,7 @@ use std::alloc::{AllocError, Global};
 use std::test::Fail;
 use sys_abi::{ConnId, Dir, RealPid, Transfer, VPid};
 use views::list_of::ListOf;
-use wire_net::{DirNotes, Net, NetFault, Place, Room, RoomParts, Stepped};
+use wire_net::{DirNotes, Net, NetFault, Place, Room, Stepped};
 
 const CONN: ConnId = ConnId {
     pid: VPid(40_000),
@@ -90,11 +90,8 @@ fn begin(alloc: Global, net: &Net) -> Result<Refill, AllocError>
     let mut notes = Vec::new(alloc);
     notes.push(first)?;
     notes.push(second)?;
-    Ok(Refill::from_parts(RoomParts {
-        transfer: Transfer::new(alloc)?,
-        notes: ListOf::from_vec(notes),
-        lists: Room::with_room(alloc, 2)?,
-    }))
+    let transfer = Transfer::new(alloc)?;
+    Ok(Refill::from_notes(ListOf::from_vec(notes), transfer))
 }
 
 /// The wire of both directions moves what it can.
@@ -149,8 +146,8 @@ fn an_agent_sends_the_frame_first_and_waits_for_its_own_bytes(rt: HostRuntime) -
     assert_eq!(rt; refill.step(&mut net, CLIENT), Stepped::Again);
     assert!(rt; refill.has_work(&net, CLIENT));
     assert!(rt; !refill.is_done(&net));
-    let parts = refill.into_parts();
-    let notes = parts.notes.as_slice();
+    let left = refill.into_notes();
+    let notes = left.as_slice();
     assert_eq!(rt; notes.len(), 2);
     assert_eq!(rt; notes[0].sent, 16);
     assert_eq!(rt; notes[1].read, 0);

@@ -9,8 +9,8 @@ use Rattle.refill_core.proofs.tests.begin.Goals as goal
 some : {X : Type 0} (o : Option X) (v : X) → o ≡ Some v → IsSome o
 some o v is = subst IsSome (sym is) refl
 
-listed : (c : goal.After-from_parts) → c.from_parts.result ≡ c.in_ok-first.first ∷ c.in_ok-second.second ∷ []
-listed c = c.from_parts.ensures ∙ c.from_vec.ensures ∙ c.in_ok-push-2.ensures.items ∙ ap (λ (l : Notes). l ++ c.in_ok-second.second ∷ []) (c.in_ok-push.ensures.items ∙ ap (λ (l : Notes). l ++ c.in_ok-first.first ∷ []) c.new-notes.ensures.items)
+listed : (c : goal.After-from_notes) → c.from_notes.result ≡ c.in_ok-first.first ∷ c.in_ok-second.second ∷ []
+listed c = c.from_notes.ensures ∙ c.from_vec.ensures ∙ c.in_ok-push-2.ensures.items ∙ ap (λ (l : Notes). l ++ c.in_ok-second.second ∷ []) (c.in_ok-push.ensures.items ∙ ap (λ (l : Notes). l ++ c.in_ok-first.first ∷ []) c.new-notes.ensures.items)
 
 pub returns : goal.returns
 returns c =
