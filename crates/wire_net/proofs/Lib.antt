@@ -6,6 +6,7 @@ pub mod PortsInUse
 pub mod RoomLaws
 pub mod Streams
 pub mod Items
+pub mod LiveAgents
 pub mod LiveChannels
 pub mod OneCall
 pub mod OneDirection

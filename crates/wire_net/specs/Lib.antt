@@ -2,6 +2,7 @@ pub mod Changes
 pub mod Channels
 pub mod CutRooms
 pub mod Directions
+pub mod DrainedNets
 pub mod Ends
 pub mod Laws
 pub mod LentListener
@@ -10,4 +11,5 @@ pub mod Networks
 pub mod Noted
 pub mod Orders
 pub mod Reserves
+pub mod Runs
 pub mod Whereabouts

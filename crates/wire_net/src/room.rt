@@ -75,6 +75,20 @@ impl<T> Room<T> {
     }
 }
 
+impl<T: Drop> Room<T> {
+    /// Exchanges what it holds with a list, whose buffer it takes along. Its room is then as long as the list was. Takes no
+    /// memory.
+    pub fn exchange(&mut self, list: &mut ListOf<T>)
+        ensures taken { self.new ≡ reserve list.old (length list.old) }
+        ensures left { list.new ≡ self.old.items }
+    {
+        let alloc = *self.items.allocator();
+        let items = mem::replace(list, ListOf::new(alloc)).into_vec();
+        self.room = items.len();
+        *list = ListOf::from_vec(mem::replace(&mut self.items, items));
+    }
+}
+
 impl<T: Copy> Room<T> {
     /// Puts the items of the piece at the end. Takes no memory.
     pub fn put(&mut self, piece: &[T])
