@@ -16,3 +16,6 @@ mod StepTaken
 mod AllSteps
 mod Steps
 mod Starting
+mod Turns
+mod Begun
+mod RunLaws

@@ -1,6 +1,5 @@
 -- The notes on a direction at their place in the list.
 --     At, place               an item, with those before it and behind it
---     found_here, further     whether an item is the first one on a direction
 --     at_place                an item is found at its direction
 --     set_is_put              an item is replaced
 use Rattle.std.proofs.Common.{◌≡◌, ◌≢◌, ℕ, ◌+◌, ◌<◌, ◌≤◌, suc, Bool, true, false, [], ◌∷◌, ◌++◌, take, drop, length, get_or, set, refl, sym, ap, ap₂, subst, ◌∙◌, arith}
@@ -31,27 +30,6 @@ place old i d below = record {
   whole = sym (take-append-drop i old) ∙ ap (λ (l : Notes). take i old ++ l) (drop-cons old i d below);
   many = length-take-le i old (omega (arith, below));
 }
-
--- the first item that was not passed over
-first_left : (d : Dir) (notes : Notes) (i : ℕ) (z : DirNotes) → i < length notes → notes_at d (drop i notes) ≡ notes_at d notes
-    → (if eq_by_cmp dir_cmp (get_or notes i z).dir d then Some (get_or notes i z) else notes_at d (drop (suc i) notes)) ≡ notes_at d notes
-first_left d notes i z below so_far = ap (notes_at d) (sym (drop-cons notes i z below)) ∙ so_far
-
-pub found_here : (d : Dir) (notes : Notes) (i : ℕ) (z : DirNotes) → i < length notes → z ≡ get_or notes i z → notes_at d (drop i notes) ≡ notes_at d notes → eq_by_cmp dir_cmp z.dir d ≡ true
-    → slice_get notes i ≡ notes_at d notes
-found_here d notes i z below is so_far tie =
-    slice_get-get_or notes i z below
-    ∙ sym (ap (λ (b : Bool). if b then Some (get_or notes i z) else notes_at d (drop (suc i) notes)) (ap (λ (v : DirNotes). eq_by_cmp dir_cmp v.dir d) (sym is) ∙ tie)) ∙ first_left d notes i z below so_far
-
-pub further : (d : Dir) (notes : Notes) (i : ℕ) (z : DirNotes) → i < length notes → z ≡ get_or notes i z → notes_at d (drop i notes) ≡ notes_at d notes → eq_by_cmp dir_cmp z.dir d ≡ false
-    → notes_at d (drop (i + 1) notes) ≡ notes_at d notes
-further d notes i z below is so_far tie =
-    let next : i + 1 ≡ suc i = omega arith in
-    ap (λ (k : ℕ). notes_at d (drop k notes)) next
-    ∙ sym (ap (λ (b : Bool). if b then Some (get_or notes i z) else notes_at d (drop (suc i) notes)) (ap (λ (v : DirNotes). eq_by_cmp dir_cmp v.dir d) (sym is) ∙ tie)) ∙ first_left d notes i z below so_far
-
-pub found_none : (d : Dir) (notes : Notes) (i : ℕ) → length notes ≤ i → notes_at d (drop i notes) ≡ notes_at d notes → None ≡ notes_at d notes
-found_none d notes i past so_far = sym (ap (notes_at d) (drop_all i notes past)) ∙ so_far
 
 pub at_place : (notes : Notes) (i : ℕ) (z : DirNotes) → i < length notes → Apart (dirs_of notes) → notes_at (get_or notes i z).dir notes ≡ Some (get_or notes i z)
 at_place notes i z below apart = let at = place notes i z below in at_itself notes at.front at.back (get_or notes i z) at.whole apart

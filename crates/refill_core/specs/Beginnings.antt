@@ -3,12 +3,22 @@
 --     IsNew x               nothing was sent or read for the direction, and its drained bytes are there
 --     IsReady m notes x     its channel is live, with agents and notes for both directions, and no byte of it is in the network
 --     IsBeginning m notes   so all directions are, or nothing is refilled on them
-use Rattle.std.specs.Prelude.{◌≡◌, ◌<◌, ◌≤◌, ◌⊎◌, [], length, Some, IsSome, is_some, All}
+--     begun_on              the notes on a direction, by the list of what was drained of it
+--     begun                 the notes on all directions that a room names
+--     IsGivenBack m list    all bytes of the list, and no others, can be read from its direction
+use Rattle.std.specs.Prelude.{◌≡◌, ◌<◌, ◌≤◌, ◌⊎◌, ℕ, ◌-◌, true, List, [], length, map as each, Option, Some, None, IsSome, is_some, All, if◌then◌else◌}
+use Rattle.wire_net.specs.declared.agents.AgentEnd.{AgentEnd}
+use Rattle.wire_net.specs.declared.cut_room.DirBytes.{DirBytes}
 use Rattle.wire_net.specs.declared.cut_room.DirNotes.{DirNotes}
 use Rattle.wire_net.specs.declared.limits.TheConstants.{QUEUE_LIMIT}
 use Rattle.wire_net.specs.Directions.{Direction}
 use Rattle.wire_net.specs.Channels.{Channels, direction_at, is_live_at}
-use Rattle.wire_net.specs.Whereabouts.{stream, reverse}
+use Rattle.wire_net.specs.CutRooms.{Named, new_notes}
+use Rattle.wire_net.specs.DrainedNets.{StandsIf, list_on}
+use Rattle.wire_net.specs.Ends.{agent_of}
+use Rattle.wire_net.specs.Networks.{received_on}
+use Rattle.wire_net.specs.Reserves.{reserve}
+use Rattle.wire_net.specs.Whereabouts.{stream, stream_on, reverse}
 use Rattle.refill_core.specs.Refills.{Notes, dirs_of, Apart, notes_at, IsFlowing, IsAside}
 
 pub record IsNew (x : DirNotes) : Type 0 where
@@ -35,3 +45,27 @@ pub record IsBeginning (m : Channels) (notes : Notes) : Type 0 where
   pub new : All IsNew notes
   pub ready : All (λ x. IsAside m x ⊎ IsReady m notes x) notes
   pub live : All (λ x. is_some x.sender ≡ is_live_at m x.dir.conn) notes
+
+-- nothing is noted of the direction
+abbrev pub cleared : Named → DirNotes
+cleared named = record (new_notes named) { drained = reserve [] 0 }
+
+-- its agents send these bytes back
+abbrev pub with_list : List AgentEnd → List ℕ → DirNotes → DirNotes
+with_list ends bytes x = record x {
+  drained = reserve bytes (length bytes);
+  sender = agent_of ends x.dir.conn x.dir.side;
+  reader = agent_of ends x.dir.conn (1 - x.dir.side);
+  count = length bytes;
+}
+
+-- where the bytes are in place, none are sent back
+abbrev pub begun_on : List AgentEnd → Named → Option DirBytes → DirNotes
+begun_on ends named None = cleared named
+begun_on ends named (Some list) = if list.in_place then cleared named else with_list ends list.bytes (cleared named)
+
+abbrev pub begun : List DirBytes → List AgentEnd → List Named → Notes
+begun lists ends lengths = each (λ named. begun_on ends named (list_on named.0 lists)) lengths
+
+abbrev pub IsGivenBack : Channels → DirBytes → Type 0
+IsGivenBack m list = StandsIf true list.bytes (stream_on (direction_at m list.dir)) (received_on (direction_at m list.dir))

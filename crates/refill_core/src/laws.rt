@@ -1,7 +1,8 @@
 ghost use Rattle.refill_core.specs.Laws.{MoveFits, MoveLowers, BeginFits, HoldsDrained};
+ghost use Rattle.refill_core.specs.Runs.{GivesBack, EndsInTime};
 
-/// What moves of bytes from queue to queue do while agents refill, how a refill begins, and what it holds all along. It
-/// does nothing.
+/// What moves of bytes from queue to queue do while agents refill, how a refill begins, what it holds all along, and what
+/// whole runs of steps and moves come to. It does nothing.
 pub fn refill_laws()
     // The notes of the agents fit the network after a move, and less is left to do where bytes were moved.
     ensures fits { MoveFits }
@@ -12,4 +13,9 @@ pub fn refill_laws()
 
     // The bytes of a direction that agents refill are what was drained of it, wherever they are.
     ensures holds { HoldsDrained }
+
+    // Whatever steps and moves are made on the way, in any order, a refill that is done has given back to each direction
+    // what was drained of it; and no run goes on for ever.
+    ensures whole { GivesBack }
+    ensures ends { EndsInTime }
 {}

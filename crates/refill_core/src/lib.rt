@@ -15,6 +15,7 @@
 //! the Desktop", 2009 (refill kernel buffers); the frame is this project's own.
 #![tactic(auto)]
 
+mod beginning;
 mod finishing;
 mod laws;
 pub mod limits;
@@ -25,7 +26,7 @@ mod stepping;
 
 pub use laws::refill_laws;
 pub use refill::Refill;
-pub use wire_net::{DirNotes, Stepped};
+pub use wire_net::{AgentEnd, CutRoom, DirBytes, DrainedNet, Stepped};
 
 #[cfg(test)]
 mod tests;

@@ -1,18 +1,24 @@
-ghost use Rattle.std.specs.Prelude.{◌≡◌, ◌==◌, ◌<◌, true, false, All};
+ghost use Rattle.std.specs.Prelude.{◌≡◌, ◌==◌, ◌<◌, ◌≤◌, true, false, length, map as each, All};
 ghost use Rattle.sys_abi.specs.declared.identity.Dir.{Dir};
 ghost use Rattle.wire_net.specs.declared.agents.Stepped.TheVariants.{Moved};
+ghost use Rattle.wire_net.specs.declared.limits.TheConstants.{QUEUE_LIMIT};
+ghost use Rattle.wire_net.specs.Channels.{Channels};
+ghost use Rattle.wire_net.specs.DrainedNets.{IsDrained, HasLists, IsNamingLists};
+ghost use Rattle.wire_net.specs.Ends.{IsFor};
+ghost use Rattle.wire_net.specs.Networks.{Network};
 ghost use Rattle.wire_net.specs.Whereabouts.{whereabouts};
+ghost use Rattle.refill_core.specs.Beginnings as beginnings;
 ghost use Rattle.refill_core.specs.Refills as words;
 ghost use Rattle.refill_core.specs.Holding.{agents_of};
 ghost use Rattle.refill_core.specs.Stepping.{state};
 ghost use Rattle.refill_core.specs.Work as work;
 
+use crate::beginning::begin_all;
 use crate::finishing::{all_finished, has_work_left};
 use crate::stepping::step_all;
 use std::marker::Model;
 use sys_abi::{RealPid, Transfer};
-use views::list_of::ListOf;
-use wire_net::{DirNotes, Net, Stepped};
+use wire_net::{AgentEnd, CutRoom, DirNotes, DrainedNet, Net, Stepped};
 
 /// A refill under way. A contract sees what the agents have noted of each direction.
 #[derive(Drop)]
@@ -30,21 +36,29 @@ impl Model for Refill {
 }
 
 impl Refill {
-    /// A refill by its notes, which say how far it has come. What the transfer holds is lost. Takes no memory.
-    pub fn from_notes(notes: ListOf<DirNotes>, transfer: Transfer) -> Refill
-        ensures { result ≡ notes }
-    {
-        Refill {
-            transfer,
-            notes: notes.into_vec(),
-        }
-    }
+    /// Begins a refill of what was drained: the bytes of each list that were not left in place go back to its direction.
+    /// The room names each direction, and what is drained has a list of each; the ends' agents are listed. Takes no memory.
+    pub fn begin(room: CutRoom, drained: DrainedNet, ends: &[AgentEnd]) -> Refill
+        requires naming { IsNamingLists room.lengths drained.lists }
+        requires few { All (λ list. length list.bytes ≤ QUEUE_LIMIT) drained.lists }
+        ensures begun { result ≡ beginnings.begun drained.lists ends.now room.lengths }
+        ensures named { words.dirs_of result ≡ each (λ named. named.0) room.lengths }
 
-    /// The notes as they stand. Takes no memory.
-    pub fn into_notes(self) -> ListOf<DirNotes>
-        ensures { result ≡ self }
+        // It fits each network that was drained so.
+        ensures fits { (m : Channels) → IsFor m ends.now → IsDrained m drained.lists → HasLists m drained.lists → words.Fits m result }
+
+        // The bytes of each direction are those of its list.
+        ensures kept { (t : Network) → IsFor t.channels ends.now → IsDrained t.channels drained.lists → HasLists t.channels drained.lists
+            → All (λ list. whereabouts t (agents_of result) list.dir ≡ list.bytes) drained.lists }
     {
-        ListOf::from_vec(self.notes)
+        let parts = room.into_parts();
+        let mut notes = parts.notes.into_vec();
+        let mut lists = drained.lists.into_vec();
+        begin_all(&mut notes, &mut lists, ends);
+        Refill {
+            transfer: parts.transfer,
+            notes,
+        }
     }
 
     /// One step of an agent on all directions that it sends: it reads what has come of the frame with the direction's own
@@ -88,5 +102,14 @@ impl Refill {
         ensures back { result ≡ true → All (words.IsBack (λ d. whereabouts net.now (agents_of self.now) d) net.now.channels) self.now }
     {
         all_finished(&self.notes, net)
+    }
+
+    /// Ends a refill that is done. All bytes of each direction can be read, and they are all that it had.
+    pub fn finish(self, net: &Net)
+        requires fits { words.Fits net.now.channels self }
+        requires done { work.is_done net.now.channels self ≡ true }
+        ensures back { All (words.IsBack (λ d. whereabouts net.now (agents_of self) d) net.now.channels) self }
+    {
+        let _room = self.notes;
     }
 }

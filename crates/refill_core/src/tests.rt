@@ -1,17 +1,15 @@
 // Two processes have a channel between them; what was drained of it is sent back.
-ghost use Rattle.std.specs.Prelude.{◌≡◌, ◌<◌, ◌≤◌, Some, length, IfOk};
+ghost use Rattle.std.specs.Prelude.{◌≡◌, ◌≤◌, false, length, IfOk};
 ghost use Rattle.std.specs.FinMap as map;
 ghost use Rattle.wire_net.specs.Channels.{new_channel};
-ghost use Rattle.wire_net.specs.Reserves.{reserve};
-ghost use Rattle.refill_core.specs.Beginnings.{IsNew};
 ghost use Rattle.refill_core.specs.Refills.{Fits};
 
-use crate::Refill;
+use crate::{AgentEnd, CutRoom, DirBytes, DrainedNet, Refill, Stepped};
 use std::alloc::{AllocError, Global};
 use std::test::Fail;
 use sys_abi::{ConnId, Dir, RealPid, Transfer, VPid};
 use views::list_of::ListOf;
-use wire_net::{DirNotes, Net, NetFault, Place, Room, Stepped};
+use wire_net::{Net, NetFault, Place};
 
 const CONN: ConnId = ConnId {
     pid: VPid(40_000),
@@ -43,55 +41,56 @@ const STRANGER: RealPid = RealPid {
     pid: 2_001,
 };
 
+const ENDS: [AgentEnd; 2] = [
+    AgentEnd {
+        conn: CONN,
+        side: 0,
+        agent: Some(CLIENT),
+    },
+    AgentEnd {
+        conn: CONN,
+        side: 1,
+        agent: Some(SERVER),
+    },
+];
+
 fn one_channel(alloc: Global) -> Result<Net, NetFault>
-    ensures { IfOk result (λ net. map.get net.channels CONN ≡ Some new_channel) }
+    ensures { IfOk result (λ net. net.channels ≡ map.insert map.empty CONN new_channel) }
 {
     let mut net = Net::new(alloc, 2, 20_000)?;
-    if net.has(CONN) {
-        return Err(NetFault::NotReady);
-    }
     net.pair(CONN)?;
     Ok(net)
 }
 
-/// Notes on a direction of which these bytes were drained.
-fn drained(
-    alloc: Global,
-    dir: Dir,
-    sender: RealPid,
-    reader: RealPid,
-    text: &[u8],
-) -> Result<DirNotes, AllocError>
-    requires side { dir.side < 2 }
-    requires few { length text.now ≤ 65536 }
-    ensures { IfOk result (λ notes. IsNew notes × (notes.dir ≡ dir) × (notes.sender ≡ Some sender)) }
+/// What was drained of a direction.
+fn list(alloc: Global, dir: Dir, text: &[u8]) -> Result<DirBytes, AllocError>
+    ensures { IfOk result (λ list. list ≡ record { dir = dir; bytes = text.now; in_place = false }) }
 {
-    let mut bytes = Room::with_room(alloc, text.len())?;
-    bytes.put(text);
-    let returned = Room::with_room(alloc, text.len())?;
-    Ok(DirNotes {
+    let mut bytes = Vec::with_capacity(alloc, text.len())?;
+    bytes.extend_from_slice(text)?;
+    Ok(DirBytes {
         dir,
-        drained: bytes,
-        returned,
-        sender: Some(sender),
-        reader: Some(reader),
-        count: text.len() as u32,
-        sent: 0,
-        read: 0,
+        bytes: ListOf::from_vec(bytes),
+        in_place: false,
     })
 }
 
-fn begin(alloc: Global, net: &Net) -> Result<Refill, AllocError>
-    requires { map.get net.now.channels CONN ≡ Some new_channel }
+/// A refill of both directions with these bytes. The second list comes first.
+fn begin(alloc: Global, net: &Net, first: &[u8], second: &[u8]) -> Result<Refill, AllocError>
+    requires net { net.now.channels ≡ map.insert map.empty CONN new_channel }
+    requires first { length first.now ≤ 65536 }
+    requires second { length second.now ≤ 65536 }
     ensures { IfOk result (λ refill. Fits net.now.channels refill) }
 {
-    let first = drained(alloc, FIRST, CLIENT, SERVER, b"hello")?;
-    let second = drained(alloc, SECOND, SERVER, CLIENT, b"good morning")?;
-    let mut notes = Vec::new(alloc);
-    notes.push(first)?;
-    notes.push(second)?;
-    let transfer = Transfer::new(alloc)?;
-    Ok(Refill::from_notes(ListOf::from_vec(notes), transfer))
+    let mut lists = Vec::new(alloc);
+    lists.push(list(alloc, SECOND, second)?)?;
+    lists.push(list(alloc, FIRST, first)?)?;
+    let lengths = [(FIRST, first.len() as u32), (SECOND, second.len() as u32)];
+    let room = CutRoom::reserve(alloc, &lengths)?;
+    let drained = DrainedNet {
+        lists: ListOf::from_vec(lists),
+    };
+    Ok(Refill::begin(room, drained, &ENDS))
 }
 
 /// The wire of both directions moves what it can.
@@ -120,10 +119,11 @@ fn go_on(net: &mut Net, refill: &mut Refill)
 #[test]
 fn both_ways_are_filled_again(rt: HostRuntime) -> Result<(), Fail> {
     let mut net = one_channel(rt.alloc())?;
-    let mut refill = begin(rt.alloc(), &net)?;
+    let mut refill = begin(rt.alloc(), &net, b"hello", b"good morning")?;
     go_on(&mut net, &mut refill);
     assert!(rt; refill.is_done(&net));
     assert!(rt; !refill.has_work(&net, CLIENT));
+    refill.finish(&net);
     let mut transfer = Transfer::new(rt.alloc())?;
     net.receive(FIRST, 100, &mut transfer)?;
     assert_eq!(rt; transfer.as_slice(), b"hello".as_slice());
@@ -137,7 +137,7 @@ fn both_ways_are_filled_again(rt: HostRuntime) -> Result<(), Fail> {
 #[test]
 fn an_agent_sends_the_frame_first_and_waits_for_its_own_bytes(rt: HostRuntime) -> Result<(), Fail> {
     let mut net = one_channel(rt.alloc())?;
-    let mut refill = begin(rt.alloc(), &net)?;
+    let mut refill = begin(rt.alloc(), &net, b"hello", b"good morning")?;
     assert_eq!(rt; refill.step(&mut net, STRANGER), Stepped::Finished);
     assert_eq!(rt; refill.step(&mut net, CLIENT), Stepped::Moved);
     assert_eq!(rt; net.counts(FIRST), [4, 0, 0]);
@@ -146,10 +146,5 @@ fn an_agent_sends_the_frame_first_and_waits_for_its_own_bytes(rt: HostRuntime) -
     assert_eq!(rt; refill.step(&mut net, CLIENT), Stepped::Again);
     assert!(rt; refill.has_work(&net, CLIENT));
     assert!(rt; !refill.is_done(&net));
-    let left = refill.into_notes();
-    let notes = left.as_slice();
-    assert_eq!(rt; notes.len(), 2);
-    assert_eq!(rt; notes[0].sent, 16);
-    assert_eq!(rt; notes[1].read, 0);
     Ok(())
 }

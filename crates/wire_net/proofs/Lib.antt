@@ -5,7 +5,10 @@ pub mod OrderLaws
 pub mod PortsInUse
 pub mod RoomLaws
 pub mod Streams
+pub mod EachItem
+pub mod Finding
 pub mod Items
+pub mod ListsOn
 pub mod LiveAgents
 pub mod LiveChannels
 pub mod OneCall
