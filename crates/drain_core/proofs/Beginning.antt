@@ -3,32 +3,27 @@
 --     fits_begun                  they fit the network
 --     kept_begun                  the bytes of each direction are those in its queues
 --     noted_begun                 each direction of the network is noted
-use Rattle.std.proofs.Common.{◌≡◌, ℕ, ◌==◌, ◌+◌, ◌-◌, ◌<◌, ◌≤◌, Bool, true, false, List, [], ◌∷◌, map as each, length, refl, sym, ap, ap₂, subst, ◌∙◌, arith, inl, inr}
-use Rattle.std.specs.Prelude.{Option, Some, None, All, IsSome, is_some, not, ◌||◌, if◌then◌else◌}
-use Rattle.std.specs.Option.{option_map, option_map_or}
+use Rattle.std.proofs.Common.{◌≡◌, ℕ, ◌+◌, ◌-◌, ◌<◌, ◌≤◌, Bool, true, false, List, [], ◌∷◌, map as each, length, refl, sym, ap, ap₂, subst, ◌∙◌, arith, inl, inr}
+use Rattle.std.specs.Prelude.{Option, Some, None, All, is_some, ◌||◌, if◌then◌else◌}
+use Rattle.std.specs.Option.{option_map_or}
 use Rattle.std.specs.Ordering.{eq_by_cmp}
 use Rattle.std.specs.List.{list_any}
-use Rattle.std.specs.FinMap as map
 use Rattle.std.proofs.Math.Seq.{drop-nil}
-use Rattle.std.proofs.lemmas.Bool.{and_parts, not-true}
 use Rattle.std.proofs.lemmas.List.{take_all, drop_all}
 use Rattle.std.proofs.lemmas.List.Elements.{All-nil, All-cons, All-head, All-tail, All-map}
-use Rattle.views.proofs.MapLaws.{true_false}
-use Rattle.sys_abi.specs.declared.identity.ConnId.{ConnId}
 use Rattle.sys_abi.specs.declared.identity.Dir.{Dir}
-use Rattle.sys_abi.specs.declared.identity.RealPid.{RealPid}
 use Rattle.sys_abi.specs.Orders.{dir_cmp}
 use Rattle.wire_net.specs.declared.agents.AgentEnd.{AgentEnd}
-use Rattle.wire_net.specs.declared.channel.Channel.{Channel}
 use Rattle.wire_net.specs.declared.cut_room.DirNotes.{DirNotes}
 use Rattle.wire_net.specs.declared.limits.TheConstants.{QUEUE_LIMIT}
 use Rattle.wire_net.specs.CutRooms.{Named, new_notes, all_notes}
-use Rattle.wire_net.specs.Directions.{Direction, standing, is_flowing}
-use Rattle.wire_net.specs.Channels.{Channels, direction_of, direction_at, is_live, is_live_at}
+use Rattle.wire_net.specs.Directions.{Direction, standing}
+use Rattle.wire_net.specs.Channels.{Channels, direction_at, is_live_at}
 use Rattle.wire_net.specs.Ends.{agent_of, IsFor}
 use Rattle.wire_net.specs.Networks.{Network}
 use Rattle.wire_net.specs.Whereabouts.{stream, stream_on, whereabouts}
-use Rattle.drain_core.specs.Drains.{Notes, IsFlowing, IsNoted, IsInStep, dirs_of, Apart, Fits, has_notes}
+use Rattle.wire_net.proofs.LiveAgents.{live_there, direction_there, agent_there, some_is}
+use Rattle.drain_core.specs.Drains.{Notes, IsNoted, IsInStep, dirs_of, Apart, Fits, has_notes}
 use Rattle.drain_core.specs.Holding.{agents_of}
 use Rattle.drain_core.specs.Openings.{IsNaming, opened, begun}
 use Rattle.drain_core.proofs.OneDrain.{own}
@@ -53,43 +48,6 @@ all_fresh m ends (named ∷ lengths) sides rooms =
       room = All-head (λ (n : Named). option_map_or standing (direction_at m n.0) 0 ≤ n.1) named lengths rooms;
     })
     (all_fresh m ends lengths (All-tail (λ (n : Named). n.0.side < 2) named lengths sides) (All-tail (λ (n : Named). option_map_or standing (direction_at m n.0) 0 ≤ n.1) named lengths rooms))
-
--- ---- live channels have agents
-
-flowing : (direction : Direction) → is_flowing direction ≡ true → IsFlowing direction
-flowing direction is =
-    let parts = and_parts (not direction.is_ended) (not direction.is_unread) is in
-    record { goes_on = not-true direction.is_ended parts.0; is_read = not-true direction.is_unread parts.1 }
-
-side_flows : (channel : Channel) (side : ℕ) → is_live channel ≡ true → is_flowing (direction_of side channel) ≡ true
-side_flows channel side is = choice (side == 0)
-  where
-    choice : (b : Bool) → is_flowing (if b then channel.first else channel.second) ≡ true
-    choice true = (and_parts (is_flowing channel.first) (is_flowing channel.second) is).0
-    choice false = (and_parts (is_flowing channel.first) (is_flowing channel.second) is).1
-
-record There (m : Channels) (id : ConnId) : Type 0 where
-  channel : Channel
-  found : map.get m id ≡ Some channel
-  live : is_live channel ≡ true
-
-live_there : (m : Channels) (id : ConnId) → is_live_at m id ≡ true → There m id
-live_there m id is = choice (map.get m id) refl is
-  where
-    choice : (o : Option Channel) → map.get m id ≡ o → option_map_or is_live o false ≡ true → There m id
-    choice None at is = true_false (sym is)
-    choice (Some channel) at is = record { channel = channel; found = at; live = is }
-
-agent_there : (m : Channels) (ends : List AgentEnd) (id : ConnId) (side : ℕ) → IsFor m ends → side < 2 → There m id → is_some (agent_of ends id side) ≡ true
-agent_there m ends id side for few there = choice (agent_of ends id side) refl
-  where
-    choice : (o : Option RealPid) → agent_of ends id side ≡ o → is_some o ≡ true
-    choice (Some agent) at = refl
-    choice None at = true_false (sym (for.silent id there.channel side few there.found at) ∙ (flowing (direction_of side there.channel) (side_flows there.channel side there.live)).goes_on)
-
-some_is : (o : Option RealPid) → is_some o ≡ true → IsSome o
-some_is None is = true_false (sym is)
-some_is (Some agent) is = refl
 
 -- ---- the notes on one direction
 
@@ -134,18 +92,17 @@ fresh_in_step m ends named for side = choice (is_live_at m named.0.conn) refl
     choice false at = inl (record { sender = refl; reader = refl; read = refl; stands = standing_is (direction_at m named.0) })
     choice true at =
         let there = live_there m named.0.conn at in
-        let direction = direction_of named.0.side there.channel in
-        let found : direction_at m named.0 ≡ Some direction = ap (option_map (direction_of named.0.side)) there.found in
-        let stands : length (stream direction) ≡ count = ap (λ (o : Option Direction). length (stream_on o)) (sym found) ∙ standing_is (direction_at m named.0) in
+        let one = direction_there m named.0 there in
+        let stands : length (stream one.direction) ≡ count = ap (λ (o : Option Direction). length (stream_on o)) (sym one.found) ∙ standing_is (direction_at m named.0) in
         inr (record {
           sender = some_is (agent_of ends named.0.conn named.0.side) (agent_there m ends named.0.conn named.0.side for side there);
           reader = some_is (agent_of ends named.0.conn (1 - named.0.side)) (agent_there m ends named.0.conn (1 - named.0.side) for (omega (arith, side)) there);
-          direction = direction;
-          found = found;
+          direction = one.direction;
+          found = one.found;
           drains = record {
-            flows = flowing direction (side_flows there.channel named.0.side there.live);
+            flows = one.flows;
             total = omega (arith, stands);
-            behind = drop_all (count - 0) (stream direction) (omega (arith, stands)) ∙ sym (drop-nil (0 - count));
+            behind = drop_all (count - 0) (stream one.direction) (omega (arith, stands)) ∙ sym (drop-nil (0 - count));
           };
         })
 

@@ -14,4 +14,5 @@ mod Given
 mod Beginning
 mod HeldUp
 mod OneChannel
+mod DrainedLists
 mod RunLaws

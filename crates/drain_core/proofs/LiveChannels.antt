@@ -1,15 +1,11 @@
 -- Which channels are live stays as it is in a drain.
---     KeepsFlow                  a change that leaves it as it is whether bytes may pass
---     live_kept                  so the same channels are live
---     live_after                 after a step of an agent
-use Rattle.std.proofs.Common.{◌≡◌, ℕ, ◌==◌, Bool, true, false, [], ◌∷◌, take, refl, ◌∙◌}
+--     live_after                 after a step of an agent the same channels are live
+use Rattle.std.proofs.Common.{◌≡◌, ◌==◌, Bool, true, false, [], ◌∷◌, take, refl, ◌∙◌}
 use Rattle.std.specs.Prelude.{if◌then◌else◌}
 use Rattle.sys_abi.specs.declared.identity.ConnId.{ConnId}
 use Rattle.sys_abi.specs.declared.identity.RealPid.{RealPid}
 use Rattle.wire_net.specs.declared.cut_room.DirNotes.{DirNotes}
-use Rattle.wire_net.specs.declared.place.Place.{Place}
-use Rattle.wire_net.specs.declared.place.Place.TheVariants.{Send, Wire}
-use Rattle.wire_net.specs.Directions.{is_flowing, after_receive, after_send, after_move}
+use Rattle.wire_net.specs.Directions.{is_flowing, after_receive, after_send}
 use Rattle.wire_net.specs.Channels.{Channels, at_direction, is_live_at}
 use Rattle.drain_core.specs.Tasks.{unsent, reads, sends, direction_after}
 use Rattle.drain_core.specs.Drains.{Notes, channels_after}
@@ -27,7 +23,3 @@ step_flows p x direction = choice (sends p x (after_receive (reads p x direction
 pub live_after : (p : RealPid) (notes : Notes) (m : Channels) (id : ConnId) → is_live_at (channels_after p notes m) id ≡ is_live_at m id
 live_after p [] m id = refl
 live_after p (x ∷ notes) m id = live_after p notes (at_direction m x.dir (direction_after p x)) id ∙ live_kept m x.dir (direction_after p x) id (step_flows p x)
-
-pub move_flows : (place : Place) (n : ℕ) → KeepsFlow (after_move place n)
-move_flows Send n direction = refl
-move_flows Wire n direction = refl

@@ -3,6 +3,7 @@ ghost use Rattle.sys_abi.specs.declared.identity.Dir.{Dir};
 ghost use Rattle.wire_net.specs.declared.agents.Stepped.TheVariants.{Moved, Again};
 ghost use Rattle.wire_net.specs.CutRooms.{names_of};
 ghost use Rattle.wire_net.specs.Channels.{direction_at};
+ghost use Rattle.wire_net.specs.DrainedNets.{list_on, IsDrained, IsNamingLists};
 ghost use Rattle.wire_net.specs.Ends.{IsFor};
 ghost use Rattle.wire_net.specs.Whereabouts.{stream_on, whereabouts};
 ghost use Rattle.drain_core.specs.Drains as words;
@@ -110,6 +111,14 @@ impl Drain {
         ensures lists { result.0.lists ≡ openings.lists_of net.now.channels self }
         ensures given { openings.IsGiven net.now self }
         ensures room { result.1 ≡ record { lengths = names_of self; is_whole = false } }
+
+        // The lists are what a refill asks of them: each says truly of its direction where its bytes are, no two are of one
+        // direction, and each noted direction of the network has one.
+        ensures drained { IsDrained net.now.channels result.0.lists }
+        ensures whole { (d : Dir) → d.side < 2 → IsSome (direction_at net.now.channels d) → words.has_notes d self ≡ true → IsSome (list_on d result.0.lists) }
+
+        // So is the room: it names each direction once, with room for its list to come back.
+        ensures names { IsNamingLists result.1.lengths result.0.lists }
     {
         let mut transfer = self.transfer;
         let mut notes = self.notes;

@@ -1,15 +1,25 @@
-use Rattle.std.proofs.Common.{false, ap, sym, subst, ◌∙◌}
-use Rattle.std.specs.Prelude.{All}
+use Rattle.std.proofs.Common.{false, List, ◌++◌, ap, ap₂, sym, subst, ◌∙◌}
+use Rattle.std.specs.Prelude.{All, IsSome}
 use Rattle.std.proofs.lemmas.List.Elements.{All-map}
+use Rattle.wire_net.specs.declared.cut_room.DirBytes.{DirBytes}
 use Rattle.wire_net.specs.declared.cut_room.DirNotes.{DirNotes}
-use Rattle.wire_net.specs.CutRooms.{RoomView, names_of, HasRoom}
+use Rattle.wire_net.specs.CutRooms.{Named, RoomView, names_of, HasRoom}
+use Rattle.wire_net.specs.DrainedNets.{list_on, IsDrained, IsNamingLists}
+use Rattle.wire_net.specs.Reserves.{Reserve}
 use Rattle.drain_core.specs.Drains.{Notes, IsNoted}
-use Rattle.drain_core.specs.Openings.{emptied}
+use Rattle.drain_core.specs.Openings.{lists_of, emptied}
 use Rattle.drain_core.proofs.AllDirections.{for_each, one_of}
+use Rattle.drain_core.proofs.DrainedLists.{drained_lists, noted_list, named_lists}
 use Rattle.drain_core.proofs.Given.{given}
 use Rattle.drain_core.proofs.GivenLists.{same_names}
 use Rattle.drain_core.proofs.Walk.{written_back}
 use Rattle.drain_core.proofs.drain.Drain.finish.Goals as goal
+
+pub returns-clause-lists : goal.returns-clause-lists
+returns-clause-lists c =
+    c.take.ensures.taken
+    ∙ ap (λ (r : Reserve DirBytes). r.items) c.hand_out.ensures.lists
+    ∙ ap₂ (λ (r : Reserve DirBytes) (l : Notes). r.items ++ lists_of c.args.net.now.channels l) c.self.invariant (c.deref_mut.ensures.value ∙ c.self.view_is)
 
 pub returns-clause-given : goal.returns-clause-given
 returns-clause-given c = given c.args.net.now c.args.self c.requires.fits c.requires.done
@@ -22,6 +32,20 @@ returns-clause-room c =
     c.from_parts-room.ensures
     ∙ ap (λ (l : Notes). let view : RoomView = record { lengths = names_of l; is_whole = false } in view) (c.from_vec.ensures ∙ back)
     ∙ ap (λ l. let view : RoomView = record { lengths = l; is_whole = false } in view) (same_names c.args.self)
+
+pub returns-clause-drained : goal.returns-clause-drained
+returns-clause-drained c =
+    subst (IsDrained c.args.net.now.channels) (sym (returns-clause-lists c)) (drained_lists c.args.net.now c.args.self c.requires.fits (returns-clause-given c))
+
+pub returns-clause-whole : goal.returns-clause-whole
+returns-clause-whole c = λ d side there noted.
+    subst (λ (lists : List DirBytes). IsSome (list_on d lists)) (sym (returns-clause-lists c)) (noted_list c.args.net.now.channels d c.args.self there noted)
+
+pub returns-clause-names : goal.returns-clause-names
+returns-clause-names c =
+    subst (IsNamingLists c.from_parts-room.result.lengths) (sym (returns-clause-lists c))
+    (subst (λ (lengths : List Named). IsNamingLists lengths (lists_of c.args.net.now.channels c.args.self)) (sym (ap (λ (view : RoomView). view.lengths) (returns-clause-room c)))
+    (named_lists c.args.net.now c.args.self c.requires.fits (returns-clause-given c)))
 
 pub from_parts-room-requires : goal.from_parts-room-requires
 from_parts-room-requires c =
