@@ -19,3 +19,4 @@ mod Starting
 mod Turns
 mod Begun
 mod RunLaws
+mod OneChannel

@@ -1,20 +1,20 @@
-use Rattle.std.proofs.Common.{◌≡◌, ap, sym, subst, refl, ◌∙◌, [], ◌∷◌, ◌++◌}
-use Rattle.std.specs.Prelude.{Option, Some, IsSome}
-use Rattle.wire_net.specs.declared.cut_room.DirNotes.{DirNotes}
-use Rattle.refill_core.specs.Refills.{Notes, Fits}
-use Rattle.refill_core.specs.declared.tests.TheConstants.{CONN}
-use Rattle.refill_core.proofs.Starting.{begins_fit, fresh_pair}
+use Rattle.std.proofs.Common.{◌≡◌, List, ◌∷◌, ◌++◌, [], sym, ap, ap₂, subst, ◌∙◌}
+use Rattle.wire_net.specs.declared.cut_room.DirBytes.{DirBytes}
+use Rattle.wire_net.specs.Channels.{Channels}
+use Rattle.wire_net.specs.DrainedNets.{IsDrained, HasLists}
+use Rattle.wire_net.specs.Ends.{IsFor}
+use Rattle.refill_core.specs.declared.tests.TheConstants.{ENDS}
+use Rattle.refill_core.proofs.OneChannel.{one, drained, ends_are_for, is_drained, has_lists}
 use Rattle.refill_core.proofs.tests.begin.Goals as goal
 
-some : {X : Type 0} (o : Option X) (v : X) → o ≡ Some v → IsSome o
-some o v is = subst IsSome (sym is) refl
-
-listed : (c : goal.After-from_notes) → c.from_notes.result ≡ c.in_ok-first.first ∷ c.in_ok-second.second ∷ []
-listed c = c.from_notes.ensures ∙ c.from_vec.ensures ∙ c.in_ok-push-2.ensures.items ∙ ap (λ (l : Notes). l ++ c.in_ok-second.second ∷ []) (c.in_ok-push.ensures.items ∙ ap (λ (l : Notes). l ++ c.in_ok-first.first ∷ []) c.new-notes.ensures.items)
+made : (c : goal.After-begin) → c.from_vec.result ≡ drained c.args.first.now c.args.second.now
+made c =
+    c.from_vec.ensures ∙ c.in_ok-push-2.ensures.items
+    ∙ ap₂ (λ (l : List DirBytes) (list : DirBytes). l ++ list ∷ []) (c.in_ok-push.ensures.items ∙ ap₂ (λ (l : List DirBytes) (list : DirBytes). l ++ list ∷ []) c.new-lists.ensures.items c.in_ok-list.ensures) c.in_ok-list-2.ensures
 
 pub returns : goal.returns
 returns c =
-    subst (Fits c.args.net.now.channels) (sym (listed c))
-    (begins_fit c.args.net.now.channels (c.in_ok-first.first ∷ c.in_ok-second.second ∷ [])
-    (fresh_pair c.args.net.now.channels CONN c.in_ok-first.first c.in_ok-second.second c.requires c.in_ok-first.ensures.1 c.in_ok-second.ensures.1 c.in_ok-first.ensures.0 c.in_ok-second.ensures.0
-    (some c.in_ok-first.first.sender _ c.in_ok-first.ensures.2) (some c.in_ok-second.second.sender _ c.in_ok-second.ensures.2)))
+    c.begin.ensures.fits c.args.net.now.channels
+    (subst (λ (m : Channels). IsFor m ENDS) (sym c.requires.net) ends_are_for)
+    (subst (λ (m : Channels). IsDrained m c.from_vec.result) (sym c.requires.net) (subst (IsDrained one) (sym (made c)) (is_drained c.args.first.now c.args.second.now c.requires.first c.requires.second)))
+    (subst (λ (m : Channels). HasLists m c.from_vec.result) (sym c.requires.net) (subst (HasLists one) (sym (made c)) (has_lists c.args.first.now c.args.second.now)))
