@@ -15,7 +15,7 @@ use Rattle.wire_net.specs.CutRooms.{Named, names_of}
 use Rattle.wire_net.specs.Reserves.{Reserve, reserve}
 use Rattle.drain_core.specs.Drains.{Notes}
 use Rattle.drain_core.specs.Openings.{list_of, lists_of, emptied}
-use Rattle.drain_core.proofs.Walk.{place, item_here}
+use Rattle.wire_net.proofs.EachItem.{place, item_here}
 
 -- the list of one direction, if it has one, in front of the others
 first_of : (found : Option DirBytes) (rest : List DirBytes) → cons_option found rest ≡ option_to_list found ++ rest

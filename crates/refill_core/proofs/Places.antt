@@ -1,5 +1,4 @@
 -- The notes on a direction at their place in the list.
---     At, place               an item, with those before it and behind it
 --     at_place                an item is found at its direction
 --     set_is_put              an item is replaced
 use Rattle.std.proofs.Common.{◌≡◌, ◌≢◌, ℕ, ◌+◌, ◌<◌, ◌≤◌, suc, Bool, true, false, [], ◌∷◌, ◌++◌, take, drop, length, get_or, set, refl, sym, ap, ap₂, subst, ◌∙◌, arith}
@@ -14,22 +13,9 @@ use Rattle.sys_abi.specs.declared.identity.Dir.{Dir}
 use Rattle.sys_abi.specs.Orders.{dir_cmp}
 use Rattle.sys_abi.proofs.OrderLaws.{dir_total, dir_exact}
 use Rattle.wire_net.specs.declared.cut_room.DirNotes.{DirNotes}
+use Rattle.wire_net.proofs.EachItem.{At, place}
 use Rattle.refill_core.specs.Refills.{Notes, dirs_of, Apart, notes_at, put_notes}
 use Rattle.refill_core.proofs.Bytes.{at_itself, front_apart}
-
-pub record At (old : Notes) (i : ℕ) (x : DirNotes) : Type 0 where
-  pub front : Notes
-  pub back : Notes
-  pub whole : old ≡ front ++ x ∷ back
-  pub many : length front ≡ i
-
-pub place : (old : Notes) (i : ℕ) (d : DirNotes) → i < length old → At old i (get_or old i d)
-place old i d below = record {
-  front = take i old;
-  back = drop (suc i) old;
-  whole = sym (take-append-drop i old) ∙ ap (λ (l : Notes). take i old ++ l) (drop-cons old i d below);
-  many = length-take-le i old (omega (arith, below));
-}
 
 pub at_place : (notes : Notes) (i : ℕ) (z : DirNotes) → i < length notes → Apart (dirs_of notes) → notes_at (get_or notes i z).dir notes ≡ Some (get_or notes i z)
 at_place notes i z below apart = let at = place notes i z below in at_itself notes at.front at.back (get_or notes i z) at.whole apart

@@ -1,5 +1,5 @@
 use Rattle.drain_core.specs.Openings.{emptied}
-use Rattle.drain_core.proofs.Walk.{item_changed}
+use Rattle.wire_net.proofs.EachItem.{item_changed}
 use Rattle.drain_core.proofs.GivenLists.{lists_room, lists_more}
 use Rattle.drain_core.proofs.handing.hand_out.Goals as goal
 

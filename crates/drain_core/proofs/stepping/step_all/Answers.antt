@@ -1,7 +1,8 @@
 use Rattle.std.proofs.Common.{ap}
 use Rattle.wire_net.specs.Channels.{direction_at}
 use Rattle.drain_core.specs.Tasks.{note_after}
-use Rattle.drain_core.proofs.Walk.{finds, sends_there, noted_there, net_there, moved_there, turn_notes, turn_moved}
+use Rattle.wire_net.proofs.EachItem.{turn_notes}
+use Rattle.drain_core.proofs.Walk.{finds, sends_there, noted_there, net_there, moved_there, turn_moved}
 use Rattle.drain_core.proofs.stepping.step_all.Goals as goal
 
 pub step_on-moved-requires-clause-flows : goal.step_on-moved-requires-clause-flows

@@ -9,7 +9,7 @@ use Rattle.drain_core.specs.Drains.{Notes, Fits, has_notes}
 use Rattle.drain_core.specs.Holding.{agents_of}
 use Rattle.drain_core.specs.Openings.{opened, begun}
 use Rattle.drain_core.proofs.Beginning.{fits_begun, kept_begun, noted_begun, new_sides}
-use Rattle.drain_core.proofs.Walk.{written_back}
+use Rattle.wire_net.proofs.EachItem.{written_back}
 use Rattle.drain_core.proofs.drain.Drain.begin.Goals as goal
 
 pub open_all-requires : goal.open_all-requires

@@ -12,7 +12,7 @@ use Rattle.drain_core.proofs.AllDirections.{for_each, one_of}
 use Rattle.drain_core.proofs.DrainedLists.{drained_lists, noted_list, named_lists}
 use Rattle.drain_core.proofs.Given.{given}
 use Rattle.drain_core.proofs.GivenLists.{same_names}
-use Rattle.drain_core.proofs.Walk.{written_back}
+use Rattle.wire_net.proofs.EachItem.{written_back}
 use Rattle.drain_core.proofs.drain.Drain.finish.Goals as goal
 
 pub returns-clause-lists : goal.returns-clause-lists

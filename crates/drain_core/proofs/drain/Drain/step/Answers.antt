@@ -13,7 +13,7 @@ use Rattle.drain_core.proofs.Bytes.{kept_bytes}
 use Rattle.drain_core.proofs.HeldUp.{held_up}
 use Rattle.drain_core.proofs.Idle.{idle_notes, idle_net}
 use Rattle.drain_core.proofs.OneStep.{with_channels}
-use Rattle.drain_core.proofs.Walk.{written_back}
+use Rattle.wire_net.proofs.EachItem.{written_back}
 use Rattle.drain_core.proofs.WorkLaws.{moved_lowers}
 use Rattle.drain_core.proofs.drain.Drain.step.Goals as goal
 

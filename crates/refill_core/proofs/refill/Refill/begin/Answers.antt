@@ -1,7 +1,6 @@
-use Rattle.std.proofs.Common.{◌≡◌, ◌<◌, take, drop, length, ◌++◌, List, ap, ap₂, sym, subst, ◌∙◌}
+use Rattle.std.proofs.Common.{◌≡◌, List, ap, ap₂, sym, subst, ◌∙◌}
 use Rattle.std.specs.Prelude.{All}
 use Rattle.wire_net.specs.declared.cut_room.DirBytes.{DirBytes}
-use Rattle.wire_net.specs.declared.cut_room.DirNotes.{DirNotes}
 use Rattle.wire_net.specs.CutRooms.{names_of}
 use Rattle.wire_net.specs.Whereabouts.{whereabouts}
 use Rattle.refill_core.specs.Beginnings.{begun}
