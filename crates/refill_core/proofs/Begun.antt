@@ -3,7 +3,7 @@
 --     NamedAt, named_at        the notes on a direction that the room names
 --     fits_begun               the notes fit a network that was drained so
 --     kept_begun               the bytes of each direction are those of its list
-use Rattle.std.proofs.Common.{◌≡◌, ◌≢◌, ℕ, ◌-◌, ◌<◌, ◌≤◌, Bool, true, false, List, [], ◌∷◌, length, refl, sym, ap, ap₂, subst, ◌∙◌, arith, inl, inr}
+use Rattle.std.proofs.Common.{◌≡◌, ℕ, ◌<◌, ◌≤◌, Bool, true, false, List, [], ◌∷◌, length, refl, sym, ap, ap₂, subst, ◌∙◌, arith, inl, inr}
 use Rattle.std.specs.Prelude.{Option, Some, None, All, IsSome, IfSome, is_some, not, ◌⊎◌, ◌||◌, map as each, if◌then◌else◌}
 use Rattle.std.specs.Ordering.{eq_by_cmp}
 use Rattle.std.specs.List.{list_any}
@@ -11,7 +11,6 @@ use Rattle.std.proofs.lemmas.Bool.{not-true}
 use Rattle.std.proofs.lemmas.List.Elements.{All-nil, All-cons, All-head, All-tail, All-map}
 use Rattle.views.proofs.MapLaws.{true_false, same_key}
 use Rattle.sys_abi.specs.declared.identity.Dir.{Dir}
-use Rattle.sys_abi.specs.declared.identity.RealPid.{RealPid}
 use Rattle.sys_abi.specs.Orders.{dir_cmp}
 use Rattle.sys_abi.proofs.OrderLaws.{dir_total, dir_exact}
 use Rattle.wire_net.specs.declared.agents.AgentEnd.{AgentEnd}
@@ -24,9 +23,9 @@ use Rattle.wire_net.specs.CutRooms.{Named}
 use Rattle.wire_net.specs.DrainedNets.{StandsIf, IsListOf, IsDrained, HasLists, IsNamingLists, list_on}
 use Rattle.wire_net.specs.Ends.{agent_of, IsFor}
 use Rattle.wire_net.specs.Networks.{Network, received_on}
-use Rattle.wire_net.specs.Whereabouts.{stream, stream_on, reverse, whereabouts}
+use Rattle.wire_net.specs.Whereabouts.{stream_on, reverse, whereabouts}
 use Rattle.wire_net.proofs.ListsOn.{one_listed, list_dir, each_listed}
-use Rattle.wire_net.proofs.LiveAgents.{There, live_there, direction_there, not_there, agent_there, some_is}
+use Rattle.wire_net.proofs.LiveAgents.{live_there, direction_there, not_there, agent_there, some_is}
 use Rattle.refill_core.specs.Beginnings.{IsNew, IsReady, IsBeginning, cleared, with_list, begun_on, begun}
 use Rattle.refill_core.specs.Holding.{agents_of, own_bytes}
 use Rattle.refill_core.specs.Refills.{Notes, Fits, IsAside, Apart, dirs_of, notes_at}

@@ -19,4 +19,3 @@ mod Starting
 mod Turns
 mod Begun
 mod RunLaws
-mod OneChannel

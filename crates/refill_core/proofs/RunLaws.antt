@@ -2,8 +2,8 @@
 --     event_fits, event_keeps, event_lowers       one event
 --     run_fits, run_keeps, run_dirs               all of them
 --     gives_back, ends_in_time
-use Rattle.std.proofs.Common.{◌≡◌, ◌≢◌, ℕ, ◌+◌, ◌<◌, ◌≤◌, Bool, true, false, List, [], ◌∷◌, length, refl, sym, ap, subst, ◌∙◌, arith}
-use Rattle.std.specs.Prelude.{Option, Some, None, All, IsSome, nat_lt, map as each, ◌&&◌, ◌||◌, if◌then◌else◌}
+use Rattle.std.proofs.Common.{◌≡◌, ℕ, ◌+◌, ◌<◌, ◌≤◌, Bool, true, false, List, [], ◌∷◌, length, refl, sym, ap, subst, ◌∙◌, arith}
+use Rattle.std.specs.Prelude.{Some, All, IsSome, nat_lt, map as each, ◌&&◌, ◌||◌, if◌then◌else◌}
 use Rattle.std.specs.List.{list_any}
 use Rattle.std.specs.Ordering.{eq_by_cmp}
 use Rattle.std.proofs.lemmas.Bool.{and_parts}
@@ -11,7 +11,6 @@ use Rattle.std.proofs.lemmas.Bool.Decides.{nat_tests}
 use Rattle.std.proofs.lemmas.List.Elements.{All-head, All-tail}
 use Rattle.views.proofs.MapLaws.{true_false}
 use Rattle.sys_abi.specs.declared.identity.Dir.{Dir}
-use Rattle.sys_abi.specs.declared.identity.RealPid.{RealPid}
 use Rattle.sys_abi.specs.Orders.{dir_cmp}
 use Rattle.wire_net.specs.declared.agents.AgentEnd.{AgentEnd}
 use Rattle.wire_net.specs.declared.cut_room.DirBytes.{DirBytes}
@@ -28,7 +27,7 @@ use Rattle.wire_net.proofs.ListsOn.{one_listed, each_listed}
 use Rattle.wire_net.proofs.Streams.{whereabouts-move}
 use Rattle.refill_core.specs.Beginnings.{begun, IsGivenBack}
 use Rattle.refill_core.specs.Holding.{agents_of}
-use Rattle.refill_core.specs.Refills.{Notes, Refilling, Fits, IsBack, dirs_of, has_notes, notes_at, ends_after}
+use Rattle.refill_core.specs.Refills.{Notes, Fits, IsBack, dirs_of, has_notes, notes_at}
 use Rattle.refill_core.specs.Runs.{step, moves}
 use Rattle.refill_core.specs.Stepping.{state}
 use Rattle.refill_core.specs.Work.{work_left, is_done}
