@@ -6,13 +6,13 @@
 //! direction; behind it, once it has read the whole frame with its own direction's bytes off the other one, it sends
 //! these. In a step it first reads what has come and then sends what there is room for.
 //!
-//! Proved: each step leaves the bytes of every direction as they are, wherever they are: with the agent that drained them,
+//! Proved: a refill that begins of what was drained fits the network from which it was drained, and the bytes of each
+//! direction are those of its list. Each step leaves them as they are, wherever they are: with the agent that drained them,
 //! in a frame, with the agent that got them back, or sent. What moves bytes leaves less to do, and while the refill is not
-//! done some agent's step or some move moves bytes. When it is done all bytes of each direction can be read, and of one
-//! that agents refilled they are what was drained of it ([`Refill::is_done`], [`refill_laws`]). Not proved: that the caller makes the steps and the
-//! moves. Not built: the notes with which a refill begins, and that fit the network, are made by
-//! its caller. The source is Ansel, Arya, Cooperman, "DMTCP: Transparent Checkpointing for Cluster Computations and
-//! the Desktop", 2009 (refill kernel buffers); the frame is this project's own.
+//! done some agent's step or some move moves bytes. When it is done all bytes of each direction can be read, and, whatever
+//! steps and moves were made on the way, in any order, they are those of its list ([`refill_laws`]). Not proved: that the
+//! caller makes the steps and the moves. The source is Ansel, Arya, Cooperman, "DMTCP: Transparent Checkpointing for
+//! Cluster Computations and the Desktop", 2009 (refill kernel buffers); the frame is this project's own.
 #![tactic(auto)]
 
 mod beginning;
