@@ -1,6 +1,9 @@
 -- Where a refill is not done, some agent or some move goes on with it; an agent without work moves nothing.
 --     goes_on
---     idle_any, idle_ends
+--     idle_any
+--     moved_is, read_is, sent_is      whether an agent moves bytes on its channel; how many it reads; how many it sends where it reads none
+--     part_size, own_size             how long the next part is
+--     positive                        the test whether a count is above 0
 use Rattle.std.proofs.Common.{◌≡◌, ◌≢◌, ℕ, ◌==◌, ◌+◌, ◌-◌, ◌<◌, ◌≤◌, min, Bool, true, false, List, [], ◌∷◌, ◌++◌, take, drop, length, refl, sym, ap, ap₂, subst, ◌∙◌, arith, length-append, inl, inr}
 use Rattle.std.specs.Prelude.{Option, Some, None, All, IsSome, is_some, nat_lt, not, ◌&&◌, ◌||◌, if◌then◌else◌}
 use Rattle.std.specs.Option.{option_map_or}
@@ -30,22 +33,22 @@ use Rattle.refill_core.proofs.EndFits.{Pair, pair_of}
 use Rattle.wire_net.proofs.Items.{one_of}
 use Rattle.refill_core.proofs.Bytes.{at_itself}
 use Rattle.refill_core.proofs.Pairs.{twice_around, found_dir, all_found}
-use Rattle.refill_core.proofs.Still.{none_read, end_still, moved_here}
+use Rattle.refill_core.proofs.Still.{none_read, moved_here, moved_nowhere}
 use Rattle.refill_core.proofs.Whole.{FitsNow, Turn, end_cases}
 
 agent_itself : (p : RealPid) → is_agent p (Some p) ≡ true
 agent_itself p = ap₂ (λ (a b : Bool). a && b) (eq-eqb p.node p.node refl) (eq-eqb p.pid p.pid refl)
 
-positive : (n : ℕ) → 0 < n → nat_lt 0 n ≡ true
+pub positive : (n : ℕ) → 0 < n → nat_lt 0 n ≡ true
 positive n some = grind (arith, nat_tests, some)
 
-moved_is : (p : RealPid) (d : Dir) (s : Refilling) (x y : DirNotes) → Pair s.channels s.notes d x y → is_agent p x.sender ≡ true
+pub moved_is : (p : RealPid) (d : Dir) (s : Refilling) (x y : DirNotes) → Pair s.channels s.notes d x y → is_agent p x.sender ≡ true
     → moved_by p d s ≡ (nat_lt 0 (read_count p x s.channels) || nat_lt 0 (send_count p (note_read p x s.channels) y (channels_read p x s.channels)))
 moved_is p d s x y pair sender =
     ap (moves_of p s) pair.x_at ∙ ap (moves_found p s x) (ap (λ (e : Dir). notes_at (reverse e) s.notes) pair.x_dir ∙ pair.y_at)
     ∙ ap (λ (b : Bool). b && (nat_lt 0 (read_count p x s.channels) || nat_lt 0 (send_count p (note_read p x s.channels) y (channels_read p x s.channels)))) sender
 
-read_is : (p : RealPid) (d : Dir) (s : Refilling) (x y : DirNotes) (pair : Pair s.channels s.notes d x y) → is_agent p x.sender ≡ true → read_count p x s.channels ≡ min (wanted x) (length pair.other.received)
+pub read_is : (p : RealPid) (d : Dir) (s : Refilling) (x y : DirNotes) (pair : Pair s.channels s.notes d x y) → is_agent p x.sender ≡ true → read_count p x s.channels ≡ min (wanted x) (length pair.other.received)
 read_is p d s x y pair sender =
     ap (λ (e : Dir). option_map_or (reads p x) (direction_at s.channels (reverse e)) 0) pair.x_dir ∙ ap (λ (o : Option Direction). option_map_or (reads p x) o 0) pair.other_at
     ∙ ap (λ (b : Bool). if b then min (wanted x) (length pair.other.received) else 0) sender
@@ -57,27 +60,29 @@ reads_move p d s x y pair sender left come =
     ∙ or_left (nat_lt 0 (read_count p x s.channels)) (nat_lt 0 (send_count p (note_read p x s.channels) y (channels_read p x s.channels)))
     (positive (read_count p x s.channels) (let is = read_is p d s x y pair sender in omega (arith, is, left, come)))
 
+-- where nothing is read, as much of the next part is sent as there is room for
+pub sent_is : (p : RealPid) (d : Dir) (s : Refilling) (x y : DirNotes) (pair : Pair s.channels s.notes d x y) → is_agent p x.sender ≡ true → read_count p x s.channels ≡ 0
+    → send_count p (note_read p x s.channels) y (channels_read p x s.channels) ≡ min (length (part x y)) (room pair.own)
+sent_is p d s x y pair sender zero =
+    let x_same : note_read p x s.channels ≡ x =
+    ap (λ (n : ℕ). with_piece (take n (received_on (direction_at s.channels (reverse x.dir)))) x) zero ∙ none_read x (received_on (direction_at s.channels (reverse x.dir))) in
+    let m_same : channels_read p x s.channels ≡ s.channels =
+    ap (λ (n : ℕ). at_direction s.channels (reverse x.dir) (after_receive n)) zero ∙ unchanged_direction s.channels (reverse x.dir) (after_receive 0) (λ direction. refl) in
+    ap₂ (λ (z : DirNotes) (c : Channels). send_count p z y c) x_same m_same
+    ∙ ap (λ (e : Dir). option_map_or (sends p x y) (direction_at s.channels e) 0) pair.x_dir ∙ ap (λ (o : Option Direction). option_map_or (sends p x y) o 0) pair.own_at
+    ∙ ap (λ (b : Bool). if b then min (length (part x y)) (room pair.own) else 0) sender
+
 -- nothing is read, and there is room for what is to be sent
 sends_move : (p : RealPid) (d : Dir) (s : Refilling) (x y : DirNotes) (pair : Pair s.channels s.notes d x y) → is_agent p x.sender ≡ true → min (wanted x) (length pair.other.received) ≡ 0 → 0 < length (part x y) → 0 < room pair.own
     → moved_by p d s ≡ true
 sends_move p d s x y pair sender none some free =
-    let zero : read_count p x s.channels ≡ 0 = read_is p d s x y pair sender ∙ none in
-    let x_same : note_read p x s.channels ≡ x = ap with_read zero ∙ none_read x (received_on (direction_at s.channels (reverse x.dir))) in
-    let m_same : channels_read p x s.channels ≡ s.channels =
-    ap (λ (n : ℕ). at_direction s.channels (reverse x.dir) (after_receive n)) zero ∙ unchanged_direction s.channels (reverse x.dir) (after_receive 0) (λ direction. refl) in
-    let sent : send_count p (note_read p x s.channels) y (channels_read p x s.channels) ≡ min (length (part x y)) (room pair.own) =
-    ap₂ (λ (z : DirNotes) (c : Channels). send_count p z y c) x_same m_same
-    ∙ ap (λ (e : Dir). option_map_or (sends p x y) (direction_at s.channels e) 0) pair.x_dir ∙ ap (λ (o : Option Direction). option_map_or (sends p x y) o 0) pair.own_at
-    ∙ ap (λ (b : Bool). if b then min (length (part x y)) (room pair.own) else 0) sender in
+    let sent = sent_is p d s x y pair sender (read_is p d s x y pair sender ∙ none) in
     moved_is p d s x y pair sender
     ∙ or_right (nat_lt 0 (read_count p x s.channels)) (nat_lt 0 (send_count p (note_read p x s.channels) y (channels_read p x s.channels)))
     (positive (send_count p (note_read p x s.channels) y (channels_read p x s.channels)) (omega (arith, sent, some, free)))
-  where
-    with_read : ℕ → DirNotes
-    with_read n = with_piece (take n (received_on (direction_at s.channels (reverse x.dir)))) x
 
 -- how long the next part is
-part_size : (x y : DirNotes) → IsNoted x → IsNoted y → x.sent < frame_length y → 0 < length (part x y)
+pub part_size : (x y : DirNotes) → IsNoted x → IsNoted y → x.sent < frame_length y → 0 < length (part x y)
 part_size x y noted other early = choice (nat_lt x.sent 4) (nat_lt x.sent (frame_length y)) refl refl
   where
     choice : (a b : Bool) → nat_lt x.sent 4 ≡ a → nat_lt x.sent (frame_length y) ≡ b
@@ -86,7 +91,7 @@ part_size x y noted other early = choice (nat_lt x.sent 4) (nat_lt x.sent (frame
     choice false true is_a is_b = let from : 4 ≤ x.sent = grind (arith, nat_tests, is_a) in let size = length-drop (x.sent - 4) y.drained.items in omega (arith, from, size, early, other.whole)
     choice false false is_a is_b = let past : frame_length y ≤ x.sent = grind (arith, nat_tests, is_b) in absurd (omega (arith, past, early))
 
-own_size : (x y : DirNotes) → IsNoted x → frame_length y ≤ x.sent → x.read ≡ frame_length x → length (part x y) ≡ x.count - (x.sent - frame_length y)
+pub own_size : (x y : DirNotes) → IsNoted x → frame_length y ≤ x.sent → x.read ≡ frame_length x → length (part x y) ≡ x.count - (x.sent - frame_length y)
 own_size x y noted late back = choice (nat_lt x.sent 4) (nat_lt x.sent (frame_length y)) (has_back x) refl refl refl
   where
     bytes : length x.returned.items ≡ x.count
@@ -380,19 +385,9 @@ idle_by p d s fits none = elim (end_cases p d s fits) [
       where
         nothing : (t : Turn p d s) → read_count p t.x s.channels ≡ 0 → length (part t.x t.y) ≡ 0 → moved_by p d s ≡ false
         nothing t zero empty =
-            let x_same : note_read p t.x s.channels ≡ t.x =
-            ap (λ (n : ℕ). with_piece (take n (received_on (direction_at s.channels (reverse t.x.dir)))) t.x) zero ∙ none_read t.x (received_on (direction_at s.channels (reverse t.x.dir))) in
-            let m_same : channels_read p t.x s.channels ≡ s.channels =
-            ap (λ (n : ℕ). at_direction s.channels (reverse t.x.dir) (after_receive n)) zero ∙ unchanged_direction s.channels (reverse t.x.dir) (after_receive 0) (λ direction. refl) in
-            let sent : send_count p (note_read p t.x s.channels) t.y (channels_read p t.x s.channels) ≡ min (length (part t.x t.y)) (room t.pair.own) =
-            ap₂ (λ (z : DirNotes) (c : Channels). send_count p z t.y c) x_same m_same
-            ∙ ap (λ (e : Dir). option_map_or (sends p t.x t.y) (direction_at s.channels e) 0) t.pair.x_dir ∙ ap (λ (o : Option Direction). option_map_or (sends p t.x t.y) o 0) t.pair.own_at
-            ∙ ap (λ (b : Bool). if b then min (length (part t.x t.y)) (room t.pair.own) else 0) t.agent in
+            let sent = sent_is p d s t.x t.y t.pair t.agent zero in
             let none : send_count p (note_read p t.x s.channels) t.y (channels_read p t.x s.channels) ≡ 0 = omega (arith, sent, empty) in
             moved_is p d s t.x t.y t.pair t.agent ∙ ap₂ (λ (i j : ℕ). nat_lt 0 i || nat_lt 0 j) zero none
 
 pub idle_any : (p : RealPid) (ds : List Dir) (s : Refilling) → FitsNow s → has_work p s.notes ≡ false → moved_any p ds s ≡ false
-idle_any p [] s fits none = refl
-idle_any p (d ∷ ds) s fits none =
-    let here = idle_by p d s fits none in
-    ap₂ (λ (a b : Bool). a || b) here (ap (moved_any p ds) (end_still p d s fits here) ∙ idle_any p ds s fits none)
+idle_any p ds s fits none = moved_nowhere p ds s fits (λ d. idle_by p d s fits none)

@@ -9,6 +9,7 @@ mod Moving
 mod Still
 mod Ending
 mod Going
+mod HeldUp
 mod OneCall
 mod Places
 mod OneStep

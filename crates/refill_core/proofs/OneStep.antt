@@ -2,7 +2,7 @@
 --     Here                    the notes at a place, those on the other direction, and where they stand
 --     not_agent_moved, not_agent_after      nothing happens to a direction that is another agent's
 --     Step, step_of           what the step asks and leaves
-use Rattle.std.proofs.Common.{◌≡◌, ◌≢◌, ℕ, ◌+◌, ◌<◌, ◌≤◌, nat_lt, Bool, true, false, length, get_or, set, refl, sym, ap, subst, ◌∙◌, arith}
+use Rattle.std.proofs.Common.{◌≡◌, ◌≢◌, ℕ, ◌+◌, ◌*◌, ◌<◌, ◌≤◌, nat_lt, Bool, true, false, length, get_or, set, refl, sym, ap, subst, ◌∙◌, arith}
 use Rattle.std.specs.Prelude.{Option, Some, None, IfSome, IsSome, ◌&&◌, ◌||◌, slice_get, if◌then◌else◌}
 use Rattle.std.proofs.lemmas.List.{get_or-map}
 use Rattle.std.proofs.lemmas.Option.{slice_get-get_or, get_or_from_slice_get, same_Some}
@@ -10,10 +10,12 @@ use Rattle.views.proofs.MapLaws.{true_false}
 use Rattle.sys_abi.specs.declared.identity.Dir.{Dir}
 use Rattle.sys_abi.specs.declared.identity.RealPid.{RealPid}
 use Rattle.wire_net.specs.declared.cut_room.DirNotes.{DirNotes}
+use Rattle.wire_net.specs.declared.limits.TheConstants.{QUEUE_LIMIT}
 use Rattle.wire_net.specs.Directions.{Direction, after_receive}
 use Rattle.wire_net.specs.Channels.{Channels, direction_at}
 use Rattle.wire_net.specs.Networks.{Network}
 use Rattle.wire_net.specs.Whereabouts.{reverse}
+use Rattle.refill_core.specs.declared.limits.TheConstants.{HEADER_LENGTH}
 use Rattle.refill_core.specs.Tasks.{is_agent, frame_length, with_sent, read_count, note_read, channels_read, send_count, end_note, end_channels}
 use Rattle.refill_core.specs.Refills.{Notes, Refilling, notes_at, put_notes, IsNoted, IsFlowing, Fits, end_found, end_of, end_after}
 use Rattle.refill_core.specs.Work.{moves_found, moves_of, moved_by}
@@ -69,7 +71,7 @@ pub record Step (p : RealPid) (t : Network) (notes : Notes) (i j : ℕ) (x y : D
   pub other : IsNoted y
   pub within : x.sent ≤ frame_length y + x.count
   pub flows : IfSome (direction_at (channels_read p x t.channels) x.dir) IsFlowing
-  pub sum : x.sent + send_count p (note_read p x t.channels) y (channels_read p x t.channels) ≤ 200000
+  pub sum : x.sent + send_count p (note_read p x t.channels) y (channels_read p x t.channels) ≤ 2 * QUEUE_LIMIT + HEADER_LENGTH
   pub moved : moved_by p (dir_at notes i) (state notes t) ≡ (nat_lt 0 (read_count p x t.channels) || nat_lt 0 (send_count p (note_read p x t.channels) y (channels_read p x t.channels)))
   pub after : end_after p (dir_at notes i) (state notes t)
       ≡ (let r : Refilling = record { notes = set notes i (end_note p x y t.channels); channels = end_channels p x y t.channels } in r)

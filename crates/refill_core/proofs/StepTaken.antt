@@ -2,7 +2,7 @@
 --     Taken, taken            the notes that it works with
 --     own_noted .. sum_fits   what its calls ask
 --     moved_then, moved_else, after_is      what it answers and leaves
-use Rattle.std.proofs.Common.{◌≡◌, ℕ, ◌+◌, ◌<◌, ◌≤◌, nat_lt, Bool, true, false, length, get_or, set, sym, ap, ap₂, subst, ◌∙◌, arith, get_or-set_same, get_or-set_other}
+use Rattle.std.proofs.Common.{◌≡◌, ℕ, ◌+◌, ◌*◌, ◌<◌, ◌≤◌, nat_lt, Bool, true, false, length, get_or, set, sym, ap, ap₂, subst, ◌∙◌, arith, get_or-set_same, get_or-set_other}
 use Rattle.std.specs.Prelude.{IfSome, ◌||◌, slice_get}
 use Rattle.std.proofs.lemmas.Bool.Decides.{nat_tests}
 use Rattle.std.proofs.lemmas.List.{set-set}
@@ -10,9 +10,11 @@ use Rattle.std.proofs.lemmas.Option.{slice_get-get_or, get_or_from_slice_get}
 use Rattle.sys_abi.specs.declared.identity.Dir.{Dir}
 use Rattle.sys_abi.specs.declared.identity.RealPid.{RealPid}
 use Rattle.wire_net.specs.declared.cut_room.DirNotes.{DirNotes}
+use Rattle.wire_net.specs.declared.limits.TheConstants.{QUEUE_LIMIT}
 use Rattle.wire_net.specs.Channels.{Channels, direction_at}
 use Rattle.wire_net.specs.Networks.{Network}
 use Rattle.wire_net.specs.Whereabouts.{reverse}
+use Rattle.refill_core.specs.declared.limits.TheConstants.{HEADER_LENGTH}
 use Rattle.refill_core.specs.Tasks.{is_agent, frame_length, with_sent, read_count, note_read, channels_read, send_count, channels_sent}
 use Rattle.refill_core.specs.Refills.{Notes, Refilling, notes_at, IsNoted, IsFlowing, Fits, end_after}
 use Rattle.refill_core.specs.Work.{moved_by}
@@ -53,7 +55,7 @@ sends_same : (p : RealPid) (t : Network) (l : Notes) (i j : ℕ) (x y x1 : DirNo
     → n ≡ send_count p (note_read p x t.channels) y (channels_read p x t.channels)
 sends_same p t l i j x y x1 m n is net count = count ∙ ap₂ (λ (z : DirNotes) (c : Channels). send_count p z y c) is.read net
 
-pub sum_few : (p : RealPid) (t : Network) (l : Notes) (i j : ℕ) (x y x1 : DirNotes) (m : Channels) (n : ℕ) → Taken p t l i j x y x1 → m ≡ channels_read p x t.channels → n ≡ send_count p x1 y m → x1.sent + n ≤ 200000
+pub sum_few : (p : RealPid) (t : Network) (l : Notes) (i j : ℕ) (x y x1 : DirNotes) (m : Channels) (n : ℕ) → Taken p t l i j x y x1 → m ≡ channels_read p x t.channels → n ≡ send_count p x1 y m → x1.sent + n ≤ 2 * QUEUE_LIMIT + HEADER_LENGTH
 sum_few p t l i j x y x1 m n is net count =
     let sends = sends_same p t l i j x y x1 m n is net count in
     let sum = is.step.sum in

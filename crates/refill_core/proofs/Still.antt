@@ -1,14 +1,17 @@
 -- A step that moves nothing changes nothing.
 --     end_still, ends_still      on one direction, and on all
+--     none_read                  a read of no bytes leaves the notes as they are
+--     zero_test                  a count that is not above 0
 --     moved_here                 who moves bytes of one direction moves some
---     idle_moves, idle_ends      an agent without work moves nothing
+--     moved_nowhere              who moves bytes of no direction moves none
+--     none_moved                 who moves none moves none of each direction
 use Rattle.std.proofs.Common.{◌≡◌, ℕ, ◌+◌, ◌-◌, Bool, true, false, List, [], ◌∷◌, ◌++◌, take, refl, sym, ap, ap₂, ◌∙◌, arith, append-nil, inl, inr}
 use Rattle.std.specs.Prelude.{All, nat_lt, ◌&&◌, ◌||◌, if◌then◌else◌}
 use Rattle.std.specs.Ordering.{eq_by_cmp}
 use Rattle.std.proofs.Math.Seq.{drop-nil}
 use Rattle.std.proofs.lemmas.Bool.{or_parts, or_left, or_right}
 use Rattle.std.proofs.lemmas.Bool.Decides.{nat_tests}
-use Rattle.std.proofs.lemmas.List.Elements.{All-head, All-tail}
+use Rattle.std.proofs.lemmas.List.Elements.{All-nil, All-cons, All-head, All-tail}
 use Rattle.views.proofs.MapLaws.{same_key}
 use Rattle.sys_abi.specs.declared.identity.Dir.{Dir}
 use Rattle.sys_abi.specs.declared.identity.RealPid.{RealPid}
@@ -21,7 +24,7 @@ use Rattle.wire_net.specs.Networks.{received_on}
 use Rattle.wire_net.specs.Reserves.{reserve}
 use Rattle.wire_net.specs.Whereabouts.{reverse}
 use Rattle.refill_core.specs.Tasks.{part, with_piece, with_sent, read_count, note_read, channels_read, send_count, sent_on, end_note, end_channels}
-use Rattle.refill_core.specs.Refills.{Notes, Refilling, put_notes, end_after, ends_after}
+use Rattle.refill_core.specs.Refills.{Notes, Refilling, dirs_of, put_notes, end_after, ends_after}
 use Rattle.refill_core.specs.Work.{moved_by, moved_any}
 use Rattle.wire_net.proofs.OneDirection.{unchanged_direction}
 use Rattle.refill_core.proofs.WorkLaws.{only_one}
@@ -44,7 +47,7 @@ put_same d x (z ∷ notes) only =
     choice true at = sym (All-head (λ v. v.dir ≡ d → v ≡ x) z notes only (same_key dir_total dir_exact z.dir d at))
     choice false at = refl
 
-zero_test : (n : ℕ) → nat_lt 0 n ≡ false → n ≡ 0
+pub zero_test : (n : ℕ) → nat_lt 0 n ≡ false → n ≡ 0
 zero_test n is = grind (arith, nat_tests, is)
 
 turn_still : (p : RealPid) (d : Dir) (s : Refilling) (t : Turn p d s) → FitsNow s → moved_by p d s ≡ false → result_of p d s t.x t.y ≡ s
@@ -86,3 +89,14 @@ moved_here p (e ∷ front) back d s fits is = choice (moved_by p e s) refl (move
     choice : (b : Bool) → moved_by p e s ≡ b → moved_any p (front ++ d ∷ back) s ≡ true → (moved_by p e s || moved_any p (front ++ d ∷ back) (end_after p e s)) ≡ true
     choice true at rest = or_left (moved_by p e s) (moved_any p (front ++ d ∷ back) (end_after p e s)) at
     choice false at rest = or_right (moved_by p e s) (moved_any p (front ++ d ∷ back) (end_after p e s)) (ap (moved_any p (front ++ d ∷ back)) (end_still p e s fits at) ∙ rest)
+
+pub moved_nowhere : (p : RealPid) (ds : List Dir) (s : Refilling) → FitsNow s → ((d : Dir) → moved_by p d s ≡ false) → moved_any p ds s ≡ false
+moved_nowhere p [] s fits none = refl
+moved_nowhere p (d ∷ ds) s fits none =
+    ap₂ (λ (a b : Bool). a || b) (none d) (ap (moved_any p ds) (end_still p d s fits (none d)) ∙ moved_nowhere p ds s fits none)
+
+pub none_moved : (p : RealPid) (notes : Notes) (s : Refilling) → FitsNow s → moved_any p (dirs_of notes) s ≡ false → All (λ x. moved_by p x.dir s ≡ false) notes
+none_moved p [] s fits none = All-nil (λ x. moved_by p x.dir s ≡ false)
+none_moved p (x ∷ notes) s fits none =
+    let parts = or_parts (moved_by p x.dir s) (moved_any p (dirs_of notes) (end_after p x.dir s)) none in
+    All-cons (λ z. moved_by p z.dir s ≡ false) x notes parts.0 (none_moved p notes s fits (ap (moved_any p (dirs_of notes)) (sym (end_still p x.dir s fits parts.0)) ∙ parts.1))

@@ -1,5 +1,6 @@
 -- A step of an agent, one direction after the other.
 --     Turn, end_cases        on a direction nothing happens, or the step on its channel
+--     agent_some             who is named an agent is there
 --     end_fits, ends_fit     the notes fit the network
 --     end_dirs, ends_dirs    the same directions are noted
 use Rattle.std.proofs.Common.{◌≡◌, Bool, true, false, List, [], ◌∷◌, refl, sym, ap, subst, ◌∙◌, inl, inr}
@@ -30,7 +31,7 @@ pub record Turn (p : RealPid) (d : Dir) (s : Refilling) : Type 0 where
   pub is : end_after p d s ≡ result_of p d s x y
   pub moves : moved_by p d s ≡ moves_found p s x (Some y)
 
-agent_some : (p : RealPid) (o : Option RealPid) → is_agent p o ≡ true → IsSome o
+pub agent_some : (p : RealPid) (o : Option RealPid) → is_agent p o ≡ true → IsSome o
 agent_some p None is = true_false (sym is)
 agent_some p (Some q) is = refl
 

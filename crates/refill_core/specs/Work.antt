@@ -7,17 +7,22 @@
 --     is_left, has_work          p has work left on a direction;  on any
 --     is_finished, is_done       nothing is left to do on a direction;  on any
 --     step_answer                what a step answers
+--     must_send x y              the sender of the direction with the notes x has bytes to send now
+--     IsBlocked p m x y          p can move nothing where it sends the direction with the notes x and reads the other one, with the notes y
+--     IsHeldUp p m notes         p has work left and can move nothing
 --     GoesOn s                   an agent's step moves bytes, or bytes can be moved from queue to queue
-use Rattle.std.specs.Prelude.{◌≡◌, ◌==◌, ◌⊎◌, ◌*◌, ℕ, ◌+◌, ◌-◌, nat_lt, Bool, true, false, not, ◌&&◌, ◌||◌, List, [], ◌∷◌, length, Option, Some, None, is_some, if◌then◌else◌}
+use Rattle.std.specs.Prelude.{◌≡◌, ◌==◌, ◌≤◌, ◌⊎◌, ◌*◌, ℕ, ◌+◌, ◌-◌, nat_lt, Bool, true, false, not, ◌&&◌, ◌||◌, List, [], ◌∷◌, length, Option, Some, None, IfSome, is_some, All, if◌then◌else◌}
 use Rattle.std.specs.Option.{option_map_or}
 use Rattle.std.specs.List.{sum_by, list_any, list_all}
 use Rattle.sys_abi.specs.declared.identity.Dir.{Dir}
 use Rattle.sys_abi.specs.declared.identity.RealPid.{RealPid}
 use Rattle.wire_net.specs.declared.agents.Stepped.{Stepped}
 use Rattle.wire_net.specs.declared.cut_room.DirNotes.{DirNotes}
-use Rattle.wire_net.specs.Directions.{Direction}
+use Rattle.wire_net.specs.declared.limits.TheConstants.{QUEUE_LIMIT}
+use Rattle.wire_net.specs.Directions.{Direction, standing}
 pub use Rattle.wire_net.specs.Noted.{answer_of, CanMove}
 use Rattle.wire_net.specs.Channels.{Channels, direction_at}
+use Rattle.wire_net.specs.Networks.{received_on}
 use Rattle.wire_net.specs.Whereabouts.{reverse}
 use Rattle.refill_core.specs.Tasks.{frame_length, has_back, read_count, note_read, channels_read, send_count, is_agent}
 use Rattle.refill_core.specs.Refills.{Notes, Refilling, dirs_of, notes_at, end_after}
@@ -86,6 +91,19 @@ is_done m notes = list_all (is_finished m notes) notes
 
 abbrev pub step_answer : RealPid → Refilling → Stepped
 step_answer p s = answer_of (has_work p s.notes) (moved_any p (dirs_of s.notes) s)
+
+-- the frame of the other direction is not wholly sent, or its own bytes are back and not all sent again
+abbrev pub must_send : DirNotes → DirNotes → Bool
+must_send x y = nat_lt x.sent (frame_length y) || (has_back x && not (has_sent_all x y))
+
+-- what the agent must read is empty, and what it must write is full
+pub record IsBlocked (p : RealPid) (m : Channels) (x y : DirNotes) : Type 0 where
+  pub empty : is_agent p x.sender ≡ true → has_back x ≡ false → received_on (direction_at m (reverse x.dir)) ≡ []
+  pub full : is_agent p x.sender ≡ true → must_send x y ≡ true → IfSome (direction_at m x.dir) (λ direction. QUEUE_LIMIT ≤ standing direction)
+
+pub record IsHeldUp (p : RealPid) (m : Channels) (notes : Notes) : Type 0 where
+  pub work : has_work p notes ≡ true
+  pub blocked : All (λ x. IfSome (notes_at (reverse x.dir) notes) (IsBlocked p m x)) notes
 
 -- somebody goes on with the refill
 abbrev pub GoesOn : Refilling → Type 0

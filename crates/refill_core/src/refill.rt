@@ -1,6 +1,6 @@
-ghost use Rattle.std.specs.Prelude.{◌≡◌, ◌==◌, ◌<◌, ◌≤◌, true, false, length, map as each, All};
+ghost use Rattle.std.specs.Prelude.{◌≡◌, ◌==◌, ◌<◌, ◌≤◌, ◌↔◌, true, false, length, map as each, All};
 ghost use Rattle.sys_abi.specs.declared.identity.Dir.{Dir};
-ghost use Rattle.wire_net.specs.declared.agents.Stepped.TheVariants.{Moved};
+ghost use Rattle.wire_net.specs.declared.agents.Stepped.TheVariants.{Moved, Again};
 ghost use Rattle.wire_net.specs.declared.limits.TheConstants.{QUEUE_LIMIT};
 ghost use Rattle.wire_net.specs.Channels.{Channels};
 ghost use Rattle.wire_net.specs.DrainedNets.{IsDrained, HasLists, IsNamingLists};
@@ -67,6 +67,7 @@ impl Refill {
     pub fn step(&mut self, net: &mut Net, agent: RealPid) -> Stepped
         requires { words.Fits net.old.channels self.old }
         ensures answer { result ≡ work.step_answer agent (state self.old net.old) }
+        ensures again { (result ≡ Again) ↔ work.IsHeldUp agent net.old.channels self.old }
         ensures after { state self.new net.new ≡ words.ends_after agent (words.dirs_of self.old) (state self.old net.old) }
         ensures net { net.new ≡ record net.old { channels = net.new.channels } }
         ensures fits { words.Fits net.new.channels self.new }

@@ -1,7 +1,10 @@
-use Rattle.std.proofs.Common.{◌≡◌, ap₂, ap, sym, ◌∙◌}
+use Rattle.std.proofs.Common.{◌≡◌, ◌↔◌, ap₂, ap, sym, subst, ◌∙◌}
+use Rattle.wire_net.specs.declared.agents.Stepped.{Stepped}
+use Rattle.wire_net.specs.declared.agents.Stepped.TheVariants.{Again}
 use Rattle.refill_core.specs.Refills.{Notes, dirs_of}
-use Rattle.refill_core.specs.Work.{moved_any, answer_of}
+use Rattle.refill_core.specs.Work.{moved_any, answer_of, IsHeldUp}
 use Rattle.refill_core.specs.Stepping.{state}
+use Rattle.refill_core.proofs.HeldUp.{held_up}
 use Rattle.refill_core.proofs.Steps.{step_after, step_fits, step_dirs, step_kept, step_less, step_idle}
 use Rattle.refill_core.proofs.refill.Refill.step.Goals as goal
 
@@ -16,6 +19,11 @@ returns-clause-after c =
 pub returns-clause-answer : goal.returns-clause-answer
 returns-clause-answer c =
     c.of.ensures ∙ ap₂ answer_of c.has_work-has_work.ensures (c.step_all-moved.ensures.moved ∙ ap (λ (l : Notes). moved_any c.args.agent (dirs_of l) (state l c.args.net.now)) (seen c))
+
+pub returns-clause-again : goal.returns-clause-again
+returns-clause-again c =
+    subst (λ (r : Stepped). (r ≡ Again) ↔ IsHeldUp c.args.agent c.args.net.now.channels c.args.self.now) (sym (returns-clause-answer c))
+    (held_up c.args.agent (state c.args.self.now c.args.net.now) c.requires)
 
 pub returns-clause-fits : goal.returns-clause-fits
 returns-clause-fits c = step_fits c.args.agent _ c.args.self.now c.args.net.now c.step_all-moved.new.net c.requires (returns-clause-after c)
