@@ -117,7 +117,8 @@ impl Barrier {
         Some(message)
     }
 
-    /// Ends the request, once it is over or given up before the first message after `Suspend` has an effect.
+    /// Ends the request: once all members have reached `Refilled`, or no member is left, or, to give it up, while
+    /// `Suspended` is the stage that all have reached.
     pub fn close(&mut self)
         requires { barriers.IsClosable self.old }
         ensures { self.new ≡ barriers.at_rest }

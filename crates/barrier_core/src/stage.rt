@@ -6,13 +6,13 @@ ghost use Rattle.barrier_core.specs.Stages as stages;
 pub enum Stage {
     /// Its threads run no more.
     Suspended,
-    /// It has voted for the leaders of the descriptions that it shares.
+    /// It has voted for a leader of each description that it holds.
     Elected,
-    /// The bytes of the channels that it leads are out of the network.
+    /// It has drained the channels whose ends it acts for.
     Drained,
-    /// Its image is written.
+    /// The writing of the set is over, done or refused.
     Written,
-    /// The bytes are back in the network.
+    /// It has filled the channels again whose ends it acts for.
     Refilled,
 }
 

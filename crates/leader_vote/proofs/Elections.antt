@@ -127,11 +127,15 @@ forgotten holds p None = refl
 forgotten true p (Some d) = refl
 forgotten false p (Some d) = refl
 
-pub owners_alone : OwnersAlone
-owners_alone b [] id = refl
-owners_alone b (p ∷ voters) id =
-    owners_alone (after_vote b p) voters id ∙ ap (option_map (with_owner None)) (get-after_vote b p id)
+but_for_owners : (b : Books) (voters : List RealPid) (id : DescId)
+    → option_map (with_owner None) (map.get (after_votes b voters).descriptions id) ≡ option_map (with_owner None) (map.get b.descriptions id)
+but_for_owners b [] id = refl
+but_for_owners b (p ∷ voters) id =
+    but_for_owners (after_vote b p) voters id ∙ ap (option_map (with_owner None)) (get-after_vote b p id)
     ∙ forgotten (is_holder b.descriptors id p) p (map.get b.descriptions id)
+
+pub owners_alone : OwnersAlone
+owners_alone b voters = (after_votes-descriptors b voters, but_for_owners b voters)
 
 is_some-option_map : {A B : Type 0} (f : A → B) (found : Option A) → is_some found ≡ is_some (option_map f found)
 is_some-option_map f None = refl
@@ -139,7 +143,7 @@ is_some-option_map f (Some x) = refl
 
 there_before : (b : Books) (voters : List RealPid) (id : DescId) → IsSome (map.get (after_votes b voters).descriptions id) → IsSome (map.get b.descriptions id)
 there_before b voters id there =
-    is_some-option_map (with_owner None) (map.get b.descriptions id) ∙ ap is_some (sym (owners_alone b voters id))
+    is_some-option_map (with_owner None) (map.get b.descriptions id) ∙ ap is_some (sym (but_for_owners b voters id))
     ∙ sym (is_some-option_map (with_owner None) (map.get (after_votes b voters).descriptions id)) ∙ there
 
 module _ (b : Books) (voters : List RealPid) (none : NoneOwned b) (voted : HaveVoted b voters) where

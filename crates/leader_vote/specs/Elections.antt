@@ -8,7 +8,8 @@
 --     HasOneLeader b id         exactly one process leads the description, and it is one of its holders
 --     ActsFor b pending c p     the process leads a listener at which the connection is pending
 --     HasOneActor               exactly one process acts for the connection, the leader of its listener
---     IsLed b pending           the leader law: each description that a process holds has one leader, each pending connection one actor
+--     IsLed b pending           the leader law: each description that a process holds has one leader, and each connection that is pending at one
+--                               listener alone, which a process holds, has one actor
 --     NoneOwned, HaveVoted      no description has an owner;  each holder is among the voters
 --     LastVoterLeads, NoneWithoutVote, VotesGiveLeaders, OwnersAlone, OneMoreVote      what votes come to
 --     TestsHolders              the test of a holder is the fact
@@ -103,9 +104,11 @@ NoneWithoutVote = (b : Books) (voters : List RealPid) (id : DescId) → NoneOwne
 abbrev pub VotesGiveLeaders : Type 0
 VotesGiveLeaders = (b : Books) (voters : List RealPid) (pending : Pending) → NoneOwned b → HaveVoted b voters → IsLed (after_votes b voters) pending
 
+-- descriptors stay, and of a description all but its owner
 abbrev pub OwnersAlone : Type 0
-OwnersAlone = (b : Books) (voters : List RealPid) (id : DescId)
-    → option_map (with_owner None) (map.get (after_votes b voters).descriptions id) ≡ option_map (with_owner None) (map.get b.descriptions id)
+OwnersAlone = (b : Books) (voters : List RealPid)
+    → ((after_votes b voters).descriptors ≡ b.descriptors)
+    × ((id : DescId) → option_map (with_owner None) (map.get (after_votes b voters).descriptions id) ≡ option_map (with_owner None) (map.get b.descriptions id))
 
 abbrev pub OneMoreVote : Type 0
 OneMoreVote = (b : Books) (voters : List RealPid) (p : RealPid) → after_votes b (voters ++ p ∷ []) ≡ after_vote (after_votes b voters) p

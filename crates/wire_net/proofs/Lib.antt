@@ -7,6 +7,7 @@ pub mod RoomLaws
 pub mod Streams
 pub mod EachItem
 pub mod Finding
+pub mod HeldLists
 pub mod Items
 pub mod ListsOn
 pub mod LiveAgents

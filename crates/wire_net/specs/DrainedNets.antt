@@ -6,7 +6,9 @@
 --     IsDrained m lists          so it is with all lists, and no two are of one direction
 --     HasLists m lists           each direction of the network has one
 --     IsNamingLists lengths lists      a room names each direction once, and that of each list with at least the length of the list
-use Rattle.std.specs.Prelude.{◌≡◌, ◌<◌, ◌≤◌, ℕ, Bool, true, false, not, List, [], length, map as each, find, Option, IsSome, IfSome, All}
+--     agents_of_lists lists      what is held of each direction: the list of one that was taken off; a list that was left in place is held by nobody
+use Rattle.std.specs.Prelude.{◌≡◌, ◌<◌, ◌≤◌, ℕ, Bool, true, false, not, List, [], ◌∷◌, length, map as each, find, Option, IsSome, IfSome, All, if◌then◌else◌}
+use Rattle.std.specs.FinMap as map
 use Rattle.std.specs.List.{list_any}
 use Rattle.std.specs.Ordering.{eq_by_cmp}
 use Rattle.sys_abi.specs.declared.identity.Dir.{Dir}
@@ -17,7 +19,7 @@ use Rattle.wire_net.specs.Channels.{Channels, direction_at, is_live_at}
 use Rattle.wire_net.specs.CutRooms.{Named}
 use Rattle.wire_net.specs.Networks.{received_on}
 use Rattle.wire_net.specs.Noted.{Apart}
-use Rattle.wire_net.specs.Whereabouts.{stream_on}
+use Rattle.wire_net.specs.Whereabouts.{Held, Agents, stream_on}
 
 abbrev pub list_on : Dir → List DirBytes → Option DirBytes
 list_on d lists = find (λ list. eq_by_cmp dir_cmp list.dir d) lists
@@ -45,3 +47,11 @@ pub record IsNamingLists (lengths : List Named) (lists : List DirBytes) : Type 0
   pub sides : All (λ named. named.0.side < 2) lengths
   pub room : All (λ named. IfSome (list_on named.0 lists) (λ list. length list.bytes ≤ named.1)) lengths
   pub whole : (d : Dir) → IsSome (list_on d lists) → list_any (λ named. eq_by_cmp dir_cmp named.0 d) lengths ≡ true
+
+-- these bytes, and nothing in the queues
+abbrev pub taken_off : List ℕ → Held
+taken_off bytes = record { drained = bytes; foreign = 0; plain = 0; returned = []; header = 0; framed = 0; unframed = [] }
+
+abbrev pub agents_of_lists : List DirBytes → Agents
+agents_of_lists [] = map.empty
+agents_of_lists (list ∷ lists) = if list.in_place then agents_of_lists lists else map.insert (agents_of_lists lists) list.dir (taken_off list.bytes)

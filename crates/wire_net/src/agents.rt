@@ -8,7 +8,7 @@ use sys_abi::{ConnId, RealPid};
 /// What a step of an agent did.
 #[derive(Clone, Copy, Debug, PartialEq, Eq)]
 pub enum Stepped {
-    /// It moved bytes, or noted that it is done.
+    /// It moved bytes.
     Moved,
     /// It has no work left.
     Finished,

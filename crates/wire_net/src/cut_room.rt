@@ -31,7 +31,7 @@ pub struct DirNotes {
     pub returned: Room<u8>,
     /// The agent of the sending end.
     pub sender: Option<RealPid>,
-    /// The agent of the reading end.
+    /// The agent of the reading end. A refill asks for senders alone.
     pub reader: Option<RealPid>,
     /// How many bytes of it stood in the network when the stage began.
     pub count: u32,

@@ -37,7 +37,7 @@ pub(crate) fn move_front(from: &mut Ring, to: &mut Ring, n: usize) -> usize
     count
 }
 
-/// Moves the first bytes, at most `n`, into an empty transfer. Answers how many.
+/// Moves the first bytes, at most `n`, in the place of what the transfer holds. Answers how many.
 pub(crate) fn take_front(from: &mut Ring, n: usize, xfer: &mut Transfer) -> usize
     requires { n ≤ TRANSFER_LIMIT }
     ensures count { result ≡ min n (length from.old.items) }
