@@ -9,6 +9,7 @@ pub mod EachItem
 pub mod Finding
 pub mod HeldLists
 pub mod Items
+pub mod KeptEnds
 pub mod ListsOn
 pub mod LiveAgents
 pub mod LiveChannels

@@ -1,3 +1,4 @@
+pub mod AgentSteps
 pub mod Changes
 pub mod Channels
 pub mod CutRooms
