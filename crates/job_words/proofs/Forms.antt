@@ -1,4 +1,18 @@
 -- What the reader of each form answers.
+--     AreOf                                        the words are of a command
+--     other_word, other_form                       words that begin otherwise than a form does
+--     answered, unremembered, refused              when `Usage` is answered, where a job, want of memory or `Usage` is
+--     memory_alone, passed_on, not_both_ways       an error is want of memory; a test has one answer
+--     LaunchFields, launch_of, launch_answer, launch_refused
+--     alone, restart_command_of, restart_answer, restart_refused      `alone`: nothing stands behind the options
+--     ring_alone, ring_uncounted                   a ring without its number
+--     ring_command_of, ring_answer, ring_refused
+--     help_of, help_answer, help_refused
+--     job_found, jobs_found, same_usage            of words without a zero byte
+--     nothing_spells_nothing                       no command has no words
+--     no_words, some_words                         whether a list of words is empty
+--     texts_plain, plain_texts, unplain            which words hold a zero byte
+--     one_command                                  words are of one command at most
 use Rattle.std.proofs.Common.{◌≡◌, ◌==◌, Bool, true, false, ◌↔◌, ℕ, ◌<◌, ◌≤◌, List, [], ◌∷◌, ◌++◌, map, length, Option, Result, Ok, Err, IfOk, refl, sym, ap, subst, ◌∙◌, arith, append-nil, eqb-true, suc}
 use Rattle.std.specs.Prelude.{All, codes, string_bytes, unwrap_or, IsErrAnd}
 use Rattle.std.specs.Fmt.{decimal}
@@ -21,7 +35,7 @@ use Rattle.job_words.specs.declared.job.RingJob.{RingJob}
 use Rattle.job_words.specs.Options.{Text, Setting, words_of_all, AreSettings, given_for}
 use Rattle.job_words.specs.Programs.{ProgramText, program_word, hosts_of}
 use Rattle.job_words.specs.Commands.{OneCommand, Command, launch, restart, ring, help, IsCommand, IsLaunch, words_of_command, HasNoZero, SpellNothing}
-use Rattle.job_words.specs.Jobs.{IsRestartOf, IsRingOf, IsJob, seen_program, start_of}
+use Rattle.job_words.specs.Jobs.{IsRestartOf, IsRingOf, IsJob, start_of}
 use Rattle.job_words.specs.Reading.{kept_number, IsRead, NoneFollows, texts_of}
 use Rattle.job_words.specs.Parsed.{AreOptions}
 use Rattle.job_words.specs.Parts.{ArePrograms, IsNodesOf}
@@ -114,11 +128,11 @@ pub record LaunchFields (options : Options) (nodes : ℕ) (asked : LaunchJob) : 
   pub workers : asked.workers ≡ unwrap_or (kept_number options Workers) 0
   pub every : asked.every ≡ kept_number options Every
   pub records : asked.records ≡ unwrap_or (kept_number options Records) 1000000
-  pub file : map string_bytes asked.file ≡ options.files
+  pub file : asked.file ≡ options.files
 
 pub launch_answer : (words : List Text) (options : Options) (rest : List Text) → IsRead Launch words options rest → (asked : Option ℕ) → asked ≡ kept_number options Nodes → (nodes : ℕ)
     → ((programs : List ProgramText) × IsNodesOf asked rest programs × (nodes ≡ unwrap_or asked (hosts_of programs)))
-    → (made : LaunchJob) → LaunchFields options nodes made → ((programs : List ProgramText) → ArePrograms rest programs → map seen_program made.programs ≡ map start_of programs)
+    → (made : LaunchJob) → LaunchFields options nodes made → ((programs : List ProgramText) → ArePrograms rest programs → made.programs ≡ map start_of programs)
     → AnswersFor (codes "launch" ∷ words) (job.Launch made)
 unfolding launch_of
 launch_answer words options rest read asked is nodes found made fields started =

@@ -1,4 +1,13 @@
 -- The programs of a list of words, one word after the other.
+--     started                       what is made of a program's parts is the program as it is started
+--     text_at, texts_more           the word at a place, and the words up to it
+--     texts_length                  as many words as programs
+--     not_all, word_of_all          the word at a place is of no program, or is of one as all are
+--     none_counted, one_counted     the greatest host of no words, and of one word more
+--     one_started                   the programs of one word more, as they are started
+--     nodes_found, no_nodes         how many nodes a launch of the programs has, or that it has none
+--     some_there                    a list that is told not to be empty has an item
+--     are_words                     each word of programs is of one
 use Rattle.std.proofs.Common.{◌≡◌, ℕ, zero, suc, ◌+◌, ◌<◌, ◌≤◌, List, [], ◌∷◌, ◌++◌, map, take, get_or, length, refl, sym, ap, subst, ◌∙◌, arith, ◌==◌, Bool, true, false}
 use Rattle.std.specs.Prelude.{All, Option, max, string_bytes, unwrap_or}
 use Rattle.std.specs.declared.string.String.{String}
@@ -8,27 +17,26 @@ use Rattle.std.proofs.lemmas.List.Sums.{fold-append}
 use Rattle.job_words.specs.declared.job.NamedProgram.{NamedProgram}
 use Rattle.job_words.specs.declared.programs.Parts.{Parts}
 use Rattle.job_words.specs.Options.{Text}
-use Rattle.job_words.specs.Programs.{ProgramText, IsProgram, program_word, argument_bytes, hosts_of}
-use Rattle.job_words.specs.Jobs.{Started, seen_program, start_of}
+use Rattle.job_words.specs.Programs.{ProgramText, IsProgram, program_word, hosts_of}
+use Rattle.job_words.specs.Jobs.{start_of}
 use Rattle.job_words.specs.Parts.{ArePartsOf, ArePrograms, AreCounted, IsProgramWord, IsNodesOf, with_zeros}
 use Rattle.job_words.specs.Reading.{texts_of}
 use Rattle.job_words.proofs.ProgramWords.{NoProgram, one_program, one_list, zeros, placed, hosts_below}
 
-same_started : (host other : ℕ) (name also : Text) (bytes others : List ℕ) → host ≡ other → name ≡ also → bytes ≡ others
-    → let a : Started = record { host = host; name = name; arguments = bytes } in let b : Started = record { host = other; name = also; arguments = others } in a ≡ b
-same_started host other name also bytes others one two three =
-    ap (λ (h : ℕ). let a : Started = record { host = h; name = name; arguments = bytes } in a) one
-    ∙ (ap (λ (n : Text). let a : Started = record { host = other; name = n; arguments = bytes } in a) two
-    ∙ ap (λ (l : List ℕ). let a : Started = record { host = other; name = also; arguments = l } in a) three)
+same_program : (a b : NamedProgram) → a.host ≡ b.host → a.name ≡ b.name → a.arguments ≡ b.arguments → a ≡ b
+same_program a b host name arguments =
+    ap (λ (h : ℕ). let p : NamedProgram = record { host = h; name = a.name; arguments = a.arguments } in p) host
+    ∙ (ap (λ (n : Text). let p : NamedProgram = record { host = b.host; name = n; arguments = a.arguments } in p) name
+    ∙ ap (λ (bytes : List ℕ). let p : NamedProgram = record { host = b.host; name = b.name; arguments = bytes } in p) arguments)
 
 -- what is made of a program's parts is the program as it is started
 pub started : (word : Text) (parts : Parts) (named : NamedProgram) → ((program : ProgramText) × IsProgram program × (word ≡ program_word program) × ArePartsOf program parts)
-    → named.host ≡ parts.host → string_bytes named.name ≡ parts.name.now → named.arguments ≡ with_zeros parts.listed.now
-    → (program : ProgramText) → IsProgram program → word ≡ program_word program → seen_program named ≡ start_of program
+    → named.host ≡ parts.host → named.name ≡ parts.name.now → named.arguments ≡ with_zeros parts.listed.now
+    → (program : ProgramText) → IsProgram program → word ≡ program_word program → named ≡ start_of program
 started word parts named found host name bytes program is text =
-    subst (λ (p : ProgramText). seen_program named ≡ start_of p) (one_program found.0 program found.1 is (sym found.2 ∙ text))
-    (same_started named.host found.0.host (string_bytes named.name) found.0.name named.arguments (argument_bytes found.0)
-    (host ∙ found.3.host) (name ∙ found.3.name) (bytes ∙ (ap with_zeros found.3.listed ∙ zeros found.0.name found.0.arguments found.1.name found.1.arguments)))
+    subst (λ (p : ProgramText). named ≡ start_of p) (one_program found.0 program found.1 is (sym found.2 ∙ text))
+    (same_program named (start_of found.0) (host ∙ found.3.host) (name ∙ found.3.name)
+    (bytes ∙ (ap with_zeros found.3.listed ∙ zeros found.0.name found.0.arguments found.1.name found.1.arguments)))
 
 -- ---- the word at a place
 
@@ -83,20 +91,19 @@ one_counted words hosts text parts counted found = record {
 
 module _ {Z : Type 0} where
   pub one_started : (words : List (String Z)) (i : ℕ) (list after : List NamedProgram) (text : Text) (named : NamedProgram) → i < length words → get_or (texts_of words) i [] ≡ text
-      → ((programs : List ProgramText) → ArePrograms (texts_of words) programs → map seen_program list ≡ map start_of (take i programs))
-      → ((program : ProgramText) → IsProgram program → text ≡ program_word program → seen_program named ≡ start_of program)
+      → ((programs : List ProgramText) → ArePrograms (texts_of words) programs → list ≡ map start_of (take i programs))
+      → ((program : ProgramText) → IsProgram program → text ≡ program_word program → named ≡ start_of program)
       → after ≡ list ++ named ∷ []
-      → (programs : List ProgramText) → ArePrograms (texts_of words) programs → map seen_program after ≡ map start_of (take (i + 1) programs)
+      → (programs : List ProgramText) → ArePrograms (texts_of words) programs → after ≡ map start_of (take (i + 1) programs)
   one_started words i list after text named inside is so_far here now programs are =
       let size : length words ≡ length programs = texts_length words programs are in
       let there : i < length programs = omega (arith, size, inside) in
-      let last : seen_program named ≡ start_of (get_or programs i nobody) = here (get_or programs i nobody) (All-get_or IsProgram programs i nobody there are.each) (sym is ∙ program_at (texts_of words) programs i are there) in
-      ap (map seen_program) now
-      ∙ (map-append seen_program list (named ∷ [])
-      ∙ (ap (λ (front : List Started). front ++ seen_program named ∷ []) (so_far programs are)
-      ∙ (ap (λ (s : Started). map start_of (take i programs) ++ s ∷ []) last
+      let last : named ≡ start_of (get_or programs i nobody) = here (get_or programs i nobody) (All-get_or IsProgram programs i nobody there are.each) (sym is ∙ program_at (texts_of words) programs i are there) in
+      now
+      ∙ (ap (λ (front : List NamedProgram). front ++ named ∷ []) (so_far programs are)
+      ∙ (ap (λ (p : NamedProgram). map start_of (take i programs) ++ p ∷ []) last
       ∙ (sym (map-append start_of (take i programs) (get_or programs i nobody ∷ []))
-      ∙ ap (map start_of) (sym (take_more programs i nobody there))))))
+      ∙ ap (map start_of) (sym (take_more programs i nobody there)))))
 
 -- ---- how many nodes
 

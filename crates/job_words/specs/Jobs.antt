@@ -1,4 +1,8 @@
 -- What a command line asks for: each option under its name, with its default where it is not given.
+--     start_of program                        the program as it is started
+--     IsLaunchOf, IsRestartOf, IsRingOf       the job of these settings, programs, processes
+--     IsJobOf command asked                   the job of a command
+--     IsJob words asked                       the words ask for this job
 --
 --     option        default
 --     --nodes       launch: one more than the greatest host; restart: 16
@@ -8,7 +12,7 @@
 --     --shift       0
 --     --pid-base    2,000
 --     --port-base   30,000
-use Rattle.std.specs.Prelude.{◌≡◌, ℕ, List, map, string_bytes}
+use Rattle.std.specs.Prelude.{◌≡◌, ℕ, List, map}
 use Rattle.job_words.specs.declared.option_key.OptionKey.TheVariants.{Nodes, Workers, Every, Records, Shift, PidBase, PortBase}
 use Rattle.job_words.specs.declared.job.Job.{Job}
 use Rattle.job_words.specs.declared.job.Job.TheVariants as job
@@ -21,15 +25,7 @@ use Rattle.job_words.specs.Programs.{ProgramText, argument_bytes}
 use Rattle.job_words.specs.Commands.{Command, Spell, nodes_of, launch, restart, ring, help}
 
 -- a program as it is started
-pub record Started : Type 0 where
-  pub host : ℕ
-  pub name : Text
-  pub arguments : List ℕ
-
-abbrev pub seen_program : NamedProgram → Started
-seen_program program = record { host = program.host; name = string_bytes program.name; arguments = program.arguments }
-
-abbrev pub start_of : ProgramText → Started
+abbrev pub start_of : ProgramText → NamedProgram
 start_of program = record { host = program.host; name = program.name; arguments = argument_bytes program }
 
 pub record IsLaunchOf (given : List Setting) (texts : List ProgramText) (job : LaunchJob) : Type 0 where
@@ -37,8 +33,8 @@ pub record IsLaunchOf (given : List Setting) (texts : List ProgramText) (job : L
   pub workers : job.workers ≡ given_or Workers given 0
   pub every : job.every ≡ given_for Every given
   pub records : job.records ≡ given_or Records given 1000000
-  pub file : map string_bytes job.file ≡ files_of given
-  pub programs : map seen_program job.programs ≡ map start_of texts
+  pub file : job.file ≡ files_of given
+  pub programs : job.programs ≡ map start_of texts
 
 pub record IsRestartOf (given : List Setting) (job : RestartJob) : Type 0 where
   pub nodes : job.nodes ≡ given_or Nodes given 16

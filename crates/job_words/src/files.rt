@@ -1,7 +1,8 @@
-ghost use Rattle.std.specs.Prelude.{◌≡◌, ◌<◌, [], ◌∷◌, ◌++◌, map, length, nat_lt, IfOk, string_bytes};
+ghost use Rattle.std.specs.Prelude.{◌≡◌, ◌<◌, [], ◌∷◌, ◌++◌, map, length, nat_lt, IfOk};
 ghost use Rattle.std.specs.List.{list_any};
 ghost use Rattle.std.specs.Str.{bytes_eq};
 
+use crate::file_name::FileName;
 use std::alloc::{AllocError, Global};
 use std::marker::Model;
 use views::list_of::ListOf;
@@ -56,8 +57,8 @@ impl<'a> Files<'a> {
         self.count += 1;
     }
 
-    pub(crate) fn to_list(&self, alloc: Global) -> Result<ListOf<String>, AllocError>
-        ensures { IfOk result (λ list. map string_bytes list ≡ self.now) }
+    pub(crate) fn to_list(&self, alloc: Global) -> Result<ListOf<FileName>, AllocError>
+        ensures { IfOk result (λ list. list ≡ self.now) }
     {
         owned(alloc, &self.names[..self.count])
     }
@@ -70,12 +71,12 @@ fn is_among(names: &[&str], name: &str) -> bool
 }
 
 /// Copies of the names.
-fn owned(alloc: Global, names: &[&str]) -> Result<ListOf<String>, AllocError>
-    ensures { IfOk result (λ list. map string_bytes list ≡ map (λ name. name.now) names.now) }
+fn owned(alloc: Global, names: &[&str]) -> Result<ListOf<FileName>, AllocError>
+    ensures { IfOk result (λ list. list ≡ map (λ name. name.now) names.now) }
 {
     let mut list = ListOf::new(alloc);
     for name in names {
-        list.push(String::from_str(alloc, name)?)?;
+        list.push(FileName::from_string(String::from_str(alloc, name)?))?;
     }
     Ok(list)
 }

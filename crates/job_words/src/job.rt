@@ -1,3 +1,4 @@
+use crate::file_name::FileName;
 use views::list_of::ListOf;
 
 /// What the words of a command line ask for.
@@ -20,12 +21,12 @@ pub struct LaunchJob {
     pub nodes: u32,
     /// The number of worker threads, 0 to 64.
     pub workers: u32,
-    /// After how many records of work each a checkpoint is asked for, 1 to 4,000,000, if ever.
+    /// A checkpoint is asked for after each so many records of work, 1 to 4,000,000, if ever.
     pub every: Option<u32>,
     /// How many records the trace has room for, 1 to 4,000,000.
     pub records: u32,
     /// The names given by `--file`, in order: at most 64, all different.
-    pub file: ListOf<String>,
+    pub file: ListOf<FileName>,
     /// 1 to 128 programs.
     pub programs: ListOf<NamedProgram>,
 }
@@ -36,7 +37,7 @@ pub struct NamedProgram {
     /// The number of its host, 0 to 15.
     pub host: u32,
     /// The name of its file, 1 to 255 bytes.
-    pub name: String,
+    pub name: FileName,
     /// Its argument strings, the name first, each with a zero byte at its end: at most 4,096 bytes.
     pub arguments: ListOf<u8>,
 }
@@ -48,11 +49,11 @@ pub struct RestartJob {
     pub nodes: u32,
     /// The number of worker threads, 0 to 64.
     pub workers: u32,
-    /// After how many records of work each a checkpoint is asked for, 1 to 4,000,000, if ever.
+    /// A checkpoint is asked for after each so many records of work, 1 to 4,000,000, if ever.
     pub every: Option<u32>,
     /// How many records the trace has room for, 1 to 4,000,000.
     pub records: u32,
-    /// How far each host moves on to the next node, 0 to 15.
+    /// Host h runs on node (h + shift) mod the number of nodes. The shift is 0 to 15.
     pub shift: u32,
     /// The first real process number of a node, 1 to 1,000,000,000.
     pub pid_base: u32,
@@ -67,6 +68,6 @@ pub struct RingJob {
     pub processes: u32,
     /// The number of worker threads, 0 to 64.
     pub workers: u32,
-    /// After how many records of work each a checkpoint is asked for, 1 to 4,000,000.
+    /// A checkpoint is asked for after each so many records of work, 1 to 4,000,000.
     pub every: u32,
 }

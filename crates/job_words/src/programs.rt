@@ -1,9 +1,10 @@
-ghost use Rattle.std.specs.Prelude.{◌≡◌, ◌+◌, ◌≤◌, ℕ, max, List, [], ◌∷◌, ◌++◌, map, All, IfSome, IfNone, IfOk, string_bytes, unwrap_or};
+ghost use Rattle.std.specs.Prelude.{◌≡◌, ◌+◌, ◌≤◌, ℕ, max, List, [], ◌∷◌, ◌++◌, map, All, IfSome, IfNone, IfOk, unwrap_or};
 ghost use Rattle.job_words.specs.Programs.{ProgramText, IsProgram, program_word, hosts_of};
-ghost use Rattle.job_words.specs.Jobs.{seen_program, start_of};
+ghost use Rattle.job_words.specs.Jobs.{start_of};
 ghost use Rattle.job_words.specs.Parts.{ArePartsOf, ArePrograms, IsProgramWord, AreCounted, StandsFirst, IsNodesOf, zero_at_comma, with_zeros};
 ghost use Rattle.job_words.specs.Reading.{texts_of};
 
+use crate::file_name::FileName;
 use crate::job::NamedProgram;
 use crate::number::number_in;
 use std::alloc::{AllocError, Global};
@@ -106,7 +107,7 @@ pub(crate) fn programs_of(
 ) -> Result<ListOf<NamedProgram>, AllocError>
     requires { All IsProgramWord (texts_of words.now) }
     ensures { IfOk result (λ list. (programs : List ProgramText) → ArePrograms (texts_of words.now) programs
-        → map seen_program list ≡ map start_of programs) }
+        → list ≡ map start_of programs) }
 {
     let mut list = ListOf::new(alloc);
     for word in words {
@@ -119,14 +120,14 @@ pub(crate) fn programs_of(
 fn program_of(alloc: Global, word: &str) -> Result<NamedProgram, AllocError>
     requires { IsProgramWord word.now }
     ensures { IfOk result (λ named. (program : ProgramText) → IsProgram program → word.now ≡ program_word program
-        → seen_program named ≡ start_of program) }
+        → named ≡ start_of program) }
 {
     let Some(parts) = parts_of(word) else {
         unreachable!()
     };
     Ok(NamedProgram {
         host: parts.host,
-        name: String::from_str(alloc, parts.name)?,
+        name: FileName::from_string(String::from_str(alloc, parts.name)?),
         arguments: argument_bytes(alloc, parts.listed)?,
     })
 }

@@ -1,4 +1,4 @@
-use crate::{Job, LaunchJob, RestartJob, RingJob, WordFault, read_words};
+use crate::{FileName, Job, LaunchJob, RestartJob, RingJob, WordFault, read_words};
 use std::alloc::{AllocError, Global};
 use std::process::Abort;
 use std::test::Fail;
@@ -113,6 +113,14 @@ fn a_launch_has_its_programs(rt: HostRuntime) -> Result<(), Fail> {
 }
 
 #[test]
+fn a_name_of_a_file(rt: HostRuntime) {
+    let text = String::from_str(rt.alloc(), "a,b").expect(&rt, "memory");
+    let name = FileName::from_string(text);
+    assert_eq!(rt; name.as_str(), "a,b");
+    assert_eq!(rt; name.into_string().as_str(), "a,b");
+}
+
+#[test]
 fn a_restart_has_defaults(rt: HostRuntime) -> Result<(), Fail> {
     let job = restarted(&rt, rt.alloc(), ["restart"].as_slice()).ok_or("no restart")?;
     let defaults = RestartJob {
@@ -200,6 +208,5 @@ fn words_outside_of_the_grammar(rt: HostRuntime) {
 
 #[test]
 fn a_zero_byte(rt: HostRuntime) {
-    let answer = read(&rt, rt.alloc(), ["launch", "0:a\0b"].as_slice());
-    assert!(rt; answer.is_err());
+    assert!(rt; is_usage(&rt, rt.alloc(), "launch 0:a\0b"));
 }
