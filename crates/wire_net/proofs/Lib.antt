@@ -7,6 +7,7 @@ pub mod RoomLaws
 pub mod Streams
 pub mod EachItem
 pub mod Finding
+pub mod Gains
 pub mod HeldLists
 pub mod Items
 pub mod KeptEnds
@@ -14,5 +15,6 @@ pub mod ListsOn
 pub mod LiveAgents
 pub mod LiveChannels
 pub mod OneCall
+pub mod OneChannel
 pub mod OneDirection
 pub mod Pieces

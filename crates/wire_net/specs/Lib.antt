@@ -1,4 +1,5 @@
 pub mod AgentSteps
+pub mod Alone
 pub mod Changes
 pub mod Channels
 pub mod CutRooms
