@@ -15,4 +15,5 @@ mod Beginning
 mod HeldUp
 mod OneChannel
 mod DrainedLists
+mod KeptLists
 mod RunLaws
