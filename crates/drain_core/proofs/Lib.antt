@@ -3,6 +3,7 @@ mod Walk
 mod OneDrain
 mod AllDirections
 mod Bytes
+mod AgentSteps
 mod WorkLaws
 mod Moving
 mod GivenLists
