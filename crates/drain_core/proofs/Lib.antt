@@ -17,4 +17,5 @@ mod HeldUp
 mod OneChannel
 mod DrainedLists
 mod KeptLists
+mod Staying
 mod RunLaws

@@ -1,9 +1,12 @@
 -- Whole runs of a drain: steps of agents and moves of bytes, in any order.
 --     step p s                what a step of an agent leaves of the network and the notes
 --     moves p s               it moves bytes
+--     EndsStay                a list of ends fits the network after an event as before
+--     DirectionsStay          the same directions are there
 --     GivesWhatStood          whatever happens on the way, the lists of a drain that is done are what stood in the directions when it began
 --     EndsInTime              no run has more events that move bytes than there was work
-use Rattle.std.specs.Prelude.{◌≡◌, ◌≤◌, Bool, true, List, All}
+use Rattle.std.specs.Prelude.{◌≡◌, ◌≤◌, Bool, true, List, All, is_some}
+use Rattle.sys_abi.specs.declared.identity.Dir.{Dir}
 use Rattle.sys_abi.specs.declared.identity.RealPid.{RealPid}
 use Rattle.wire_net.specs.declared.agents.AgentEnd.{AgentEnd}
 use Rattle.wire_net.specs.declared.limits.TheConstants.{QUEUE_LIMIT}
@@ -11,7 +14,7 @@ use Rattle.wire_net.specs.CutRooms.{Named}
 use Rattle.wire_net.specs.Channels.{direction_at}
 use Rattle.wire_net.specs.Ends.{IsFor}
 use Rattle.wire_net.specs.Networks.{Network}
-use Rattle.wire_net.specs.Runs.{Event, IsAllowed, UnderWay, Steps, run, moves_made}
+use Rattle.wire_net.specs.Runs.{Event, IsAllowed, UnderWay, Steps, after, run, moves_made}
 use Rattle.wire_net.specs.Whereabouts.{stream_on}
 use Rattle.drain_core.specs.Drains.{Fits, moves_any, notes_after, channels_after, is_done}
 use Rattle.drain_core.specs.Openings.{IsNaming, begun, lists_of}
@@ -22,6 +25,13 @@ step p s = record { net = record s.net { channels = channels_after p s.notes s.n
 
 abbrev pub moves : RealPid → UnderWay → Bool
 moves p s = moves_any p s.net.channels s.notes
+
+-- what refill and finish ask of the network later is as it was
+abbrev pub EndsStay : Type 0
+EndsStay = (ends : List AgentEnd) (e : Event) (s : UnderWay) → IsFor s.net.channels ends → IsFor (after step e s).net.channels ends
+
+abbrev pub DirectionsStay : Type 0
+DirectionsStay = (e : Event) (s : UnderWay) (d : Dir) → is_some (direction_at (after step e s).net.channels d) ≡ is_some (direction_at s.net.channels d)
 
 abbrev pub GivesWhatStood : Type 0
 GivesWhatStood = (t : Network) (ends : List AgentEnd) (lengths : List Named) (events : List Event) → IsFor t.channels ends → IsNaming t.channels lengths

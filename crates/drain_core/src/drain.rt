@@ -74,6 +74,9 @@ impl Drain {
         ensures fits { words.Fits net.new.channels self.new }
         ensures named { (d : Dir) → words.has_notes d self.new ≡ words.has_notes d self.old }
 
+        // The room is the same.
+        ensures rooms { names_of self.new ≡ names_of self.old }
+
         // The bytes of each direction are the same, wherever they are.
         ensures kept { (d : Dir) → d.side < 2 → whereabouts net.new (agents_of self.new) d ≡ whereabouts net.old (agents_of self.old) d }
 
