@@ -3,15 +3,17 @@
 --     moves p s               it moves bytes
 --     EndsStay                a list of ends fits the network after an event as before
 --     DirectionsStay          the same directions are there
---     GivesWhatStood          whatever happens on the way, the lists of a drain that is done are what stood in the directions when it began
+--     IsWhatStands m lists    each list has the bytes that stand in its direction, and each direction has a list
+--     GivesWhatStood          whatever happens on the way, the lists of a drain that is done are what stood in the network when it began
 --     EndsInTime              no run has more events that move bytes than there was work
 use Rattle.std.specs.Prelude.{◌≡◌, ◌≤◌, Bool, true, List, All, is_some}
 use Rattle.sys_abi.specs.declared.identity.Dir.{Dir}
 use Rattle.sys_abi.specs.declared.identity.RealPid.{RealPid}
 use Rattle.wire_net.specs.declared.agents.AgentEnd.{AgentEnd}
-use Rattle.wire_net.specs.declared.limits.TheConstants.{QUEUE_LIMIT}
+use Rattle.wire_net.specs.declared.cut_room.DirBytes.{DirBytes}
 use Rattle.wire_net.specs.CutRooms.{Named}
-use Rattle.wire_net.specs.Channels.{direction_at}
+use Rattle.wire_net.specs.Channels.{Channels, direction_at}
+use Rattle.wire_net.specs.DrainedNets.{HasLists}
 use Rattle.wire_net.specs.Ends.{IsFor}
 use Rattle.wire_net.specs.Networks.{Network}
 use Rattle.wire_net.specs.Runs.{Event, IsAllowed, UnderWay, Steps, after, run, moves_made}
@@ -33,11 +35,16 @@ EndsStay = (ends : List AgentEnd) (e : Event) (s : UnderWay) → IsFor s.net.cha
 abbrev pub DirectionsStay : Type 0
 DirectionsStay = (e : Event) (s : UnderWay) (d : Dir) → is_some (direction_at (after step e s).net.channels d) ≡ is_some (direction_at s.net.channels d)
 
+-- the lists are what stands in a network
+pub record IsWhatStands (m : Channels) (lists : List DirBytes) : Type 0 where
+  pub bytes : All (λ list. list.bytes ≡ stream_on (direction_at m list.dir)) lists
+  pub whole : HasLists m lists
+
+-- that the notes with which it begins fit the network is what `Drain::begin` gives
 abbrev pub GivesWhatStood : Type 0
-GivesWhatStood = (t : Network) (ends : List AgentEnd) (lengths : List Named) (events : List Event) → IsFor t.channels ends → IsNaming t.channels lengths
-    → All (λ x. x.count ≤ QUEUE_LIMIT) (begun t.channels ends lengths) → All IsAllowed events
+GivesWhatStood = (t : Network) (ends : List AgentEnd) (lengths : List Named) (events : List Event) → IsNaming t.channels lengths → Fits t.channels (begun t.channels ends lengths) → All IsAllowed events
     → let s = run step events (record { net = t; notes = begun t.channels ends lengths }) in
-    is_done s.net.channels s.notes ≡ true → All (λ list. list.bytes ≡ stream_on (direction_at t.channels list.dir)) (lists_of s.net.channels s.notes)
+    is_done s.net.channels s.notes ≡ true → IsWhatStands t.channels (lists_of s.net.channels s.notes)
 
 abbrev pub EndsInTime : Type 0
 EndsInTime = (events : List Event) (s : UnderWay) → Fits s.net.channels s.notes → All IsAllowed events → moves_made step moves events s ≤ work_left s.net.channels s.notes
