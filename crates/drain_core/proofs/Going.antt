@@ -31,7 +31,7 @@ use Rattle.drain_core.proofs.AllDirections.{one_of}
 agent_itself : (p : RealPid) → is_agent p (Some p) ≡ true
 agent_itself p = ap₂ (λ (a b : Bool). a && b) (eq-eqb p.node p.node refl) (eq-eqb p.pid p.pid refl)
 
-any_of : (test : DirNotes → Bool) (front back : Notes) (x : DirNotes) → test x ≡ true → list_any test (front ++ x ∷ back) ≡ true
+pub any_of : (test : DirNotes → Bool) (front back : Notes) (x : DirNotes) → test x ≡ true → list_any test (front ++ x ∷ back) ≡ true
 any_of test [] back x is = or_left (test x) (list_any test back) is
 any_of test (y ∷ front) back x is = or_right (test y) (list_any test (front ++ x ∷ back)) (any_of test front back x is)
 

@@ -3,6 +3,7 @@ mod Walk
 mod OneDrain
 mod AllDirections
 mod Bytes
+mod AgentSteps
 mod WorkLaws
 mod Moving
 mod GivenLists
@@ -15,4 +16,6 @@ mod Beginning
 mod HeldUp
 mod OneChannel
 mod DrainedLists
+mod KeptLists
+mod Staying
 mod RunLaws

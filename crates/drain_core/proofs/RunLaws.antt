@@ -10,11 +10,9 @@ use Rattle.std.proofs.lemmas.List.Elements.{All-nil, All-cons, All-head, All-tai
 use Rattle.sys_abi.specs.declared.identity.Dir.{Dir}
 use Rattle.wire_net.specs.declared.agents.AgentEnd.{AgentEnd}
 use Rattle.wire_net.specs.declared.cut_room.DirBytes.{DirBytes}
-use Rattle.wire_net.specs.declared.limits.TheConstants.{QUEUE_LIMIT}
 use Rattle.wire_net.specs.CutRooms.{Named}
 use Rattle.wire_net.specs.Directions.{after_move}
 use Rattle.wire_net.specs.Channels.{direction_at, at_direction}
-use Rattle.wire_net.specs.Ends.{IsFor}
 use Rattle.wire_net.specs.Networks.{Network, bytes_on}
 use Rattle.wire_net.specs.Runs.{Event, Step, Move, UnderWay, after, run, IsAllowed, moving, moves_made}
 use Rattle.wire_net.specs.Whereabouts.{stream_on, whereabouts}
@@ -22,14 +20,15 @@ use Rattle.wire_net.proofs.Streams.{whereabouts-move}
 use Rattle.drain_core.specs.Drains.{Fits, has_notes, is_done}
 use Rattle.drain_core.specs.Holding.{agents_of}
 use Rattle.drain_core.specs.Openings.{IsNaming, begun, lists_of}
-use Rattle.drain_core.specs.Runs.{step, moves}
+use Rattle.drain_core.specs.Runs.{step, moves, IsWhatStands}
 use Rattle.drain_core.specs.Work.{work_left}
 use Rattle.drain_core.proofs.AllDirections.{fits_after}
-use Rattle.drain_core.proofs.Beginning.{fits_begun, kept_begun}
+use Rattle.drain_core.proofs.Beginning.{kept_begun, noted_begun}
 use Rattle.drain_core.proofs.Bytes.{kept_bytes}
-use Rattle.drain_core.proofs.DrainedLists.{sided}
+use Rattle.drain_core.proofs.DrainedLists.{sided, noted_list}
 use Rattle.drain_core.proofs.Given.{given}
 use Rattle.drain_core.proofs.Moving.{moved_fits, moved_no_more, moved_work}
+use Rattle.drain_core.proofs.Staying.{run_there, run_named}
 use Rattle.drain_core.proofs.WorkLaws.{gain, step_work}
 
 abbrev FitsNow : UnderWay → Type 0
@@ -61,24 +60,24 @@ paired P Q R [] leads first second = All-nil R
 paired P Q R (list ∷ lists) leads first second =
     All-cons R list lists (leads list (All-head P list lists first) (All-head Q list lists second)) (paired P Q R lists leads (All-tail P list lists first) (All-tail Q list lists second))
 
-pub gives_what_stood : (t : Network) (ends : List AgentEnd) (lengths : List Named) (events : List Event) → IsFor t.channels ends → IsNaming t.channels lengths
-    → All (λ x. x.count ≤ QUEUE_LIMIT) (begun t.channels ends lengths) → All IsAllowed events
+pub gives_what_stood : (t : Network) (ends : List AgentEnd) (lengths : List Named) (events : List Event) → IsNaming t.channels lengths → Fits t.channels (begun t.channels ends lengths) → All IsAllowed events
     → is_done (run step events (record { net = t; notes = begun t.channels ends lengths })).net.channels (run step events (record { net = t; notes = begun t.channels ends lengths })).notes ≡ true
-    → All (λ list. list.bytes ≡ stream_on (direction_at t.channels list.dir))
-    (lists_of (run step events (record { net = t; notes = begun t.channels ends lengths })).net.channels (run step events (record { net = t; notes = begun t.channels ends lengths })).notes)
-gives_what_stood t ends lengths events for naming few may done =
-    paired (λ list. list.bytes ≡ bytes_now last list.dir) (λ list. list.dir.side < 2) (λ list. list.bytes ≡ stream_on (direction_at t.channels list.dir)) (lists_of last.net.channels last.notes)
-    (λ list is side. is ∙ run_keeps events first list.dir side fits may ∙ kept_begun t ends lengths list.dir naming)
-    (given last.net last.notes (run_fits events first fits may) done).lists (sided last.net.channels last.notes (run_fits events first fits may))
+    → IsWhatStands t.channels (lists_of (run step events (record { net = t; notes = begun t.channels ends lengths })).net.channels (run step events (record { net = t; notes = begun t.channels ends lengths })).notes)
+gives_what_stood t ends lengths events naming fits may done = record {
+  bytes =
+      paired (λ list. list.bytes ≡ bytes_now last list.dir) (λ list. list.dir.side < 2) (λ list. list.bytes ≡ stream_on (direction_at t.channels list.dir)) (lists_of last.net.channels last.notes)
+      (λ list is side. is ∙ run_keeps events first list.dir side fits may ∙ kept_begun t ends lengths list.dir naming)
+      (given last.net last.notes (run_fits events first fits may) done).lists (sided last.net.channels last.notes (run_fits events first fits may));
+  whole = λ d side there.
+      noted_list last.net.channels d last.notes (run_there events first d ∙ there)
+      (run_named events first d ∙ noted_begun t.channels ends lengths d ∙ naming.whole d side there);
+}
   where
     first : UnderWay
     first = record { net = t; notes = begun t.channels ends lengths }
 
     last : UnderWay
     last = run step events first
-
-    fits : FitsNow first
-    fits = fits_begun t.channels ends lengths for naming few
 
 -- ---- and the work that is left
 

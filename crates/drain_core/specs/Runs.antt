@@ -1,17 +1,22 @@
 -- Whole runs of a drain: steps of agents and moves of bytes, in any order.
 --     step p s                what a step of an agent leaves of the network and the notes
 --     moves p s               it moves bytes
---     GivesWhatStood          whatever happens on the way, the lists of a drain that is done are what stood in the directions when it began
+--     EndsStay                a list of ends fits the network after an event as before
+--     DirectionsStay          the same directions are there
+--     IsWhatStands m lists    each list has the bytes that stand in its direction, and each direction has a list
+--     GivesWhatStood          whatever happens on the way, the lists of a drain that is done are what stood in the network when it began
 --     EndsInTime              no run has more events that move bytes than there was work
-use Rattle.std.specs.Prelude.{◌≡◌, ◌≤◌, Bool, true, List, All}
+use Rattle.std.specs.Prelude.{◌≡◌, ◌≤◌, Bool, true, List, All, is_some}
+use Rattle.sys_abi.specs.declared.identity.Dir.{Dir}
 use Rattle.sys_abi.specs.declared.identity.RealPid.{RealPid}
 use Rattle.wire_net.specs.declared.agents.AgentEnd.{AgentEnd}
-use Rattle.wire_net.specs.declared.limits.TheConstants.{QUEUE_LIMIT}
+use Rattle.wire_net.specs.declared.cut_room.DirBytes.{DirBytes}
 use Rattle.wire_net.specs.CutRooms.{Named}
-use Rattle.wire_net.specs.Channels.{direction_at}
+use Rattle.wire_net.specs.Channels.{Channels, direction_at}
+use Rattle.wire_net.specs.DrainedNets.{HasLists}
 use Rattle.wire_net.specs.Ends.{IsFor}
 use Rattle.wire_net.specs.Networks.{Network}
-use Rattle.wire_net.specs.Runs.{Event, IsAllowed, UnderWay, Steps, run, moves_made}
+use Rattle.wire_net.specs.Runs.{Event, IsAllowed, UnderWay, Steps, after, run, moves_made}
 use Rattle.wire_net.specs.Whereabouts.{stream_on}
 use Rattle.drain_core.specs.Drains.{Fits, moves_any, notes_after, channels_after, is_done}
 use Rattle.drain_core.specs.Openings.{IsNaming, begun, lists_of}
@@ -23,11 +28,23 @@ step p s = record { net = record s.net { channels = channels_after p s.notes s.n
 abbrev pub moves : RealPid → UnderWay → Bool
 moves p s = moves_any p s.net.channels s.notes
 
+-- what refill and finish ask of the network later is as it was
+abbrev pub EndsStay : Type 0
+EndsStay = (ends : List AgentEnd) (e : Event) (s : UnderWay) → IsFor s.net.channels ends → IsFor (after step e s).net.channels ends
+
+abbrev pub DirectionsStay : Type 0
+DirectionsStay = (e : Event) (s : UnderWay) (d : Dir) → is_some (direction_at (after step e s).net.channels d) ≡ is_some (direction_at s.net.channels d)
+
+-- the lists are what stands in a network
+pub record IsWhatStands (m : Channels) (lists : List DirBytes) : Type 0 where
+  pub bytes : All (λ list. list.bytes ≡ stream_on (direction_at m list.dir)) lists
+  pub whole : HasLists m lists
+
+-- that the notes with which it begins fit the network is what `Drain::begin` gives
 abbrev pub GivesWhatStood : Type 0
-GivesWhatStood = (t : Network) (ends : List AgentEnd) (lengths : List Named) (events : List Event) → IsFor t.channels ends → IsNaming t.channels lengths
-    → All (λ x. x.count ≤ QUEUE_LIMIT) (begun t.channels ends lengths) → All IsAllowed events
+GivesWhatStood = (t : Network) (ends : List AgentEnd) (lengths : List Named) (events : List Event) → IsNaming t.channels lengths → Fits t.channels (begun t.channels ends lengths) → All IsAllowed events
     → let s = run step events (record { net = t; notes = begun t.channels ends lengths }) in
-    is_done s.net.channels s.notes ≡ true → All (λ list. list.bytes ≡ stream_on (direction_at t.channels list.dir)) (lists_of s.net.channels s.notes)
+    is_done s.net.channels s.notes ≡ true → IsWhatStands t.channels (lists_of s.net.channels s.notes)
 
 abbrev pub EndsInTime : Type 0
 EndsInTime = (events : List Event) (s : UnderWay) → Fits s.net.channels s.notes → All IsAllowed events → moves_made step moves events s ≤ work_left s.net.channels s.notes

@@ -3,7 +3,7 @@ ghost use Rattle.sys_abi.specs.declared.identity.Dir.{Dir};
 ghost use Rattle.wire_net.specs.declared.agents.Stepped.TheVariants.{Moved, Again};
 ghost use Rattle.wire_net.specs.CutRooms.{names_of};
 ghost use Rattle.wire_net.specs.Channels.{direction_at};
-ghost use Rattle.wire_net.specs.DrainedNets.{list_on, IsDrained, IsNamingLists};
+ghost use Rattle.wire_net.specs.DrainedNets.{list_on, IsDrained, IsNamingLists, agents_of_lists};
 ghost use Rattle.wire_net.specs.Ends.{IsFor};
 ghost use Rattle.wire_net.specs.Whereabouts.{stream_on, whereabouts};
 ghost use Rattle.drain_core.specs.Drains as words;
@@ -74,6 +74,9 @@ impl Drain {
         ensures fits { words.Fits net.new.channels self.new }
         ensures named { (d : Dir) → words.has_notes d self.new ≡ words.has_notes d self.old }
 
+        // The room is the same.
+        ensures rooms { names_of self.new ≡ names_of self.old }
+
         // The bytes of each direction are the same, wherever they are.
         ensures kept { (d : Dir) → d.side < 2 → whereabouts net.new (agents_of self.new) d ≡ whereabouts net.old (agents_of self.old) d }
 
@@ -119,6 +122,9 @@ impl Drain {
 
         // So is the room: it names each direction once, with room for its list to come back.
         ensures names { IsNamingLists result.1.lengths result.0.lists }
+
+        // The bytes of each direction are the same, wherever they are.
+        ensures kept { (d : Dir) → d.side < 2 → whereabouts net.now (agents_of_lists result.0.lists) d ≡ whereabouts net.now (agents_of self) d }
     {
         let mut transfer = self.transfer;
         let mut notes = self.notes;

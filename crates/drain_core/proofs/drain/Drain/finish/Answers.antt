@@ -4,13 +4,15 @@ use Rattle.std.proofs.lemmas.List.Elements.{All-map}
 use Rattle.wire_net.specs.declared.cut_room.DirBytes.{DirBytes}
 use Rattle.wire_net.specs.declared.cut_room.DirNotes.{DirNotes}
 use Rattle.wire_net.specs.CutRooms.{Named, RoomView, names_of, HasRoom}
-use Rattle.wire_net.specs.DrainedNets.{list_on, IsDrained, IsNamingLists}
+use Rattle.wire_net.specs.DrainedNets.{list_on, IsDrained, IsNamingLists, agents_of_lists}
 use Rattle.wire_net.specs.Reserves.{Reserve}
+use Rattle.wire_net.specs.Whereabouts.{whereabouts}
 use Rattle.drain_core.specs.Drains.{Notes, IsNoted}
 use Rattle.drain_core.specs.Openings.{lists_of, emptied}
 use Rattle.drain_core.proofs.AllDirections.{for_each, one_of}
 use Rattle.drain_core.proofs.DrainedLists.{drained_lists, noted_list, named_lists}
 use Rattle.drain_core.proofs.Given.{given}
+use Rattle.drain_core.proofs.KeptLists.{finish_keeps}
 use Rattle.drain_core.proofs.GivenLists.{same_names}
 use Rattle.wire_net.proofs.EachItem.{written_back}
 use Rattle.drain_core.proofs.drain.Drain.finish.Goals as goal
@@ -46,6 +48,10 @@ returns-clause-names c =
     subst (IsNamingLists c.from_parts-room.result.lengths) (sym (returns-clause-lists c))
     (subst (λ (lengths : List Named). IsNamingLists lengths (lists_of c.args.net.now.channels c.args.self)) (sym (ap (λ (view : RoomView). view.lengths) (returns-clause-room c)))
     (named_lists c.args.net.now c.args.self c.requires.fits (returns-clause-given c)))
+
+pub returns-clause-kept : goal.returns-clause-kept
+returns-clause-kept c = λ d side.
+    ap (λ (lists : List DirBytes). whereabouts c.args.net.now (agents_of_lists lists) d) (returns-clause-lists c) ∙ finish_keeps c.args.net.now c.args.self d c.requires.fits (returns-clause-given c)
 
 pub from_parts-room-requires : goal.from_parts-room-requires
 from_parts-room-requires c =

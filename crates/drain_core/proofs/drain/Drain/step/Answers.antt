@@ -2,12 +2,14 @@ use Rattle.std.proofs.Common.{◌≡◌, ◌<◌, ◌↔◌, ap, ap₂, sym, sub
 use Rattle.wire_net.specs.declared.agents.Stepped.{Stepped}
 use Rattle.wire_net.specs.declared.agents.Stepped.TheVariants.{Again}
 use Rattle.wire_net.specs.Channels.{Channels, direction_at}
+use Rattle.wire_net.specs.CutRooms.{names_of}
 use Rattle.wire_net.specs.Networks.{Network}
 use Rattle.wire_net.specs.Whereabouts.{whereabouts}
 use Rattle.drain_core.specs.Tasks.{note_after}
 use Rattle.drain_core.specs.Drains.{Notes, Fits, has_notes, has_work, moves_any, answer_of, IsHeldUp, notes_after, channels_after}
 use Rattle.drain_core.specs.Holding.{agents_of}
 use Rattle.drain_core.specs.Work.{work_left}
+use Rattle.drain_core.proofs.AgentSteps.{same_rooms}
 use Rattle.drain_core.proofs.AllDirections.{fits_after, named_after}
 use Rattle.drain_core.proofs.Bytes.{kept_bytes}
 use Rattle.drain_core.proofs.HeldUp.{held_up}
@@ -41,6 +43,9 @@ returns-clause-fits c =
 
 pub returns-clause-named : goal.returns-clause-named
 returns-clause-named c = λ d. ap (has_notes d) (returns-clause-notes c) ∙ named_after c.args.agent c.args.net.now.channels c.args.self.now d
+
+pub returns-clause-rooms : goal.returns-clause-rooms
+returns-clause-rooms c = ap names_of (returns-clause-notes c) ∙ same_rooms c.args.agent c.args.net.now.channels c.args.self.now
 
 pub returns-clause-kept : goal.returns-clause-kept
 returns-clause-kept c = λ d side.
