@@ -22,11 +22,12 @@ use Rattle.wire_net.specs.Channels.{Channels, direction_at}
 use Rattle.wire_net.specs.Networks.{bytes_on}
 use Rattle.wire_net.specs.Whereabouts.{stream}
 use Rattle.drain_core.specs.Tasks.{is_agent, has_sent, unsent, readable, sendable, reads, sends, moves}
-use Rattle.drain_core.specs.Drains.{Notes, IsNoted, IsDraining, IsInStep, Fits, has_notes, reads_on, has_arrived, is_finished, is_done, moves_on, moves_any}
+use Rattle.drain_core.specs.Drains.{Notes, IsNoted, IsDraining, IsInStep, Fits, has_notes, reads_on, has_arrived, is_finished, is_done, answer_of, is_left, has_work, moves_on, moves_any}
 use Rattle.drain_core.specs.Work.{GoesOn}
 use Rattle.drain_core.proofs.OneDrain.{unsent_length}
 use Rattle.drain_core.proofs.Ending.{stream_length}
 use Rattle.drain_core.proofs.AllDirections.{one_of}
+use Rattle.drain_core.proofs.Idle.{mover_left}
 
 agent_itself : (p : RealPid) → is_agent p (Some p) ≡ true
 agent_itself p = ap₂ (λ (a b : Bool). a && b) (eq-eqb p.node p.node refl) (eq-eqb p.pid p.pid refl)
@@ -65,9 +66,11 @@ movable m notes front back x direction place among side at some = inr (record {
 
 -- an agent that can move bytes of one direction
 steps : (m : Channels) (notes front back : Notes) (x : DirNotes) (direction : Direction) (p : RealPid) → notes ≡ front ++ x ∷ back → direction_at m x.dir ≡ Some direction
-    → moves p x direction ≡ true → GoesOn m notes
-steps m notes front back x direction p among at is =
-    inl (p, ap (moves_any p m) among ∙ any_of (moves_on p m) front back x (ap (λ (o : Option Direction). option_map_or (moves p x) o false) at ∙ is))
+    → IsNoted x → moves p x direction ≡ true → GoesOn m notes
+steps m notes front back x direction p among at noted is =
+    let moved = ap (moves_any p m) among ∙ any_of (moves_on p m) front back x (ap (λ (o : Option Direction). option_map_or (moves p x) o false) at ∙ is) in
+    let work = ap (has_work p) among ∙ any_of (is_left p) front back x (mover_left p x direction noted is) in
+    inl (p, ap₂ answer_of work moved)
 
 reader_moves : (p : RealPid) (x : DirNotes) (direction : Direction) → x.reader ≡ Some p → 0 < readable x direction → moves p x direction ≡ true
 reader_moves p x direction reader some =
@@ -97,13 +100,13 @@ here m notes front back x direction p q among at noted drains reader sender no_s
     choice : (none : Bool) → (length direction.received == 0) ≡ none → GoesOn m notes
     choice false is =
         let some : length direction.received ≢ 0 = grind (arith, nat_tests, is) in
-        steps m notes front back x direction p among at (reader_moves p x direction reader (omega (arith, some, parts, drains.total, noted.sent, no_sent, no_wire)))
+        steps m notes front back x direction p among at noted (reader_moves p x direction reader (omega (arith, some, parts, drains.total, noted.sent, no_sent, no_wire)))
     choice true is =
         let none : length direction.received ≡ 0 = grind (arith, nat_tests, is) in
         let more : x.sent ≢ 16 = λ all.
         true_false (sym (ap₂ (λ (a b : Bool). a && not b) (let e : has_sent x ≡ true = grind (arith, nat_tests, all) in e)
         (let e : reads_on x ≡ false = (let read : x.read ≡ x.count + 16 = omega (arith, all, none, parts, drains.total, no_sent, no_wire) in grind (arith, nat_tests, read)) in e)) ∙ fails) in
-        steps m notes front back x direction q among at (sender_moves q x direction sender (omega (arith, none, no_sent, no_wire, left, more, noted.sent)))
+        steps m notes front back x direction q among at noted (sender_moves q x direction sender (omega (arith, none, no_sent, no_wire, left, more, noted.sent)))
 
 live : (m : Channels) (notes front back : Notes) (x : DirNotes) (direction : Direction) → notes ≡ front ++ x ∷ back → direction_at m x.dir ≡ Some direction → IsNoted x → IsDraining x direction
     → IsSome x.reader → IsSome x.sender → (has_sent x && not (reads_on x)) ≡ false → GoesOn m notes

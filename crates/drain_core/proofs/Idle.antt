@@ -1,8 +1,9 @@
 -- A step of an agent without work changes nothing.
+--     mover_left                  who moves bytes has work left
 --     idle_note, idle_direction   on a direction
 --     idle_notes, idle_net        on all directions
-use Rattle.std.proofs.Common.{◌≡◌, ℕ, ◌+◌, ◌≤◌, Bool, true, false, [], ◌∷◌, take, refl, ap, ap₂, ◌∙◌, arith}
-use Rattle.std.specs.Prelude.{Option, Some, None, All, not, ◌&&◌, if◌then◌else◌}
+use Rattle.std.proofs.Common.{◌≡◌, ℕ, ◌+◌, ◌≤◌, Bool, true, false, [], ◌∷◌, take, refl, sym, ap, ap₂, ◌∙◌, arith}
+use Rattle.std.specs.Prelude.{Option, Some, None, All, nat_lt, not, ◌&&◌, ◌||◌, if◌then◌else◌}
 use Rattle.std.proofs.lemmas.Bool.{or_parts}
 use Rattle.std.proofs.lemmas.Bool.Decides.{nat_tests}
 use Rattle.std.proofs.lemmas.List.Elements.{All-head, All-tail}
@@ -11,7 +12,7 @@ use Rattle.sys_abi.specs.declared.identity.RealPid.{RealPid}
 use Rattle.wire_net.specs.declared.cut_room.DirNotes.{DirNotes}
 use Rattle.wire_net.specs.Directions.{Direction, after_receive}
 use Rattle.wire_net.specs.Channels.{Channels, direction_at}
-use Rattle.drain_core.specs.Tasks.{is_agent, has_sent, readable, sendable, reads, sends, noted_read, noted_sent, with_sent, note_after, direction_after}
+use Rattle.drain_core.specs.Tasks.{is_agent, has_sent, readable, sendable, reads, sends, moves, noted_read, noted_sent, with_sent, note_after, direction_after}
 use Rattle.drain_core.specs.Drains.{Notes, IsNoted, reads_on, is_left, has_work, notes_after, channels_after}
 use Rattle.wire_net.proofs.OneDirection.{unchanged_direction}
 use Rattle.drain_core.proofs.OneDrain.{unsent_length}
@@ -36,6 +37,16 @@ nothing_sent p x direction none = choice (is_agent p x.sender) (has_sent x) refl
         let all : x.sent ≡ 16 = grind (arith, nat_tests, at) in
         let left = unsent_length x in
         omega (arith, all, left)
+
+-- who moves bytes of a direction has work left on it
+pub mover_left : (p : RealPid) (x : DirNotes) (direction : Direction) → IsNoted x → moves p x direction ≡ true → is_left p x ≡ true
+mover_left p x direction noted some = choice (is_left p x) refl
+  where
+    choice : (b : Bool) → is_left p x ≡ b → is_left p x ≡ true
+    choice true at = at
+    choice false at =
+        let parts = or_parts (is_agent p x.reader && reads_on x) (is_agent p x.sender && not (has_sent x)) at in
+        true_false (sym some ∙ ap₂ (λ (r s : ℕ). nat_lt 0 r || nat_lt 0 s) (nothing_read p x direction noted parts.0) (nothing_sent p x direction parts.1))
 
 pub idle_note : (p : RealPid) (found : Option Direction) (x : DirNotes) → IsNoted x → is_left p x ≡ false → note_after p found x ≡ x
 idle_note p None x noted none = refl

@@ -1,4 +1,6 @@
-//! What an agent sends behind the last byte of a direction, so that the reading agent knows where the direction ends.
+//! The marker that an agent sends behind the last byte of a direction, as DMTCP's agents do. The reading agent does not look
+//! at it: it knows since the drain began how many bytes stand before it, keeps these, and has finished when it has read so
+//! many more as a cookie has.
 ghost use Rattle.std.specs.Prelude.{◌≡◌};
 ghost use Rattle.drain_core.specs.Tasks as words;
 

@@ -5,9 +5,9 @@ ghost use Rattle.wire_net.specs.CutRooms.{names_of};
 ghost use Rattle.wire_net.specs.Channels.{direction_at};
 ghost use Rattle.wire_net.specs.DrainedNets.{list_on, IsDrained, IsNamingLists, agents_of_lists};
 ghost use Rattle.wire_net.specs.Ends.{IsFor};
-ghost use Rattle.wire_net.specs.Whereabouts.{stream_on, whereabouts};
+ghost use Rattle.wire_net.specs.Whereabouts.{stream_on};
 ghost use Rattle.drain_core.specs.Drains as words;
-ghost use Rattle.drain_core.specs.Holding.{agents_of};
+ghost use Rattle.drain_core.specs.Holding.{agents_of, whereabouts};
 ghost use Rattle.drain_core.specs.Openings as openings;
 ghost use Rattle.drain_core.specs.Work.{work_left, GoesOn};
 

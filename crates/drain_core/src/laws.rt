@@ -19,8 +19,8 @@ pub fn drain_laws()
     ensures stay { EndsStay }
     ensures there { DirectionsStay }
 
-    // Whatever steps and moves are made on the way, in any order, a drain that is done gives what stood in each direction
-    // when it began; and no run goes on for ever.
+    // Whatever steps and moves are made on the way, in any order, a drain that is done gives a list for each direction that
+    // was there when it began, of what stood in it then; and no more of them move bytes than there was work.
     ensures whole { GivesWhatStood }
     ensures ends { EndsInTime }
 {}
