@@ -191,12 +191,10 @@ fn bytes_of_all_three_queues_come_back_in_order(rt: HostRuntime) -> Result<(), F
     let Some((drained, room)) = given else {
         return Err(Fail::from("the drain is not done"));
     };
-    assert_eq!(rt; drained.lists.len(), 2);
-    assert_eq!(rt;
-        drained.lists.as_slice()[0].bytes.as_slice(),
-        b"ninebytes".as_slice()
-    );
-    assert_eq!(rt; drained.lists.as_slice()[1].bytes.len(), 0);
+    let lists = drained.lists.as_slice();
+    assert_eq!(rt; lists.len(), 2);
+    assert_eq!(rt; lists[0].bytes.as_slice(), b"ninebytes".as_slice());
+    assert!(rt; lists[1].bytes.is_empty());
     assert_eq!(rt; net.counts(FIRST), [0, 0, 0]);
     assert_eq!(rt; net.counts(SECOND), [0, 0, 0]);
     assert!(rt; refilled(&mut net, drained, room));
@@ -217,7 +215,9 @@ fn a_channel_that_has_ended_stays_as_it_is(rt: HostRuntime) -> Result<(), Fail> 
     let Some((drained, room)) = given else {
         return Err(Fail::from("the drain is not done"));
     };
-    assert!(rt; drained.lists.as_slice()[0].in_place);
+    let lists = drained.lists.as_slice();
+    assert_eq!(rt; lists.len(), 2);
+    assert!(rt; lists[0].in_place);
     assert_eq!(rt; net.counts(FIRST), [0, 0, 14]);
     assert!(rt; refilled(&mut net, drained, room));
     assert_eq!(rt; net.counts(FIRST), [0, 0, 14]);
