@@ -12,7 +12,7 @@ use Rattle.wire_net.specs.Ends.{IsFor}
 use Rattle.wire_net.specs.Networks.{Network}
 use Rattle.wire_net.specs.Runs.{Event, IsAllowed, UnderWay, Steps, run, moves_made}
 use Rattle.refill_core.specs.Beginnings.{begun, IsGivenBack}
-use Rattle.refill_core.specs.Refills.{Refilling, dirs_of, Fits, ends_after}
+use Rattle.refill_core.specs.Refills.{Refilling, dirs_of, Fits, turns_after}
 use Rattle.refill_core.specs.Stepping.{state}
 use Rattle.refill_core.specs.Work.{moved_any, is_done, work_left}
 
@@ -20,7 +20,7 @@ abbrev pub put_state : UnderWay → Refilling → UnderWay
 put_state s r = record { net = record s.net { channels = r.channels }; notes = r.notes }
 
 abbrev pub step : Steps
-step p s = put_state s (ends_after p (dirs_of s.notes) (state s.notes s.net))
+step p s = put_state s (turns_after p (dirs_of s.notes) (state s.notes s.net))
 
 abbrev pub moves : RealPid → UnderWay → Bool
 moves p s = moved_any p (dirs_of s.notes) (state s.notes s.net)

@@ -25,7 +25,7 @@ use Rattle.wire_net.specs.Channels.{Channels, direction_at}
 use Rattle.wire_net.specs.Networks.{received_on}
 use Rattle.wire_net.specs.Whereabouts.{reverse}
 use Rattle.refill_core.specs.Tasks.{frame_length, has_back, read_count, note_read, channels_read, send_count, is_agent}
-use Rattle.refill_core.specs.Refills.{Notes, Refilling, dirs_of, notes_at, end_after}
+use Rattle.refill_core.specs.Refills.{Notes, Refilling, dirs_of, notes_at, turn_after}
 
 abbrev pub way : Direction → ℕ
 way direction = 2 * length direction.sent + length direction.wire
@@ -65,7 +65,7 @@ moved_by p d s = moves_of p s (notes_at d s.notes)
 
 abbrev pub moved_any : RealPid → List Dir → Refilling → Bool
 moved_any p [] s = false
-moved_any p (d ∷ ds) s = moved_by p d s || moved_any p ds (end_after p d s)
+moved_any p (d ∷ ds) s = moved_by p d s || moved_any p ds (turn_after p d s)
 
 -- ---- what is left to do, as tests
 

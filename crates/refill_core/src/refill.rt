@@ -68,7 +68,7 @@ impl Refill {
         requires { words.Fits net.old.channels self.old }
         ensures answer { result ≡ work.step_answer agent (state self.old net.old) }
         ensures again { (result ≡ Again) ↔ work.IsHeldUp agent net.old.channels self.old }
-        ensures after { state self.new net.new ≡ words.ends_after agent (words.dirs_of self.old) (state self.old net.old) }
+        ensures after { state self.new net.new ≡ words.turns_after agent (words.dirs_of self.old) (state self.old net.old) }
         ensures net { net.new ≡ record net.old { channels = net.new.channels } }
         ensures fits { words.Fits net.new.channels self.new }
         ensures named { words.dirs_of self.new ≡ words.dirs_of self.old }

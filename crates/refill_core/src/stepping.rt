@@ -33,7 +33,7 @@ fn step_on(
     requires fits { words.Fits net.old.channels all.old }
     requires within { place < length all.old }
     ensures moved { result ≡ moved_by agent (dir_at all.old place) (state all.old net.old) }
-    ensures after { state all.new net.new ≡ words.end_after agent (dir_at all.old place) (state all.old net.old) }
+    ensures after { state all.new net.new ≡ words.turn_after agent (dir_at all.old place) (state all.old net.old) }
     ensures net { net.new ≡ record net.old { channels = net.new.channels } }
 {
     if !is_agent(all[place].sender, agent) {
@@ -57,7 +57,7 @@ pub(crate) fn step_all(
 ) -> bool
     requires { words.Fits net.old.channels all.old }
     ensures moved { result ≡ moved_any agent (words.dirs_of all.old) (state all.old net.old) }
-    ensures after { state all.new net.new ≡ words.ends_after agent (words.dirs_of all.old) (state all.old net.old) }
+    ensures after { state all.new net.new ≡ words.turns_after agent (words.dirs_of all.old) (state all.old net.old) }
     ensures net { net.new ≡ record net.old { channels = net.new.channels } }
 {
     let mut moved = false;
