@@ -8,14 +8,11 @@ use Rattle.refill_core.specs.Holding.{agents_of}
 use Rattle.refill_core.specs.Refills.{Notes, Apart, Fits, dirs_of}
 use Rattle.refill_core.proofs.Begun.{begun_dirs, fits_begun, kept_begun}
 use Rattle.refill_core.proofs.Steps.{written_back}
-use Rattle.refill_core.proofs.Turns.{sides_of, dirs_named}
+use Rattle.refill_core.proofs.Turns.{dirs_named}
 use Rattle.refill_core.proofs.refill.Refill.begin.Goals as goal
 
 notes_lent : (c : goal.After-deref_mut-2) → c.deref_mut.result.now ≡ c.into_parts-parts.result.notes
 notes_lent c = c.deref_mut.ensures.value ∙ c.into_vec-notes.ensures
-
-pub begin_all-requires-clause-sides : goal.begin_all-requires-clause-sides
-begin_all-requires-clause-sides c = sides_of c.deref_mut.result.now c.args.room.lengths (ap names_of (notes_lent c) ∙ c.into_parts-parts.ensures.names) c.requires.naming.sides
 
 pub begin_all-requires-clause-apart : goal.begin_all-requires-clause-apart
 begin_all-requires-clause-apart c =
