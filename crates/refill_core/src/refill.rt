@@ -3,7 +3,7 @@ ghost use Rattle.sys_abi.specs.declared.identity.Dir.{Dir};
 ghost use Rattle.wire_net.specs.declared.agents.Stepped.TheVariants.{Moved, Again};
 ghost use Rattle.wire_net.specs.declared.limits.TheConstants.{QUEUE_LIMIT};
 ghost use Rattle.wire_net.specs.Channels.{Channels};
-ghost use Rattle.wire_net.specs.DrainedNets.{IsDrained, HasLists, IsNamingLists};
+ghost use Rattle.wire_net.specs.DrainedNets.{IsDrained, HasLists, IsNamingLists, agents_of_lists};
 ghost use Rattle.wire_net.specs.Ends.{IsFor};
 ghost use Rattle.wire_net.specs.Networks.{Network};
 ghost use Rattle.wire_net.specs.Whereabouts.{whereabouts};
@@ -47,7 +47,11 @@ impl Refill {
         // It fits each network that was drained so.
         ensures fits { (m : Channels) → IsFor m ends.now → IsDrained m drained.lists → HasLists m drained.lists → words.Fits m result }
 
-        // The bytes of each direction are those of its list.
+        // The bytes of each direction are the same, whether its list holds them or the notes do.
+        ensures held { (t : Network) → IsFor t.channels ends.now → IsDrained t.channels drained.lists → HasLists t.channels drained.lists
+            → (d : Dir) → whereabouts t (agents_of result) d ≡ whereabouts t (agents_of_lists drained.lists) d }
+
+        // Those of a direction that has a list are those of the list.
         ensures kept { (t : Network) → IsFor t.channels ends.now → IsDrained t.channels drained.lists → HasLists t.channels drained.lists
             → All (λ list. whereabouts t (agents_of result) list.dir ≡ list.bytes) drained.lists }
     {
