@@ -2,7 +2,7 @@
 --     Pair, pair_of          the notes on both directions of a channel, and the directions
 --     Ended, ended           what the step leaves of them
 --     fits_ended             so all notes fit
-use Rattle.std.proofs.Common.{◌≡◌, ◌≢◌, ℕ, ◌==◌, ◌+◌, ◌-◌, ◌<◌, ◌≤◌, min, Bool, true, false, List, [], ◌∷◌, take, length, refl, sym, ap, ap₂, subst, ◌∙◌, arith, length-append, inl, inr}
+use Rattle.std.proofs.Common.{◌≡◌, ◌≢◌, ℕ, ◌==◌, ◌+◌, ◌-◌, ◌<◌, ◌≤◌, min, Bool, true, false, List, [], ◌∷◌, ◌++◌, take, drop, length, refl, sym, ap, ap₂, subst, ◌∙◌, arith, length-append, inl, inr}
 use Rattle.std.specs.Prelude.{Option, Some, None, All, IsSome, is_some, if◌then◌else◌}
 use Rattle.std.specs.Option.{option_map, option_map_or}
 use Rattle.std.proofs.lemmas.Bool.Decides.{nat_tests}
@@ -19,6 +19,7 @@ use Rattle.wire_net.specs.Directions.{Direction, is_flowing, room, after_receive
 use Rattle.wire_net.specs.Channels.{Channels, direction_at, at_direction, is_live_at}
 use Rattle.wire_net.specs.Networks.{received_on}
 use Rattle.wire_net.specs.Whereabouts.{stream_on, reverse}
+use Rattle.refill_core.specs.declared.limits.TheConstants.{HEADER_LENGTH}
 use Rattle.refill_core.specs.Tasks.{is_agent, frame_length, part, wanted, reads, sends, with_piece, with_sent, read_count, note_read, channels_read, send_count, sent_on, turn_note, turn_channels}
 use Rattle.refill_core.specs.Refills.{Notes, Apart, notes_at, put_notes, IsNoted, IsRefilling, IsUnderWay, IsInStep, Fits}
 use Rattle.wire_net.proofs.OneDirection.{direction_changed, direction_beside}
@@ -112,6 +113,8 @@ pub record Ended (p : RealPid) (m : Channels) (notes : Notes) (d : Dir) (x y : D
   pub n : ℕ
   pub k : ℕ
   pub after : DirNotes
+  -- what it may send
+  pub piece : List ℕ
   pub own : Direction
   pub other : Direction
   pub reads : read_count p x m ≡ n
@@ -119,7 +122,10 @@ pub record Ended (p : RealPid) (m : Channels) (notes : Notes) (d : Dir) (x y : D
   pub read_after : after.read ≡ x.read + n
   pub sent_after : after.sent ≡ x.sent + k
   pub count_after : after.count ≡ x.count
+  pub returned_after : after.returned.items ≡ x.returned.items ++ drop (HEADER_LENGTH - x.read) (take n pair.other.received)
   pub within : x.read + n ≤ frame_length x
+  pub own_is : own ≡ sent_on k piece pair.own
+  pub other_is : other ≡ after_receive n pair.other
   pub own_sent : length own.sent ≡ length pair.own.sent + k
   pub own_wire : own.wire ≡ pair.own.wire
   pub other_sent : other.sent ≡ pair.other.sent
@@ -187,12 +193,16 @@ ended p m notes d x y pair =
       n = n;
       k = k;
       after = with_sent k x1;
+      piece = part x1 y;
       reads = n_is;
       sends = ap₂ (λ (z : DirNotes) (c : Channels). send_count p z y c) x1_is m1_is ∙ k_is;
       read_after = ap (λ (i : ℕ). x.read + i) (length-take n pair.other.received ∙ (let e : min n (length pair.other.received) ≡ n = omega (arith, few.0) in e));
       sent_after = refl;
       count_after = refl;
+      returned_after = refl;
       within = within;
+      own_is = refl;
+      other_is = refl;
       own_sent = longer k (part x1 y) pair.own (sends_few p x1 y pair.own);
       own_wire = same_wire k (part x1 y) pair.own;
       other_sent = refl;

@@ -3,6 +3,7 @@ mod OneWhereabouts
 mod Pairs
 mod EndFits
 mod Whole
+mod TurnLaws
 mod Bytes
 mod WorkLaws
 mod Moving
