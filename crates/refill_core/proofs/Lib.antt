@@ -20,4 +20,5 @@ mod Steps
 mod Starting
 mod Turns
 mod Begun
+mod EndsKept
 mod RunLaws

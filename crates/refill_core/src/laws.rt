@@ -1,5 +1,5 @@
 ghost use Rattle.refill_core.specs.Laws.{StepsAtEnds, MoveFits, MoveLowers, BeginFits, HoldsDrained};
-ghost use Rattle.refill_core.specs.Runs.{GivesBack, EndsInTime};
+ghost use Rattle.refill_core.specs.Runs.{EndsStay, GivesBack, EndsInTime};
 
 /// What turns of agents and moves of bytes from queue to queue do while agents refill, how a refill begins, what it holds all
 /// along, and what whole runs of steps and moves come to. It does nothing.
@@ -19,8 +19,11 @@ pub fn refill_laws()
     // The bytes of a direction that agents refill are what was drained of it, wherever they are.
     ensures holds { HoldsDrained }
 
+    // Steps and moves leave the ends of all channels, and who acts for them, as they are.
+    ensures stay { EndsStay }
+
     // Whatever steps and moves are made on the way, in any order, a refill that is done has given back to each direction
-    // what was drained of it; and no run goes on for ever.
+    // what was drained of it; and no more of them move bytes than there was work.
     ensures whole { GivesBack }
     ensures ends { EndsInTime }
 {}
