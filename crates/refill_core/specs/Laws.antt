@@ -19,11 +19,11 @@ use Rattle.wire_net.specs.AgentSteps.{IsStepOn, GrowsBy}
 use Rattle.wire_net.specs.Directions.{after_move}
 use Rattle.wire_net.specs.Channels.{Channels, direction_at, at_direction}
 use Rattle.wire_net.specs.Networks.{Network, bytes_on, received_on}
-use Rattle.wire_net.specs.Whereabouts.{stream_on, reverse, whereabouts}
+use Rattle.wire_net.specs.Whereabouts.{stream_on, reverse}
 use Rattle.refill_core.specs.Tasks.{is_agent}
 use Rattle.refill_core.specs.Refills.{Notes, Fits, Refilling, has_notes, notes_at, turn_after}
 use Rattle.refill_core.specs.Beginnings.{IsBeginning}
-use Rattle.refill_core.specs.Holding.{agents_of, own_bytes}
+use Rattle.refill_core.specs.Holding.{agents_of, own_bytes, whereabouts}
 use Rattle.refill_core.specs.Work.{work_left}
 
 abbrev pub acts : RealPid → Option DirNotes → Bool

@@ -6,10 +6,9 @@ ghost use Rattle.wire_net.specs.Channels.{Channels};
 ghost use Rattle.wire_net.specs.DrainedNets.{IsDrained, HasLists, IsNamingLists, agents_of_lists};
 ghost use Rattle.wire_net.specs.Ends.{IsFor};
 ghost use Rattle.wire_net.specs.Networks.{Network};
-ghost use Rattle.wire_net.specs.Whereabouts.{whereabouts};
 ghost use Rattle.refill_core.specs.Beginnings as beginnings;
 ghost use Rattle.refill_core.specs.Refills as words;
-ghost use Rattle.refill_core.specs.Holding.{agents_of};
+ghost use Rattle.refill_core.specs.Holding.{agents_of, whereabouts};
 ghost use Rattle.refill_core.specs.Stepping.{state};
 ghost use Rattle.refill_core.specs.Work as work;
 
@@ -65,9 +64,9 @@ impl Refill {
         }
     }
 
-    /// One step of an agent on all directions that it sends: it reads what has come of the frame with the direction's own
-    /// bytes, and sends what comes next, as far as there is room: the frame of the other direction, and behind it, once
-    /// its own bytes are back, these. Takes no memory.
+    /// One step of an agent: for each direction that it sends, one after the other, it reads what has come of the frame with
+    /// the direction's own bytes, and sends the next piece (the length, the rest of the frame, or its own bytes) as far as
+    /// there is room. The frame is that of the other direction; its own bytes follow once they are back. Takes no memory.
     pub fn step(&mut self, net: &mut Net, agent: RealPid) -> Stepped
         requires { words.Fits net.old.channels self.old }
         ensures answer { result ≡ work.step_answer agent (state self.old net.old) }
