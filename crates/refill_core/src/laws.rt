@@ -1,8 +1,8 @@
 ghost use Rattle.refill_core.specs.Laws.{StepsAtEnds, MoveFits, MoveLowers, BeginFits, HoldsDrained};
 ghost use Rattle.refill_core.specs.Runs.{EndsStay, GivesBack, EndsInTime};
 
-/// What turns of agents and moves of bytes from queue to queue do while agents refill, how a refill begins, what it holds all
-/// along, and what whole runs of steps and moves come to. It does nothing.
+/// What turns of agents and moves of bytes from queue to queue do while agents refill, how a refill begins, what it holds
+/// all along, and what whole runs of steps and moves come to. It does nothing.
 pub fn refill_laws()
     // A step of an agent is a turn on each direction, one after the other. In each turn an agent takes bytes only from the
     // front of the receivers' queues of ends for which it acts, and adds bytes only at the back of their senders' queues; a

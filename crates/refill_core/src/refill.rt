@@ -64,9 +64,10 @@ impl Refill {
         }
     }
 
-    /// One step of an agent: for each direction that it sends, one after the other, it reads what has come of the frame with
-    /// the direction's own bytes, and sends the next piece (the length, the rest of the frame, or its own bytes) as far as
-    /// there is room. The frame is that of the other direction; its own bytes follow once they are back. Takes no memory.
+    /// One step of an agent: for each direction that it sends, one after the other, it reads what has come of the frame
+    /// with the direction's own bytes, and sends the next piece (the length, the rest of the frame, or its own bytes) as
+    /// far as there is room. It sends the frame of the other direction first, and its own bytes once they are back. Takes
+    /// no memory.
     pub fn step(&mut self, net: &mut Net, agent: RealPid) -> Stepped
         requires { words.Fits net.old.channels self.old }
         ensures answer { result ≡ work.step_answer agent (state self.old net.old) }

@@ -21,7 +21,7 @@ pub(crate) fn place_of(all: &[DirNotes], d: Dir) -> Option<usize>
     None
 }
 
-/// One step of an agent on the direction of the notes at a place, if it sends it: it reads off the other direction before it
+/// An agent's turn on the direction of the notes at a place, if it sends it: it reads off the other direction before it
 /// sends on this one. Answers whether it moved bytes.
 fn step_on(
     all: &mut [DirNotes],
@@ -48,7 +48,7 @@ fn step_on(
     read > 0 || sent > 0
 }
 
-/// One step of an agent on each direction, one after the other. Answers whether it moved bytes.
+/// A step of an agent: its turn on each direction, one after the other. Answers whether it moved bytes.
 pub(crate) fn step_all(
     all: &mut [DirNotes],
     net: &mut Net,
