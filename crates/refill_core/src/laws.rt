@@ -19,7 +19,7 @@ pub fn refill_laws()
     // The bytes of a direction that agents refill are what was drained of it, wherever they are.
     ensures holds { HoldsDrained }
 
-    // Steps and moves leave the ends of all channels, and who acts for them, as they are.
+    // A list of ends, with who acts for them, that fits the network fits it after each step and each move.
     ensures stay { EndsStay }
 
     // Whatever steps and moves are made on the way, in any order, a refill that is done has given back to each direction
