@@ -2,7 +2,8 @@
 --     begun_dirs               the directions of the room are noted
 --     NamedAt, named_at        the notes on a direction that the room names
 --     fits_begun               the notes fit a network that was drained so
---     kept_begun               the bytes of each direction are those of its list
+--     held_begun               the bytes of each direction are the same, by the lists and by the notes
+--     kept_begun               those of a direction that has a list are those of the list
 use Rattle.std.proofs.Common.{◌≡◌, ℕ, ◌<◌, ◌≤◌, Bool, true, false, List, [], ◌∷◌, length, refl, sym, ap, ap₂, subst, ◌∙◌, arith, inl, inr}
 use Rattle.std.specs.Prelude.{Option, Some, None, All, IsSome, IfSome, is_some, not, ◌⊎◌, ◌||◌, map as each, if◌then◌else◌}
 use Rattle.std.specs.Ordering.{eq_by_cmp}
@@ -20,10 +21,11 @@ use Rattle.wire_net.specs.declared.limits.TheConstants.{QUEUE_LIMIT}
 use Rattle.wire_net.specs.Directions.{Direction}
 use Rattle.wire_net.specs.Channels.{Channels, direction_at, is_live_at}
 use Rattle.wire_net.specs.CutRooms.{Named}
-use Rattle.wire_net.specs.DrainedNets.{StandsIf, IsListOf, IsDrained, HasLists, IsNamingLists, list_on}
+use Rattle.wire_net.specs.DrainedNets.{StandsIf, IsListOf, IsDrained, HasLists, IsNamingLists, list_on, agents_of_lists}
 use Rattle.wire_net.specs.Ends.{agent_of, IsFor}
 use Rattle.wire_net.specs.Networks.{Network, received_on}
 use Rattle.wire_net.specs.Whereabouts.{stream_on, reverse, whereabouts}
+use Rattle.wire_net.proofs.HeldLists.{bytes_drained, own_of}
 use Rattle.wire_net.proofs.ListsOn.{one_listed, list_dir, each_listed}
 use Rattle.wire_net.proofs.LiveAgents.{live_there, direction_there, not_there, agent_there, some_is}
 use Rattle.refill_core.specs.Beginnings.{IsNew, IsReady, IsBeginning, cleared, with_list, begun_on, begun}
@@ -234,29 +236,70 @@ fits_begun m ends lengths lists for drained has naming =
 -- ---- where the bytes are
 
 own_begun : (m : Channels) (ends : List AgentEnd) (named : Named) (list : DirBytes) → IsFor m ends → named.0.side < 2 → Listed m named.0 list
-    → own_bytes (Some (begun_on ends named (Some list))) (stream_on (direction_at m named.0)) ≡ list.bytes
+    → own_bytes (Some (begun_on ends named (Some list))) (stream_on (direction_at m named.0)) ≡ own_of (Some list) (stream_on (direction_at m named.0))
 own_begun m ends named list for side told = choice list.in_place refl
   where
-    choice : (b : Bool) → list.in_place ≡ b → own_bytes (Some (if b then cleared named else with_list ends list.bytes (cleared named))) (stream_on (direction_at m named.0)) ≡ list.bytes
-    choice true is = let both = in_place m named.0 list told is in both.0 ∙ both.1
+    choice : (b : Bool) → list.in_place ≡ b
+        → own_bytes (Some (if b then cleared named else with_list ends list.bytes (cleared named))) (stream_on (direction_at m named.0)) ≡ (if b then stream_on (direction_at m named.0) else list.bytes)
+    choice true is = refl
     choice false is =
         let there = live_there m named.0.conn (live_of (is_live_at m named.0.conn) (sym is ∙ told.place)) in
         ap (λ (b : Bool). if b then list.bytes else stream_on (direction_at m named.0)) (agent_there m ends named.0.conn named.0.side for side there)
 
-kept_one : (t : Network) (ends : List AgentEnd) (lengths : List Named) (lists : List DirBytes) (list : DirBytes) → Given t.channels ends lengths lists → list_on list.dir lists ≡ Some list
-    → whereabouts t (agents_of (begun lists ends lengths)) list.dir ≡ list.bytes
-kept_one t ends lengths lists list given at =
-    let notes = begun lists ends lengths in
-    let m = t.channels in
-    let named = named_at lists ends lengths list.dir (given.naming.whole list.dir (subst IsSome (sym at) refl)) in
-    let told : Listed m named.named.0 list = subst (λ (e : Dir). Listed m e list) (sym named.is) (listed m list.dir lists list given.drained at) in
-    let side = subst (λ (e : Dir). e.side < 2) (sym named.is) (one_listed (IsListOf m) list.dir lists list at given.drained.lists_of).side in
-    whereabouts_is t notes list.dir (fits_begun m ends lengths lists given.for given.drained given.has given.naming)
-    ∙ ap₂ (λ (o : Option DirNotes) (e : Dir). own_bytes o (stream_on (direction_at m e))) (named.at ∙ ap (λ (o : Option DirBytes). Some (begun_on ends named.named o)) at) (sym named.is)
-    ∙ own_begun m ends named.named list given.for side told
+own_listed : (m : Channels) (ends : List AgentEnd) (lengths : List Named) (lists : List DirBytes) (d : Dir) (list : DirBytes) → Given m ends lengths lists → list_on d lists ≡ Some list
+    → own_bytes (notes_at d (begun lists ends lengths)) (stream_on (direction_at m d)) ≡ own_of (Some list) (stream_on (direction_at m d))
+own_listed m ends lengths lists d list given at =
+    let named = named_at lists ends lengths d (given.naming.whole d (subst IsSome (sym at) refl)) in
+    let told = listed m d lists list given.drained at in
+    let same = list_dir d lists list at in
+    let side = subst (λ (e : Dir). e.side < 2) (same ∙ sym named.is) (one_listed (IsListOf m) d lists list at given.drained.lists_of).side in
+    ap (λ (o : Option DirNotes). own_bytes o (stream_on (direction_at m d))) (named.at ∙ ap (λ (o : Option DirBytes). Some (begun_on ends named.named o)) at)
+    ∙ subst (λ (e : Dir). own_bytes (Some (begun_on ends named.named (Some list))) (stream_on (direction_at m e)) ≡ own_of (Some list) (stream_on (direction_at m e))) named.is
+    (own_begun m ends named.named list given.for side (subst (λ (e : Dir). Listed m e list) (sym named.is) told))
+
+-- where there is no list nothing is sent back
+own_unlisted : (ends : List AgentEnd) (lengths : List Named) (lists : List DirBytes) (d : Dir) (bytes : List ℕ) → list_on d lists ≡ None → own_bytes (notes_at d (begun lists ends lengths)) bytes ≡ bytes
+own_unlisted ends [] lists d bytes none = refl
+own_unlisted ends (named ∷ lengths) lists d bytes none = choice (eq_by_cmp dir_cmp first.dir d) refl (own_unlisted ends lengths lists d bytes none)
+  where
+    first : DirNotes
+    first = begun_on ends named (list_on named.0 lists)
+
+    choice : (b : Bool) → eq_by_cmp dir_cmp first.dir d ≡ b → own_bytes (notes_at d (begun lists ends lengths)) bytes ≡ bytes
+        → own_bytes (if b then Some first else notes_at d (begun lists ends lengths)) bytes ≡ bytes
+    choice true at rest =
+        let same : named.0 ≡ d = sym (begun_dir ends named (list_on named.0 lists)) ∙ same_key dir_total dir_exact first.dir d at in
+        ap (λ (o : Option DirBytes). own_bytes (Some (begun_on ends named o)) bytes) (ap (λ (e : Dir). list_on e lists) same ∙ none)
+    choice false at rest = rest
+
+own_noted : (m : Channels) (ends : List AgentEnd) (lengths : List Named) (lists : List DirBytes) (d : Dir) (o : Option DirBytes) → Given m ends lengths lists → list_on d lists ≡ o
+    → own_bytes (notes_at d (begun lists ends lengths)) (stream_on (direction_at m d)) ≡ own_of o (stream_on (direction_at m d))
+own_noted m ends lengths lists d None given at = own_unlisted ends lengths lists d (stream_on (direction_at m d)) at
+own_noted m ends lengths lists d (Some list) given at = own_listed m ends lengths lists d list given at
+
+held_given : (t : Network) (ends : List AgentEnd) (lengths : List Named) (lists : List DirBytes) (d : Dir) → Given t.channels ends lengths lists
+    → whereabouts t (agents_of (begun lists ends lengths)) d ≡ own_of (list_on d lists) (stream_on (direction_at t.channels d))
+held_given t ends lengths lists d given =
+    whereabouts_is t (begun lists ends lengths) d (fits_begun t.channels ends lengths lists given.for given.drained given.has given.naming)
+    ∙ own_noted t.channels ends lengths lists d (list_on d lists) given refl
+
+pub held_begun : (t : Network) (ends : List AgentEnd) (lengths : List Named) (lists : List DirBytes) (d : Dir) → IsFor t.channels ends → IsDrained t.channels lists → HasLists t.channels lists → IsNamingLists lengths lists
+    → whereabouts t (agents_of (begun lists ends lengths)) d ≡ whereabouts t (agents_of_lists lists) d
+held_begun t ends lengths lists d for drained has naming =
+    held_given t ends lengths lists d (record { for = for; drained = drained; has = has; naming = naming }) ∙ sym (bytes_drained t lists d drained.apart)
+
+-- a list has its bytes, wherever they are
+own_is : (m : Channels) (d : Dir) (list : DirBytes) → Listed m d list → own_of (Some list) (stream_on (direction_at m d)) ≡ list.bytes
+own_is m d list told = choice list.in_place refl
+  where
+    choice : (b : Bool) → list.in_place ≡ b → (if b then stream_on (direction_at m d) else list.bytes) ≡ list.bytes
+    choice true is = let both = in_place m d list told is in both.0 ∙ both.1
+    choice false is = refl
 
 pub kept_begun : (t : Network) (ends : List AgentEnd) (lengths : List Named) (lists : List DirBytes) → IsFor t.channels ends → IsDrained t.channels lists → HasLists t.channels lists → IsNamingLists lengths lists
     → All (λ list. whereabouts t (agents_of (begun lists ends lengths)) list.dir ≡ list.bytes) lists
 kept_begun t ends lengths lists for drained has naming =
     each_listed (λ list. whereabouts t (agents_of (begun lists ends lengths)) list.dir ≡ list.bytes) lists drained.apart (λ list at.
-    kept_one t ends lengths lists list (record { for = for; drained = drained; has = has; naming = naming }) at)
+    held_given t ends lengths lists list.dir (record { for = for; drained = drained; has = has; naming = naming })
+    ∙ ap (λ (o : Option DirBytes). own_of o (stream_on (direction_at t.channels list.dir))) at
+    ∙ own_is t.channels list.dir list (listed t.channels list.dir lists list drained at))

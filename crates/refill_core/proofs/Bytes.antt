@@ -18,9 +18,9 @@ use Rattle.wire_net.specs.Directions.{Direction}
 use Rattle.wire_net.specs.Channels.{direction_at}
 use Rattle.wire_net.specs.Networks.{Network}
 use Rattle.wire_net.specs.Whereabouts.{Held, stream_on, reverse, placed, whereabouts}
-use Rattle.refill_core.specs.Refills.{Notes, Refilling, Apart, dirs_of, notes_at, put_notes, Fits, end_after, ends_after}
+use Rattle.refill_core.specs.Refills.{Notes, Refilling, Apart, dirs_of, notes_at, put_notes, Fits, turn_after, turns_after}
 use Rattle.refill_core.specs.Holding.{held_of, with_held, agents_among, agents_of, own_bytes}
-use Rattle.refill_core.specs.Tasks.{end_channels}
+use Rattle.refill_core.specs.Tasks.{turn_channels}
 use Rattle.refill_core.proofs.EndFits.{pair_of, Ended, ended}
 use Rattle.refill_core.proofs.OneWhereabouts.{where_drained}
 use Rattle.refill_core.proofs.Pairs.{put_found, put_beside}
@@ -98,40 +98,40 @@ sent_true (Some agent) there = refl
 turn_keeps : (p : RealPid) (d : Dir) (s : Refilling) (t : Turn p d s) (q : Dir) → q.side < 2 → bytes_of (result_of p d s t.x t.y) q ≡ bytes_of s q
 turn_keeps p d s t q side =
     let e = ended p s.channels s.notes d t.x t.y t.pair in
-    ap (λ (v : DirNotes). bytes_of (record { notes = put_notes d v s.notes; channels = end_channels p t.x t.y s.channels }) q) e.after_is
+    ap (λ (v : DirNotes). bytes_of (record { notes = put_notes d v s.notes; channels = turn_channels p t.x t.y s.channels }) q) e.after_is
     ∙ elim (same_or_other dir_total dir_exact q d) [
       | inl same ↦
           let some = sent_true t.x.sender t.sender in
-          ap (λ (o : Option DirNotes). own_bytes o (stream_on (direction_at (end_channels p t.x t.y s.channels) q))) (ap (λ (f : Dir). notes_at f (put_notes d e.after s.notes)) same ∙ put_found d t.x e.after s.notes e.dir t.pair.x_at)
-          ∙ ap (λ (b : Bool). if b then e.after.drained.items else stream_on (direction_at (end_channels p t.x t.y s.channels) q)) (ap is_some e.sender ∙ some)
+          ap (λ (o : Option DirNotes). own_bytes o (stream_on (direction_at (turn_channels p t.x t.y s.channels) q))) (ap (λ (f : Dir). notes_at f (put_notes d e.after s.notes)) same ∙ put_found d t.x e.after s.notes e.dir t.pair.x_at)
+          ∙ ap (λ (b : Bool). if b then e.after.drained.items else stream_on (direction_at (turn_channels p t.x t.y s.channels) q)) (ap is_some e.sender ∙ some)
           ∙ ap (λ r. r.items) e.drained
           ∙ sym (ap (λ (o : Option DirNotes). own_bytes o (stream_on (direction_at s.channels q))) (ap (λ (f : Dir). notes_at f s.notes) same ∙ t.pair.x_at)
           ∙ ap (λ (b : Bool). if b then t.x.drained.items else stream_on (direction_at s.channels q)) some)
       | inr differ ↦
-          ap (λ (o : Option DirNotes). own_bytes o (stream_on (direction_at (end_channels p t.x t.y s.channels) q))) (put_beside d q e.after s.notes e.dir differ)
+          ap (λ (o : Option DirNotes). own_bytes o (stream_on (direction_at (turn_channels p t.x t.y s.channels) q))) (put_beside d q e.after s.notes e.dir differ)
           ∙ others e differ
     ]
   where
     others : (e : Ended p s.channels s.notes d t.x t.y t.pair) → q ≢ d
-        → own_bytes (notes_at q s.notes) (stream_on (direction_at (end_channels p t.x t.y s.channels) q)) ≡ own_bytes (notes_at q s.notes) (stream_on (direction_at s.channels q))
+        → own_bytes (notes_at q s.notes) (stream_on (direction_at (turn_channels p t.x t.y s.channels) q)) ≡ own_bytes (notes_at q s.notes) (stream_on (direction_at s.channels q))
     others e differ = elim (same_or_other dir_total dir_exact q (reverse d)) [
       | inl same ↦
           let at : notes_at q s.notes ≡ Some t.y = ap (λ (f : Dir). notes_at f s.notes) same ∙ t.pair.y_at in
-          ap (λ (o : Option DirNotes). own_bytes o (stream_on (direction_at (end_channels p t.x t.y s.channels) q))) at
-          ∙ ap (λ (b : Bool). if b then t.y.drained.items else stream_on (direction_at (end_channels p t.x t.y s.channels) q)) t.pair.y_live
+          ap (λ (o : Option DirNotes). own_bytes o (stream_on (direction_at (turn_channels p t.x t.y s.channels) q))) at
+          ∙ ap (λ (b : Bool). if b then t.y.drained.items else stream_on (direction_at (turn_channels p t.x t.y s.channels) q)) t.pair.y_live
           ∙ sym (ap (λ (o : Option DirNotes). own_bytes o (stream_on (direction_at s.channels q))) at ∙ ap (λ (b : Bool). if b then t.y.drained.items else stream_on (direction_at s.channels q)) t.pair.y_live)
       | inr apart ↦ ap (λ (o : Option Direction). own_bytes (notes_at q s.notes) (stream_on o)) (e.beside q side differ apart)
     ]
 
-pub end_keeps : (p : RealPid) (d : Dir) (s : Refilling) (q : Dir) → q.side < 2 → FitsNow s → bytes_of (end_after p d s) q ≡ bytes_of s q
+pub end_keeps : (p : RealPid) (d : Dir) (s : Refilling) (q : Dir) → q.side < 2 → FitsNow s → bytes_of (turn_after p d s) q ≡ bytes_of s q
 end_keeps p d s q side fits = elim (end_cases p d s fits) [
   | inl still ↦ ap (λ (t : Refilling). bytes_of t q) still.is
   | inr turn ↦ ap (λ (t : Refilling). bytes_of t q) turn.is ∙ turn_keeps p d s turn q side
 ]
 
-pub ends_keep : (p : RealPid) (ds : List Dir) (s : Refilling) (q : Dir) → q.side < 2 → FitsNow s → bytes_of (ends_after p ds s) q ≡ bytes_of s q
+pub ends_keep : (p : RealPid) (ds : List Dir) (s : Refilling) (q : Dir) → q.side < 2 → FitsNow s → bytes_of (turns_after p ds s) q ≡ bytes_of s q
 ends_keep p [] s q side fits = refl
-ends_keep p (d ∷ ds) s q side fits = ends_keep p ds (end_after p d s) q side (end_fits p d s fits) ∙ end_keeps p d s q side fits
+ends_keep p (d ∷ ds) s q side fits = ends_keep p ds (turn_after p d s) q side (end_fits p d s fits) ∙ end_keeps p d s q side fits
 
 -- an item is found at its direction
 passed_over : (d : Dir) (front rest : Notes) → All (λ z. z.dir ≢ d) front → notes_at d (front ++ rest) ≡ notes_at d rest

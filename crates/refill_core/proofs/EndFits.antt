@@ -2,7 +2,7 @@
 --     Pair, pair_of          the notes on both directions of a channel, and the directions
 --     Ended, ended           what the step leaves of them
 --     fits_ended             so all notes fit
-use Rattle.std.proofs.Common.{◌≡◌, ◌≢◌, ℕ, ◌==◌, ◌+◌, ◌-◌, ◌<◌, ◌≤◌, min, Bool, true, false, List, [], ◌∷◌, take, length, refl, sym, ap, ap₂, subst, ◌∙◌, arith, length-append, inl, inr}
+use Rattle.std.proofs.Common.{◌≡◌, ◌≢◌, ℕ, ◌==◌, ◌+◌, ◌-◌, ◌<◌, ◌≤◌, min, Bool, true, false, List, [], ◌∷◌, ◌++◌, take, drop, length, refl, sym, ap, ap₂, subst, ◌∙◌, arith, length-append, inl, inr}
 use Rattle.std.specs.Prelude.{Option, Some, None, All, IsSome, is_some, if◌then◌else◌}
 use Rattle.std.specs.Option.{option_map, option_map_or}
 use Rattle.std.proofs.lemmas.Bool.Decides.{nat_tests}
@@ -19,7 +19,8 @@ use Rattle.wire_net.specs.Directions.{Direction, is_flowing, room, after_receive
 use Rattle.wire_net.specs.Channels.{Channels, direction_at, at_direction, is_live_at}
 use Rattle.wire_net.specs.Networks.{received_on}
 use Rattle.wire_net.specs.Whereabouts.{stream_on, reverse}
-use Rattle.refill_core.specs.Tasks.{is_agent, frame_length, part, wanted, reads, sends, with_piece, with_sent, read_count, note_read, channels_read, send_count, sent_on, end_note, end_channels}
+use Rattle.refill_core.specs.declared.limits.TheConstants.{HEADER_LENGTH}
+use Rattle.refill_core.specs.Tasks.{is_agent, frame_length, part, wanted, reads, sends, with_piece, with_sent, read_count, note_read, channels_read, send_count, sent_on, turn_note, turn_channels}
 use Rattle.refill_core.specs.Refills.{Notes, Apart, notes_at, put_notes, IsNoted, IsRefilling, IsUnderWay, IsInStep, Fits}
 use Rattle.wire_net.proofs.OneDirection.{direction_changed, direction_beside}
 use Rattle.wire_net.proofs.LiveChannels.{KeepsFlow, live_kept}
@@ -112,6 +113,8 @@ pub record Ended (p : RealPid) (m : Channels) (notes : Notes) (d : Dir) (x y : D
   pub n : ℕ
   pub k : ℕ
   pub after : DirNotes
+  -- what it may send
+  pub piece : List ℕ
   pub own : Direction
   pub other : Direction
   pub reads : read_count p x m ≡ n
@@ -119,15 +122,18 @@ pub record Ended (p : RealPid) (m : Channels) (notes : Notes) (d : Dir) (x y : D
   pub read_after : after.read ≡ x.read + n
   pub sent_after : after.sent ≡ x.sent + k
   pub count_after : after.count ≡ x.count
+  pub returned_after : after.returned.items ≡ x.returned.items ++ drop (HEADER_LENGTH - x.read) (take n pair.other.received)
   pub within : x.read + n ≤ frame_length x
+  pub own_is : own ≡ sent_on k piece pair.own
+  pub other_is : other ≡ after_receive n pair.other
   pub own_sent : length own.sent ≡ length pair.own.sent + k
   pub own_wire : own.wire ≡ pair.own.wire
   pub other_sent : other.sent ≡ pair.other.sent
   pub other_wire : other.wire ≡ pair.other.wire
-  pub after_is : end_note p x y m ≡ after
-  pub own_at : direction_at (end_channels p x y m) d ≡ Some own
-  pub other_at : direction_at (end_channels p x y m) (reverse d) ≡ Some other
-  pub beside : (e : Dir) → e.side < 2 → e ≢ d → e ≢ reverse d → direction_at (end_channels p x y m) e ≡ direction_at m e
+  pub after_is : turn_note p x y m ≡ after
+  pub own_at : direction_at (turn_channels p x y m) d ≡ Some own
+  pub other_at : direction_at (turn_channels p x y m) (reverse d) ≡ Some other
+  pub beside : (e : Dir) → e.side < 2 → e ≢ d → e ≢ reverse d → direction_at (turn_channels p x y m) e ≡ direction_at m e
   pub noted : IsNoted after
   pub dir : after.dir ≡ d
   pub sender : after.sender ≡ x.sender
@@ -179,20 +185,24 @@ ended p m notes d x y pair =
     let k_is : send_count p x1 y m1 ≡ k = ap (λ (e : Dir). option_map_or (sends p x1 y) (direction_at m1 e) 0) pair.x_dir ∙ ap (λ (o : Option Direction). option_map_or (sends p x1 y) o 0) own1 in
     let noted1 = read_noted x y pair.other n pair.x_noted pair.y_noted pair.other_fits few.0 within in
     let m2 = at_direction m1 d (sent_on k (part x1 y)) in
-    let m2_is : end_channels p x y m ≡ m2 =
+    let m2_is : turn_channels p x y m ≡ m2 =
     ap₂ (λ (z : DirNotes) (c : Channels). at_direction c z.dir (sent_on (send_count p z y c) (part z y))) x1_is m1_is
     ∙ ap₂ (λ (e : Dir) (i : ℕ). at_direction m1 e (sent_on i (part x1 y))) pair.x_dir k_is in
-    let after_is : end_note p x y m ≡ with_sent k x1 = ap₂ (λ (z : DirNotes) (c : Channels). with_sent (send_count p z y c) z) x1_is m1_is ∙ ap (λ (i : ℕ). with_sent i x1) k_is in
+    let after_is : turn_note p x y m ≡ with_sent k x1 = ap₂ (λ (z : DirNotes) (c : Channels). with_sent (send_count p z y c) z) x1_is m1_is ∙ ap (λ (i : ℕ). with_sent i x1) k_is in
     record {
       n = n;
       k = k;
       after = with_sent k x1;
+      piece = part x1 y;
       reads = n_is;
       sends = ap₂ (λ (z : DirNotes) (c : Channels). send_count p z y c) x1_is m1_is ∙ k_is;
       read_after = ap (λ (i : ℕ). x.read + i) (length-take n pair.other.received ∙ (let e : min n (length pair.other.received) ≡ n = omega (arith, few.0) in e));
       sent_after = refl;
       count_after = refl;
+      returned_after = refl;
       within = within;
+      own_is = refl;
+      other_is = refl;
       own_sent = longer k (part x1 y) pair.own (sends_few p x1 y pair.own);
       own_wire = same_wire k (part x1 y) pair.own;
       other_sent = refl;
@@ -235,36 +245,36 @@ sent_flows k piece direction = choice (k == 0)
     choice true = refl
     choice false = refl
 
-pub live_ended : (p : RealPid) (m : Channels) (x y : DirNotes) (id : ConnId) → is_live_at (end_channels p x y m) id ≡ is_live_at m id
+pub live_ended : (p : RealPid) (m : Channels) (x y : DirNotes) (id : ConnId) → is_live_at (turn_channels p x y m) id ≡ is_live_at m id
 live_ended p m x y id =
     live_kept (channels_read p x m) (note_read p x m).dir (sent_on (send_count p (note_read p x m) y (channels_read p x m)) (part (note_read p x m) y)) id
     (sent_flows (send_count p (note_read p x m) y (channels_read p x m)) (part (note_read p x m) y))
     ∙ live_kept m (reverse x.dir) (after_receive (read_count p x m)) id (λ direction. refl)
 
-pub fits_ended : (p : RealPid) (m : Channels) (notes : Notes) (d : Dir) (x y : DirNotes) → Fits m notes → IsSome x.sender → Pair m notes d x y → Fits (end_channels p x y m) (put_notes d (end_note p x y m) notes)
+pub fits_ended : (p : RealPid) (m : Channels) (notes : Notes) (d : Dir) (x y : DirNotes) → Fits m notes → IsSome x.sender → Pair m notes d x y → Fits (turn_channels p x y m) (put_notes d (turn_note p x y m) notes)
 fits_ended p m notes d x y fits sender pair =
     let e = ended p m notes d x y pair in
-    subst (λ (v : DirNotes). Fits (end_channels p x y m) (put_notes d v notes)) (sym e.after_is) (record {
+    subst (λ (v : DirNotes). Fits (turn_channels p x y m) (put_notes d v notes)) (sym e.after_is) (record {
       apart = subst Apart (sym (same_dirs d e.after notes e.dir)) fits.apart;
       noted = all_put IsNoted IsNoted d e.after notes e.noted (λ z differ noted. noted) fits.noted;
-      in_step = all_put (Known m notes) (IsInStep (end_channels p x y m) (put_notes d e.after notes)) d e.after notes (here e) (others e) (all_known m notes notes fits.noted fits.in_step fits.live);
+      in_step = all_put (Known m notes) (IsInStep (turn_channels p x y m) (put_notes d e.after notes)) d e.after notes (here e) (others e) (all_known m notes notes fits.noted fits.in_step fits.live);
       live =
-          all_put (λ z. is_some z.sender ≡ is_live_at m z.dir.conn) (λ z. is_some z.sender ≡ is_live_at (end_channels p x y m) z.dir.conn) d e.after notes
-          (ap is_some e.sender ∙ some_true x.sender sender ∙ sym pair.live ∙ sym (live_ended p m x y d.conn) ∙ ap (λ (f : Dir). is_live_at (end_channels p x y m) f.conn) (sym e.dir))
+          all_put (λ z. is_some z.sender ≡ is_live_at m z.dir.conn) (λ z. is_some z.sender ≡ is_live_at (turn_channels p x y m) z.dir.conn) d e.after notes
+          (ap is_some e.sender ∙ some_true x.sender sender ∙ sym pair.live ∙ sym (live_ended p m x y d.conn) ∙ ap (λ (f : Dir). is_live_at (turn_channels p x y m) f.conn) (sym e.dir))
           (λ z differ live. live ∙ sym (live_ended p m x y z.dir.conn)) fits.live;
     })
   where
-    here : (e : Ended p m notes d x y pair) → IsInStep (end_channels p x y m) (put_notes d e.after notes) e.after
+    here : (e : Ended p m notes d x y pair) → IsInStep (turn_channels p x y m) (put_notes d e.after notes) e.after
     here e = inr (record {
       sender = subst IsSome (sym e.sender) sender;
       other = y;
       paired = ap (λ (f : Dir). notes_at (reverse f) (put_notes d e.after notes)) e.dir ∙ put_beside d (reverse d) e.after notes e.dir (other_way d pair.side) ∙ pair.y_at;
       direction = e.own;
-      found = ap (direction_at (end_channels p x y m)) e.dir ∙ e.own_at;
+      found = ap (direction_at (turn_channels p x y m)) e.dir ∙ e.own_at;
       refills = e.own_fits;
     })
 
-    others : (e : Ended p m notes d x y pair) (z : DirNotes) → z.dir ≢ d → Known m notes z → IsInStep (end_channels p x y m) (put_notes d e.after notes) z
+    others : (e : Ended p m notes d x y pair) (z : DirNotes) → z.dir ≢ d → Known m notes z → IsInStep (turn_channels p x y m) (put_notes d e.after notes) z
     others e z differ known = elim (same_or_other dir_total dir_exact z.dir (reverse d)) [
       | inl same ↦
           let some : is_some z.sender ≡ true = known.live ∙ ap (λ (f : Dir). is_live_at m f.conn) same ∙ pair.live in
@@ -277,7 +287,7 @@ fits_ended p m notes d x y fits sender pair =
             other = e.after;
             paired = ap (λ (f : Dir). notes_at f (put_notes d e.after notes)) around ∙ put_found d x e.after notes e.dir pair.x_at;
             direction = e.other;
-            found = ap (direction_at (end_channels p x y m)) same ∙ e.other_at;
+            found = ap (direction_at (turn_channels p x y m)) same ∙ e.other_at;
             refills = e.other_fits z (subst (λ (v : DirNotes). IsRefilling z v pair.other) is_x (subst (IsRefilling z under.other) is_r under.refills));
           })
       | inr apart ↦
@@ -285,8 +295,8 @@ fits_ended p m notes d x y fits sender pair =
           kept e z differ apart same known known.in_step
     ]
       where
-        kept : (e : Ended p m notes d x y pair) (z : DirNotes) → z.dir ≢ d → z.dir ≢ reverse d → direction_at (end_channels p x y m) z.dir ≡ direction_at m z.dir → Known m notes z → IsInStep m notes z
-            → IsInStep (end_channels p x y m) (put_notes d e.after notes) z
+        kept : (e : Ended p m notes d x y pair) (z : DirNotes) → z.dir ≢ d → z.dir ≢ reverse d → direction_at (turn_channels p x y m) z.dir ≡ direction_at m z.dir → Known m notes z → IsInStep m notes z
+            → IsInStep (turn_channels p x y m) (put_notes d e.after notes) z
         kept e z differ apart same known (inl aside) =
             inl (record { sender = aside.sender; quiet = ap stream_on same ∙ aside.quiet ∙ ap received_on (sym same) })
         kept e z differ apart same known (inr under) =

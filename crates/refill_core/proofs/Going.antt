@@ -18,6 +18,7 @@ use Rattle.views.proofs.MapLaws.{true_false}
 use Rattle.sys_abi.specs.declared.identity.Dir.{Dir}
 use Rattle.sys_abi.specs.declared.identity.RealPid.{RealPid}
 use Rattle.sys_abi.specs.Orders.{dir_cmp}
+use Rattle.wire_net.specs.declared.agents.Stepped.TheVariants as answer
 use Rattle.wire_net.specs.declared.cut_room.DirNotes.{DirNotes}
 use Rattle.wire_net.specs.declared.place.Place.TheVariants.{Send, Wire}
 use Rattle.wire_net.specs.Directions.{Direction, room, after_receive}
@@ -26,7 +27,7 @@ use Rattle.wire_net.specs.Networks.{bytes_on, received_on}
 use Rattle.wire_net.specs.Whereabouts.{stream, reverse}
 use Rattle.refill_core.specs.Tasks.{is_agent, header, frame_length, has_back, part, with_piece, wanted, reads, sends, read_count, note_read, channels_read, send_count}
 use Rattle.refill_core.specs.Refills.{Notes, Refilling, dirs_of, has_notes, notes_at, IsNoted}
-use Rattle.refill_core.specs.Work.{has_sent_all, moves_found, moves_of, moved_by, moved_any, is_left, has_work, has_arrived, finished_of, is_finished, is_done, GoesOn}
+use Rattle.refill_core.specs.Work.{has_sent_all, moves_found, moves_of, moved_by, moved_any, is_left, has_work, has_arrived, finished_of, is_finished, is_done, answer_of, step_answer, GoesOn}
 use Rattle.wire_net.proofs.OneDirection.{unchanged_direction}
 use Rattle.refill_core.proofs.OneRefill.{stands, all_size}
 use Rattle.refill_core.proofs.EndFits.{Pair, pair_of}
@@ -263,13 +264,61 @@ noted_at d (y ∷ notes) x at = choice (eq_by_cmp dir_cmp y.dir d) (noted_at d n
     choice true rest at = refl
     choice false rest at = rest at
 
+-- ---- an agent without work
+
+all_still : (test : DirNotes → Bool) (notes : Notes) → list_any test notes ≡ false → All (λ x. test x ≡ false) notes
+all_still test [] none = All-nil (λ x. test x ≡ false)
+all_still test (x ∷ notes) none = let parts = or_parts (test x) (list_any test notes) none in All-cons (λ y. test y ≡ false) x notes parts.0 (all_still test notes parts.1)
+
+idle_by : (p : RealPid) (d : Dir) (s : Refilling) → FitsNow s → has_work p s.notes ≡ false → moved_by p d s ≡ false
+idle_by p d s fits none = elim (end_cases p d s fits) [
+  | inl still ↦ still.moves
+  | inr turn ↦ of_turn turn
+]
+  where
+    of_turn : Turn p d s → moved_by p d s ≡ false
+    of_turn t =
+        let left : is_left p s.notes t.x ≡ false = all_found (λ z. is_left p s.notes z ≡ false) d s.notes t.x t.pair.x_at (all_still (is_left p s.notes) s.notes none) in
+        let other : notes_at (reverse t.x.dir) s.notes ≡ Some t.y = ap (λ (e : Dir). notes_at (reverse e) s.notes) t.pair.x_dir ∙ t.pair.y_at in
+        let told : (not (has_back t.x) || not (has_sent_all t.x t.y)) ≡ false =
+        sym (ap₂ (λ (a : Bool) (o : Option DirNotes). a && option_map_or (λ y. not (has_back t.x) || not (has_sent_all t.x y)) o false) t.agent other) ∙ left in
+        let parts = or_parts (not (has_back t.x)) (not (has_sent_all t.x t.y)) told in
+        let back : has_back t.x ≡ true = not-false (has_back t.x) parts.0 in
+        let sent : has_sent_all t.x t.y ≡ true = not-false (has_sent_all t.x t.y) parts.1 in
+        let read : t.x.read ≡ frame_length t.x = grind (arith, nat_tests, back) in
+        let all : t.x.sent ≡ frame_length t.y + t.x.count = grind (arith, nat_tests, sent) in
+        let zero : read_count p t.x s.channels ≡ 0 = (let is = read_is p d s t.x t.y t.pair t.agent in omega (arith, is, read)) in
+        let long = own_size t.x t.y t.pair.x_noted (omega (arith, all)) read in
+        nothing t zero (omega (arith, long, all))
+      where
+        nothing : (t : Turn p d s) → read_count p t.x s.channels ≡ 0 → length (part t.x t.y) ≡ 0 → moved_by p d s ≡ false
+        nothing t zero empty =
+            let sent = sent_is p d s t.x t.y t.pair t.agent zero in
+            let none : send_count p (note_read p t.x s.channels) t.y (channels_read p t.x s.channels) ≡ 0 = omega (arith, sent, empty) in
+            moved_is p d s t.x t.y t.pair t.agent ∙ ap₂ (λ (i j : ℕ). nat_lt 0 i || nat_lt 0 j) zero none
+
+pub idle_any : (p : RealPid) (ds : List Dir) (s : Refilling) → FitsNow s → has_work p s.notes ≡ false → moved_any p ds s ≡ false
+idle_any p ds s fits none = moved_nowhere p ds s fits (λ d. idle_by p d s fits none)
+
+answers : (p : RealPid) (s : Refilling) → FitsNow s → moved_any p (dirs_of s.notes) s ≡ true → step_answer p s ≡ answer.Moved
+answers p s fits moved = choice (has_work p s.notes) refl
+  where
+    choice : (b : Bool) → has_work p s.notes ≡ b → answer_of b (moved_any p (dirs_of s.notes) s) ≡ answer.Moved
+    choice true is = ap (answer_of true) moved
+    choice false is = true_false (sym moved ∙ idle_any p (dirs_of s.notes) s fits is)
+
+-- ---- somebody goes on
+
 some_goes : (s : Refilling) → FitsNow s → SomeMove s → GoesOn s
 some_goes s fits move =
     let parts = split move.dir s.notes move.item move.at in
     let here = found_dir move.dir s.notes move.item move.at in
     let dirs : dirs_of s.notes ≡ dirs_of parts.front ++ move.dir ∷ dirs_of parts.back =
     ap dirs_of parts.among ∙ map-append (λ (z : DirNotes). z.dir) parts.front (move.item ∷ parts.back) ∙ ap (λ (e : Dir). dirs_of parts.front ++ e ∷ dirs_of parts.back) here in
-    inl (move.agent, ap (λ (ds : List Dir). moved_any move.agent ds s) dirs ∙ moved_here move.agent (dirs_of parts.front) (dirs_of parts.back) move.dir s fits move.moves)
+    inl (
+      move.agent,
+      answers move.agent s fits (ap (λ (ds : List Dir). moved_any move.agent ds s) dirs ∙ moved_here move.agent (dirs_of parts.front) (dirs_of parts.back) move.dir s fits move.moves),
+    )
 
 movable : (s : Refilling) (d : Dir) (x : DirNotes) (direction : Direction) → d.side < 2 → notes_at d s.notes ≡ Some x → direction_at s.channels d ≡ Some direction → has_arrived direction ≡ false → GoesOn s
 movable s d x direction side at found fails = elim (and_cases (length direction.sent == 0) (length direction.wire == 0) fails) [
@@ -355,39 +404,3 @@ goes_on s fits fails =
         choice : (c : Bool) → is_some x.sender ≡ c → GoesOn s
         choice true is = live_goes s x.dir x fits at (there x.sender is) is fails
         choice false is = aside_goes s x (notes_at (reverse x.dir) s.notes) (direction_at s.channels x.dir) noted.side at refl is fails
-
--- ---- an agent without work
-
-all_still : (test : DirNotes → Bool) (notes : Notes) → list_any test notes ≡ false → All (λ x. test x ≡ false) notes
-all_still test [] none = All-nil (λ x. test x ≡ false)
-all_still test (x ∷ notes) none = let parts = or_parts (test x) (list_any test notes) none in All-cons (λ y. test y ≡ false) x notes parts.0 (all_still test notes parts.1)
-
-idle_by : (p : RealPid) (d : Dir) (s : Refilling) → FitsNow s → has_work p s.notes ≡ false → moved_by p d s ≡ false
-idle_by p d s fits none = elim (end_cases p d s fits) [
-  | inl still ↦ still.moves
-  | inr turn ↦ of_turn turn
-]
-  where
-    of_turn : Turn p d s → moved_by p d s ≡ false
-    of_turn t =
-        let left : is_left p s.notes t.x ≡ false = all_found (λ z. is_left p s.notes z ≡ false) d s.notes t.x t.pair.x_at (all_still (is_left p s.notes) s.notes none) in
-        let other : notes_at (reverse t.x.dir) s.notes ≡ Some t.y = ap (λ (e : Dir). notes_at (reverse e) s.notes) t.pair.x_dir ∙ t.pair.y_at in
-        let told : (not (has_back t.x) || not (has_sent_all t.x t.y)) ≡ false =
-        sym (ap₂ (λ (a : Bool) (o : Option DirNotes). a && option_map_or (λ y. not (has_back t.x) || not (has_sent_all t.x y)) o false) t.agent other) ∙ left in
-        let parts = or_parts (not (has_back t.x)) (not (has_sent_all t.x t.y)) told in
-        let back : has_back t.x ≡ true = not-false (has_back t.x) parts.0 in
-        let sent : has_sent_all t.x t.y ≡ true = not-false (has_sent_all t.x t.y) parts.1 in
-        let read : t.x.read ≡ frame_length t.x = grind (arith, nat_tests, back) in
-        let all : t.x.sent ≡ frame_length t.y + t.x.count = grind (arith, nat_tests, sent) in
-        let zero : read_count p t.x s.channels ≡ 0 = (let is = read_is p d s t.x t.y t.pair t.agent in omega (arith, is, read)) in
-        let long = own_size t.x t.y t.pair.x_noted (omega (arith, all)) read in
-        nothing t zero (omega (arith, long, all))
-      where
-        nothing : (t : Turn p d s) → read_count p t.x s.channels ≡ 0 → length (part t.x t.y) ≡ 0 → moved_by p d s ≡ false
-        nothing t zero empty =
-            let sent = sent_is p d s t.x t.y t.pair t.agent zero in
-            let none : send_count p (note_read p t.x s.channels) t.y (channels_read p t.x s.channels) ≡ 0 = omega (arith, sent, empty) in
-            moved_is p d s t.x t.y t.pair t.agent ∙ ap₂ (λ (i j : ℕ). nat_lt 0 i || nat_lt 0 j) zero none
-
-pub idle_any : (p : RealPid) (ds : List Dir) (s : Refilling) → FitsNow s → has_work p s.notes ≡ false → moved_any p ds s ≡ false
-idle_any p ds s fits none = moved_nowhere p ds s fits (λ d. idle_by p d s fits none)

@@ -3,6 +3,7 @@ mod OneWhereabouts
 mod Pairs
 mod EndFits
 mod Whole
+mod TurnLaws
 mod Bytes
 mod WorkLaws
 mod Moving
@@ -19,4 +20,5 @@ mod Steps
 mod Starting
 mod Turns
 mod Begun
+mod EndsKept
 mod RunLaws

@@ -16,8 +16,8 @@ use Rattle.wire_net.specs.Channels.{Channels, direction_at}
 use Rattle.wire_net.specs.Networks.{Network}
 use Rattle.wire_net.specs.Whereabouts.{reverse}
 use Rattle.refill_core.specs.declared.limits.TheConstants.{HEADER_LENGTH}
-use Rattle.refill_core.specs.Tasks.{is_agent, frame_length, with_sent, read_count, note_read, channels_read, send_count, end_note, end_channels}
-use Rattle.refill_core.specs.Refills.{Notes, Refilling, notes_at, put_notes, IsNoted, IsFlowing, Fits, end_found, end_of, end_after}
+use Rattle.refill_core.specs.Tasks.{is_agent, frame_length, with_sent, read_count, note_read, channels_read, send_count, turn_note, turn_channels}
+use Rattle.refill_core.specs.Refills.{Notes, Refilling, notes_at, put_notes, IsNoted, IsFlowing, Fits, turn_found, turn_of, turn_after}
 use Rattle.refill_core.specs.Work.{moves_found, moves_of, moved_by}
 use Rattle.refill_core.specs.Stepping.{state, dir_at, no_dir}
 use Rattle.wire_net.proofs.OneDirection.{direction_beside}
@@ -43,9 +43,9 @@ idle_moved : (p : RealPid) (s : Refilling) (x : DirNotes) (found : Option DirNot
 idle_moved p s x None apart = refl
 idle_moved p s x (Some y) apart = ap (λ (b : Bool). b && (nat_lt 0 (read_count p x s.channels) || nat_lt 0 (send_count p (note_read p x s.channels) y (channels_read p x s.channels)))) apart
 
-idle_after : (p : RealPid) (s : Refilling) (x : DirNotes) (found : Option DirNotes) → is_agent p x.sender ≡ false → end_found p s x found ≡ s
+idle_after : (p : RealPid) (s : Refilling) (x : DirNotes) (found : Option DirNotes) → is_agent p x.sender ≡ false → turn_found p s x found ≡ s
 idle_after p s x None apart = refl
-idle_after p s x (Some y) apart = ap (λ (b : Bool). if b then (let r : Refilling = record { notes = put_notes x.dir (end_note p x y s.channels) s.notes; channels = end_channels p x y s.channels } in r) else s) apart
+idle_after p s x (Some y) apart = ap (λ (b : Bool). if b then (let r : Refilling = record { notes = put_notes x.dir (turn_note p x y s.channels) s.notes; channels = turn_channels p x y s.channels } in r) else s) apart
 
 pub not_agent_moved : (p : RealPid) (t : Network) (notes : Notes) (i : ℕ) (x : DirNotes) → Fits t.channels notes → i < length notes → x ≡ get_or notes i x → is_agent p x.sender ≡ false
     → false ≡ moved_by p (dir_at notes i) (state notes t)
@@ -54,10 +54,10 @@ not_agent_moved p t notes i x fits below here apart =
     sym (ap (λ (d : Dir). moved_by p d s) (dir_here notes i x below here) ∙ ap (moves_of p s) (notes_here notes i x t.channels fits below here) ∙ idle_moved p s x (notes_at (reverse x.dir) notes) apart)
 
 pub not_agent_after : (p : RealPid) (t : Network) (notes : Notes) (i : ℕ) (x : DirNotes) → Fits t.channels notes → i < length notes → x ≡ get_or notes i x → is_agent p x.sender ≡ false
-    → state notes t ≡ end_after p (dir_at notes i) (state notes t)
+    → state notes t ≡ turn_after p (dir_at notes i) (state notes t)
 not_agent_after p t notes i x fits below here apart =
     let s = state notes t in
-    sym (ap (λ (d : Dir). end_after p d s) (dir_here notes i x below here) ∙ ap (end_of p s) (notes_here notes i x t.channels fits below here) ∙ idle_after p s x (notes_at (reverse x.dir) notes) apart)
+    sym (ap (λ (d : Dir). turn_after p d s) (dir_here notes i x below here) ∙ ap (turn_of p s) (notes_here notes i x t.channels fits below here) ∙ idle_after p s x (notes_at (reverse x.dir) notes) apart)
 
 -- ---- it is the agent's
 
@@ -73,8 +73,8 @@ pub record Step (p : RealPid) (t : Network) (notes : Notes) (i j : ℕ) (x y : D
   pub flows : IfSome (direction_at (channels_read p x t.channels) x.dir) IsFlowing
   pub sum : x.sent + send_count p (note_read p x t.channels) y (channels_read p x t.channels) ≤ 2 * QUEUE_LIMIT + HEADER_LENGTH
   pub moved : moved_by p (dir_at notes i) (state notes t) ≡ (nat_lt 0 (read_count p x t.channels) || nat_lt 0 (send_count p (note_read p x t.channels) y (channels_read p x t.channels)))
-  pub after : end_after p (dir_at notes i) (state notes t)
-      ≡ (let r : Refilling = record { notes = set notes i (end_note p x y t.channels); channels = end_channels p x y t.channels } in r)
+  pub after : turn_after p (dir_at notes i) (state notes t)
+      ≡ (let r : Refilling = record { notes = set notes i (turn_note p x y t.channels); channels = turn_channels p x y t.channels } in r)
 
 noted_before : (k : ℕ) (z : DirNotes) → IsNoted (with_sent k z) → IsNoted z
 noted_before k z is = record { side = is.side; few = is.few; whole = is.whole; room = is.room; read = is.read; back = is.back }
@@ -113,8 +113,8 @@ step_of p t notes i j x y fits below under here there agent found =
           ap (λ (d : Dir). moved_by p d s) (dir_here notes i x below here) ∙ ap (moves_of p s) x_at ∙ ap (moves_found p s x) y_at
           ∙ ap (λ (b : Bool). b && (nat_lt 0 (read_count p x m) || nat_lt 0 (send_count p (note_read p x m) y (channels_read p x m)))) agent;
       after =
-          ap (λ (d : Dir). end_after p d s) (dir_here notes i x below here) ∙ ap (end_of p s) x_at ∙ ap (end_found p s x) y_at
-          ∙ ap (λ (b : Bool). if b then (let r : Refilling = record { notes = put_notes x.dir (end_note p x y m) notes; channels = end_channels p x y m } in r) else s) agent
-          ∙ ap (λ (l : Notes). let r : Refilling = record { notes = l; channels = end_channels p x y m } in r)
-          (ap (λ (z : DirNotes). put_notes z.dir (end_note p x y m) notes) here ∙ sym (set_is_put notes i x (end_note p x y m) below fits.apart));
+          ap (λ (d : Dir). turn_after p d s) (dir_here notes i x below here) ∙ ap (turn_of p s) x_at ∙ ap (turn_found p s x) y_at
+          ∙ ap (λ (b : Bool). if b then (let r : Refilling = record { notes = put_notes x.dir (turn_note p x y m) notes; channels = turn_channels p x y m } in r) else s) agent
+          ∙ ap (λ (l : Notes). let r : Refilling = record { notes = l; channels = turn_channels p x y m } in r)
+          (ap (λ (z : DirNotes). put_notes z.dir (turn_note p x y m) notes) here ∙ sym (set_is_put notes i x (turn_note p x y m) below fits.apart));
     }

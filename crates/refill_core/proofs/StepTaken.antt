@@ -16,7 +16,7 @@ use Rattle.wire_net.specs.Networks.{Network}
 use Rattle.wire_net.specs.Whereabouts.{reverse}
 use Rattle.refill_core.specs.declared.limits.TheConstants.{HEADER_LENGTH}
 use Rattle.refill_core.specs.Tasks.{is_agent, frame_length, with_sent, read_count, note_read, channels_read, send_count, channels_sent}
-use Rattle.refill_core.specs.Refills.{Notes, Refilling, notes_at, IsNoted, IsFlowing, Fits, end_after}
+use Rattle.refill_core.specs.Refills.{Notes, Refilling, notes_at, IsNoted, IsFlowing, Fits, turn_after}
 use Rattle.refill_core.specs.Work.{moved_by}
 use Rattle.refill_core.specs.Stepping.{state, dir_at}
 use Rattle.refill_core.proofs.OneStep.{item_here, Step, step_of}
@@ -84,7 +84,7 @@ again_item l i read x1 z below here = get_or-set_same l i read z below ∙ sym (
 
 pub after_is : (p : RealPid) (t : Network) (l : Notes) (i j : ℕ) (x y read x1 : DirNotes) (u v : Network) (n : ℕ) (z w : DirNotes) → Taken p t l i j x y x1 → u.channels ≡ channels_read p x t.channels
     → x1 ≡ get_or (set l i read) i x1 → n ≡ send_count p x1 y u.channels → v ≡ record u { channels = channels_sent p x1 y u.channels }
-    → state (set (set l i read) i (record (get_or (set l i read) i z) { sent = (get_or (set l i read) i w).sent + n })) v ≡ end_after p (dir_at l i) (state l t)
+    → state (set (set l i read) i (record (get_or (set l i read) i z) { sent = (get_or (set l i read) i w).sent + n })) v ≡ turn_after p (dir_at l i) (state l t)
 after_is p t l i j x y read x1 u v n z w is net here count sent =
     let at : (o : DirNotes) → get_or (set l i read) i o ≡ x1 = λ o. again_item l i read x1 o is.below here in
     let noted = ap₂ (λ (a b : DirNotes). let r : DirNotes = record a { sent = b.sent + n } in r) (at z) (at w) ∙ ap₂ with_sent (sends_same p t l i j x y x1 u.channels n is net count) is.read in

@@ -8,7 +8,7 @@ use Rattle.sys_abi.specs.declared.identity.RealPid.{RealPid}
 use Rattle.wire_net.specs.declared.agents.Stepped.TheVariants.{Moved, Again, Finished}
 use Rattle.wire_net.specs.Networks.{Network}
 use Rattle.wire_net.specs.Whereabouts.{whereabouts}
-use Rattle.refill_core.specs.Refills.{Notes, Refilling, dirs_of, Fits, ends_after}
+use Rattle.refill_core.specs.Refills.{Notes, Refilling, dirs_of, Fits, turns_after}
 use Rattle.refill_core.specs.Holding.{agents_of}
 use Rattle.refill_core.specs.Work.{work_left, moved_any, has_work, answer_of, step_answer}
 use Rattle.refill_core.specs.Stepping.{state}
@@ -25,18 +25,18 @@ written_back n new seen old many same all =
     let n_is : n ≡ length new = sym all ∙ sym many in
     ap (λ (l : Notes). take n (new ++ l)) (drop_all (length new) old (omega (arith, sizes))) ∙ ap (take n) (append-nil new) ∙ take_all n new (omega (arith, n_is))
 
-pub step_after : (p : RealPid) (n : ℕ) (new seen old whole : Notes) (t u : Network) → state new u ≡ ends_after p (dirs_of seen) (state seen t) → length new ≡ length seen → seen ≡ old → old ≡ whole → length seen ≡ n
-    → state (take n (new ++ drop (length new) old)) u ≡ ends_after p (dirs_of whole) (state whole t)
+pub step_after : (p : RealPid) (n : ℕ) (new seen old whole : Notes) (t u : Network) → state new u ≡ turns_after p (dirs_of seen) (state seen t) → length new ≡ length seen → seen ≡ old → old ≡ whole → length seen ≡ n
+    → state (take n (new ++ drop (length new) old)) u ≡ turns_after p (dirs_of whole) (state whole t)
 step_after p n new seen old whole t u after many same view all =
-    ap (λ (l : Notes). state l u) (written_back n new seen old many same all) ∙ after ∙ ap (λ (l : Notes). ends_after p (dirs_of l) (state l t)) (same ∙ view)
+    ap (λ (l : Notes). state l u) (written_back n new seen old many same all) ∙ after ∙ ap (λ (l : Notes). turns_after p (dirs_of l) (state l t)) (same ∙ view)
 
-pub step_fits : (p : RealPid) (w l : Notes) (t u : Network) → Fits t.channels l → state w u ≡ ends_after p (dirs_of l) (state l t) → Fits u.channels w
+pub step_fits : (p : RealPid) (w l : Notes) (t u : Network) → Fits t.channels l → state w u ≡ turns_after p (dirs_of l) (state l t) → Fits u.channels w
 step_fits p w l t u fits after = subst FitsNow (sym after) (ends_fit p (dirs_of l) (state l t) fits)
 
-pub step_dirs : (p : RealPid) (w l : Notes) (t u : Network) → Fits t.channels l → state w u ≡ ends_after p (dirs_of l) (state l t) → dirs_of w ≡ dirs_of l
+pub step_dirs : (p : RealPid) (w l : Notes) (t u : Network) → Fits t.channels l → state w u ≡ turns_after p (dirs_of l) (state l t) → dirs_of w ≡ dirs_of l
 step_dirs p w l t u fits after = ap (λ (s : Refilling). dirs_of s.notes) after ∙ ends_dirs p (dirs_of l) (state l t) fits
 
-pub step_kept : (p : RealPid) (w l : Notes) (t u : Network) (d : Dir) → d.side < 2 → Fits t.channels l → state w u ≡ ends_after p (dirs_of l) (state l t)
+pub step_kept : (p : RealPid) (w l : Notes) (t u : Network) (d : Dir) → d.side < 2 → Fits t.channels l → state w u ≡ turns_after p (dirs_of l) (state l t)
     → whereabouts u (agents_of w) d ≡ whereabouts t (agents_of l) d
 step_kept p w l t u d side fits after =
     whereabouts_is u w d (step_fits p w l t u fits after) ∙ ap (λ (s : Refilling). bytes_of s d) after ∙ ends_keep p (dirs_of l) (state l t) d side fits ∙ sym (whereabouts_is t l d fits)
@@ -53,19 +53,19 @@ has_moved false moved is = absurd (apart is)
     apart : Finished ≡ Moved → ⊥
     apart e = cc
 
-pub step_less : (p : RealPid) (w l : Notes) (t u : Network) → Fits t.channels l → state w u ≡ ends_after p (dirs_of l) (state l t) → step_answer p (state l t) ≡ Moved
+pub step_less : (p : RealPid) (w l : Notes) (t u : Network) → Fits t.channels l → state w u ≡ turns_after p (dirs_of l) (state l t) → step_answer p (state l t) ≡ Moved
     → work_left u.channels w < work_left t.channels l
 step_less p w l t u fits after is =
     let s = state l t in
     let one : gain (moved_any p (dirs_of l) s) ≡ 1 = ap gain (has_moved (has_work p l) (moved_any p (dirs_of l) s) is) in
     let lower = ends_lower p (dirs_of l) s fits in
-    let same : work_left u.channels w ≡ work_left (ends_after p (dirs_of l) s).channels (ends_after p (dirs_of l) s).notes = ap (λ (r : Refilling). work_left r.channels r.notes) after in
+    let same : work_left u.channels w ≡ work_left (turns_after p (dirs_of l) s).channels (turns_after p (dirs_of l) s).notes = ap (λ (r : Refilling). work_left r.channels r.notes) after in
     omega (arith, one, lower, same)
 
-still : (p : RealPid) (w l : Notes) (t u : Network) → Fits t.channels l → state w u ≡ ends_after p (dirs_of l) (state l t) → has_work p l ≡ false → state w u ≡ state l t
+still : (p : RealPid) (w l : Notes) (t u : Network) → Fits t.channels l → state w u ≡ turns_after p (dirs_of l) (state l t) → has_work p l ≡ false → state w u ≡ state l t
 still p w l t u fits after none = after ∙ ends_still p (dirs_of l) (state l t) fits (idle_any p (dirs_of l) (state l t) fits none)
 
-pub step_idle : (p : RealPid) (w l : Notes) (t u : Network) → Fits t.channels l → state w u ≡ ends_after p (dirs_of l) (state l t) → u ≡ with_channels t u.channels → has_work p l ≡ false → (w ≡ l) × (u ≡ t)
+pub step_idle : (p : RealPid) (w l : Notes) (t u : Network) → Fits t.channels l → state w u ≡ turns_after p (dirs_of l) (state l t) → u ≡ with_channels t u.channels → has_work p l ≡ false → (w ≡ l) × (u ≡ t)
 step_idle p w l t u fits after net none =
     let same = still p w l t u fits after none in
     (ap (λ (s : Refilling). s.notes) same, net ∙ ap (λ (s : Refilling). with_channels t s.channels) same)

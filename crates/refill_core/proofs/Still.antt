@@ -23,8 +23,8 @@ use Rattle.wire_net.specs.Channels.{Channels, direction_at, at_direction}
 use Rattle.wire_net.specs.Networks.{received_on}
 use Rattle.wire_net.specs.Reserves.{reserve}
 use Rattle.wire_net.specs.Whereabouts.{reverse}
-use Rattle.refill_core.specs.Tasks.{part, with_piece, with_sent, read_count, note_read, channels_read, send_count, sent_on, end_note, end_channels}
-use Rattle.refill_core.specs.Refills.{Notes, Refilling, dirs_of, put_notes, end_after, ends_after}
+use Rattle.refill_core.specs.Tasks.{part, with_piece, with_sent, read_count, note_read, channels_read, send_count, sent_on, turn_note, turn_channels}
+use Rattle.refill_core.specs.Refills.{Notes, Refilling, dirs_of, put_notes, turn_after, turns_after}
 use Rattle.refill_core.specs.Work.{moved_by, moved_any}
 use Rattle.wire_net.proofs.OneDirection.{unchanged_direction}
 use Rattle.refill_core.proofs.WorkLaws.{only_one}
@@ -61,34 +61,34 @@ turn_still p d s t fits none =
     ap (λ (n : ℕ). with_piece (take n (received_on (direction_at s.channels (reverse t.x.dir)))) t.x) read ∙ none_read t.x (received_on (direction_at s.channels (reverse t.x.dir))) in
     let m_same : channels_read p t.x s.channels ≡ s.channels =
     ap (λ (n : ℕ). at_direction s.channels (reverse t.x.dir) (after_receive n)) read ∙ unchanged_direction s.channels (reverse t.x.dir) (after_receive 0) (λ direction. refl) in
-    let note : end_note p t.x t.y s.channels ≡ t.x = ap (λ (k : ℕ). with_sent k (note_read p t.x s.channels)) sent ∙ none_sent (note_read p t.x s.channels) ∙ x_same in
-    let net : end_channels p t.x t.y s.channels ≡ s.channels =
+    let note : turn_note p t.x t.y s.channels ≡ t.x = ap (λ (k : ℕ). with_sent k (note_read p t.x s.channels)) sent ∙ none_sent (note_read p t.x s.channels) ∙ x_same in
+    let net : turn_channels p t.x t.y s.channels ≡ s.channels =
     ap (λ (k : ℕ). at_direction (channels_read p t.x s.channels) (note_read p t.x s.channels).dir (sent_on k (part (note_read p t.x s.channels) t.y))) sent
     ∙ unchanged_direction (channels_read p t.x s.channels) (note_read p t.x s.channels).dir (sent_on 0 (part (note_read p t.x s.channels) t.y)) (λ direction. refl) ∙ m_same in
     ap₂ (λ (l : Notes) (m : Channels). let v : Refilling = record { notes = l; channels = m } in v)
     (ap (λ (v : DirNotes). put_notes d v s.notes) note ∙ put_same d t.x s.notes (only_one d s.notes t.x fits.apart t.pair.x_at)) net
 
-pub end_still : (p : RealPid) (d : Dir) (s : Refilling) → FitsNow s → moved_by p d s ≡ false → end_after p d s ≡ s
+pub end_still : (p : RealPid) (d : Dir) (s : Refilling) → FitsNow s → moved_by p d s ≡ false → turn_after p d s ≡ s
 end_still p d s fits none = elim (end_cases p d s fits) [
   | inl still ↦ still.is
   | inr turn ↦ turn.is ∙ turn_still p d s turn fits none
 ]
 
-pub ends_still : (p : RealPid) (ds : List Dir) (s : Refilling) → FitsNow s → moved_any p ds s ≡ false → ends_after p ds s ≡ s
+pub ends_still : (p : RealPid) (ds : List Dir) (s : Refilling) → FitsNow s → moved_any p ds s ≡ false → turns_after p ds s ≡ s
 ends_still p [] s fits none = refl
 ends_still p (d ∷ ds) s fits none =
-    let parts = or_parts (moved_by p d s) (moved_any p ds (end_after p d s)) none in
+    let parts = or_parts (moved_by p d s) (moved_any p ds (turn_after p d s)) none in
     let same = end_still p d s fits parts.0 in
-    ap (ends_after p ds) same ∙ ends_still p ds s fits (ap (moved_any p ds) (sym same) ∙ parts.1)
+    ap (turns_after p ds) same ∙ ends_still p ds s fits (ap (moved_any p ds) (sym same) ∙ parts.1)
 
 -- where one of the directions moves bytes
 pub moved_here : (p : RealPid) (front back : List Dir) (d : Dir) (s : Refilling) → FitsNow s → moved_by p d s ≡ true → moved_any p (front ++ d ∷ back) s ≡ true
-moved_here p [] back d s fits is = or_left (moved_by p d s) (moved_any p back (end_after p d s)) is
+moved_here p [] back d s fits is = or_left (moved_by p d s) (moved_any p back (turn_after p d s)) is
 moved_here p (e ∷ front) back d s fits is = choice (moved_by p e s) refl (moved_here p front back d s fits is)
   where
-    choice : (b : Bool) → moved_by p e s ≡ b → moved_any p (front ++ d ∷ back) s ≡ true → (moved_by p e s || moved_any p (front ++ d ∷ back) (end_after p e s)) ≡ true
-    choice true at rest = or_left (moved_by p e s) (moved_any p (front ++ d ∷ back) (end_after p e s)) at
-    choice false at rest = or_right (moved_by p e s) (moved_any p (front ++ d ∷ back) (end_after p e s)) (ap (moved_any p (front ++ d ∷ back)) (end_still p e s fits at) ∙ rest)
+    choice : (b : Bool) → moved_by p e s ≡ b → moved_any p (front ++ d ∷ back) s ≡ true → (moved_by p e s || moved_any p (front ++ d ∷ back) (turn_after p e s)) ≡ true
+    choice true at rest = or_left (moved_by p e s) (moved_any p (front ++ d ∷ back) (turn_after p e s)) at
+    choice false at rest = or_right (moved_by p e s) (moved_any p (front ++ d ∷ back) (turn_after p e s)) (ap (moved_any p (front ++ d ∷ back)) (end_still p e s fits at) ∙ rest)
 
 pub moved_nowhere : (p : RealPid) (ds : List Dir) (s : Refilling) → FitsNow s → ((d : Dir) → moved_by p d s ≡ false) → moved_any p ds s ≡ false
 moved_nowhere p [] s fits none = refl
@@ -98,5 +98,5 @@ moved_nowhere p (d ∷ ds) s fits none =
 pub none_moved : (p : RealPid) (notes : Notes) (s : Refilling) → FitsNow s → moved_any p (dirs_of notes) s ≡ false → All (λ x. moved_by p x.dir s ≡ false) notes
 none_moved p [] s fits none = All-nil (λ x. moved_by p x.dir s ≡ false)
 none_moved p (x ∷ notes) s fits none =
-    let parts = or_parts (moved_by p x.dir s) (moved_any p (dirs_of notes) (end_after p x.dir s)) none in
+    let parts = or_parts (moved_by p x.dir s) (moved_any p (dirs_of notes) (turn_after p x.dir s)) none in
     All-cons (λ z. moved_by p z.dir s ≡ false) x notes parts.0 (none_moved p notes s fits (ap (moved_any p (dirs_of notes)) (sym (end_still p x.dir s fits parts.0)) ∙ parts.1))

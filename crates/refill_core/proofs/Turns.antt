@@ -4,7 +4,7 @@
 --     list_now, few_now           the list on the next direction is as it was at first
 --     one_begun, others_later     one direction further
 --     all_begun                   behind the last one
---     sides_of, dirs_named        the directions of notes, as a room names them
+--     dirs_named                  the directions of notes, as a room names them
 use Rattle.std.proofs.Common.{◌≡◌, ◌≢◌, ℕ, ◌+◌, ◌<◌, ◌≤◌, List, [], ◌∷◌, ◌++◌, take, drop, length, get_or, set, refl, sym, ap, ap₂, subst, ◌∙◌, append-nil}
 use Rattle.std.specs.Prelude.{Option, Some, None, All, IfSome, slice_get, map as each}
 use Rattle.std.proofs.lemmas.List.{take_all, drop_all}
@@ -94,14 +94,6 @@ pub all_begun : (lists : List DirBytes) (ends : List AgentEnd) (items old : Note
 all_begun lists ends items old i past seen =
     seen ∙ ap₂ (λ (a b : Notes). each (begun_note lists ends) a ++ b) (take_all i old past) (drop_all i old past)
     ∙ append-nil (each (begun_note lists ends) old) ∙ names_begun lists ends old
-
-pub sides_of : (notes : Notes) (lengths : List Named) → names_of notes ≡ lengths → All (λ named. named.0.side < 2) lengths → All (λ x. x.dir.side < 2) notes
-sides_of notes lengths is all = go notes (subst (All (λ named. named.0.side < 2)) (sym is) all)
-  where
-    go : (l : Notes) → All (λ named. named.0.side < 2) (names_of l) → All (λ x. x.dir.side < 2) l
-    go [] told = All-nil (λ (x : DirNotes). x.dir.side < 2)
-    go (x ∷ l) told =
-        All-cons (λ (y : DirNotes). y.dir.side < 2) x l (All-head (λ (n : Named). n.0.side < 2) (name_of x) (names_of l) told) (go l (All-tail (λ (n : Named). n.0.side < 2) (name_of x) (names_of l) told))
 
 pub dirs_named : (notes : Notes) (lengths : List Named) → names_of notes ≡ lengths → dirs_of notes ≡ each (λ named. named.0) lengths
 dirs_named notes lengths is = go notes ∙ ap (each (λ (named : Named). named.0)) is

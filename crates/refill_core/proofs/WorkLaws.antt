@@ -18,8 +18,8 @@ use Rattle.sys_abi.proofs.OrderLaws.{dir_total, dir_exact}
 use Rattle.wire_net.specs.declared.cut_room.DirNotes.{DirNotes}
 use Rattle.wire_net.specs.Channels.{Channels, direction_at}
 use Rattle.wire_net.specs.Whereabouts.{reverse}
-use Rattle.refill_core.specs.Tasks.{frame_length, has_back, end_channels, read_count, send_count, note_read, channels_read}
-use Rattle.refill_core.specs.Refills.{Notes, Refilling, Apart, dirs_of, notes_at, put_notes, IsNoted, end_after, ends_after}
+use Rattle.refill_core.specs.Tasks.{frame_length, has_back, turn_channels, read_count, send_count, note_read, channels_read}
+use Rattle.refill_core.specs.Refills.{Notes, Refilling, Apart, dirs_of, notes_at, put_notes, IsNoted, turn_after, turns_after}
 use Rattle.refill_core.specs.Work.{way, work_live, work_of, work_at, work_left, moved_by, moved_any}
 use Rattle.refill_core.proofs.OneRefill.{all_size}
 use Rattle.refill_core.proofs.EndFits.{Pair, Ended, ended}
@@ -150,7 +150,7 @@ turn_lowers p d s t fits =
     e = ended p s.channels s.notes d t.x t.y t.pair
 
     after : Channels
-    after = end_channels p t.x t.y s.channels
+    after = turn_channels p t.x t.y s.channels
 
     sent_true : (o : Option RealPid) → IsSome o → is_some o ≡ true
     sent_true None there = true_false (sym there)
@@ -195,19 +195,19 @@ turn_lowers p d s t fits =
         let same = other z noted (λ here. true_false (sym (ap (λ (f : Dir). eq_by_cmp dir_cmp f d) here ∙ key_tied dir_total dir_exact d) ∙ is)) in
         omega (arith, same)
 
-pub end_lowers : (p : RealPid) (d : Dir) (s : Refilling) → FitsNow s → work_left (end_after p d s).channels (end_after p d s).notes + gain (moved_by p d s) ≤ work_left s.channels s.notes
+pub end_lowers : (p : RealPid) (d : Dir) (s : Refilling) → FitsNow s → work_left (turn_after p d s).channels (turn_after p d s).notes + gain (moved_by p d s) ≤ work_left s.channels s.notes
 end_lowers p d s fits = elim (end_cases p d s fits) [
   | inl still ↦
-      let same : work_left (end_after p d s).channels (end_after p d s).notes ≡ work_left s.channels s.notes = ap (λ (t : Refilling). work_left t.channels t.notes) still.is in
+      let same : work_left (turn_after p d s).channels (turn_after p d s).notes ≡ work_left s.channels s.notes = ap (λ (t : Refilling). work_left t.channels t.notes) still.is in
       let none : gain (moved_by p d s) ≡ 0 = ap gain still.moves in
       omega (arith, same, none)
   | inr turn ↦ subst (λ (t : Refilling). work_left t.channels t.notes + gain (moved_by p d s) ≤ work_left s.channels s.notes) (sym turn.is) (turn_lowers p d s turn fits)
 ]
 
-pub ends_lower : (p : RealPid) (ds : List Dir) (s : Refilling) → FitsNow s → work_left (ends_after p ds s).channels (ends_after p ds s).notes + gain (moved_any p ds s) ≤ work_left s.channels s.notes
+pub ends_lower : (p : RealPid) (ds : List Dir) (s : Refilling) → FitsNow s → work_left (turns_after p ds s).channels (turns_after p ds s).notes + gain (moved_any p ds s) ≤ work_left s.channels s.notes
 ends_lower p [] s fits = omega arith
 ends_lower p (d ∷ ds) s fits =
     let first = end_lowers p d s fits in
-    let rest = ends_lower p ds (end_after p d s) (end_fits p d s fits) in
-    let most = gain_or (moved_by p d s) (moved_any p ds (end_after p d s)) in
+    let rest = ends_lower p ds (turn_after p d s) (end_fits p d s fits) in
+    let most = gain_or (moved_by p d s) (moved_any p ds (turn_after p d s)) in
     omega (arith, first, rest, most)

@@ -6,7 +6,7 @@
 --     begun_on              the notes on a direction, by the list of what was drained of it
 --     begun                 the notes on all directions that a room names
 --     IsGivenBack m list    all bytes of the list, and no others, can be read from its direction
-use Rattle.std.specs.Prelude.{◌≡◌, ◌<◌, ◌≤◌, ◌⊎◌, ℕ, ◌-◌, true, List, [], length, map as each, Option, Some, None, IsSome, is_some, All, if◌then◌else◌}
+use Rattle.std.specs.Prelude.{◌≡◌, ◌<◌, ◌≤◌, ◌⊎◌, ℕ, true, List, [], length, map as each, Option, Some, None, IsSome, is_some, All, if◌then◌else◌}
 use Rattle.wire_net.specs.declared.agents.AgentEnd.{AgentEnd}
 use Rattle.wire_net.specs.declared.cut_room.DirBytes.{DirBytes}
 use Rattle.wire_net.specs.declared.cut_room.DirNotes.{DirNotes}
@@ -55,7 +55,6 @@ abbrev pub with_list : List AgentEnd → List ℕ → DirNotes → DirNotes
 with_list ends bytes x = record x {
   drained = reserve bytes (length bytes);
   sender = agent_of ends x.dir.conn x.dir.side;
-  reader = agent_of ends x.dir.conn (1 - x.dir.side);
   count = length bytes;
 }
 

@@ -3,10 +3,12 @@
 --     held_of x y          of the direction with the notes x, whose other direction has the notes y
 --     agents_of notes      of each direction that they refill
 --     own_bytes            the bytes of a direction, by its notes
+--     whereabouts          the bytes of a direction, wherever they are, by what is held: it is `wire_net`'s
 use Rattle.std.specs.Prelude.{ℕ, ◌-◌, min, max, List, [], ◌∷◌, drop, Option, Some, None, is_some, if◌then◌else◌}
 use Rattle.std.specs.FinMap as map
 use Rattle.wire_net.specs.declared.cut_room.DirNotes.{DirNotes}
 use Rattle.wire_net.specs.Whereabouts.{Held, Agents, reverse}
+pub use Rattle.wire_net.specs.Whereabouts.{whereabouts}
 use Rattle.refill_core.specs.declared.limits.TheConstants.{HEADER_LENGTH}
 use Rattle.refill_core.specs.Tasks.{frame_length}
 use Rattle.refill_core.specs.Refills.{Notes, notes_at}

@@ -1,5 +1,17 @@
 -- A refill under way.
---     IsRefilling x y d      how the notes on a direction of a live channel fit it: what was sent on it, and what was read off it
+-- Source: the DMTCP paper (IPDPS 2009), "refill kernel buffers".
+--     IsNoted x               what the notes on a direction keep by themselves
+--     IsRefilling x y d       how the notes on a direction of a live channel fit it: what was sent on it, and what was read off it
+--     notes_at d notes        the notes on a direction, if there are any
+--     put_notes d x notes     x in their place
+--     IsAside m x             no agent refills the direction, and all its bytes can be read
+--     IsUnderWay m notes x    an agent does, there are notes on the other direction too, and both fit the direction
+--     IsInStep m notes x      one or the other
+--     Fits m notes            so it is with the notes on all directions, each another one; those with an agent are the directions of live channels
+--     Refilling               the notes on all directions, and the channels
+--     turn_after p d s        what p's turn on a direction leaves: where p sends it, p reads off the other one, then sends on it
+--     turns_after p ds s      what its turns on all of them leave, one after the other: a step
+--     IsBack bytes m x        all bytes of the direction can be read, and they are all that it had
 use Rattle.std.specs.Prelude.{◌≡◌, ◌<◌, ◌≤◌, ◌⊎◌, ℕ, ◌-◌, List, length, take, drop, map as each, find, fold, Option, Some, None, IsSome, is_some, All, if◌then◌else◌}
 use Rattle.std.specs.Ordering.{eq_by_cmp}
 use Rattle.sys_abi.specs.declared.identity.Dir.{Dir}
@@ -13,9 +25,8 @@ use Rattle.wire_net.specs.Networks.{received_on}
 use Rattle.wire_net.specs.Whereabouts.{stream, stream_on, reverse}
 pub use Rattle.wire_net.specs.Noted.{Notes, IsFlowing, dirs_of, Apart, has_notes}
 use Rattle.refill_core.specs.declared.limits.TheConstants.{HEADER_LENGTH}
-use Rattle.refill_core.specs.Tasks.{frame_length, sent_in_all, is_agent, end_note, end_channels}
+use Rattle.refill_core.specs.Tasks.{frame_length, sent_in_all, is_agent, turn_note, turn_channels}
 
--- what the notes on a direction keep by themselves
 pub record IsNoted (x : DirNotes) : Type 0 where
   pub side : x.dir.side < 2
   pub few : x.count ≤ QUEUE_LIMIT
@@ -64,21 +75,20 @@ pub record Refilling : Type 0 where
   pub notes : Notes
   pub channels : Channels
 
-abbrev pub end_found : RealPid → Refilling → DirNotes → Option DirNotes → Refilling
-end_found p s x None = s
-end_found p s x (Some y) = if is_agent p x.sender then record { notes = put_notes x.dir (end_note p x y s.channels) s.notes; channels = end_channels p x y s.channels } else s
+abbrev pub turn_found : RealPid → Refilling → DirNotes → Option DirNotes → Refilling
+turn_found p s x None = s
+turn_found p s x (Some y) = if is_agent p x.sender then record { notes = put_notes x.dir (turn_note p x y s.channels) s.notes; channels = turn_channels p x y s.channels } else s
 
-abbrev pub end_of : RealPid → Refilling → Option DirNotes → Refilling
-end_of p s None = s
-end_of p s (Some x) = end_found p s x (notes_at (reverse x.dir) s.notes)
+abbrev pub turn_of : RealPid → Refilling → Option DirNotes → Refilling
+turn_of p s None = s
+turn_of p s (Some x) = turn_found p s x (notes_at (reverse x.dir) s.notes)
 
--- what a step of p leaves of a direction that it sends, and of the other one
-abbrev pub end_after : RealPid → Dir → Refilling → Refilling
-end_after p d s = end_of p s (notes_at d s.notes)
+-- where p sends the direction; else nothing happens
+abbrev pub turn_after : RealPid → Dir → Refilling → Refilling
+turn_after p d s = turn_of p s (notes_at d s.notes)
 
--- of all directions, one after the other
-abbrev pub ends_after : RealPid → List Dir → Refilling → Refilling
-ends_after p ds s = fold (λ (t : Refilling) (d : Dir). end_after p d t) s ds
+abbrev pub turns_after : RealPid → List Dir → Refilling → Refilling
+turns_after p ds s = fold (λ (t : Refilling) (d : Dir). turn_after p d t) s ds
 
 -- all bytes of the direction can be read, and they are all that it had, wherever they were
 pub record IsBack (bytes : Dir → List ℕ) (m : Channels) (x : DirNotes) : Type 0 where

@@ -7,9 +7,10 @@
 --     sent_in_all x y            all that is sent on the direction
 --     has_back x                 the whole frame with its bytes was read
 --     part x y                   what is sent next, and so far in one piece
---     reads p x r                how many bytes of the frame p reads in a step
---     sends p x y d              how many bytes p sends
+--     reads p x r                how many bytes of the frame p reads in a turn
+--     sends p x y d              how many bytes p sends in a turn
 --     with_piece, with_sent      what is noted then
+--     turn_note, turn_channels    what a turn of p leaves of the notes x and of the channels: it reads before it sends
 use Rattle.std.specs.Prelude.{◌==◌, ℕ, ◌+◌, ◌-◌, min, nat_lt, Bool, List, [], ◌++◌, length, take, drop, if◌then◌else◌}
 use Rattle.std.specs.Option.{option_map_or}
 use Rattle.std.specs.Int.{w32, to_le_bytes}
@@ -89,9 +90,8 @@ note_sent p x y m = with_sent (send_count p x y m) x
 abbrev pub channels_sent : RealPid → DirNotes → DirNotes → Channels → Channels
 channels_sent p x y m = at_direction m x.dir (sent_on (send_count p x y m) (part x y))
 
--- it reads before it sends
-abbrev pub end_note : RealPid → DirNotes → DirNotes → Channels → DirNotes
-end_note p x y m = note_sent p (note_read p x m) y (channels_read p x m)
+abbrev pub turn_note : RealPid → DirNotes → DirNotes → Channels → DirNotes
+turn_note p x y m = note_sent p (note_read p x m) y (channels_read p x m)
 
-abbrev pub end_channels : RealPid → DirNotes → DirNotes → Channels → Channels
-end_channels p x y m = channels_sent p (note_read p x m) y (channels_read p x m)
+abbrev pub turn_channels : RealPid → DirNotes → DirNotes → Channels → Channels
+turn_channels p x y m = channels_sent p (note_read p x m) y (channels_read p x m)

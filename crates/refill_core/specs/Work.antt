@@ -1,22 +1,23 @@
 -- How much of a refill is left.
 --     way direction              the bytes before the receiver's queue, each counted once for each queue that it must still leave
 --     work_live x y direction    of a direction that agents refill: the bytes still to be sent, moved, or read in its frame, each counted once for each
---                                of these, and one for each of the two ends that has not finished
+--                                of these, and one for each of the two tasks, to read the frame and to send all, that is not ended
 --     work_left m notes          of all directions
---     moved_by, moved_any        the step of p on a direction moves bytes;  on any, one after the other
+--     moved_by, moved_any        p's turn on a direction moves bytes;  one of its turns on all of them does, one after the other
 --     is_left, has_work          p has work left on a direction;  on any
 --     is_finished, is_done       nothing is left to do on a direction;  on any
 --     step_answer                what a step answers
 --     must_send x y              the sender of the direction with the notes x has bytes to send now
 --     IsBlocked p m x y          p can move nothing where it sends the direction with the notes x and reads the other one, with the notes y
 --     IsHeldUp p m notes         p has work left and can move nothing
---     GoesOn s                   an agent's step moves bytes, or bytes can be moved from queue to queue
+--     GoesOn s                   an agent's step answers that it moved bytes, or bytes can be moved from queue to queue
 use Rattle.std.specs.Prelude.{◌≡◌, ◌==◌, ◌≤◌, ◌⊎◌, ◌*◌, ℕ, ◌+◌, ◌-◌, nat_lt, Bool, true, false, not, ◌&&◌, ◌||◌, List, [], ◌∷◌, length, Option, Some, None, IfSome, is_some, All, if◌then◌else◌}
 use Rattle.std.specs.Option.{option_map_or}
 use Rattle.std.specs.List.{sum_by, list_any, list_all}
 use Rattle.sys_abi.specs.declared.identity.Dir.{Dir}
 use Rattle.sys_abi.specs.declared.identity.RealPid.{RealPid}
 use Rattle.wire_net.specs.declared.agents.Stepped.{Stepped}
+use Rattle.wire_net.specs.declared.agents.Stepped.TheVariants as answer
 use Rattle.wire_net.specs.declared.cut_room.DirNotes.{DirNotes}
 use Rattle.wire_net.specs.declared.limits.TheConstants.{QUEUE_LIMIT}
 use Rattle.wire_net.specs.Directions.{Direction, standing}
@@ -25,7 +26,7 @@ use Rattle.wire_net.specs.Channels.{Channels, direction_at}
 use Rattle.wire_net.specs.Networks.{received_on}
 use Rattle.wire_net.specs.Whereabouts.{reverse}
 use Rattle.refill_core.specs.Tasks.{frame_length, has_back, read_count, note_read, channels_read, send_count, is_agent}
-use Rattle.refill_core.specs.Refills.{Notes, Refilling, dirs_of, notes_at, end_after}
+use Rattle.refill_core.specs.Refills.{Notes, Refilling, dirs_of, notes_at, turn_after}
 
 abbrev pub way : Direction → ℕ
 way direction = 2 * length direction.sent + length direction.wire
@@ -65,7 +66,7 @@ moved_by p d s = moves_of p s (notes_at d s.notes)
 
 abbrev pub moved_any : RealPid → List Dir → Refilling → Bool
 moved_any p [] s = false
-moved_any p (d ∷ ds) s = moved_by p d s || moved_any p ds (end_after p d s)
+moved_any p (d ∷ ds) s = moved_by p d s || moved_any p ds (turn_after p d s)
 
 -- ---- what is left to do, as tests
 
@@ -107,4 +108,4 @@ pub record IsHeldUp (p : RealPid) (m : Channels) (notes : Notes) : Type 0 where
 
 -- somebody goes on with the refill
 abbrev pub GoesOn : Refilling → Type 0
-GoesOn s = ((p : RealPid) × (moved_any p (dirs_of s.notes) s ≡ true)) ⊎ CanMove s.channels s.notes
+GoesOn s = ((p : RealPid) × (step_answer p s ≡ answer.Moved)) ⊎ CanMove s.channels s.notes

@@ -39,20 +39,17 @@ fn clear(notes: &mut DirNotes)
 
 /// Notes what agents send back of a direction, and takes the buffer of its list along.
 fn give_back(notes: &mut DirNotes, list: &mut DirBytes, ends: &[AgentEnd])
-    requires side { notes.old.dir.side < 2 }
-    requires few { length list.old.bytes ≤ QUEUE_LIMIT }
+    requires { length list.old.bytes ≤ QUEUE_LIMIT }
     ensures noted { notes.new ≡ words.with_list ends.now list.old.bytes notes.old }
     ensures list { list.new ≡ record list.old { bytes = notes.old.drained.items } }
 {
     notes.sender = agent_of(ends, notes.dir.conn, notes.dir.side);
-    notes.reader = agent_of(ends, notes.dir.conn, 1 - notes.dir.side);
     notes.count = list.bytes.len() as u32;
     notes.drained.exchange(&mut list.bytes);
 }
 
 /// Begins the notes on a direction. Its list loses its bytes where agents send them back.
 fn begin_on(notes: &mut DirNotes, lists: &mut [DirBytes], ends: &[AgentEnd])
-    requires side { notes.old.dir.side < 2 }
     requires room { HasRoom notes.old }
     requires few { IfSome (list_on notes.old.dir lists.old) (λ list. length list.bytes ≤ QUEUE_LIMIT) }
     ensures begun { notes.new ≡ words.begun_on ends.now (name_of notes.old) (list_on notes.old.dir lists.old) }
@@ -70,7 +67,6 @@ fn begin_on(notes: &mut DirNotes, lists: &mut [DirBytes], ends: &[AgentEnd])
 
 /// Begins the notes on all directions.
 pub(crate) fn begin_all(all: &mut [DirNotes], lists: &mut [DirBytes], ends: &[AgentEnd])
-    requires sides { All (λ notes. notes.dir.side < 2) all.old }
     requires room { All HasRoom all.old }
     requires apart { Apart (dirs_of all.old) }
     requires few { All (λ list. length list.bytes ≤ QUEUE_LIMIT) lists.old }

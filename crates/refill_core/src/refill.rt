@@ -3,13 +3,12 @@ ghost use Rattle.sys_abi.specs.declared.identity.Dir.{Dir};
 ghost use Rattle.wire_net.specs.declared.agents.Stepped.TheVariants.{Moved, Again};
 ghost use Rattle.wire_net.specs.declared.limits.TheConstants.{QUEUE_LIMIT};
 ghost use Rattle.wire_net.specs.Channels.{Channels};
-ghost use Rattle.wire_net.specs.DrainedNets.{IsDrained, HasLists, IsNamingLists};
+ghost use Rattle.wire_net.specs.DrainedNets.{IsDrained, HasLists, IsNamingLists, agents_of_lists};
 ghost use Rattle.wire_net.specs.Ends.{IsFor};
 ghost use Rattle.wire_net.specs.Networks.{Network};
-ghost use Rattle.wire_net.specs.Whereabouts.{whereabouts};
 ghost use Rattle.refill_core.specs.Beginnings as beginnings;
 ghost use Rattle.refill_core.specs.Refills as words;
-ghost use Rattle.refill_core.specs.Holding.{agents_of};
+ghost use Rattle.refill_core.specs.Holding.{agents_of, whereabouts};
 ghost use Rattle.refill_core.specs.Stepping.{state};
 ghost use Rattle.refill_core.specs.Work as work;
 
@@ -47,7 +46,11 @@ impl Refill {
         // It fits each network that was drained so.
         ensures fits { (m : Channels) → IsFor m ends.now → IsDrained m drained.lists → HasLists m drained.lists → words.Fits m result }
 
-        // The bytes of each direction are those of its list.
+        // The bytes of each direction are the same, whether its list holds them or the notes do.
+        ensures held { (t : Network) → IsFor t.channels ends.now → IsDrained t.channels drained.lists → HasLists t.channels drained.lists
+            → (d : Dir) → whereabouts t (agents_of result) d ≡ whereabouts t (agents_of_lists drained.lists) d }
+
+        // Those of a direction that has a list are those of the list.
         ensures kept { (t : Network) → IsFor t.channels ends.now → IsDrained t.channels drained.lists → HasLists t.channels drained.lists
             → All (λ list. whereabouts t (agents_of result) list.dir ≡ list.bytes) drained.lists }
     {
@@ -61,14 +64,15 @@ impl Refill {
         }
     }
 
-    /// One step of an agent on all directions that it sends: it reads what has come of the frame with the direction's own
-    /// bytes, and sends what comes next, as far as there is room: the frame of the other direction, and behind it, once
-    /// its own bytes are back, these. Takes no memory.
+    /// One step of an agent: for each direction that it sends, one after the other, it reads what has come of the frame
+    /// with the direction's own bytes, and sends the next piece (the length, the rest of the frame, or its own bytes) as
+    /// far as there is room. It sends the frame of the other direction first, and its own bytes once they are back. Takes
+    /// no memory.
     pub fn step(&mut self, net: &mut Net, agent: RealPid) -> Stepped
         requires { words.Fits net.old.channels self.old }
         ensures answer { result ≡ work.step_answer agent (state self.old net.old) }
         ensures again { (result ≡ Again) ↔ work.IsHeldUp agent net.old.channels self.old }
-        ensures after { state self.new net.new ≡ words.ends_after agent (words.dirs_of self.old) (state self.old net.old) }
+        ensures after { state self.new net.new ≡ words.turns_after agent (words.dirs_of self.old) (state self.old net.old) }
         ensures net { net.new ≡ record net.old { channels = net.new.channels } }
         ensures fits { words.Fits net.new.channels self.new }
         ensures named { words.dirs_of self.new ≡ words.dirs_of self.old }

@@ -21,7 +21,7 @@ pub(crate) fn place_of(all: &[DirNotes], d: Dir) -> Option<usize>
     None
 }
 
-/// One step of an agent on the direction of the notes at a place, if it sends it: it reads off the other direction before it
+/// An agent's turn on the direction of the notes at a place, if it sends it: it reads off the other direction before it
 /// sends on this one. Answers whether it moved bytes.
 fn step_on(
     all: &mut [DirNotes],
@@ -33,7 +33,7 @@ fn step_on(
     requires fits { words.Fits net.old.channels all.old }
     requires within { place < length all.old }
     ensures moved { result ≡ moved_by agent (dir_at all.old place) (state all.old net.old) }
-    ensures after { state all.new net.new ≡ words.end_after agent (dir_at all.old place) (state all.old net.old) }
+    ensures after { state all.new net.new ≡ words.turn_after agent (dir_at all.old place) (state all.old net.old) }
     ensures net { net.new ≡ record net.old { channels = net.new.channels } }
 {
     if !is_agent(all[place].sender, agent) {
@@ -48,7 +48,7 @@ fn step_on(
     read > 0 || sent > 0
 }
 
-/// One step of an agent on each direction, one after the other. Answers whether it moved bytes.
+/// A step of an agent: its turn on each direction, one after the other. Answers whether it moved bytes.
 pub(crate) fn step_all(
     all: &mut [DirNotes],
     net: &mut Net,
@@ -57,7 +57,7 @@ pub(crate) fn step_all(
 ) -> bool
     requires { words.Fits net.old.channels all.old }
     ensures moved { result ≡ moved_any agent (words.dirs_of all.old) (state all.old net.old) }
-    ensures after { state all.new net.new ≡ words.ends_after agent (words.dirs_of all.old) (state all.old net.old) }
+    ensures after { state all.new net.new ≡ words.turns_after agent (words.dirs_of all.old) (state all.old net.old) }
     ensures net { net.new ≡ record net.old { channels = net.new.channels } }
 {
     let mut moved = false;

@@ -6,16 +6,13 @@ use Rattle.wire_net.specs.Whereabouts.{whereabouts}
 use Rattle.refill_core.specs.Beginnings.{begun}
 use Rattle.refill_core.specs.Holding.{agents_of}
 use Rattle.refill_core.specs.Refills.{Notes, Apart, Fits, dirs_of}
-use Rattle.refill_core.proofs.Begun.{begun_dirs, fits_begun, kept_begun}
+use Rattle.refill_core.proofs.Begun.{begun_dirs, fits_begun, held_begun, kept_begun}
 use Rattle.refill_core.proofs.Steps.{written_back}
-use Rattle.refill_core.proofs.Turns.{sides_of, dirs_named}
+use Rattle.refill_core.proofs.Turns.{dirs_named}
 use Rattle.refill_core.proofs.refill.Refill.begin.Goals as goal
 
 notes_lent : (c : goal.After-deref_mut-2) → c.deref_mut.result.now ≡ c.into_parts-parts.result.notes
 notes_lent c = c.deref_mut.ensures.value ∙ c.into_vec-notes.ensures
-
-pub begin_all-requires-clause-sides : goal.begin_all-requires-clause-sides
-begin_all-requires-clause-sides c = sides_of c.deref_mut.result.now c.args.room.lengths (ap names_of (notes_lent c) ∙ c.into_parts-parts.ensures.names) c.requires.naming.sides
 
 pub begin_all-requires-clause-apart : goal.begin_all-requires-clause-apart
 begin_all-requires-clause-apart c =
@@ -34,6 +31,11 @@ returns-clause-named c = ap dirs_of (returns-clause-begun c) ∙ begun_dirs c.ar
 pub returns-clause-fits : goal.returns-clause-fits
 returns-clause-fits c = λ m for drained has.
     subst (Fits m) (sym (returns-clause-begun c)) (fits_begun m c.args.ends.now c.args.room.lengths c.args.drained.lists for drained has c.requires.naming)
+
+pub returns-clause-held : goal.returns-clause-held
+returns-clause-held c = λ t for drained has d.
+    ap (λ (l : Notes). whereabouts t (agents_of l) d) (returns-clause-begun c)
+    ∙ held_begun t c.args.ends.now c.args.room.lengths c.args.drained.lists d for drained has c.requires.naming
 
 pub returns-clause-kept : goal.returns-clause-kept
 returns-clause-kept c = λ t for drained has.
