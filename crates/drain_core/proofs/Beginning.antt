@@ -27,9 +27,9 @@ use Rattle.drain_core.specs.Drains.{Notes, IsNoted, IsInStep, dirs_of, Apart, Fi
 use Rattle.drain_core.specs.Holding.{agents_of}
 use Rattle.drain_core.specs.Openings.{IsNaming, opened, begun}
 use Rattle.drain_core.proofs.OneDrain.{own}
-use Rattle.drain_core.proofs.Ending.{stream_length}
 use Rattle.drain_core.proofs.AllDirections.{for_each, one_of}
 use Rattle.drain_core.proofs.Bytes.{find_live, of_found, whereabouts_is, found_live}
+use Rattle.wire_net.proofs.Gains.{stream_length}
 
 record IsFresh (m : Channels) (ends : List AgentEnd) (x : DirNotes) : Type 0 where
   named : Named

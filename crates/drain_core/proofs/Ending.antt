@@ -1,8 +1,7 @@
 -- A drain is done exactly where no work is left.
---     stream_length               how many bytes stand in a direction
 --     finished_live               a direction of a live channel that is finished is empty
 --     finished_is, done_is        the tests
-use Rattle.std.proofs.Common.{◌≡◌, ◌≢◌, ℕ, ◌==◌, ◌+◌, ◌*◌, ◌-◌, ◌≤◌, Bool, true, false, [], ◌∷◌, ◌++◌, length, refl, sym, ap, ap₂, subst, ◌∙◌, arith, length-append, inl, inr}
+use Rattle.std.proofs.Common.{◌≡◌, ◌≢◌, ℕ, ◌==◌, ◌+◌, ◌*◌, ◌-◌, ◌≤◌, Bool, true, false, [], ◌∷◌, length, refl, sym, ap, ap₂, subst, ◌∙◌, arith, inl, inr}
 use Rattle.std.specs.Prelude.{Option, Some, None, All, IsSome, is_some, not, ◌&&◌, if◌then◌else◌}
 use Rattle.std.specs.Option.{option_map_or}
 use Rattle.std.specs.List.{list_all}
@@ -19,24 +18,13 @@ use Rattle.drain_core.specs.Tasks.{has_sent}
 use Rattle.drain_core.specs.Drains.{Notes, IsNoted, IsDraining, IsInStep, Fits, reads_on, has_arrived, is_finished, is_done}
 use Rattle.drain_core.specs.Work.{work_on, work_aside, work_of, work_at, work_left}
 use Rattle.drain_core.proofs.AllDirections.{for_each, one_of}
-
-pub stream_length : (direction : Direction) → length (stream direction) ≡ length direction.received + length direction.wire + length direction.sent
-stream_length direction = length-append (direction.received ++ direction.wire) direction.sent ∙ ap (λ (k : ℕ). k + length direction.sent) (length-append direction.received direction.wire)
+use Rattle.wire_net.proofs.Gains.{both_zero, stream_length}
 
 pub finished_live : (x : DirNotes) (direction : Direction) → IsNoted x → IsDraining x direction → has_sent x ≡ true → reads_on x ≡ false → length (stream direction) ≡ 0
 finished_live x direction noted drains sent read =
     let all_sent : x.sent ≡ 16 = grind (arith, nat_tests, sent) in
     let all_read : x.count + 16 ≤ x.read = grind (arith, nat_tests, read) in
     omega (arith, all_sent, all_read, noted.read, drains.total)
-
-both_zero : (a b : ℕ) → ((2 * a + b) == 0) ≡ ((a == 0) && (b == 0))
-both_zero a b = choice (a == 0) (b == 0) refl refl
-  where
-    choice : (c d : Bool) → (a == 0) ≡ c → (b == 0) ≡ d → ((2 * a + b) == 0) ≡ (c && d)
-    choice true true c d = grind (arith, nat_tests, c, d)
-    choice true false c d = grind (arith, nat_tests, c, d)
-    choice false true c d = grind (arith, nat_tests, c, d)
-    choice false false c d = grind (arith, nat_tests, c, d)
 
 live_zero : (x : DirNotes) (direction : Direction) → IsNoted x → IsDraining x direction → (work_on x direction == 0) ≡ (has_sent x && not (reads_on x))
 live_zero x direction noted drains = choice (has_sent x) (reads_on x) refl refl

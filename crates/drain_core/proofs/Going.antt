@@ -25,9 +25,9 @@ use Rattle.drain_core.specs.Tasks.{is_agent, has_sent, unsent, readable, sendabl
 use Rattle.drain_core.specs.Drains.{Notes, IsNoted, IsDraining, IsInStep, Fits, has_notes, reads_on, has_arrived, is_finished, is_done, answer_of, is_left, has_work, moves_on, moves_any}
 use Rattle.drain_core.specs.Work.{GoesOn}
 use Rattle.drain_core.proofs.OneDrain.{unsent_length}
-use Rattle.drain_core.proofs.Ending.{stream_length}
 use Rattle.drain_core.proofs.AllDirections.{one_of}
 use Rattle.drain_core.proofs.Idle.{mover_left}
+use Rattle.wire_net.proofs.Gains.{stream_length}
 
 agent_itself : (p : RealPid) → is_agent p (Some p) ≡ true
 agent_itself p = ap₂ (λ (a b : Bool). a && b) (eq-eqb p.node p.node refl) (eq-eqb p.pid p.pid refl)

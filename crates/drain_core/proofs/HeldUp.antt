@@ -19,6 +19,7 @@ use Rattle.drain_core.specs.Tasks.{is_agent, has_sent, readable, sendable, reads
 use Rattle.drain_core.specs.Drains.{Notes, IsNoted, reads_on, has_work, moves_on, moves_any, answer_of, step_answer, IsBlocked, IsHeldUp}
 use Rattle.drain_core.proofs.OneDrain.{unsent_length}
 use Rattle.drain_core.proofs.AllDirections.{for_each, one_of}
+use Rattle.wire_net.proofs.Gains.{again_is}
 
 zero_test : (n : ℕ) → nat_lt 0 n ≡ false → n ≡ 0
 zero_test n is = grind (arith, nat_tests, is)
@@ -74,17 +75,6 @@ all_still test [] none = All-nil (λ x. test x ≡ false)
 all_still test (x ∷ notes) none =
     let parts = or_parts (test x) (list_any test notes) none in
     All-cons (λ y. test y ≡ false) x notes parts.0 (all_still test notes parts.1)
-
-again_is : (work moved : Bool) → answer_of work moved ≡ answer.Again → (work ≡ true) × (moved ≡ false)
-again_is true true is = absurd (other is)
-  where
-    other : answer.Moved ≡ answer.Again → ⊥
-    other e = cc
-again_is true false is = (refl, refl)
-again_is false moved is = absurd (other is)
-  where
-    other : answer.Finished ≡ answer.Again → ⊥
-    other e = cc
 
 -- of one direction, both ways
 blocked_at : (p : RealPid) (m : Channels) (x : DirNotes) (found : Option Direction) → IsNoted x → option_map_or (moves p x) found false ≡ false → IfSome found (IsBlocked p x)

@@ -14,7 +14,6 @@ mod Going
 mod Given
 mod Beginning
 mod HeldUp
-mod OneChannel
 mod DrainedLists
 mod KeptLists
 mod Staying

@@ -25,7 +25,7 @@ use Rattle.wire_net.proofs.OneDirection.{direction_changed, direction_beside}
 use Rattle.drain_core.proofs.OneStep.{with_channels}
 use Rattle.drain_core.proofs.AllDirections.{for_each, one_of}
 use Rattle.wire_net.proofs.LiveChannels.{KeepsFlow, live_kept, move_flows}
-use Rattle.drain_core.proofs.WorkLaws.{gain, sums}
+use Rattle.wire_net.proofs.Gains.{gain, sums, cut_down}
 
 pub record KeepsBytes (f : Direction → Direction) : Type 0 where
   pub bytes : (direction : Direction) → stream (f direction) ≡ stream direction
@@ -156,16 +156,6 @@ less_at m x d place n side noted =
           let same : work_at after x ≡ work_at m x = ap (λ (o : Option Direction). option_map_or (work_of x) o 0) other.1 in
           subst (λ (b : Bool). work_at after x + (if b then bytes else 0) ≤ work_at m x) (sym none) (omega (arith, same))
     ]
-
-cut_down : (a c k : ℕ) (b t : Bool) → a + (if b then k else 0) ≤ c → (b ≡ t) ⊎ (t ≡ false) → (t ≡ true → 0 < k) → a + gain t ≤ c
-cut_down a c k b t less which some = choice b t less which some
-  where
-    choice : (b t : Bool) → a + (if b then k else 0) ≤ c → (b ≡ t) ⊎ (t ≡ false) → (t ≡ true → 0 < k) → a + gain t ≤ c
-    choice true true less which some = let one = some refl in omega (arith, less, one)
-    choice true false less which some = omega (arith, less)
-    choice false true less (inl same) some = true_false (sym same)
-    choice false true less (inr same) some = true_false same
-    choice false false less which some = omega (arith, less)
 
 pub moved_no_more : (m : Channels) (notes : Notes) (d : Dir) (place : Place) (n : ℕ) → d.side < 2 → Fits m notes → work_left (at_direction m d (after_move place n)) notes ≤ work_left m notes
 moved_no_more m notes d place n side fits =

@@ -29,7 +29,8 @@ use Rattle.drain_core.proofs.DrainedLists.{sided, noted_list}
 use Rattle.drain_core.proofs.Given.{given}
 use Rattle.drain_core.proofs.Moving.{moved_fits, moved_no_more, moved_work}
 use Rattle.drain_core.proofs.Staying.{run_there, run_named}
-use Rattle.drain_core.proofs.WorkLaws.{gain, step_work}
+use Rattle.drain_core.proofs.WorkLaws.{step_work}
+use Rattle.wire_net.proofs.Gains.{gain}
 
 abbrev FitsNow : UnderWay → Type 0
 FitsNow s = Fits s.net.channels s.notes

@@ -1,15 +1,11 @@
 -- A step of an agent that moves bytes lowers the work that is left.
---     gain                        1 where bytes were moved
 --     reading_work, sending_work, one_work        of one direction
 --     step_work, moved_lowers     of all
-use Rattle.std.proofs.Common.{◌≡◌, ℕ, ◌==◌, ◌+◌, ◌-◌, ◌<◌, ◌≤◌, Bool, true, false, List, [], ◌∷◌, ◌++◌, map as each, take, drop, length, suc, zero, refl, sym, ap, ap₂, subst, ◌∙◌, arith, length-append, inl, inr}
+use Rattle.std.proofs.Common.{◌≡◌, ℕ, ◌==◌, ◌+◌, ◌-◌, ◌<◌, ◌≤◌, Bool, true, false, List, [], ◌∷◌, ◌++◌, take, drop, length, suc, zero, refl, sym, ap, ap₂, subst, ◌∙◌, arith, length-append, inl, inr}
 use Rattle.std.specs.Prelude.{Option, Some, None, All, IsSome, is_some, nat_lt, ◌||◌, if◌then◌else◌}
 use Rattle.std.specs.Option.{option_map, option_map_or}
-use Rattle.std.specs.List.{sum_by, list_any}
 use Rattle.std.proofs.lemmas.Bool.Decides.{nat_tests}
 use Rattle.std.proofs.lemmas.List.{length-drop}
-use Rattle.std.proofs.lemmas.List.Elements.{All-head, All-tail}
-use Rattle.std.proofs.lemmas.List.Sums.{sum_by-cons}
 use Rattle.views.proofs.MapLaws.{true_false}
 use Rattle.sys_abi.specs.declared.identity.RealPid.{RealPid}
 use Rattle.wire_net.specs.declared.agents.Stepped.TheVariants as answer
@@ -22,9 +18,7 @@ use Rattle.drain_core.specs.Work.{work_on, work_aside, work_of, work_at, work_le
 use Rattle.drain_core.proofs.OneStep.{sends_same}
 use Rattle.drain_core.proofs.OneDrain.{front_length, next_length, unsent_length, read_most, sent_most, same_sends, same_noted}
 use Rattle.drain_core.proofs.AllDirections.{for_each, one_of, note_dir, note_sender, aside_note, aside_direction, own_after}
-
-abbrev pub gain : Bool → ℕ
-gain moved = if moved then 1 else 0
+use Rattle.wire_net.proofs.Gains.{gain, sums, sum_of_each}
 
 less_to_read : (x : DirNotes) (n : ℕ) (sent : Bool) → ((if nat_lt (x.read + n) (x.count + 16) then 1 else 0) + (if sent then 0 else 1)) ≤ ((if nat_lt x.read (x.count + 16) then 1 else 0) + (if sent then 0 else 1))
 less_to_read x n sent = choice (nat_lt (x.read + n) (x.count + 16)) (nat_lt x.read (x.count + 16)) refl refl
@@ -117,25 +111,6 @@ one_work p x direction noted =
     joined before between after result n k sent more first second last same most = omega arith
 
 -- ---- all directions
-
-gain_or : (a b : Bool) → gain (a || b) ≤ gain a + gain b
-gain_or true b = omega arith
-gain_or false b = omega arith
-
-pub sums : (f g : DirNotes → ℕ) (t : DirNotes → Bool) (notes : Notes) → All (λ x. f x + gain (t x) ≤ g x) notes → sum_by f notes + gain (list_any t notes) ≤ sum_by g notes
-sums f g t [] all = omega arith
-sums f g t (x ∷ notes) all =
-    let here = All-head (λ y. f y + gain (t y) ≤ g y) x notes all in
-    let rest = sums f g t notes (All-tail (λ y. f y + gain (t y) ≤ g y) x notes all) in
-    let most = gain_or (t x) (list_any t notes) in
-    added _ _ _ _ _ _ _ _ _ here rest most (sum_by-cons f x notes) (sum_by-cons g x notes)
-  where
-    added : (a b c d e h i s t : ℕ) → a + b ≤ c → d + e ≤ h → i ≤ b + e → s ≡ a + d → t ≡ c + h → s + i ≤ t
-    added a b c d e h i s t one two three left right = omega arith
-
-sum_of_each : (f : DirNotes → ℕ) (g : DirNotes → DirNotes) (notes : Notes) → sum_by f (each g notes) ≡ sum_by (λ x. f (g x)) notes
-sum_of_each f g [] = refl
-sum_of_each f g (x ∷ notes) = sum_by-cons f (g x) (each g notes) ∙ ap (λ (n : ℕ). f (g x) + n) (sum_of_each f g notes) ∙ sym (sum_by-cons (λ y. f (g y)) x notes)
 
 at_step : (p : RealPid) (m n : Channels) (x : DirNotes) → direction_at n x.dir ≡ option_map (direction_after p x) (direction_at m x.dir) → IsNoted x → IsInStep m x
     → work_at n (note_after p (direction_at m x.dir) x) + gain (moves_on p m x) ≤ work_at m x

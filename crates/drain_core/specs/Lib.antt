@@ -1,4 +1,3 @@
-pub mod Alone
 pub mod Drains
 pub mod Holding
 pub mod Laws

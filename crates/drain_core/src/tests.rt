@@ -3,7 +3,7 @@ ghost use Rattle.std.specs.Prelude.{◌≡◌, ◌<◌, ◌≤◌, IfOk};
 ghost use Rattle.std.specs.Option.{option_map_or};
 ghost use Rattle.wire_net.specs.Channels.{direction_at};
 ghost use Rattle.wire_net.specs.Directions.{standing};
-ghost use Rattle.drain_core.specs.Alone.{IsAlone};
+ghost use Rattle.wire_net.specs.Alone.{IsAlone};
 ghost use Rattle.drain_core.specs.Drains.{Fits};
 
 use crate::{AgentEnd, CutRoom, Drain, Stepped};

@@ -27,15 +27,7 @@ use Rattle.refill_core.proofs.EndFits.{pair_of}
 use Rattle.wire_net.proofs.Items.{for_each, one_of}
 use Rattle.refill_core.proofs.Bytes.{whereabouts_is, at_itself}
 use Rattle.refill_core.proofs.Pairs.{all_found}
-
-both_zero : (a b : ℕ) → ((2 * a + b) == 0) ≡ ((a == 0) && (b == 0))
-both_zero a b = choice (a == 0) (b == 0) refl refl
-  where
-    choice : (c d : Bool) → (a == 0) ≡ c → (b == 0) ≡ d → ((2 * a + b) == 0) ≡ (c && d)
-    choice true true c d = grind (arith, nat_tests, c, d)
-    choice true false c d = grind (arith, nat_tests, c, d)
-    choice false true c d = grind (arith, nat_tests, c, d)
-    choice false false c d = grind (arith, nat_tests, c, d)
+use Rattle.wire_net.proofs.Gains.{both_zero}
 
 live_zero : (x y : DirNotes) (direction : Direction) → (work_live x y direction == 0) ≡ ((has_back x && has_sent_all x y) && has_arrived direction)
 live_zero x y direction = choice (has_back x) (has_sent_all x y) refl refl

@@ -4,7 +4,7 @@
 --     moved_is, read_is, sent_is      whether an agent moves bytes on its channel; how many it reads; how many it sends where it reads none
 --     part_size, own_size             how long the next part is
 --     positive                        the test whether a count is above 0
-use Rattle.std.proofs.Common.{◌≡◌, ◌≢◌, ℕ, ◌==◌, ◌+◌, ◌-◌, ◌<◌, ◌≤◌, min, Bool, true, false, List, [], ◌∷◌, ◌++◌, take, drop, length, refl, sym, ap, ap₂, subst, ◌∙◌, arith, length-append, inl, inr}
+use Rattle.std.proofs.Common.{◌≡◌, ◌≢◌, ℕ, ◌==◌, ◌+◌, ◌-◌, ◌<◌, ◌≤◌, min, Bool, true, false, List, [], ◌∷◌, ◌++◌, take, drop, length, refl, sym, ap, ap₂, subst, ◌∙◌, arith, inl, inr}
 use Rattle.std.specs.Prelude.{Option, Some, None, All, IsSome, is_some, nat_lt, not, ◌&&◌, ◌||◌, if◌then◌else◌}
 use Rattle.std.specs.Option.{option_map_or}
 use Rattle.std.specs.List.{list_any, list_all}
@@ -24,7 +24,7 @@ use Rattle.wire_net.specs.declared.place.Place.TheVariants.{Send, Wire}
 use Rattle.wire_net.specs.Directions.{Direction, room, after_receive}
 use Rattle.wire_net.specs.Channels.{Channels, direction_at, at_direction}
 use Rattle.wire_net.specs.Networks.{bytes_on, received_on}
-use Rattle.wire_net.specs.Whereabouts.{stream, reverse}
+use Rattle.wire_net.specs.Whereabouts.{reverse}
 use Rattle.refill_core.specs.Tasks.{is_agent, header, frame_length, has_back, part, with_piece, wanted, reads, sends, read_count, note_read, channels_read, send_count}
 use Rattle.refill_core.specs.Refills.{Notes, Refilling, dirs_of, has_notes, notes_at, IsNoted}
 use Rattle.refill_core.specs.Work.{has_sent_all, moves_found, moves_of, moved_by, moved_any, is_left, has_work, has_arrived, finished_of, is_finished, is_done, answer_of, step_answer, GoesOn}
@@ -36,6 +36,7 @@ use Rattle.refill_core.proofs.Bytes.{at_itself}
 use Rattle.refill_core.proofs.Pairs.{twice_around, found_dir, all_found}
 use Rattle.refill_core.proofs.Still.{none_read, moved_here, moved_nowhere}
 use Rattle.refill_core.proofs.Whole.{FitsNow, Turn, end_cases}
+use Rattle.wire_net.proofs.Gains.{stream_length}
 
 agent_itself : (p : RealPid) → is_agent p (Some p) ≡ true
 agent_itself p = ap₂ (λ (a b : Bool). a && b) (eq-eqb p.node p.node refl) (eq-eqb p.pid p.pid refl)
@@ -140,9 +141,6 @@ record Sizes (x y : DirNotes) (own other : Direction) : Type 0 where
   other_all : length other.received + x.read ≡ y.sent
   no_sent : length own.sent ≡ 0
   no_wire : length own.wire ≡ 0
-
-stream_length : (direction : Direction) → length (stream direction) ≡ length direction.received + length direction.wire + length direction.sent
-stream_length direction = length-append (direction.received ++ direction.wire) direction.sent ∙ ap (λ (k : ℕ). k + length direction.sent) (length-append direction.received direction.wire)
 
 arrived_sizes : (direction : Direction) → has_arrived direction ≡ true → (length direction.sent ≡ 0) × (length direction.wire ≡ 0)
 arrived_sizes direction is =

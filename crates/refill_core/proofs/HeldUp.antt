@@ -29,6 +29,7 @@ use Rattle.refill_core.proofs.Whole.{FitsNow, Turn, end_cases, agent_some}
 use Rattle.refill_core.proofs.Bytes.{at_itself}
 use Rattle.refill_core.proofs.Still.{zero_test, moved_nowhere, none_moved}
 use Rattle.refill_core.proofs.Going.{positive, moved_is, read_is, sent_is, part_size, own_size}
+use Rattle.wire_net.proofs.Gains.{again_is}
 
 test_zero : (n : ℕ) → n ≡ 0 → nat_lt 0 n ≡ false
 test_zero n is = grind (arith, nat_tests, is)
@@ -156,17 +157,6 @@ still_at p d s fits blocked = elim (end_cases p d s fits) [
         moved_is p d s t.x t.y t.pair t.agent ∙ ap₂ (λ (i j : ℕ). nat_lt 0 i || nat_lt 0 j) (reads_none p d s t here) (sends_none p d s t here)
 
 -- ---- of all directions
-
-again_is : (work moved : Bool) → answer_of work moved ≡ answer.Again → (work ≡ true) × (moved ≡ false)
-again_is true true is = absurd (other is)
-  where
-    other : answer.Moved ≡ answer.Again → ⊥
-    other e = cc
-again_is true false is = (refl, refl)
-again_is false moved is = absurd (other is)
-  where
-    other : answer.Finished ≡ answer.Again → ⊥
-    other e = cc
 
 all_blocked : (p : RealPid) (s : Refilling) → FitsNow s → moved_any p (dirs_of s.notes) s ≡ false → All (λ x. IfSome (notes_at (reverse x.dir) s.notes) (IsBlocked p s.channels x)) s.notes
 all_blocked p s fits none =

@@ -25,10 +25,7 @@ use Rattle.refill_core.proofs.OneCall.{with_channels}
 use Rattle.wire_net.proofs.OneDirection.{direction_changed, direction_beside}
 use Rattle.wire_net.proofs.LiveChannels.{live_kept, move_flows}
 use Rattle.wire_net.proofs.Items.{for_each, one_of}
-use Rattle.refill_core.proofs.WorkLaws.{gain, sums}
-
-stream_length : (direction : Direction) → length (stream direction) ≡ length direction.received + length direction.wire + length direction.sent
-stream_length direction = length-append (direction.received ++ direction.wire) direction.sent ∙ ap (λ (k : ℕ). k + length direction.sent) (length-append direction.received direction.wire)
+use Rattle.wire_net.proofs.Gains.{gain, sums, cut_down, stream_length}
 
 pub ends_kept : (place : Place) (n : ℕ) (direction : Direction) → IsFlowing direction → IsFlowing (after_move place n direction)
 ends_kept Send n direction flows = record { goes_on = flows.goes_on; is_read = flows.is_read }
@@ -140,16 +137,6 @@ less_at m notes x d place n side noted =
           let same : work_at after notes x ≡ work_at m notes x = ap (work_of x (notes_at (reverse x.dir) notes)) other.1 in
           subst (λ (b : Bool). work_at after notes x + (if b then bytes else 0) ≤ work_at m notes x) (sym none) (omega (arith, same))
     ]
-
-cut_down : (a c k : ℕ) (b t : Bool) → a + (if b then k else 0) ≤ c → (b ≡ t) ⊎ (t ≡ false) → (t ≡ true → 0 < k) → a + gain t ≤ c
-cut_down a c k b t less which some = choice b t less which some
-  where
-    choice : (b t : Bool) → a + (if b then k else 0) ≤ c → (b ≡ t) ⊎ (t ≡ false) → (t ≡ true → 0 < k) → a + gain t ≤ c
-    choice true true less which some = let one = some refl in omega (arith, less, one)
-    choice true false less which some = omega (arith, less)
-    choice false true less (inl same) some = true_false (sym same)
-    choice false true less (inr same) some = true_false same
-    choice false false less which some = omega (arith, less)
 
 pub moved_no_more : (m : Channels) (notes : Notes) (d : Dir) (place : Place) (n : ℕ) → d.side < 2 → Fits m notes → work_left (at_direction m d (after_move place n)) notes ≤ work_left m notes
 moved_no_more m notes d place n side fits =

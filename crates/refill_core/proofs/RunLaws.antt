@@ -36,7 +36,8 @@ use Rattle.refill_core.proofs.Ending.{back_again}
 use Rattle.refill_core.proofs.Moving.{moved_fits, moved_no_more, moved_work}
 use Rattle.refill_core.proofs.Pairs.{found_dir, all_found}
 use Rattle.refill_core.proofs.Steps.{step_fits, step_dirs, step_kept}
-use Rattle.refill_core.proofs.WorkLaws.{gain, ends_lower}
+use Rattle.refill_core.proofs.WorkLaws.{ends_lower}
+use Rattle.wire_net.proofs.Gains.{gain}
 
 abbrev FitsNow : UnderWay → Type 0
 FitsNow s = Fits s.net.channels s.notes

@@ -1,23 +1,24 @@
 -- A whole step of an agent, as the list of the notes has it.
 --     written_back            the list that is written back is what the step made of it
 --     step_fits .. step_idle  what the step leaves
-use Rattle.std.proofs.Common.{◌≡◌, ℕ, ◌<◌, Bool, true, false, ◌++◌, length, take, drop, refl, sym, ap, subst, ◌∙◌, arith, append-nil}
+use Rattle.std.proofs.Common.{◌≡◌, ℕ, ◌<◌, false, ◌++◌, length, take, drop, sym, ap, subst, ◌∙◌, arith, append-nil}
 use Rattle.std.proofs.lemmas.List.{take_all, drop_all}
 use Rattle.sys_abi.specs.declared.identity.Dir.{Dir}
 use Rattle.sys_abi.specs.declared.identity.RealPid.{RealPid}
-use Rattle.wire_net.specs.declared.agents.Stepped.TheVariants.{Moved, Again, Finished}
+use Rattle.wire_net.specs.declared.agents.Stepped.TheVariants.{Moved}
 use Rattle.wire_net.specs.Networks.{Network}
 use Rattle.wire_net.specs.Whereabouts.{whereabouts}
 use Rattle.refill_core.specs.Refills.{Notes, Refilling, dirs_of, Fits, turns_after}
 use Rattle.refill_core.specs.Holding.{agents_of}
-use Rattle.refill_core.specs.Work.{work_left, moved_any, has_work, answer_of, step_answer}
+use Rattle.refill_core.specs.Work.{work_left, moved_any, has_work, step_answer}
 use Rattle.refill_core.specs.Stepping.{state}
 use Rattle.refill_core.proofs.Bytes.{bytes_of, whereabouts_is, ends_keep}
 use Rattle.refill_core.proofs.Going.{idle_any}
 use Rattle.refill_core.proofs.OneCall.{with_channels}
 use Rattle.refill_core.proofs.Still.{ends_still}
 use Rattle.refill_core.proofs.Whole.{FitsNow, ends_fit, ends_dirs}
-use Rattle.refill_core.proofs.WorkLaws.{gain, ends_lower}
+use Rattle.refill_core.proofs.WorkLaws.{ends_lower}
+use Rattle.wire_net.proofs.Gains.{gain, has_moved}
 
 pub written_back : (n : ℕ) (new seen old : Notes) → length new ≡ length seen → seen ≡ old → length seen ≡ n → take n (new ++ drop (length new) old) ≡ new
 written_back n new seen old many same all =
@@ -40,18 +41,6 @@ pub step_kept : (p : RealPid) (w l : Notes) (t u : Network) (d : Dir) → d.side
     → whereabouts u (agents_of w) d ≡ whereabouts t (agents_of l) d
 step_kept p w l t u d side fits after =
     whereabouts_is u w d (step_fits p w l t u fits after) ∙ ap (λ (s : Refilling). bytes_of s d) after ∙ ends_keep p (dirs_of l) (state l t) d side fits ∙ sym (whereabouts_is t l d fits)
-
--- what moved bytes moved some
-has_moved : (work moved : Bool) → answer_of work moved ≡ Moved → moved ≡ true
-has_moved true true is = refl
-has_moved true false is = absurd (apart is)
-  where
-    apart : Again ≡ Moved → ⊥
-    apart e = cc
-has_moved false moved is = absurd (apart is)
-  where
-    apart : Finished ≡ Moved → ⊥
-    apart e = cc
 
 pub step_less : (p : RealPid) (w l : Notes) (t u : Network) → Fits t.channels l → state w u ≡ turns_after p (dirs_of l) (state l t) → step_answer p (state l t) ≡ Moved
     → work_left u.channels w < work_left t.channels l

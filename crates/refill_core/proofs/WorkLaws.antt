@@ -1,13 +1,11 @@
 -- A step of an agent that moves bytes lowers the work that is left.
---     gain, gain_or, sums     1 where bytes were moved, and sums over all directions
 --     live_lowers             on one channel
 --     end_lowers, ends_lower  of all
-use Rattle.std.proofs.Common.{◌≡◌, ◌≢◌, ℕ, ◌==◌, ◌+◌, ◌*◌, ◌-◌, ◌<◌, ◌≤◌, Bool, true, false, List, [], ◌∷◌, map as each, length, refl, sym, ap, ap₂, subst, ◌∙◌, arith, inl, inr}
+use Rattle.std.proofs.Common.{◌≡◌, ◌≢◌, ℕ, ◌==◌, ◌+◌, ◌*◌, ◌-◌, ◌<◌, ◌≤◌, Bool, true, false, List, [], ◌∷◌, length, refl, sym, ap, ap₂, subst, ◌∙◌, arith, inl, inr}
 use Rattle.std.specs.Prelude.{Option, Some, None, All, IsSome, is_some, nat_lt, ◌&&◌, ◌||◌, if◌then◌else◌}
 use Rattle.std.specs.Ordering.{eq_by_cmp}
-use Rattle.std.specs.List.{sum_by, list_any}
+use Rattle.std.specs.List.{list_any}
 use Rattle.std.proofs.lemmas.Bool.Decides.{nat_tests}
-use Rattle.std.proofs.lemmas.List.Sums.{sum_by-cons}
 use Rattle.std.proofs.lemmas.List.Elements.{All-nil, All-cons, All-head, All-tail}
 use Rattle.std.proofs.lemmas.Option.{same_Some}
 use Rattle.views.proofs.MapLaws.{same_or_other, same_key, key_tied, other_key, true_false}
@@ -25,28 +23,7 @@ use Rattle.refill_core.proofs.OneRefill.{all_size}
 use Rattle.refill_core.proofs.EndFits.{Pair, Ended, ended}
 use Rattle.refill_core.proofs.Pairs.{twice_around, other_way, put_found, put_beside}
 use Rattle.refill_core.proofs.Whole.{FitsNow, Turn, end_cases, end_fits, result_of}
-
-abbrev pub gain : Bool → ℕ
-gain moved = if moved then 1 else 0
-
-pub gain_or : (a b : Bool) → gain (a || b) ≤ gain a + gain b
-gain_or true b = omega arith
-gain_or false b = omega arith
-
-pub sums : (f g : DirNotes → ℕ) (t : DirNotes → Bool) (notes : Notes) → All (λ x. f x + gain (t x) ≤ g x) notes → sum_by f notes + gain (list_any t notes) ≤ sum_by g notes
-sums f g t [] all = omega arith
-sums f g t (x ∷ notes) all =
-    let here = All-head (λ y. f y + gain (t y) ≤ g y) x notes all in
-    let rest = sums f g t notes (All-tail (λ y. f y + gain (t y) ≤ g y) x notes all) in
-    let most = gain_or (t x) (list_any t notes) in
-    added _ _ _ _ _ _ _ _ _ here rest most (sum_by-cons f x notes) (sum_by-cons g x notes)
-  where
-    added : (a b c d e h i s t : ℕ) → a + b ≤ c → d + e ≤ h → i ≤ b + e → s ≡ a + d → t ≡ c + h → s + i ≤ t
-    added a b c d e h i s t one two three left right = omega arith
-
-sum_of_each : (f : DirNotes → ℕ) (g : DirNotes → DirNotes) (notes : Notes) → sum_by f (each g notes) ≡ sum_by (λ x. f (g x)) notes
-sum_of_each f g [] = refl
-sum_of_each f g (x ∷ notes) = sum_by-cons f (g x) (each g notes) ∙ ap (λ (n : ℕ). f (g x) + n) (sum_of_each f g notes) ∙ sym (sum_by-cons (λ y. f (g y)) x notes)
+use Rattle.wire_net.proofs.Gains.{gain, gain_or, sums, sum_of_each}
 
 -- ---- one channel
 

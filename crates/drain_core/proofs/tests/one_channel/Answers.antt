@@ -1,8 +1,8 @@
-use Rattle.std.proofs.Common.{ap, refl}
+use Rattle.std.proofs.Common.{ap}
 use Rattle.wire_net.specs.Channels.{new_channel}
 use Rattle.wire_net.specs.Networks.{Network}
 use Rattle.drain_core.specs.declared.tests.TheConstants.{CONN}
-use Rattle.drain_core.proofs.OneChannel.{alone_made}
+use Rattle.wire_net.proofs.OneChannel.{alone_made}
 use Rattle.drain_core.proofs.tests.one_channel.Goals as goal
 
 pub returns : goal.returns

@@ -1,5 +1,5 @@
 use Rattle.drain_core.specs.declared.tests.TheConstants.{CONN}
-use Rattle.drain_core.proofs.OneChannel.{alone_after}
+use Rattle.wire_net.proofs.OneChannel.{alone_after}
 use Rattle.drain_core.proofs.tests.say.Goals as goal
 
 pub returns : goal.returns

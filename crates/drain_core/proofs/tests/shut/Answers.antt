@@ -1,7 +1,7 @@
 use Rattle.std.proofs.Common.{ap}
 use Rattle.wire_net.specs.Directions.{after_end}
 use Rattle.drain_core.specs.declared.tests.TheConstants.{CONN}
-use Rattle.drain_core.proofs.OneChannel.{alone_kept}
+use Rattle.wire_net.proofs.OneChannel.{alone_kept}
 use Rattle.drain_core.proofs.tests.shut.Goals as goal
 
 pub returns : goal.returns
