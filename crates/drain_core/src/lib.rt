@@ -7,14 +7,15 @@
 //! side's cookie, and has sent its own. A channel of which a direction is ended or unread is left as it is, and its bytes
 //! only move on to the receiver's queue.
 //!
-//! Proved: each step leaves the bytes of every direction as they are, wherever they are: read, received, on the wire, sent.
-//! It takes bytes only off the front of queues that its agent reads, and adds some only at the back of queues to which its
-//! agent sends. What moves bytes leaves less to do, and while the drain is not done some agent's step or some move moves
-//! bytes. At the end the queues of live channels are empty, in others all bytes can be read, and, whatever steps and moves
-//! were made on the way, in any order, each direction has a list, of what stood in it when the drain began
-//! ([`drain_laws`]); lists and room are then as a refill asks. Not proved: that the caller makes the steps and the moves. The source is Ansel, Arya,
-//! Cooperman, "DMTCP: Transparent Checkpointing for Cluster Computations and the Desktop", 2009 (drain kernel buffers);
-//! that the number of bytes is known when the drain begins, and what a cookie has, is this project's own.
+//! Proved: each step leaves the bytes of every direction as they are, wherever they are: read, received, on the wire,
+//! sent. It takes bytes only off the front of queues that its agent reads, and adds some only at the back of queues to
+//! which its agent sends. What moves bytes leaves less to do, and while the drain is not done some agent's step or some
+//! move moves bytes. At the end the queues of live channels are empty, in others all bytes can be read, and, whatever
+//! steps and moves were made on the way, in any order, each direction has a list, of what stood in it when the drain
+//! began ([`drain_laws`]); lists and room are then as a refill asks. Not proved: that the caller makes the steps and
+//! the moves. The source is Ansel, Arya, Cooperman, "DMTCP: Transparent Checkpointing for Cluster Computations and the
+//! Desktop", 2009 (drain kernel buffers); that the number of bytes is known when the drain begins, and what a cookie
+//! has, is this project's own.
 #![tactic(auto)]
 
 mod cookie;
