@@ -1,7 +1,7 @@
 -- Whole runs of a drain.
 --     event_fits, event_keeps, event_lowers       one event
 --     run_fits, run_keeps         all of them
---     gives_what_stood, ends_in_time
+--     gives_drained, gives_what_stood, ends_in_time
 use Rattle.std.proofs.Common.{◌≡◌, ℕ, ◌+◌, ◌<◌, ◌≤◌, Bool, true, false, List, [], ◌∷◌, length, refl, ◌∙◌, arith}
 use Rattle.std.specs.Prelude.{All, nat_lt, ◌&&◌}
 use Rattle.std.proofs.lemmas.Bool.{and_parts}
@@ -20,12 +20,12 @@ use Rattle.wire_net.proofs.Streams.{whereabouts-move}
 use Rattle.drain_core.specs.Drains.{Fits, has_notes, is_done}
 use Rattle.drain_core.specs.Holding.{agents_of}
 use Rattle.drain_core.specs.Openings.{IsNaming, begun, lists_of}
-use Rattle.drain_core.specs.Runs.{step, moves, IsWhatStands}
+use Rattle.drain_core.specs.Runs.{step, moves, GivesDrained, IsWhatStands}
 use Rattle.drain_core.specs.Work.{work_left}
 use Rattle.drain_core.proofs.AllDirections.{fits_after}
 use Rattle.drain_core.proofs.Beginning.{kept_begun, noted_begun}
 use Rattle.drain_core.proofs.Bytes.{kept_bytes}
-use Rattle.drain_core.proofs.DrainedLists.{sided, noted_list}
+use Rattle.drain_core.proofs.DrainedLists.{sided, drained_lists, noted_list, named_lists}
 use Rattle.drain_core.proofs.Given.{given}
 use Rattle.drain_core.proofs.Moving.{moved_fits, moved_no_more, moved_work}
 use Rattle.drain_core.proofs.Staying.{run_there, run_named}
@@ -46,7 +46,7 @@ event_keeps : (e : Event) (s : UnderWay) (d : Dir) → d.side < 2 → FitsNow s 
 event_keeps (Step p) s d side fits = kept_bytes p s.net s.notes d side fits
 event_keeps (Move m place n) s d side fits = whereabouts-move s.net (agents_of s.notes) m d place n
 
-run_fits : (events : List Event) (s : UnderWay) → FitsNow s → All IsAllowed events → FitsNow (run step events s)
+pub run_fits : (events : List Event) (s : UnderWay) → FitsNow s → All IsAllowed events → FitsNow (run step events s)
 run_fits [] s fits may = fits
 run_fits (e ∷ events) s fits may = run_fits events (after step e s) (event_fits e s fits (All-head IsAllowed e events may)) (All-tail IsAllowed e events may)
 
@@ -60,6 +60,9 @@ paired : (P Q R : DirBytes → Type 0) (lists : List DirBytes) → ((list : DirB
 paired P Q R [] leads first second = All-nil R
 paired P Q R (list ∷ lists) leads first second =
     All-cons R list lists (leads list (All-head P list lists first) (All-head Q list lists second)) (paired P Q R lists leads (All-tail P list lists first) (All-tail Q list lists second))
+
+pub gives_drained : GivesDrained
+gives_drained t notes fits done = let is = given t notes fits done in (drained_lists t notes fits is, named_lists t notes fits is)
 
 pub gives_what_stood : (t : Network) (ends : List AgentEnd) (lengths : List Named) (events : List Event) → IsNaming t.channels lengths → Fits t.channels (begun t.channels ends lengths) → All IsAllowed events
     → is_done (run step events (record { net = t; notes = begun t.channels ends lengths })).net.channels (run step events (record { net = t; notes = begun t.channels ends lengths })).notes ≡ true

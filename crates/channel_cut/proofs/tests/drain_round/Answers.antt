@@ -5,9 +5,9 @@ use Rattle.wire_net.specs.Channels.{direction_at}
 use Rattle.wire_net.specs.Ends.{IsFor}
 use Rattle.wire_net.specs.Networks.{Network}
 use Rattle.wire_net.specs.Runs.{Step}
-use Rattle.worked_channels.specs.declared.round_trips.TheConstants.{FIRST, SECOND, CLIENT, SERVER, ENDS}
-use Rattle.worked_channels.proofs.Rounds.{drain_moved, ends_moved, there_moved}
-use Rattle.worked_channels.proofs.round_trips.drain_round.Goals as goal
+use Rattle.channel_cut.specs.declared.tests.TheConstants.{FIRST, SECOND, CLIENT, SERVER, ENDS}
+use Rattle.channel_cut.proofs.Rounds.{drain_moved, ends_moved, there_moved}
+use Rattle.channel_cut.proofs.tests.drain_round.Goals as goal
 
 pub returns-clause-fits : goal.returns-clause-fits
 returns-clause-fits c =

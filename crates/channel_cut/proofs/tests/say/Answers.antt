@@ -1,6 +1,6 @@
-use Rattle.worked_channels.specs.declared.round_trips.TheConstants.{CONN}
+use Rattle.channel_cut.specs.declared.tests.TheConstants.{CONN}
 use Rattle.wire_net.proofs.OneChannel.{alone_after}
-use Rattle.worked_channels.proofs.round_trips.say.Goals as goal
+use Rattle.channel_cut.proofs.tests.say.Goals as goal
 
 pub returns : goal.returns
 returns c = alone_after CONN c.args.net.now c.send.new.self c.args.d c.args.text.now c.send.result c.send.ensures.ok c.send.ensures.err c.requires.alone

@@ -1,9 +1,9 @@
 use Rattle.std.proofs.Common.{ap}
 use Rattle.wire_net.specs.Channels.{new_channel}
 use Rattle.wire_net.specs.Networks.{Network}
-use Rattle.worked_channels.specs.declared.round_trips.TheConstants.{CONN}
+use Rattle.channel_cut.specs.declared.tests.TheConstants.{CONN}
 use Rattle.wire_net.proofs.OneChannel.{alone_made}
-use Rattle.worked_channels.proofs.round_trips.one_channel.Goals as goal
+use Rattle.channel_cut.proofs.tests.one_channel.Goals as goal
 
 pub returns : goal.returns
 returns c =

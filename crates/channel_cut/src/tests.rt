@@ -7,7 +7,7 @@ ghost use Rattle.wire_net.specs.Directions.{standing};
 ghost use Rattle.wire_net.specs.Ends.{IsFor};
 ghost use Rattle.drain_core.specs.Drains.{Fits as DrainFits};
 ghost use Rattle.refill_core.specs.Refills.{Fits};
-ghost use Rattle.worked_channels.specs.Handed.{AreNoted, IsHanded};
+ghost use Rattle.channel_cut.specs.Handed.{AreNoted, IsHanded};
 
 use drain_core::{Drain, drain_laws};
 use refill_core::{Refill, refill_laws};

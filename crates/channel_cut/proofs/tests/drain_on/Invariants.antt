@@ -1,8 +1,8 @@
 use Rattle.wire_net.specs.Ends.{IsFor}
 use Rattle.drain_core.specs.Drains.{Fits}
-use Rattle.worked_channels.specs.Handed.{AreNoted}
-use Rattle.worked_channels.specs.declared.round_trips.TheConstants.{ENDS}
-use Rattle.worked_channels.proofs.round_trips.drain_on.Given as goal
+use Rattle.channel_cut.specs.Handed.{AreNoted}
+use Rattle.channel_cut.specs.declared.tests.TheConstants.{ENDS}
+use Rattle.channel_cut.proofs.tests.drain_on.Given as goal
 
 abbrev pub invariant-loop-round : goal.invariant-loop-round
 invariant-loop-round l = record {

@@ -1,8 +1,8 @@
 use Rattle.std.proofs.Common.{arith}
 use Rattle.wire_net.specs.declared.place.Place.TheVariants.{Send, Wire}
-use Rattle.worked_channels.specs.declared.round_trips.TheConstants.{FIRST, SECOND}
-use Rattle.worked_channels.proofs.Rounds.{refill_moved}
-use Rattle.worked_channels.proofs.round_trips.refill_round.Goals as goal
+use Rattle.channel_cut.specs.declared.tests.TheConstants.{FIRST, SECOND}
+use Rattle.channel_cut.proofs.Rounds.{refill_moved}
+use Rattle.channel_cut.proofs.tests.refill_round.Goals as goal
 
 pub returns : goal.returns
 returns c =

@@ -3,8 +3,8 @@ use Rattle.wire_net.specs.declared.place.Place.TheVariants.{Send, Wire}
 use Rattle.wire_net.specs.Directions.{after_move}
 use Rattle.wire_net.specs.Networks.{Network}
 use Rattle.wire_net.proofs.OneChannel.{alone_kept}
-use Rattle.worked_channels.specs.declared.round_trips.TheConstants.{CONN, FIRST}
-use Rattle.worked_channels.proofs.round_trips.carry.Goals as goal
+use Rattle.channel_cut.specs.declared.tests.TheConstants.{CONN, FIRST}
+use Rattle.channel_cut.proofs.tests.carry.Goals as goal
 
 pub returns : goal.returns
 returns c =
