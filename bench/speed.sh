@@ -2,7 +2,7 @@
 # Times the built program on the stored guests, each of which runs for ever: so many quanta of 4,096 instructions, loading
 # and the trace included, in seconds of the processor (user and system), which other work on the machine lengthens least.
 # Of RUNS runs the fastest one counts.
-# Usage: speed.sh [QUANTA [RUNS [GUEST..]]], after `cd crates/dmtcp && rt run` has built crates/dmtcp/out/dmtcp, or with
+# Usage: speed.sh [QUANTA [RUNS [GUEST..]]], after `cd crates/dmtcp && rt run -- --version` has built crates/dmtcp/out/dmtcp, or with
 # another program of the same words in DMTCP.
 set -eu
 quanta=${1:-20000}
