@@ -4,9 +4,9 @@
 //! the refill are done each direction has all its bytes ready to be read, and they are those that stood in it when the
 //! drain began, in order, none lost or doubled ([`cut_laws`]).
 //!
-//! Proved: that, of the definitions of `drain_core` and `refill_core`, which their calls meet; and that no run of either
-//! has more steps and moves that move bytes than there was work. Not proved: that the caller makes steps and moves until
-//! both are done, and that between them nothing else changes the network.
+//! Proved: that, of the definitions of `drain_core` and `refill_core`, which their calls meet. Their own laws say besides
+//! that no run of either has more steps and moves that move bytes than there was work. Not proved: that the caller makes
+//! steps and moves until both are done, and that between them nothing else changes the network.
 #![tactic(auto)]
 
 mod laws;

@@ -4,10 +4,12 @@
 //! its folder `dmtcp_set`, the console is standard output, the log standard error. The trace is written to `dmtcp.trace`
 //! where it has a record; that this fails changes nothing else. The exit status is that of the top call.
 //!
-//! The promise is the top call's, in the crate `dmtcp_top`. Proved here: the program ends with the status's number, and
-//! the trace is empty when it is handed in. What is left, and shown by the stored run alone, is that these arguments, files
-//! and streams are the ones handed in, and that the trace is written: no clause can tell one stream of the host from
-//! another. A sole word `--help` or `--version` is answered here.
+//! The promise is the top call's, in the crate `dmtcp_top`. Proved here: the exit code is the status's number, and the
+//! trace is empty when it is handed in. That the program ends is not: the top call may wait on the host. What is left
+//! is that these arguments, files and streams are the ones handed in, and that the trace is written, since no clause
+//! can tell one stream of the host from another: the stored run shows it of the program's file and standard output, the
+//! scripts of `docs/TRIALS.md` of the folder of sets, standard error and the trace. A sole word `--help` or `--version`
+//! is answered here.
 #![tactic(auto)]
 
 ghost use Rattle.std.specs.Prelude.{◌≡◌, ◌⊎◌, length, IsSome};

@@ -1,11 +1,12 @@
 //! Emptying the channels of all processes for a checkpoint: each byte that was sent and not yet read is taken off the
 //! network, so that an image can have it.
 //!
-//! A [`Drain`] owns the notes of the agents, the processes that act for the ends of the channels, and takes no memory: its
-//! room was reserved before. In a step an agent first reads what has come to its ends and then sends what is left of a
-//! cookie behind its own last byte; it has finished when it has read all that stood in its directions and the other
-//! side's cookie, and has sent its own. A channel of which a direction is ended or unread is left as it is, and its bytes
-//! only move on to the receiver's queue.
+//! A [`Drain`] owns the notes of the agents, the processes that act for the ends of the channels, and takes no memory:
+//! its room was reserved before. In a step an agent goes over the directions of its ends one by one: of each it reads
+//! what has come, if it reads it, and then sends what is left of a cookie behind its own last byte, if it sends on it.
+//! It has finished when it has read all that stood in its directions and the other side's cookie, and has sent its own.
+//! A channel of which a direction is ended or unread is left as it is, and its bytes only move on to the receiver's
+//! queue.
 //!
 //! Proved: each step leaves the bytes of every direction as they are, wherever they are: read, received, on the wire,
 //! sent. It takes bytes only off the front of queues that its agent reads, and adds some only at the back of queues to

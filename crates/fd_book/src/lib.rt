@@ -6,10 +6,11 @@
 //!
 //! A contract sees a `Book` as two finite maps, whole after every call: descriptions by their names, and descriptors
 //! by process and number. New descriptors take the lowest free number. Each refusal comes exactly where its call says,
-//! and leaves all as it was. To look up, to close and to change a description or a flag takes no memory. A look-up
-//! goes down a tree to the process's table and is an index there; the descriptions stand in a slab.
+//! and leaves all as it was.
 //!
-//! Proved: all of that. Not proved: how long a call takes. `man 2 dup`, `man 2 close` and `man 2 fcntl` are the
+//! Proved: all of that. To look up, to close and to change a description or a flag takes no memory: none of these calls
+//! has an answer for want of it. Not proved: how long a call takes; a look-up goes down a tree to the process's table
+//! and is an index there, and the descriptions stand in a slab. `man 2 dup`, `man 2 close` and `man 2 fcntl` are the
 //! standards that the words restate.
 #![tactic(auto)]
 

@@ -5,11 +5,11 @@
 //!
 //! A contract sees an `Ids` as two finite maps, from virtual numbers and from virtual addresses to the real ones,
 //! both one to one. `add_pid` and `add_addr` refuse exactly where either side is in a pair already, and a look-up
-//! exactly where there is no pair. To take a pair out needs no memory, and neither does a look-up, which goes down a
-//! tree.
+//! exactly where there is no pair.
 //!
-//! Proved: all of that, and that after any refusal all is as before. Not proved: how long a call takes. Nothing here
-//! restates a standard.
+//! Proved: all of that, and that after any refusal all is as before. To take a pair out needs no memory, and neither does
+//! a look-up: neither has an answer for want of it. Not proved: how long a call takes; a look-up goes down a tree.
+//! Nothing here restates a standard.
 #![tactic(auto)]
 
 mod by_real_address;
