@@ -3,7 +3,7 @@ ghost use Rattle.dmtcp_top.specs.OneOrder.{OneOrder, OneTrace, EndsThere, OneEnd
 
 /// Laws of the sets that calls leave and restarts take. It does nothing. A folder's set spells one state at most, so where
 /// it is one of a run's cuts, a restart goes on from exactly the state there. A set that counts never both spells a state
-/// and is damaged, and it has one first damage.
+/// and is damaged, and it has at most one first damage.
 pub fn restart_laws()
     ensures one { OneState }
     ensures round_trip { RoundTrip }

@@ -116,7 +116,7 @@ CutsAreCuts =
     (schedule : Schedule) (start last g : Plain) (later : Requests) (trace : List Record) (generation : ℕ) →
     Reaches schedule start trace last later → CutAt start trace generation g → IsCut schedule later generation g
 
--- no two cuts of a trace have one generation
+-- cuts of a trace that have one generation are at one state
 abbrev pub CutsDiffer : Type 0
 CutsDiffer =
     (schedule : Schedule) (start last g h : Plain) (later : Requests) (trace : List Record) (generation : ℕ) →
