@@ -207,7 +207,7 @@ fn bytes_of_all_three_queues_come_back_in_order(rt: HostRuntime) -> Result<(), F
 }
 
 #[test]
-fn a_channel_that_has_ended_stays_as_it_is(rt: HostRuntime) -> Result<(), Fail> {
+fn a_channel_that_has_ended_keeps_its_bytes_in_the_network(rt: HostRuntime) -> Result<(), Fail> {
     let mut net = one_channel(rt.alloc())?;
     say(&mut net, FIRST, b"the last words")?;
     shut(&mut net, FIRST);
@@ -218,9 +218,15 @@ fn a_channel_that_has_ended_stays_as_it_is(rt: HostRuntime) -> Result<(), Fail> 
     let lists = drained.lists.as_slice();
     assert_eq!(rt; lists.len(), 2);
     assert!(rt; lists[0].in_place);
+    assert!(rt; net.is_ended(FIRST));
     assert_eq!(rt; net.counts(FIRST), [0, 0, 14]);
     assert!(rt; refilled(&mut net, drained, room));
+    assert!(rt; net.is_ended(FIRST));
     assert_eq!(rt; net.counts(FIRST), [0, 0, 14]);
     assert_eq!(rt; net.carried(FIRST), 14);
+    let mut transfer = Transfer::new(rt.alloc())?;
+    assert_eq!(rt; net.receive(FIRST, 100, &mut transfer), Ok(14));
+    assert_eq!(rt; transfer.as_slice(), b"the last words".as_slice());
+    assert_eq!(rt; net.receive(FIRST, 100, &mut transfer), Ok(0));
     Ok(())
 }

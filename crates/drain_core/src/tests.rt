@@ -138,8 +138,11 @@ fn both_ways_are_emptied(rt: HostRuntime) -> Result<(), Fail> {
     let lists = drained.lists.as_slice();
     assert_eq!(rt; lists.len(), 2);
     assert!(rt; !lists[0].in_place);
+    assert!(rt; !lists[1].in_place);
     assert_eq!(rt; lists[0].bytes.as_slice(), b"hello".as_slice());
     assert_eq!(rt; lists[1].bytes.as_slice(), b"good morning".as_slice());
+    assert_eq!(rt; net.counts(FIRST), [0, 0, 0]);
+    assert_eq!(rt; net.counts(SECOND), [0, 0, 0]);
     assert_eq!(rt; net.carried(FIRST), 21);
     Ok(())
 }

@@ -40,6 +40,9 @@ fn files_of_the_host(rt: HostRuntime) -> Result<(), Fail> {
     fs::write(&rt, "edge_io_short", "hello\n")?;
     let short = inputs.read(alloc, "edge_io_short")?.ok_or("short")?;
     assert_eq!(rt; short.as_slice(), b"hello\n".as_slice());
+    fs::create(&rt, "edge_io_long")?.set_len(LONGEST_FILE)?;
+    let longest = inputs.read(alloc, "edge_io_long")?.ok_or("longest")?;
+    assert_eq!(rt; longest.len() as u64, LONGEST_FILE);
     fs::create(&rt, "edge_io_long")?.set_len(LONGEST_FILE + 1)?;
     let long = inputs.read(alloc, "edge_io_long").err();
     assert_eq!(rt; long, Some(InputFault::Failed));

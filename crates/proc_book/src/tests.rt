@@ -77,7 +77,7 @@ fn family(procs: &mut Procs) -> Result<(), ProcFault> {
 }
 
 #[test]
-fn ends_leave_zombies_and_orphans(rt: HostRuntime) -> Result<(), Fail> {
+fn ends_leave_zombies(rt: HostRuntime) -> Result<(), Fail> {
     let mut procs = Procs::new(rt.alloc(), 1, 1)?;
     family(&mut procs)?;
     let first = real(0, 1);
@@ -97,6 +97,23 @@ fn ends_leave_zombies_and_orphans(rt: HostRuntime) -> Result<(), Fail> {
     assert_eq!(rt; procs.wait(first, None), Err(ProcFault::NoChild));
     procs.end_process(first, 0);
     assert_eq!(rt; procs.next_process(None), None);
+    Ok(())
+}
+
+#[test]
+fn a_live_child_is_left_without_a_parent(rt: HostRuntime) -> Result<(), Fail> {
+    let mut procs = Procs::new(rt.alloc(), 1, 1)?;
+    family(&mut procs)?;
+    let orphan = real(0, 4);
+    assert_eq!(rt; procs.parent(orphan), Some(real(0, 2)));
+    procs.end_process(real(0, 2), 512);
+    assert!(rt; procs.is_live(orphan));
+    assert_eq!(rt; procs.parent(orphan), None);
+    assert_eq!(rt; procs.parent(real(0, 3)), Some(real(0, 1)));
+    procs.end_process(orphan, 9);
+    assert_eq!(rt; procs.status(orphan), None);
+    assert_eq!(rt; procs.next_process(Some(real(0, 3))), None);
+    assert_eq!(rt; procs.status(real(0, 2)), Some(512));
     Ok(())
 }
 

@@ -254,12 +254,16 @@ fn every_second_work_record_asks(rt: HostRuntime) {
     assert!(rt; !schedule.asks(tally));
     tally.pass(&call);
     assert!(rt; schedule.asks(tally));
+    tally.pass(&call);
+    assert!(rt; !schedule.asks(tally));
+    tally.pass(&call);
+    assert!(rt; schedule.asks(tally));
     tally.pass(&Record::Cut { generation: 8 });
     assert_eq!(rt; tally.greatest, 8);
     assert!(rt; tally.is_unfinished);
     tally.pass(&Record::Complete { generation: 8 });
     assert!(rt; !tally.is_unfinished);
-    assert_eq!(rt; tally.work, 2);
+    assert_eq!(rt; tally.work, 4);
 
     let spent = Schedule {
         every: Some(1),

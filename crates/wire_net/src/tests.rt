@@ -67,8 +67,27 @@ fn ended_directions_are_read_to_their_end(rt: HostRuntime) -> Result<(), Fail> {
     assert!(rt; net.is_ended(FIRST));
     assert_eq!(rt; net.send(FIRST, b"y"), Err(NetFault::Ended));
     assert_eq!(rt; net.receive(FIRST, 1, &mut xfer), Err(NetFault::NotReady));
+    assert_eq!(rt; net.move_bytes(FIRST, Place::Send, 1), 1);
+    assert_eq!(rt; net.move_bytes(FIRST, Place::Wire, 1), 1);
+    assert_eq!(rt; net.receive(FIRST, 1, &mut xfer), Ok(1));
+    assert_eq!(rt; xfer.as_slice(), b"x".as_slice());
+    assert_eq!(rt; net.receive(FIRST, 1, &mut xfer), Ok(0));
+    assert!(rt; net.is_ended(FIRST));
+    Ok(())
+}
+
+#[test]
+fn directions_that_nobody_reads_are_emptied(rt: HostRuntime) -> Result<(), Fail> {
+    let mut net = Net::new(rt.alloc(), 1, 20_000)?;
+    let mut xfer = Transfer::new(rt.alloc())?;
+    assert!(rt; !net.has(CONN));
+    assert_eq!(rt; net.pair(CONN), Ok(()));
+    assert_eq!(rt; net.send(FIRST, b"x"), Ok(1));
+    net.end(FIRST);
+    assert_eq!(rt; net.receive(FIRST, 1, &mut xfer), Err(NetFault::NotReady));
     net.stop_reading(FIRST);
     assert!(rt; net.is_unread(FIRST));
+    assert_eq!(rt; net.counts(FIRST), [0, 0, 0]);
     assert_eq!(rt; net.receive(FIRST, 1, &mut xfer), Ok(0));
     Ok(())
 }

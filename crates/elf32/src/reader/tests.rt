@@ -282,9 +282,13 @@ fn memory_lies_from_0x1000_to_0x4000_0000_and_may_be_more_than_the_bytes(
             want,
             "{filesz} of {memsz} at {vaddr:x}"
         );
-        if let Ok(program) = read_elf(rt.alloc(), &file) {
+        if want.is_none() {
+            let program = read_elf(rt.alloc(), &file)?;
+            assert_eq!(rt; program.segments.len(), 1);
             for segment in &program.segments {
+                assert_eq!(rt; (segment.vaddr, segment.memsz), (vaddr, memsz));
                 assert_eq!(rt; segment.bytes.len(), filesz as usize);
+                assert!(rt; file.starts_with(segment.bytes.as_slice()));
             }
         }
     }
