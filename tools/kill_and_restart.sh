@@ -6,9 +6,11 @@
 # DMTCP is a built program, else crates/dmtcp/out/dmtcp, which `cd crates/dmtcp && rt run -- --version` proves and builds.
 # The variable KILLS gives another number of kills, LONGEST the longest time before one, in milliseconds.
 #
-# It fails where a restart answers 16 (no set) or 17 (a damaged set) once the log has told of a complete set, where
-# another status than 0 comes without a kill, where a line after a kill is neither one further than the last nor one
-# that was written already, or where the last line isn't the greatest.
+# A run that follows a kill is a restart once the log has told of a complete set, and else a launch once more. It fails
+# where a run that was not killed ends with another status than 0, also a restart with 16 (no set) or 17 (a damaged set),
+# where the guest ends before all kills are made (a smaller LONGEST helps) or no set is complete before the last kill (a
+# greater one helps), where a line after a kill is neither one further than the last nor one that was written already, or
+# where the last line isn't the greatest.
 set -u
 here=$(cd "$(dirname "$0")/.." && pwd)
 dmtcp=${1:-$here/crates/dmtcp/out/dmtcp}
@@ -29,32 +31,28 @@ fail() {
 }
 
 killed=0
-ended=0
-early=0
 command=(launch --every 1 0:count.elf)
 : > console
 : > log
-while [ "$killed" -lt "$kills" ] && [ "$ended" -eq 0 ]; do
+while [ "$killed" -lt "$kills" ]; do
     "$dmtcp" "${command[@]}" >> console 2>> log &
     run=$!
     pause=$(((RANDOM * 32768 + RANDOM) % longest))
     sleep "$(printf '%d.%03d' $((pause / 1000)) $((pause % 1000)))"
-    if kill -KILL "$run" 2> /dev/null; then killed=$((killed + 1)); fi
+    kill -KILL "$run" 2> /dev/null
     wait "$run" 2> /dev/null
     status=$?
     case $status in
-        137) ;;
-        0) ended=1 ;;
-        16 | 17) grep -q complete log && fail "a restart answered $status after a complete set"; early=$((early + 1)) ;;
-        *) fail "status $status" ;;
+        137) killed=$((killed + 1)) ;;
+        0) fail "only $killed kills" ;;
+        *) fail "a ${command[0]} answered $status" ;;
     esac
     if grep -q complete log; then command=(restart --every 1); else command=(launch --every 1 0:count.elf); fi
 done
-if [ "$ended" -eq 0 ]; then
-    "$dmtcp" "${command[@]}" >> console 2>> log
-    status=$?
-    [ "$status" -eq 0 ] || fail "the last run answered $status"
-fi
+[ "${command[0]}" = restart ] || fail "no set was complete at any of $killed kills"
+"$dmtcp" "${command[@]}" >> console 2>> log
+status=$?
+[ "$status" -eq 0 ] || fail "the last run answered $status"
 
 awk 'BEGIN { last = 0 } !/^[0-9]+$/ || $1 > last + 1 { exit 1 } $1 > last { last = $1 } END { if (last != 500) exit 1 }' console ||
     fail "the console misses a line"

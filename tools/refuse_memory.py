@@ -8,12 +8,15 @@ Usage: tools/refuse_memory.py [DMTCP]
 DMTCP is a built program, else crates/dmtcp/out/dmtcp, which `cd crates/dmtcp && rt run -- --version` proves and builds.
 It wants a C compiler ($CC, else cc) and the C library of GNU, for refuse_memory.c.
 
-It fails where a run ends with another status than the usual one or 20; where its console is not what the usual run
-writes, or with 20 a first part of that; where a line of its log is neither the usual one, nor that of a checkpoint
-refused for memory, nor with 20 the last line; where a run without checkpoints makes the folder of sets; where a refusal
-changes none of this and the trace is written all the same; or where the restart finds no set or a damaged one though a
-set was complete, or writes anything but what the usual run does from a byte on that was the last written or an earlier.
+It fails where a run to which nothing is refused ends with another status than it is to have, writes no trace, makes no
+set though it is to, or makes one though it is not to; where no piece is refused at all; and after a refusal where a run
+ends with another status than the usual one or 20; where its console is not what the usual run writes, or with 20 a first
+part of that; where a line of its log is neither the usual one, nor that of a checkpoint refused for memory, nor with 20
+the last line; where a run without checkpoints makes the folder of sets; where a refusal changes none of this and the
+trace is written all the same; or where the restart finds no set or a damaged one though a set was complete, or writes
+anything but what the usual run does from a byte on that was the last written or an earlier.
 """
+import itertools
 import os
 import re
 import shutil
@@ -31,12 +34,13 @@ COMPLETE = re.compile(r"checkpoint (\d+) complete: generation (\d+), drained 0")
 @dataclass
 class Trial:
     """What is run: these words with this guest, in a folder where a call with the words of `before` was made first, and of
-    the pieces that are refused each `stride`-th."""
+    the pieces that are refused each `stride`-th. Where nothing is refused it ends with this status."""
 
     guest: str
     words: str
     before: str = ""
     stride: int = 1
+    status: int = 0
 
     def title(self):
         return f"{self.words} {'' if self.words.startswith('launch') else f'({self.guest})'}".strip()
@@ -47,7 +51,7 @@ TRIALS = [
     Trial("hello.elf", "launch --every 2 0:hello.elf"),
     Trial("hello.elf", "launch --every 1 0:hello.elf"),
     Trial("hello.elf", "restart --every 1", before="launch --every 1 --records 3 0:hello.elf"),
-    Trial("count.elf", "launch --every 4 --records 20 0:count.elf"),
+    Trial("count.elf", "launch --every 4 --records 20 0:count.elf", status=18),
     Trial("count.elf", "restart --every 300", before="launch --every 100 --records 400 0:count.elf"),
     Trial("fill.elf", "launch --every 100 0:fill.elf", stride=97),
     Trial("fill.elf", "restart --every 100", before="launch --every 50 --records 200 0:fill.elf", stride=97),
@@ -161,28 +165,51 @@ def check_restart(ran, bench, whole, before):
     check(written + len(after.console) >= len(whole), "a byte is lost")
 
 
-def sweep(bench, trial, goes_on):
-    """Makes the trial once for each piece of memory. Returns how many pieces were refused, and what came how often."""
+def check_usual(ran, status, words):
+    """A run to which nothing was refused ends as it is to."""
+    check(ran.status == status, f"'{words}' answers {ran.status}, and not {status}: {ran.log}")
+    check(ran.has_trace, f"'{words}' writes no trace")
+    check(ran.completed() == ("--every" in words), f"'{words}' makes no set, or one that was not asked for: {ran.log}")
+
+
+def run_usual(bench, trial):
+    """Makes the trial with nothing refused, and the guest's whole run. Returns what the first left, and the console of the
+    second."""
     bench.prepare(trial)
     usual = bench.run(trial.words)
+    check_usual(usual, trial.status, trial.words)
     bench.prepare(Trial(trial.guest, ""))
-    whole = bench.run(f"launch 0:{trial.guest}").console
-    bench.prepare(trial)
-    bench.rest = bench.run("restart").console if trial.before else whole
+    words = f"launch 0:{trial.guest}"
+    whole = bench.run(words)
+    check_usual(whole, 0, words)
+    bench.rest = whole.console
+    if trial.before:
+        bench.prepare(trial)
+        rest = bench.run("restart")
+        check_usual(rest, 0, "restart")
+        bench.rest = rest.console
+    check(whole.console and whole.console.endswith(bench.rest), "the guest's whole run writes other bytes")
+    return usual, whole.console
+
+
+def sweep(bench, trial, goes_on):
+    """Makes the trial once for each piece of memory. Returns how many pieces were refused, and what came how often."""
     came = Counter()
-    piece = 1
-    while True:
-        before = bench.prepare(trial)
-        try:
+    tried = "nothing refused"
+    try:
+        usual, whole = run_usual(bench, trial)
+        for piece in itertools.count(1, trial.stride):
+            tried = f"piece {piece}{' and each one after it' if goes_on else ''} refused"
+            before = bench.prepare(trial)
             ran = bench.run(trial.words, piece, goes_on)
             if not ran.was_refused:
+                check(came, "it was not asked for, or the library did not load")
+                check_usual(ran, trial.status, trial.words)
                 return came
             came[what_came(ran, usual, bench, trial)] += 1
             check_restart(ran, bench, whole, before)
-        except Wrong as wrong:
-            on = " and each one after it" if goes_on else ""
-            sys.exit(f"FAILED: {trial.title()}, piece {piece}{on} refused: {wrong}")
-        piece += trial.stride
+    except Wrong as wrong:
+        sys.exit(f"FAILED: {trial.title()}, {tried}: {wrong}")
 
 
 def main():

@@ -48,6 +48,13 @@ fn kept(records: &[Record]) -> &[Record] {
     }
 }
 
+/// Whether these records tell of a complete set.
+fn have_set(records: &[Record]) -> bool {
+    records
+        .iter()
+        .any(|record| matches!(record, Record::Complete { .. }))
+}
+
 /// How many calls stand in these records.
 fn calls(records: &[Record]) -> usize {
     records
@@ -91,7 +98,7 @@ impl Chain {
     }
 }
 
-/// A launch that ends when its trace is full.
+/// A launch that makes a set and ends when its trace is full.
 fn launch_letters<R: Abort + Wait + Threads + Sync>(
     rt: &R,
     alloc: Global,
@@ -103,10 +110,11 @@ fn launch_letters<R: Abort + Wait + Threads + Sync>(
     let words = ["launch", "--every", every, "--records", records, "0:a.elf"];
     let left = run_code_in(rt, alloc, &words, &LETTERS, b"", disk)?;
     assert_eq!(rt; left.status, Status::Budget);
+    assert!(rt; have_set(left.records()));
     chain.take(&left)
 }
 
-/// A restart that ends when its trace is full.
+/// A restart that makes a set and ends when its trace is full.
 fn restart_letters<R: Abort + Wait + Threads + Sync>(
     rt: &R,
     alloc: Global,
@@ -118,6 +126,7 @@ fn restart_letters<R: Abort + Wait + Threads + Sync>(
     let words = ["restart", "--every", every, "--records", records];
     let left = restart_in(rt, alloc, &words, disk)?;
     assert_eq!(rt; left.status, Status::Budget);
+    assert!(rt; have_set(left.records()));
     chain.take(&left)
 }
 
@@ -150,8 +159,7 @@ fn chain_of_ten<R: Abort + Wait + Threads + Sync>(
     finish_letters(rt, alloc, every, &mut disk, chain)
 }
 
-/// Asserts that the chain does what the whole run does. One record of work is lost in each run but the last; two sets are
-/// made in each.
+/// Asserts that the chain does what the whole run does. Each of its runs makes a set.
 fn assert_chain<R: Abort + Wait + Threads + Sync>(
     rt: &R,
     alloc: Global,
@@ -174,7 +182,9 @@ fn ten_restarts_do_what_one_run_does(rt: HostRuntime) -> Result<(), Fail> {
     let whole = run_code(&rt, rt.alloc(), &LETTERS, b"")?;
     assert_eq!(rt; whole.status, Status::Done);
     assert_eq!(rt; whole.out.bytes(), b"abcdefghijklmnopqrstuvwxyz".as_slice());
+    // In each run but the last one set is made, and the record of work after it is lost.
     assert_chain(&rt, rt.alloc(), "3", "6", &whole)?;
+    // In each run but the last two sets are made, and no record of work is lost.
     assert_chain(&rt, rt.alloc(), "2", "8", &whole)?;
     Ok(())
 }

@@ -1,4 +1,4 @@
-use crate::outcomes::{Outcome, launch_hello};
+use crate::outcomes::{NO_SET, Outcome, done, launch_hello, restart};
 use dmtcp_top::Status;
 use set_disk::{FileName, Folder, MemFolder};
 use std::alloc::{AllocError, Global};
@@ -91,15 +91,14 @@ const SPENT_FIVE: &str =
 
 const SPENT_NONE: &str = "checkpoint 1 complete: generation 1, drained 0\ndone\n";
 
-/// A launch whose trace has so much room, and a restart.
-fn assert_cut_off<R: Abort + Wait + Threads + Sync>(
+/// A launch whose trace has so much room. Returns the folder.
+fn launch_cut_off<R: Abort + Wait + Threads + Sync>(
     rt: &R,
     alloc: Global,
     records: &str,
     launched: Outcome,
     standing: Option<&[Record]>,
-    restarted: Status,
-) -> Result<(), AllocError> {
+) -> Result<MemFolder, AllocError> {
     let mut disk = MemFolder::new(alloc, &[])?;
     let words = [
         "launch",
@@ -110,30 +109,45 @@ fn assert_cut_off<R: Abort + Wait + Threads + Sync>(
         "0:hello.elf",
     ];
     launch_hello(rt, alloc, &words, &mut disk, launched, standing)?;
-    let again = restart_in(rt, alloc, &["restart"], &mut disk)?;
-    assert_eq!(rt; again.status, restarted);
-    Ok(())
+    Ok(disk)
 }
 
 #[test]
 fn a_full_trace_ends_a_run_with_checkpoints(rt: HostRuntime) -> Result<(), Fail> {
-    use Status::{Budget, Done, NoSet};
+    use Status::{Budget, Done};
+    let none: &[Record] = &[];
+    let rest = [user(2), CALL];
     let cases = [
-        ("1", Budget, "", "budget spent: 1 records\n", NoSet),
-        ("2", Budget, "hello\n", "budget spent: 2 records\n", NoSet),
-        ("3", Budget, "hello\n", "budget spent: 3 records\n", NoSet),
-        ("4", Budget, "hello\n", SPENT_FOUR, Done),
-        ("5", Budget, "hello\n", SPENT_FIVE, Done),
-        ("6", Done, "hello\n", SPENT_NONE, Done),
+        ("1", Budget, "", "budget spent: 1 records\n", NO_SET, none),
+        (
+            "2",
+            Budget,
+            "hello\n",
+            "budget spent: 2 records\n",
+            NO_SET,
+            none,
+        ),
+        (
+            "3",
+            Budget,
+            "hello\n",
+            "budget spent: 3 records\n",
+            NO_SET,
+            none,
+        ),
+        ("4", Budget, "hello\n", SPENT_FOUR, done(""), &rest),
+        ("5", Budget, "hello\n", SPENT_FIVE, done(""), &rest),
+        ("6", Done, "hello\n", SPENT_NONE, done(""), &rest),
     ];
-    for (place, (records, status, out, log, again)) in cases.iter().enumerate() {
+    for (place, (records, status, out, log, again, rest)) in cases.iter().enumerate() {
         let launched = Outcome {
             status: *status,
             out,
             log,
         };
         let standing = WITH_ONE_SET.get(..place.saturating_add(1));
-        assert_cut_off(&rt, rt.alloc(), records, launched, standing, *again)?;
+        let mut disk = launch_cut_off(&rt, rt.alloc(), records, launched, standing)?;
+        restart(&rt, rt.alloc(), &mut disk, *again, Some(rest))?;
     }
     Ok(())
 }

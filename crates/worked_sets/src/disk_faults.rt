@@ -101,30 +101,67 @@ fn a_folder_that_fails_at_any_call_of_a_checkpoint_refuses_it(rt: HostRuntime) -
     Ok(())
 }
 
+/// What `hello.elf` does with a checkpoint after each record of work, of which the first is refused.
+const WITH_ONE_REFUSED: [Record; 11] = [
+    Record::User {
+        p: VPid(40000),
+        t: FIRST,
+        n: 5,
+    },
+    Record::Cut { generation: 1 },
+    Record::Refused {
+        cause: Cause::DiskFault,
+    },
+    CALL,
+    Record::Cut { generation: 2 },
+    Record::Complete { generation: 2 },
+    Record::User {
+        p: VPid(40000),
+        t: FIRST,
+        n: 2,
+    },
+    Record::Cut { generation: 3 },
+    Record::Complete { generation: 3 },
+    CALL,
+    Record::Lapsed,
+];
+
 const ONE_REFUSED: &str =
     "checkpoint 1 refused: disk fault\ncheckpoint 2 complete: generation 2, drained 0\ncheckpoint 3 complete: generation 3, drained 0\ncheckpoint 4 lapsed\ndone\n";
 
-/// Launches `hello.elf` with a checkpoint after each record of work, of which the first is refused.
+const SPENT_THREE: &str = "checkpoint 1 refused: disk fault\nbudget spent: 3 records\n";
+
+const SPENT_SIX: &str =
+    "checkpoint 1 refused: disk fault\ncheckpoint 2 complete: generation 2, drained 0\nbudget spent: 6 records\n";
+
+const SPENT_NINE: &str =
+    "checkpoint 1 refused: disk fault\ncheckpoint 2 complete: generation 2, drained 0\ncheckpoint 3 complete: generation 3, drained 0\nbudget spent: 9 records\n";
+
+/// Launches `hello.elf` with a checkpoint after each record of work, of which the first is refused by the last sync of its
+/// set. It leaves so many of the records above.
 fn launch_refused<R: Abort + Wait + Threads + Sync>(
     rt: &R,
     alloc: Global,
     words: &[&str],
-    status: Status,
+    launched: Outcome,
+    count: usize,
 ) -> Result<MemFolder, AllocError> {
     let last = calls_until(rt, alloc, "1", "3")?;
     let mut disk = MemFolder::new(alloc, &[last])?;
-    let left = run_hello_in(rt, alloc, words, &mut disk)?;
-    assert_eq!(rt; left.status, status);
-    if status == Status::Done {
-        assert_eq!(rt; left.log.bytes(), ONE_REFUSED.as_bytes());
-    }
+    let records = WITH_ONE_REFUSED.get(..count);
+    launch_hello(rt, alloc, words, &mut disk, launched, records)?;
     Ok(disk)
 }
 
 #[test]
 fn sets_after_a_refused_one_have_later_generations(rt: HostRuntime) -> Result<(), Fail> {
     let words = ["launch", "--every", "1", "0:hello.elf"];
-    let mut disk = launch_refused(&rt, rt.alloc(), &words, Status::Done)?;
+    let launched = Outcome {
+        status: Status::Done,
+        out: "hello\n",
+        log: ONE_REFUSED,
+    };
+    let mut disk = launch_refused(&rt, rt.alloc(), &words, launched, 11)?;
     restart(&rt, rt.alloc(), &mut disk, done(""), Some(&[CALL]))?;
     Ok(())
 }
@@ -134,8 +171,12 @@ fn each_set_is_restarted_from_also_the_one_whose_last_sync_failed(
     rt: HostRuntime,
 ) -> Result<(), Fail> {
     let work = [CALL, user(2), CALL];
-    let cases = [("3", 0, "hello\n"), ("6", 1, ""), ("9", 2, "")];
-    for (records, place, text) in cases {
+    let cases = [
+        ("3", 3, "", SPENT_THREE, 0, "hello\n"),
+        ("6", 6, "hello\n", SPENT_SIX, 1, ""),
+        ("9", 9, "hello\n", SPENT_NINE, 2, ""),
+    ];
+    for (records, count, out, log, place, text) in cases {
         let words = [
             "launch",
             "--every",
@@ -144,23 +185,46 @@ fn each_set_is_restarted_from_also_the_one_whose_last_sync_failed(
             records,
             "0:hello.elf",
         ];
-        let mut disk = launch_refused(&rt, rt.alloc(), &words, Status::Budget)?;
+        let launched = Outcome {
+            status: Status::Budget,
+            out,
+            log,
+        };
+        let mut disk = launch_refused(&rt, rt.alloc(), &words, launched, count)?;
         restart(&rt, rt.alloc(), &mut disk, done(text), work.get(place..))?;
     }
     Ok(())
 }
 
+const SPENT_EIGHT: &str =
+    "checkpoint 1 refused: disk fault\ncheckpoint 2 complete: generation 2, drained 0\nbudget spent: 8 records\n";
+
+/// Launches the program of three writes with two checkpoints, of which the first is refused.
+fn launch_three_refused<R: Abort + Wait + Threads + Sync>(
+    rt: &R,
+    alloc: Global,
+) -> Result<MemFolder, AllocError> {
+    let last = calls_until(rt, alloc, "2", "4")?;
+    let mut disk = MemFolder::new(alloc, &[last])?;
+    let words = ["launch", "--every", "2", "--records", "8", "0:a.elf"];
+    let left = run_code_in(rt, alloc, &words, &THREE_WRITES, b"abc", &mut disk)?;
+    assert_eq!(rt; left.status, Status::Budget);
+    assert_eq!(rt; left.out.bytes(), b"ab".as_slice());
+    assert_eq!(rt; left.log.bytes(), SPENT_EIGHT.as_bytes());
+    let refused = Record::Refused {
+        cause: Cause::DiskFault,
+    };
+    assert_eq!(rt; left.records().get(3), Some(&refused));
+    let complete = Record::Complete { generation: 2 };
+    assert_eq!(rt; left.records().get(7), Some(&complete));
+    Ok(disk)
+}
+
 #[test]
 fn a_restart_takes_the_set_after_a_refused_one(rt: HostRuntime) -> Result<(), Fail> {
-    let last = calls_until(&rt, rt.alloc(), "2", "4")?;
-    let mut disk = MemFolder::new(rt.alloc(), &[last])?;
-    let words = ["launch", "--every", "2", "--records", "8", "0:a.elf"];
-    let left = run_code_in(&rt, rt.alloc(), &words, &THREE_WRITES, b"abc", &mut disk)?;
-    let complete = Record::Complete { generation: 2 };
-    assert_eq!(rt; left.records().last(), Some(&complete));
-    let left = restart_in(&rt, rt.alloc(), &["restart"], &mut disk)?;
-    assert_eq!(rt; left.status, Status::Done);
-    assert_eq!(rt; left.out.bytes(), b"c".as_slice());
+    let mut disk = launch_three_refused(&rt, rt.alloc())?;
+    let rest = [user(2), CALL, user(2), CALL];
+    restart(&rt, rt.alloc(), &mut disk, done("c"), Some(&rest))?;
     Ok(())
 }
 

@@ -17,6 +17,13 @@ pub struct Outcome<'a> {
     pub log: &'a str,
 }
 
+/// How a restart ends where no set is complete.
+pub const NO_SET: Outcome<'static> = Outcome {
+    status: Status::NoSet,
+    out: "",
+    log: "no set\n",
+};
+
 /// How a call ends where the folder failed outside a checkpoint.
 pub const DISK_FAULT: Outcome<'static> = Outcome {
     status: Status::DiskFault,
