@@ -1,4 +1,5 @@
 use crate::programs::{STORED_HELLO, hello, program};
+use crate::records::{CALL, user};
 use crate::session::{Failing, NONE_FAIL, run, run_hello};
 use dmtcp_top::Status;
 use std::test::Fail;
@@ -14,14 +15,10 @@ fn hello_runs_to_its_end(rt: HostRuntime) -> Result<(), Fail> {
     assert_eq!(rt; file.as_slice(), STORED_HELLO.as_slice());
     let left = run_hello(&rt, rt.alloc(), &["launch", "0:hello.elf"], NONE_FAIL)?;
     assert_eq!(rt; left.status, Status::Done);
+    assert_eq!(rt; left.status.code(), 0);
     assert_eq!(rt; left.out.bytes(), b"hello\n".as_slice());
     assert_eq!(rt; left.log.bytes(), b"done\n".as_slice());
-    let expected = [
-        Record::User { p: P, t: T, n: 5 },
-        Record::Call { p: P, t: T },
-        Record::User { p: P, t: T, n: 2 },
-        Record::Call { p: P, t: T },
-    ];
+    let expected = [user(5), CALL, user(2), CALL];
     assert_eq!(rt; left.records(), expected.as_slice());
     Ok(())
 }
@@ -52,6 +49,7 @@ fn a_budget_of_one_record_is_spent(rt: HostRuntime) -> Result<(), Fail> {
     let words = ["launch", "--records", "1", "0:hello.elf"];
     let left = run_hello(&rt, rt.alloc(), &words, NONE_FAIL)?;
     assert_eq!(rt; left.status, Status::Budget);
+    assert_eq!(rt; left.status.code(), 18);
     assert_eq!(rt; left.out.bytes(), b"".as_slice());
     assert_eq!(rt; left.log.bytes(), b"budget spent: 1 records\n".as_slice());
     assert_eq!(rt;
@@ -105,6 +103,7 @@ fn a_log_that_fails_at_the_last_line_makes_the_status(rt: HostRuntime) -> Result
     let left = run_hello(&rt, rt.alloc(), &["launch", "0:hello.elf"], failing)?;
     assert_eq!(rt; left.status, Status::SinkFault);
     assert_eq!(rt; left.out.bytes(), b"hello\n".as_slice());
-    assert_eq!(rt; left.records().len(), 4);
+    let expected = [user(5), CALL, user(2), CALL];
+    assert_eq!(rt; left.records(), expected.as_slice());
     Ok(())
 }

@@ -12,6 +12,8 @@ mod compiled;
 #[cfg(test)]
 mod launches;
 #[cfg(test)]
+mod pages;
+#[cfg(test)]
 mod pieces;
 pub mod programs;
 pub mod records;

@@ -64,7 +64,8 @@ fn a_full_trace_with_nobody_alive_is_done(rt: HostRuntime) -> Result<(), Fail> {
     let left = run_hello(&rt, rt.alloc(), &words, NONE_FAIL)?;
     assert_eq!(rt; left.status, Status::Done);
     assert_eq!(rt; left.log.bytes(), b"done\n".as_slice());
-    assert_eq!(rt; left.records().len(), 4);
+    let expected = [user(5), CALL, user(2), CALL];
+    assert_eq!(rt; left.records(), expected.as_slice());
     Ok(())
 }
 
@@ -77,7 +78,7 @@ fn a_name_may_hold_a_colon(rt: HostRuntime) -> Result<(), Fail> {
 }
 
 #[test]
-fn the_greatest_budget_is_one(rt: HostRuntime) -> Result<(), Fail> {
+fn a_budget_of_four_million_records_is_taken(rt: HostRuntime) -> Result<(), Fail> {
     let words = ["launch", "--records", "4000000", "0:none.elf"];
     let left = run_hello(&rt, rt.alloc(), &words, NONE_FAIL)?;
     assert_eq!(rt; left.status, Status::Missing);

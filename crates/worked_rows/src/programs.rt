@@ -14,7 +14,7 @@ pub fn program(alloc: Global, words: &[u32], text: &[u8]) -> Result<Vec<u8>, All
     let size = code
         .saturating_add(text.len() as u64)
         .saturating_add(84)
-        .min(4096) as u32;
+        .min(u32::MAX as u64) as u32;
     let bytes = size.to_le_bytes();
     for (place, byte) in HEADERS.iter().enumerate() {
         match place {

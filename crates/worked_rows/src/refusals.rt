@@ -11,6 +11,7 @@ use std::thread::Threads;
 fn a_missing_program_is_named(rt: HostRuntime) -> Result<(), Fail> {
     let left = run_hello(&rt, rt.alloc(), &["launch", "0:none.elf"], NONE_FAIL)?;
     assert_eq!(rt; left.status, Status::Missing);
+    assert_eq!(rt; left.status.code(), 12);
     assert_eq!(rt; left.log.bytes(), b"missing: none.elf\n".as_slice());
     assert_eq!(rt; left.records().len(), 0);
     Ok(())
@@ -24,6 +25,7 @@ fn an_input_fault_is_named(rt: HostRuntime) -> Result<(), Fail> {
     };
     let left = run_hello(&rt, rt.alloc(), &["launch", "0:none.elf"], failing)?;
     assert_eq!(rt; left.status, Status::InputFault);
+    assert_eq!(rt; left.status.code(), 11);
     assert_eq!(rt; left.log.bytes(), b"input fault: none.elf\n".as_slice());
     Ok(())
 }

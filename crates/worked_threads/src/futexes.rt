@@ -1,11 +1,14 @@
 use crate::halves::assert_restarts;
+use crate::outcomes::assert_left;
 use crate::scripts::{
     ALL_ONES, EAGAIN, EVERY_SIGNAL, LOOK, Step, assert_restarted_steps, assert_steps,
 };
 use dmtcp_top::Status;
 use std::alloc::{AllocError, Global};
 use std::test::Fail;
+use sys_abi::Record;
 use sys_abi::calls::{CLONE, EXIT, FUTEX, GETTID, SCHED_YIELD, SET_TID_ADDRESS};
+use worked_rows::records::{FIRST, SECOND, call_of, user_of};
 use worked_rows::session::run_code;
 
 /// Two threads take a lock twice each, and while they hold it write `ab` and `cd`, each letter by a call of its own. The
@@ -74,12 +77,46 @@ pub const LOCKED: [u32; 61] = [
     0x0000_0073,
 ];
 
+/// The turns of these two: whether it is the second thread's, and how many instructions stand before its call.
+const TURNS: [(bool, u32); 20] = [
+    (false, 12),
+    (false, 10),
+    (true, 10),
+    (false, 2),
+    (false, 4),
+    (true, 9),
+    (false, 9),
+    (true, 2),
+    (true, 4),
+    (false, 9),
+    (true, 9),
+    (false, 2),
+    (false, 4),
+    (true, 9),
+    (false, 8),
+    (true, 2),
+    (true, 4),
+    (true, 5),
+    (false, 7),
+    (false, 2),
+];
+
+/// The records of these turns.
+fn of_turns(alloc: Global) -> Result<Vec<Record>, AllocError> {
+    let mut records = Vec::new(alloc);
+    for (is_second, count) in TURNS {
+        let t = if is_second { SECOND } else { FIRST };
+        records.push(user_of(t, count))?;
+        records.push(call_of(t))?;
+    }
+    Ok(records)
+}
+
 #[test]
 fn two_threads_that_share_a_lock_take_turns(rt: HostRuntime) -> Result<(), Fail> {
     let left = run_code(&rt, rt.alloc(), &LOCKED, b"abcde")?;
-    assert_eq!(rt; left.status, Status::Done);
-    assert_eq!(rt; left.out.bytes(), b"abcdabcde".as_slice());
-    assert_eq!(rt; left.records().len(), 40);
+    let expected = of_turns(rt.alloc())?;
+    assert_left(&rt, &left, Status::Done, b"abcdabcde", expected.as_slice());
     Ok(())
 }
 

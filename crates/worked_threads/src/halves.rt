@@ -69,6 +69,7 @@ fn decimal(alloc: Global, number: usize) -> Result<String, AllocError> {
 fn assert_halves<R: Abort>(rt: &R, whole: &Left, first: &Left, second: &Left, done: usize) {
     assert_eq!(rt; first.status, Status::Budget);
     assert_eq!(rt; second.status, Status::Done);
+    assert_eq!(rt; first.records().get(..done), whole.records().get(..done));
     assert_eq!(rt; Some(second.records()), whole.records().get(done..));
     let place = first.out.bytes().len();
     assert_eq!(rt; whole.out.bytes().get(..place), Some(first.out.bytes()));

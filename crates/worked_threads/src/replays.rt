@@ -1,4 +1,5 @@
 use crate::futexes::LOCKED;
+use crate::signals::{HANDLED, INTERRUPTED, TRAPS};
 use dmtcp_top::Status;
 use plain_machine::{
     FIRST_PID, Frame, Plain, PlainKernel, Regs, ReplayFault, SignalAction, ThreadPart, UserPart,
@@ -14,7 +15,7 @@ use sys_abi::{ByPid, Page, Record, VPid};
 use views::list_of::ListOf;
 use views::number_map::NumberMap;
 use worked_rows::programs::{STORED_HELLO, program};
-use worked_rows::records::{CALL, user};
+use worked_rows::records::{CALL, FIRST, delivered, user};
 use worked_rows::session::{NONE_FAIL, run};
 
 /// The end of the stack: the count of arguments, where the name stands, words of zeros, and the name.
@@ -98,27 +99,85 @@ fn is_whole(alloc: Global, start: &Plain, records: &[Record]) -> bool {
     }
 }
 
-/// Runs the program, and replays its trace of so many records.
+/// The words of a launch without checkpoints.
+const LAUNCH: [&str; 2] = ["launch", "0:hello.elf"];
+
+/// Runs the program by these words, and replays its trace of so many records, among which these stand.
 fn assert_replayed<R: Abort + Wait + Threads + Sync>(
     rt: &R,
     alloc: Global,
+    words: &[&str],
     file: &[u8],
     count: usize,
+    among: &[Record],
 ) -> Result<(), AllocError> {
-    let words = ["launch", "0:hello.elf"];
-    let left = run(rt, alloc, &words, ("hello.elf", file), NONE_FAIL)?;
+    let left = run(rt, alloc, words, ("hello.elf", file), NONE_FAIL)?;
     assert_eq!(rt; left.status, Status::Done);
     assert_eq!(rt; left.records().len(), count);
+    for record in among {
+        assert!(rt; left.records().contains(record));
+    }
     let start = start_of(alloc, file)?;
     assert!(rt; is_whole(alloc, &start, left.records()));
     Ok(())
 }
 
+/// The same with a program of these instructions and this text.
+fn assert_code_replayed<R: Abort + Wait + Threads + Sync>(
+    rt: &R,
+    alloc: Global,
+    words: &[&str],
+    code: (&[u32], &[u8]),
+    count: usize,
+    among: &[Record],
+) -> Result<(), AllocError> {
+    let file = program(alloc, code.0, code.1)?;
+    assert_replayed(rt, alloc, words, file.as_slice(), count, among)
+}
+
 #[test]
 fn the_trace_of_a_run_is_replayed_to_its_end(rt: HostRuntime) -> Result<(), Fail> {
-    assert_replayed(&rt, rt.alloc(), &STORED_HELLO, 4)?;
-    let locked = program(rt.alloc(), &LOCKED, b"abcde")?;
-    assert_replayed(&rt, rt.alloc(), locked.as_slice(), 40)?;
+    let alloc = rt.alloc();
+    let calls = [CALL];
+    assert_replayed(&rt, alloc, &LAUNCH, &STORED_HELLO, 4, &calls)?;
+    assert_code_replayed(&rt, alloc, &LAUNCH, (&LOCKED, b"abcde"), 40, &calls)?;
+    Ok(())
+}
+
+#[test]
+fn the_trace_of_a_run_with_a_handler_is_replayed_to_its_end(rt: HostRuntime) -> Result<(), Fail> {
+    let alloc = rt.alloc();
+    let among = [delivered(FIRST, 10)];
+    assert_code_replayed(&rt, alloc, &LAUNCH, (&HANDLED, b""), 13, &among)?;
+    // The handler interrupts a wait.
+    assert_code_replayed(&rt, alloc, &LAUNCH, (&INTERRUPTED, b""), 17, &among)?;
+    Ok(())
+}
+
+#[test]
+fn the_trace_of_a_run_with_a_trap_is_replayed_to_its_end(rt: HostRuntime) -> Result<(), Fail> {
+    let alloc = rt.alloc();
+    let among = [delivered(FIRST, 5)];
+    // The mask blocks the signal of the trap, which ends the process; it lets the signal through to the handler.
+    assert_code_replayed(&rt, alloc, &LAUNCH, (&TRAPS, b"x"), 5, &among)?;
+    let mut code = TRAPS;
+    code[11] = 0x0010_0513;
+    assert_code_replayed(&rt, alloc, &LAUNCH, (&code, b"x"), 9, &among)?;
+    Ok(())
+}
+
+#[test]
+fn the_trace_of_a_run_with_checkpoints_is_replayed_to_its_end(rt: HostRuntime) -> Result<(), Fail> {
+    let alloc = rt.alloc();
+    let cut = Record::Cut { generation: 1 };
+    let complete = Record::Complete { generation: 1 };
+    let words = ["launch", "--every", "2", "0:hello.elf"];
+    let among = [cut, complete, Record::Lapsed];
+    assert_replayed(&rt, alloc, &words, &STORED_HELLO, 7, &among)?;
+    // The signal is pending at the first cut.
+    let words = ["launch", "--every", "4", "0:hello.elf"];
+    let among = [cut, complete, delivered(FIRST, 10)];
+    assert_code_replayed(&rt, alloc, &words, (&HANDLED, b""), 19, &among)?;
     Ok(())
 }
 
@@ -164,5 +223,30 @@ fn a_trace_that_ends_before_the_run_gives_the_state_there(rt: HostRuntime) -> Re
         after(alloc, &start, &[user(5), CALL]),
         Some((0x1_006C, next))
     );
+    Ok(())
+}
+
+#[test]
+fn a_replay_begins_a_handler_and_returns_from_it(rt: HostRuntime) -> Result<(), Fail> {
+    let alloc = rt.alloc();
+    let file = program(alloc, &HANDLED, b"")?;
+    let start = start_of(alloc, file.as_slice())?;
+    let records = [
+        user(9),
+        CALL,
+        user(5),
+        CALL,
+        delivered(FIRST, 10),
+        user(7),
+        CALL,
+        user(2),
+        CALL,
+    ];
+    let next = FIRST_PID + 1;
+    // Behind the call that sends the signal; at the handler; behind that call again.
+    let (behind, handler) = (Some((0x1_0094, next)), Some((0x1_00BC, next)));
+    assert_eq!(rt; after(alloc, &start, &records[..4]), behind);
+    assert_eq!(rt; after(alloc, &start, &records[..5]), handler);
+    assert_eq!(rt; after(alloc, &start, &records), behind);
     Ok(())
 }

@@ -12,7 +12,7 @@ use worked_rows::session::{Left, run_code};
 
 /// Sends itself signal 10 where `sp` is no multiple of 16. The handler writes its `a0`, `ra` and `sp`. Then the program
 /// writes `sp` and the answer of its call, and exits with 0.
-const HANDLED: [u32; 35] = [
+pub const HANDLED: [u32; 35] = [
     0xFCC1_0113,
     0x0000_0297,
     0x0642_8293,
@@ -166,7 +166,7 @@ fn two_pending_signals_are_delivered_in_two_turns(rt: HostRuntime) -> Result<(),
 }
 
 /// Gives signal 5 a handler, changes the mask by it, and traps with it. The handler writes `x` and exits with 0.
-const TRAPS: [u32; 27] = [
+pub const TRAPS: [u32; 27] = [
     0x0000_0297,
     0x0482_8293,
     0xFE51_2023,
@@ -325,7 +325,7 @@ fn a_signal_without_a_handler_ends_the_process(rt: HostRuntime) -> Result<(), Fa
 
 /// Gives signal 10 a handler that does nothing, with the flags in `t1`, makes a thread that sends it the signal and exits,
 /// and waits on a word. Then it writes the answer and exits with 0.
-const INTERRUPTED: [u32; 46] = [
+pub const INTERRUPTED: [u32; 46] = [
     0xFC01_0113,
     0x0000_0297,
     0x0B02_8293,
