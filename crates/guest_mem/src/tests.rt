@@ -79,6 +79,26 @@ fn copies_meet_many_pages(rt: HostRuntime) -> Result<(), Fail> {
 }
 
 #[test]
+fn zeroed_pages_come_in_the_place_of_those_that_stand(rt: HostRuntime) -> Result<(), Fail> {
+    let alloc = rt.alloc();
+    let mut space = Space::new(alloc);
+    assert!(rt; space.is_free(0x20, 2));
+    space.map(0x20, 2, 4)?;
+    assert_eq!(rt; space.len(), 2);
+    space.put_zeroed(alloc, 0x22, 1, 6)?;
+    space.store(0x22FFC, 4, 0x0403_0201)?;
+    assert_eq!(rt; space.store(0x21FFC, 4, 1), Err(MemFault::Rights));
+    assert_eq!(rt; space.len(), 3);
+    space.put_zeroed(alloc, 0x21, 3, 6)?;
+    assert_eq!(rt; space.len(), 4);
+    assert_eq!(rt; space.load(0x22FFC, 4), Ok(0));
+    space.store(0x21FFC, 4, 0x0807_0605)?;
+    assert_eq!(rt; space.load(0x21FFC, 4), Ok(0x0807_0605));
+    assert_eq!(rt; space.store(0x20FFC, 4, 1), Err(MemFault::Rights));
+    Ok(())
+}
+
+#[test]
 fn a_range_is_owned_up_to_its_last_byte(rt: HostRuntime) -> Result<(), Fail> {
     // Pages 0x20 and 0x21 may be written, page 0x22 only read, and the last page of all may be written.
     let mut space = Space::new(rt.alloc());

@@ -60,6 +60,12 @@ fn the_guest_of_an_image_runs_on_the_same(rt: HostRuntime) -> Result<(), Fail> {
     assert_eq!(rt; copy.image(alloc)?.pages.len(), 66);
     assert_eq!(rt; run(&mut guest), (5, true));
     assert_eq!(rt; run(&mut copy), (5, true));
+    // It writes six bytes on descriptor 1.
+    let regs = regs(&copy, THREAD)?;
+    assert_eq!(rt; regs.pc, 0x10068);
+    assert_eq!(rt; (regs.x[10], regs.x[11], regs.x[12]), (1, 0x10078, 6));
+    assert_eq!(rt; regs.x[17], 64);
+    assert_eq!(rt; guest.threads.regs(THREAD.0), Some(regs));
     Ok(())
 }
 
@@ -97,7 +103,8 @@ fn add_thread(alloc: Global, guest: &mut Guest) -> Result<(), Fail> {
     Ok(())
 }
 
-fn regs(guest: &Guest, t: Tid) -> Result<Regs, Fail> {
+/// The registers of a thread.
+pub fn regs(guest: &Guest, t: Tid) -> Result<Regs, Fail> {
     match guest.threads.regs(t.0) {
         Some(regs) => Ok(regs),
         None => Err(Fail::from("no thread")),

@@ -1,8 +1,8 @@
 // A call that only gave up for want of memory would meet its contract, so each is made here with
 // memory to spare.
 use crate::{
-    ByAddress, ByConn, ByDesc, ByDir, ByName, ByPid, BySlot, ConnId, DescId, Dir, Slot, VPid,
-    VirtAddr,
+    ByAddress, ByConn, ByDesc, ByDir, ByName, ByPid, BySlot, ConnId, DescId, Dir, Fd, RealAddr,
+    RealPid, Signal, Slot, Tid, VPid, VirtAddr,
 };
 use std::test::Fail;
 use views::duplicate::Duplicate;
@@ -65,12 +65,30 @@ fn names(rt: HostRuntime) -> Result<(), Fail> {
 }
 
 #[test]
-fn ids_are_copied(rt: HostRuntime) -> Result<(), Fail> {
+fn ids_of_processes_and_channels_are_copied(rt: HostRuntime) -> Result<(), Fail> {
     let pid = VPid(2);
     assert_eq!(rt; pid.duplicate(rt.alloc())?, pid);
+    assert_eq!(rt; Tid(3).duplicate(rt.alloc())?, Tid(3));
+    assert_eq!(rt; Fd(4).duplicate(rt.alloc())?, Fd(4));
+    assert_eq!(rt; Signal(10).duplicate(rt.alloc())?, Signal(10));
     let slot = Slot { pid, fd: 3 };
     assert_eq!(rt; slot.duplicate(rt.alloc())?, slot);
     let conn = ConnId { pid, num: 4 };
     assert_eq!(rt; conn.duplicate(rt.alloc())?, conn);
+    let desc = DescId { pid, num: 5 };
+    assert_eq!(rt; desc.duplicate(rt.alloc())?, desc);
+    let dir = Dir { conn, side: 1 };
+    assert_eq!(rt; dir.duplicate(rt.alloc())?, dir);
+    Ok(())
+}
+
+#[test]
+fn numbers_of_nodes_and_hosts_are_copied(rt: HostRuntime) -> Result<(), Fail> {
+    let process = RealPid { node: 1, pid: 700 };
+    assert_eq!(rt; process.duplicate(rt.alloc())?, process);
+    let port = RealAddr { node: 1, port: 80 };
+    assert_eq!(rt; port.duplicate(rt.alloc())?, port);
+    let address = VirtAddr { host: 1, port: 80 };
+    assert_eq!(rt; address.duplicate(rt.alloc())?, address);
     Ok(())
 }
