@@ -5,8 +5,8 @@
 //! them without the right that it needs, is `Rights`. What was refused changed nothing, and no address wraps.
 //!
 //! Proved: each call is the word of its name over that map, and each refusal comes exactly where `specs/Refusals.antt`
-//! says. An access inside a page takes one look-up by index, and none takes memory. Not claimed: that an allocation
-//! succeeds. Source: the RISC-V unprivileged manual, sections 1.4 and 2.6 (memory, loads and stores), and `man 2 mmap`.
+//! says. Not proved, but so written: an access inside a page takes one look-up by index and no memory. Not claimed: that
+//! an allocation succeeds. Source: the RISC-V unprivileged manual, sections 1.4 and 2.6 (memory, loads and stores), and `man 2 mmap`.
 #![tactic(auto)]
 
 mod access;

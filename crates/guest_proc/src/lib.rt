@@ -11,8 +11,8 @@
 //! delivery and a thread more take no memory: `reserve_thread` takes it before.
 //!
 //! Proved: each of these, exactly, for every program and every memory; none of them but `load`, `image`, `of_image`,
-//! `local` and `reserve_thread` takes memory, and an image copies each page once, `of_image` none. Not claimed: anything of
-//! time. The loop of `run` allocates nothing and looks nothing up.
+//! `local` and `reserve_thread` answers want of memory. Not proved, but so written: an image copies each page once and
+//! `of_image` none, and the loop of `run` allocates nothing and looks nothing up. Not claimed: anything of time.
 #![tactic(auto)]
 
 mod answer;

@@ -9,9 +9,9 @@
 //! The shared image stands for a kernel part: [`shared_image`] makes the one of a kernel part, [`restored_kernel`] the
 //! kernel part of one. `specs/Sets.antt` says which plain state a whole set spells.
 //!
-//! Proved: all of that, for every value and all bytes, [`image_laws`], and of whole sets [`set_laws`]. A reader takes no
-//! more memory than the bytes that are there account for. Not proved here: that an image is that of a running process.
-//! The formats are this project's own (`docs/FORMATS.md`) and restate no standard. So far there is one process, and the
+//! Proved: all of that, for every value and all bytes, [`image_laws`], and of whole sets [`set_laws`]. Not proved, but so
+//! written: a reader takes no more memory than the bytes that are there account for. Not proved here: that an image is
+//! that of a running process. The formats are this project's own (`docs/FORMATS.md`) and restate no standard. So far there is one process, and the
 //! console is the only thing that is open.
 #![tactic(auto)]
 

@@ -1,8 +1,9 @@
-//! The words that every other crate speaks: numbers of processes, threads and descriptors, the calls that a guest
-//! makes, the records of a trace, and the buffer that carries a call's bytes.
+//! The words that the crates of processes, channels and checkpoints share: numbers of processes, threads and
+//! descriptors, the calls that a guest makes, the records of a trace, and the buffer that carries a call's bytes.
 //!
 //! To a caller: `request_of` reads a call off the registers and is total, `is_local` tells which calls a process
-//! answers alone, and a `Transfer` is a list of at most 65,536 bytes that never takes memory after it is made.
+//! answers alone, and a `Transfer` is a list of at most 65,536 bytes, none of whose calls but its maker answers want of
+//! memory.
 //!
 //! Proved: `request_of` and `is_local` are the tables of `specs/Requests.antt`; a `Transfer` is the list that its
 //! clauses say. Not claimed: that the call numbers, flags and errors are those of any other system. They are modelled
