@@ -5,3 +5,4 @@ pub mod Stretches
 pub mod Histories
 pub mod MemoryFolders
 pub mod UntoldPasses
+pub mod HostNames

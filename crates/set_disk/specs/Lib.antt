@@ -9,3 +9,4 @@ pub mod FilesCode
 pub mod HistoryCode
 pub mod InMemoryLaws
 pub mod Untold
+pub mod HostNames

@@ -1,13 +1,19 @@
 //! The calls of a folder on files of the host. Want of memory comes before anything is changed.
-ghost use Rattle.std.specs.Prelude.{◌≡◌, ◌≤◌, length, IfOk};
+ghost use Rattle.std.specs.Prelude.{◌≡◌, ◌≢◌, ◌≤◌, length, IfOk};
+ghost use Rattle.std.specs.IoError.{error_kind};
 
 use crate::disk_fault::DiskFault;
+use crate::host_names::is_used;
 use std::fs::{File, OpenFile, OpenOptions};
 use std::io::{ErrorKind, Read, Seek, SeekFrom, Write};
 use std::rt::Files;
 use std::{fs, io};
 
-pub fn fault_of(error: io::Error) -> DiskFault {
+/// The fault that an error of the host is.
+pub fn fault_of(error: io::Error) -> DiskFault
+    ensures memory { error_kind error ≡ ErrorKind.OutOfMemory → result ≡ DiskFault.Memory }
+    ensures failed { error_kind error ≢ ErrorKind.OutOfMemory → result ≡ DiskFault.Failed }
+{
     match error.kind() {
         ErrorKind::OutOfMemory => DiskFault::Memory,
         _ => DiskFault::Failed,
@@ -112,29 +118,11 @@ pub fn sync_folder<R: Files + AllocGlobal + Clone + Drop>(
 fn sync_all<R: Files + AllocGlobal + Clone + Drop>(rt: &R, path: &str) -> io::Result<()> {
     for entry in fs::read_dir(rt, path)? {
         let entry = entry?;
-        if is_used(entry.file_name()) {
+        if is_used(rt.alloc(), entry.file_name())? {
             File::open(rt, entry.path())?.sync_all()?;
         }
     }
     File::open(rt, path)?.sync_all()?;
     let parent = format!(in rt.alloc(); "{path}/..")?;
     File::open(rt, parent.as_str())?.sync_all()
-}
-
-/// Whether a host file's name is that of a file of the folder.
-pub fn is_used(name: &str) -> bool {
-    let Some((slot, index)) = name
-        .strip_prefix('s')
-        .and_then(|rest| rest.strip_suffix(".img"))
-        .and_then(|numbers| numbers.split_once('_'))
-    else {
-        return false;
-    };
-    is_number(slot) && is_number(index)
-}
-
-/// Whether the text is a number as the folder writes it: digits, with no 0 in front of others.
-fn is_number(text: &str) -> bool {
-    let is_short = text.len() == 1 || !text.starts_with('0');
-    is_short && text.bytes().all(|byte| byte.is_ascii_digit()) && text.parse::<u32>().is_ok()
 }

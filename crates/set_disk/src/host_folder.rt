@@ -1,11 +1,13 @@
-ghost use Rattle.std.specs.Prelude.{◌≡◌, ◌≤◌, None, length, IfOk, ⊤};
+ghost use Rattle.std.specs.Prelude.{◌≡◌, ◌≤◌, false, None, length, IfOk, ⊤, string_bytes};
 ghost use Rattle.set_disk.specs.Faults.{HasCause};
+ghost use Rattle.set_disk.specs.HostNames.{host_path};
 ghost use Rattle.set_disk.specs.Untold.{AnyImage, AnySince, host_faults, one_moment};
 
 use crate::disk_fault::DiskFault;
 use crate::file_name::FileName;
 use crate::folder::Folder;
 use crate::host_files::{cut_file, fault_of, length_of, read_file, sync_folder, write_file};
+use crate::host_names::path_of;
 use std::alloc::{AllocError, Global};
 use std::fs;
 use std::io::ErrorKind;
@@ -25,7 +27,8 @@ pub struct HostFolder<R> {
 impl<R: Files + AllocGlobal + Clone + Drop> HostFolder<R> {
     /// The folder at the path, without faults so far. No call of the host is made.
     pub fn new(rt: R, alloc: Global, path: &str) -> Result<Self, AllocError>
-        ensures { IfOk result (λ folder. host_faults folder ≡ 0) }
+        ensures rest { IfOk result (λ folder. (folder.rt ≡ rt) × ((folder.is_made ≡ false) × (host_faults folder ≡ 0))) }
+        ensures place { IfOk result (λ folder. string_bytes folder.path ≡ path.now) }
     {
         Ok(HostFolder {
             rt,
@@ -37,16 +40,19 @@ impl<R: Files + AllocGlobal + Clone + Drop> HostFolder<R> {
 
     /// The path of the file, once the folder is there.
     fn path_of(&mut self, name: FileName) -> Result<String, DiskFault>
-        ensures { self.new.faults ≡ self.old.faults }
+        ensures path { IfOk result (λ path. string_bytes path ≡ host_path (string_bytes self.old.path) name) }
+        ensures place { self.new.path ≡ self.old.path }
+        ensures faults { self.new.faults ≡ self.old.faults }
     {
-        let path = format!(in self.rt.alloc(); "{}/s{}_{}.img", self.path, name.slot, name.index)?;
+        let path = path_of(self.rt.alloc(), self.path.as_str(), name)?;
         self.make()?;
         Ok(path)
     }
 
     /// Makes the folder, at the first call.
     fn make(&mut self) -> Result<(), DiskFault>
-        ensures { self.new.faults ≡ self.old.faults }
+        ensures place { self.new.path ≡ self.old.path }
+        ensures faults { self.new.faults ≡ self.old.faults }
     {
         if self.is_made {
             return Ok(());
@@ -63,6 +69,7 @@ impl<R: Files + AllocGlobal + Clone + Drop> HostFolder<R> {
     /// Counts the answer, if it is a fault.
     fn count<T: Drop>(&mut self, answer: Result<T, DiskFault>) -> Result<T, DiskFault>
         ensures same { result ≡ answer }
+        ensures place { self.new.path ≡ self.old.path }
         ensures cause { HasCause result self.old.faults self.new.faults }
     {
         let _in_range = self.faults;

@@ -24,6 +24,7 @@ mod files;
 mod folder;
 mod host_files;
 mod host_folder;
+mod host_names;
 mod mem_folder;
 mod replay;
 mod request;

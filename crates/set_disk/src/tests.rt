@@ -1,4 +1,4 @@
-use crate::host_files::is_used;
+use crate::host_names::{is_used, name_of, path_of};
 use crate::{DiskFault, FileName, Folder, HostFolder, MemFolder};
 use std::alloc::{AllocError, Global};
 use std::fs;
@@ -167,17 +167,44 @@ fn a_folder_of_the_host(rt: HostRuntime) -> Result<(), Fail> {
 
 #[test]
 fn names_of_files_of_a_folder(rt: HostRuntime) -> Result<(), Fail> {
-    for name in ["s0_1.img", "s10_0.img"] {
-        assert!(&rt; is_used(name), "{name}");
+    let alloc = rt.alloc();
+    let greatest = FileName {
+        slot: u32::MAX,
+        index: u32::MAX,
+    };
+    for (name, want) in [
+        (NAME, "s0_1.img"),
+        (OTHER, "s1_0.img"),
+        (greatest, "s4294967295_4294967295.img"),
+    ] {
+        let text = name_of(alloc, name)?;
+        assert_eq!(&rt; text.as_str(), want);
+        assert!(&rt; is_used(alloc, text.as_str())?);
     }
+    let path = path_of(alloc, "sets/of", NAME)?;
+    assert_eq!(&rt; path.as_str(), "sets/of/s0_1.img");
+    Ok(())
+}
+
+#[test]
+fn names_of_other_files_of_the_host(rt: HostRuntime) -> Result<(), Fail> {
     for name in [
+        "",
+        "notes.txt",
         "s00_1.img",
         "s+0_1.img",
         "s0_01.img",
+        "s0_4294967296.img",
         "s_1.img",
+        "s0_.img",
+        "s0_1",
         "s0_1.img.",
+        "s0_1.imgs",
+        "s0_1_.img",
+        "S0_1.img",
+        "0_1.img",
     ] {
-        assert!(&rt; !is_used(name), "{name}");
+        assert!(&rt; !is_used(rt.alloc(), name)?, "{name}");
     }
     Ok(())
 }
