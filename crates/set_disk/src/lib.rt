@@ -9,11 +9,12 @@
 //! [`MemFolder`] is such a folder in memory. It fails at calls that are named beforehand, and gives
 //! the images that a crash after any of its calls may leave. [`HostFolder`] is a folder of the host.
 //!
-//! Proved: both keep the promises of `Folder`, each call of `MemFolder` has an exact contract, and
-//! its crash images are among those that a crash may leave. Not proved: that the host's disk keeps
-//! this model. `HostFolder` tells no content, so no clause speaks of it; and a sync that follows a
-//! failed one settles all in the model, which a kernel does not promise. The calls are those of
-//! POSIX: `pread`, `pwrite`, `ftruncate`, `fstat` and `fsync`.
+//! Proved: both keep the promises of `Folder`, each call of `MemFolder` has an exact contract, its
+//! crash images are among those that a crash may leave, and which path of the host a file's name
+//! has. Not proved: that the host's disk keeps this model. `HostFolder` tells no content, so no
+//! clause speaks of it; and a sync that follows a failed one settles all in the model, which a
+//! kernel does not promise. The calls are those of POSIX: `pread`, `pwrite`, `ftruncate`, `fstat`
+//! and `fsync`.
 #![tactic(auto)]
 
 mod call;

@@ -9,7 +9,7 @@ use Rattle.std.proofs.lemmas.Cmp.{on_total, then_total}
 use Rattle.std.proofs.lemmas.Map.Lookups.{exact_pairs}
 use Rattle.sys_abi.specs.declared.identity.VPid.{VPid}
 use Rattle.sys_abi.specs.declared.identity.ConnId.{ConnId}
-use Rattle.sys_abi.specs.Orders.{vpid_cmp, slot_cmp, desc_cmp, conn_cmp, dir_cmp, address_cmp, real_pid_cmp}
+use Rattle.sys_abi.specs.Orders.{vpid_cmp, slot_cmp, desc_cmp, conn_cmp, dir_cmp, address_cmp, real_pid_cmp, real_address_cmp}
 
 pub vpid_total : IsTotalOrder vpid_cmp
 vpid_total = on_total (λ a. a.0) nat_cmp_total
@@ -52,6 +52,12 @@ real_pid_total = then_total (on_total (λ a. a.node) nat_cmp_total) (on_total (�
 
 pub real_pid_exact : IsAntisymmetric real_pid_cmp
 real_pid_exact a b e = ap (λ (p : ℕ × ℕ). record { node = p.0; pid = p.1 }) (exact_pairs nat_cmp nat_cmp nat_cmp-IsAntisymmetric nat_cmp-IsAntisymmetric (a.node, a.pid) (b.node, b.pid) e)
+
+pub real_address_total : IsTotalOrder real_address_cmp
+real_address_total = then_total (on_total (λ a. a.node) nat_cmp_total) (on_total (λ a. a.port) nat_cmp_total)
+
+pub real_address_exact : IsAntisymmetric real_address_cmp
+real_address_exact a b e = ap (λ (p : ℕ × ℕ). record { node = p.0; port = p.1 }) (exact_pairs nat_cmp nat_cmp nat_cmp-IsAntisymmetric nat_cmp-IsAntisymmetric (a.node, a.port) (b.node, b.port) e)
 
 pub name_total : IsTotalOrder name_cmp
 name_total = nat_list_cmp_total

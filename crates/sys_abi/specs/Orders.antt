@@ -1,5 +1,5 @@
--- The orders of the numbers that name processes, real or not, descriptors, descriptions, channels, directions and addresses: by their parts in turn, as
--- their derived comparisons have them. Beside each its code, by which it may be the key of a finite map that is a model's value.
+-- The orders of the numbers that name processes and addresses, real or not, descriptors, descriptions, channels and directions: by their parts in turn,
+-- as their derived comparisons have them. Beside each its code, by which it may be the key of a finite map that is a model's value.
 use Rattle.std.specs.declared.cmp.Ordering.{Ordering}
 use Rattle.std.specs.Ordering.{nat_cmp, ordering_then}
 use Rattle.std.specs.Coded.{Coded}
@@ -10,6 +10,7 @@ use Rattle.sys_abi.specs.declared.identity.ConnId.{ConnId}
 use Rattle.sys_abi.specs.declared.identity.Dir.{Dir}
 use Rattle.sys_abi.specs.declared.identity.VirtAddr.{VirtAddr}
 use Rattle.sys_abi.specs.declared.identity.RealPid.{RealPid}
+use Rattle.sys_abi.specs.declared.identity.RealAddr.{RealAddr}
 use Rattle.sys_abi.specs.contracts.identity.VPid as vpid
 use Rattle.sys_abi.specs.contracts.identity.Slot as slot
 use Rattle.sys_abi.specs.contracts.identity.DescId as desc
@@ -17,6 +18,7 @@ use Rattle.sys_abi.specs.contracts.identity.ConnId as conn
 use Rattle.sys_abi.specs.contracts.identity.Dir as dir
 use Rattle.sys_abi.specs.contracts.identity.VirtAddr as address
 use Rattle.sys_abi.specs.contracts.identity.RealPid as real_pid
+use Rattle.sys_abi.specs.contracts.identity.RealAddr as real_address
 
 abbrev pub vpid_cmp : VPid → VPid → Ordering
 vpid_cmp a b = nat_cmp a.0 b.0
@@ -39,6 +41,9 @@ address_cmp a b = ordering_then (nat_cmp a.host b.host) (nat_cmp a.port b.port)
 abbrev pub real_pid_cmp : RealPid → RealPid → Ordering
 real_pid_cmp a b = ordering_then (nat_cmp a.node b.node) (nat_cmp a.pid b.pid)
 
+abbrev pub real_address_cmp : RealAddr → RealAddr → Ordering
+real_address_cmp a b = ordering_then (nat_cmp a.node b.node) (nat_cmp a.port b.port)
+
 abbrev pub coded_vpid : Coded VPid
 coded_vpid = vpid.the_row.coded
 
@@ -59,3 +64,6 @@ coded_address = address.the_row.coded
 
 abbrev pub coded_real_pid : Coded RealPid
 coded_real_pid = real_pid.the_row.coded
+
+abbrev pub coded_real_address : Coded RealAddr
+coded_real_address = real_address.the_row.coded

@@ -11,8 +11,7 @@ use Rattle.std.specs.FinMap.{FinMap}
 use Rattle.std.specs.Coded.{Coded, code_by, coded×, coded_ℕ}
 use Rattle.sys_abi.specs.declared.identity.RealPid.{RealPid}
 use Rattle.sys_abi.specs.declared.identity.RealAddr.{RealAddr}
-use Rattle.sys_abi.specs.Orders.{address_cmp, coded_address, coded_real_pid}
-use Rattle.virt_ids.specs.Orders.{coded_real_address}
+use Rattle.sys_abi.specs.Orders.{address_cmp, coded_address, coded_real_pid, coded_real_address}
 
 pub record Pairs : Type 0 where
   pub pids : FinMap nat_cmp RealPid

@@ -15,7 +15,7 @@ pub struct ByRealAddress<V> {
 
 impl<V> Model for ByRealAddress<V> {
     ghost use Rattle.std.specs.FinMap as map;
-    ghost use Rattle.virt_ids.specs.Orders.{real_address_cmp, coded_real_address};
+    ghost use Rattle.sys_abi.specs.Orders.{real_address_cmp, coded_real_address};
 
     ghost Value = { map.FinMap real_address_cmp V };
 

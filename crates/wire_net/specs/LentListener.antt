@@ -5,7 +5,7 @@ use Rattle.std.specs.Borrow.{Fml, MutBor, LendsSo}
 use Rattle.std.specs.FinMap as map
 use Rattle.sys_abi.specs.declared.identity.RealAddr.{RealAddr}
 use Rattle.wire_net.specs.declared.listener.Listener.{Listener}
-use Rattle.wire_net.specs.Orders.{real_address_cmp}
+use Rattle.sys_abi.specs.Orders.{real_address_cmp}
 use Rattle.wire_net.specs.contracts.listener.Listener as listener
 use Rattle.wire_net.specs.contracts.listener_map.ListenerMap as listeners
 

@@ -11,7 +11,6 @@ pub mod LentListener
 pub mod Listeners
 pub mod Networks
 pub mod Noted
-pub mod Orders
 pub mod Reserves
 pub mod Runs
 pub mod Whereabouts

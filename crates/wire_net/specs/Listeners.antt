@@ -12,7 +12,7 @@ use Rattle.sys_abi.specs.declared.identity.ConnId.{ConnId}
 use Rattle.sys_abi.specs.declared.identity.RealAddr.{RealAddr}
 use Rattle.wire_net.specs.declared.listener.Listener.{Listener}
 use Rattle.wire_net.specs.declared.limits.TheConstants.{PORT_COUNT}
-use Rattle.wire_net.specs.Orders.{real_address_cmp}
+use Rattle.sys_abi.specs.Orders.{real_address_cmp}
 
 abbrev pub Listeners : Type 0
 Listeners = map.FinMap real_address_cmp Listener

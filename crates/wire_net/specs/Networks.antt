@@ -11,7 +11,7 @@ use Rattle.std.specs.Coded.{Coded, code_by, coded×, coded_ℕ}
 use Rattle.std.specs.FinMap as map
 use Rattle.sys_abi.specs.declared.identity.ConnId.{ConnId}
 use Rattle.sys_abi.specs.declared.identity.RealAddr.{RealAddr}
-use Rattle.sys_abi.specs.Orders.{coded_conn}
+use Rattle.sys_abi.specs.Orders.{coded_conn, coded_real_address}
 use Rattle.wire_net.specs.declared.limits.TheConstants.{CHANNEL_LIMIT}
 use Rattle.wire_net.specs.declared.net_fault.NetFault.{NetFault}
 use Rattle.wire_net.specs.declared.net_fault.NetFault.TheVariants as fault
@@ -19,7 +19,6 @@ use Rattle.wire_net.specs.declared.place.Place.{Place}
 use Rattle.wire_net.specs.declared.listener.Listener.{Listener}
 use Rattle.wire_net.specs.contracts.listener.Listener as listener
 use Rattle.wire_net.specs.contracts.channel.Channel as channel
-use Rattle.wire_net.specs.Orders.{coded_real_address}
 use Rattle.wire_net.specs.Listeners.{Listeners}
 use Rattle.wire_net.specs.Channels.{Channels}
 use Rattle.wire_net.specs.Directions.{Direction, send_answer, receive_answer, bytes_at}

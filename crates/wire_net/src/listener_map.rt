@@ -18,7 +18,7 @@ pub(crate) struct ListenerMap {
 
 impl Model for ListenerMap {
     ghost use Rattle.std.specs.FinMap as map;
-    ghost use Rattle.wire_net.specs.Orders.{real_address_cmp, coded_real_address};
+    ghost use Rattle.sys_abi.specs.Orders.{real_address_cmp, coded_real_address};
     ghost use Rattle.wire_net.specs.declared.listener.Listener.{Listener};
     ghost use Rattle.wire_net.specs.contracts.listener.Listener as listener;
 

@@ -6,7 +6,7 @@ use Rattle.sys_abi.specs.declared.identity.ConnId.{ConnId}
 use Rattle.wire_net.specs.Listeners.{without_first}
 use Rattle.wire_net.proofs.ClosedEnds.{rest-none}
 use Rattle.wire_net.proofs.Lends.{changed-found}
-use Rattle.wire_net.proofs.OrderLaws.{real_address_total, real_address_exact}
+use Rattle.sys_abi.proofs.OrderLaws.{real_address_total, real_address_exact}
 use Rattle.wire_net.proofs.listening.accept_at.Goals as goal
 
 pub returns-in-None-clause-err : goal.returns-in-None-clause-err

@@ -1,4 +1,4 @@
-use Rattle.virt_ids.proofs.OrderLaws.{real_address_total}
+use Rattle.sys_abi.proofs.OrderLaws.{real_address_total}
 use Rattle.views.proofs.TreeMaps.{get-seen}
 use Rattle.virt_ids.proofs.by_real_address.ByRealAddress.get.Goals as goal
 

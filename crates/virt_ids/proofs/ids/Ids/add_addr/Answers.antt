@@ -1,6 +1,5 @@
 use Rattle.std.proofs.Common.{refl, sym, ap, subst, ◌∙◌}
-use Rattle.sys_abi.proofs.OrderLaws.{address_total, address_exact}
-use Rattle.virt_ids.proofs.OrderLaws.{real_address_total, real_address_exact}
+use Rattle.sys_abi.proofs.OrderLaws.{address_total, address_exact, real_address_total, real_address_exact}
 use Rattle.virt_ids.specs.Pairs.{AreInverse}
 use Rattle.virt_ids.proofs.PairLaws.{one_to_one_seen, taken_back, paired, undone}
 use Rattle.virt_ids.proofs.ids.Ids.add_addr.Goals as goal

@@ -1,6 +1,5 @@
 use Rattle.std.proofs.Common.{refl}
-use Rattle.sys_abi.proofs.OrderLaws.{address_total, address_exact}
-use Rattle.virt_ids.proofs.OrderLaws.{real_address_total, real_address_exact}
+use Rattle.sys_abi.proofs.OrderLaws.{address_total, address_exact, real_address_total, real_address_exact}
 use Rattle.virt_ids.proofs.PairLaws.{one_to_one_seen, unpaired, unpaired_none}
 use Rattle.virt_ids.proofs.ids.Ids.drop_addr.Goals as goal
 

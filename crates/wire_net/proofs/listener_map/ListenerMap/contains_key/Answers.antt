@@ -1,5 +1,5 @@
 use Rattle.std.proofs.Common.{sym, ap, ◌∙◌}
-use Rattle.wire_net.proofs.OrderLaws.{real_address_total}
+use Rattle.sys_abi.proofs.OrderLaws.{real_address_total}
 use Rattle.std.specs.FinMap as map
 use Rattle.std.specs.Prelude.{is_some}
 use Rattle.views.proofs.TreeMaps.{get-view}

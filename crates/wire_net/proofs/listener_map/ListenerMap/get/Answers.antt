@@ -1,4 +1,4 @@
-use Rattle.wire_net.proofs.OrderLaws.{real_address_total}
+use Rattle.sys_abi.proofs.OrderLaws.{real_address_total}
 use Rattle.views.proofs.TreeMaps.{get-seen}
 use Rattle.wire_net.proofs.listener_map.ListenerMap.get.Goals as goal
 

@@ -1,6 +1,6 @@
 use Rattle.std.proofs.Common.{refl, ap, ◌∙◌}
-use Rattle.wire_net.specs.Orders.{real_address_cmp}
-use Rattle.wire_net.proofs.OrderLaws.{real_address_total, real_address_exact}
+use Rattle.sys_abi.specs.Orders.{real_address_cmp}
+use Rattle.sys_abi.proofs.OrderLaws.{real_address_total, real_address_exact}
 use Rattle.views.proofs.TreeMaps.{view, get-seen, view-lent}
 use Rattle.wire_net.proofs.listener_map.ListenerMap.get_mut.Goals as goal
 

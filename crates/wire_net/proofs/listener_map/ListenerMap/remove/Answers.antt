@@ -1,5 +1,5 @@
 use Rattle.std.proofs.Common.{ap, ◌∙◌}
-use Rattle.wire_net.proofs.OrderLaws.{real_address_total, real_address_exact}
+use Rattle.sys_abi.proofs.OrderLaws.{real_address_total, real_address_exact}
 use Rattle.std.specs.FinMap as map
 use Rattle.views.proofs.TreeMaps.{get-seen, view-remove}
 use Rattle.wire_net.proofs.listener_map.ListenerMap.remove.Goals as goal
