@@ -9,8 +9,9 @@
 # A run that follows a kill is a restart once the log has told of a complete set, and else a launch once more. It fails
 # where a run that was not killed ends with another status than 0, also a restart with 16 (no set) or 17 (a damaged set),
 # where the guest ends before all kills are made (a smaller LONGEST helps) or no set is complete before the last kill (a
-# greater one helps), where a line after a kill is neither one further than the last nor one that was written already, or
-# where the last line isn't the greatest.
+# greater one helps), or where the console is not as it should be: a launch begins at 1 and a restart at the last line
+# or behind it, since a set is made after each record of work and so one line at most is written again, each line is one
+# further than the one before, and the last is 500.
 set -u
 here=$(cd "$(dirname "$0")/.." && pwd)
 dmtcp=${1:-$here/crates/dmtcp/out/dmtcp}
@@ -30,12 +31,25 @@ fail() {
     exit 1
 }
 
+# Goes on with the console of one more run: `last` is the last line before it, and then the last one of all.
+read_part() {
+    last=$(awk -v last="$last" -v kind="${command[0]}" '
+        !/^[0-9]+$/ { bad = 1; exit }
+        NR == 1 && kind == "launch" && $1 != 1 { bad = 1; exit }
+        NR == 1 && kind == "restart" && $1 != last && $1 != last + 1 { bad = 1; exit }
+        NR > 1 && $1 != last + 1 { bad = 1; exit }
+        { last = $1 }
+        END { print last; exit bad }' part) || fail "a ${command[0]} does not go on where the run before it was"
+    lines=$((lines + $(wc -l < part)))
+}
+
 killed=0
+last=0
+lines=0
 command=(launch --every 1 0:count.elf)
-: > console
 : > log
 while [ "$killed" -lt "$kills" ]; do
-    "$dmtcp" "${command[@]}" >> console 2>> log &
+    "$dmtcp" "${command[@]}" > part 2>> log &
     run=$!
     pause=$(((RANDOM * 32768 + RANDOM) % longest))
     sleep "$(printf '%d.%03d' $((pause / 1000)) $((pause % 1000)))"
@@ -47,15 +61,13 @@ while [ "$killed" -lt "$kills" ]; do
         0) fail "only $killed kills" ;;
         *) fail "a ${command[0]} answered $status" ;;
     esac
+    read_part
     if grep -q complete log; then command=(restart --every 1); else command=(launch --every 1 0:count.elf); fi
 done
 [ "${command[0]}" = restart ] || fail "no set was complete at any of $killed kills"
-"$dmtcp" "${command[@]}" >> console 2>> log
+"$dmtcp" "${command[@]}" > part 2>> log
 status=$?
 [ "$status" -eq 0 ] || fail "the last run answered $status"
-
-awk 'BEGIN { last = 0 } !/^[0-9]+$/ || $1 > last + 1 { exit 1 } $1 > last { last = $1 } END { if (last != 500) exit 1 }' console ||
-    fail "the console misses a line"
-[ "$(tail -n 1 console)" = 500 ] || fail "the console does not end with 500"
-again=$(($(wc -l < console) - 500))
-echo "$killed kills, $(grep -c complete log) complete sets, $(grep -c refused log) refused, $again lines written again, none missing, 500 at the end"
+read_part
+[ "$last" = 500 ] || fail "the console does not end with 500"
+echo "$killed kills, $(grep -c complete log) complete sets, $(grep -c refused log) refused, $((lines - 500)) lines written again, none missing, 500 at the end"
