@@ -1,6 +1,6 @@
 // Calls that a process answers alone, with memory to spare: pages and waiters at values worked out by hand.
 use crate::Guest;
-use crate::tests::{HELLO, THREAD, regs, started};
+use crate::tests::{HELLO, NEW, THREAD, add_thread, regs, started};
 use std::alloc::Global;
 use std::test::Fail;
 use sys_abi::Request;
@@ -76,16 +76,29 @@ fn the_heap_and_mappings_come_and_go(rt: HostRuntime) -> Result<(), Fail> {
 }
 
 #[test]
-fn a_thread_waits_and_is_woken(rt: HostRuntime) -> Result<(), Fail> {
+fn a_thread_does_not_wait_on_another_word(rt: HostRuntime) -> Result<(), Fail> {
     let alloc = rt.alloc();
     let mut guest = started(alloc, &HELLO)?;
-    // The first call is answered, so that what a wait leaves in a0 is this error.
     assert_eq!(rt;
         waiters_after(alloc, &mut guest, &ANOTHER_WORD)?,
         (EAGAIN, 0)
     );
-    assert_eq!(rt; waiters_after(alloc, &mut guest, &WAIT)?, (EAGAIN, 1));
-    assert_eq!(rt; waiters_after(alloc, &mut guest, &WAKE)?, (1, 0));
     assert_eq!(rt; waiters_after(alloc, &mut guest, &WAKE)?, (0, 0));
+    Ok(())
+}
+
+#[test]
+fn a_thread_waits_at_its_call_until_another_wakes_it(rt: HostRuntime) -> Result<(), Fail> {
+    let alloc = rt.alloc();
+    let mut guest = started(alloc, &HELLO)?;
+    add_thread(alloc, &mut guest)?;
+    let before = regs(&guest, NEW)?;
+    guest.local(alloc, NEW, &WAIT)?;
+    assert_eq!(rt; guest.image(alloc)?.waiters.len(), 1);
+    assert_eq!(rt; regs(&guest, NEW)?, before);
+    assert_eq!(rt; waiters_after(alloc, &mut guest, &WAKE)?, (1, 0));
+    let after = regs(&guest, NEW)?;
+    assert_eq!(rt; after.pc, before.pc.wrapping_add(4));
+    assert_eq!(rt; after.x[10], 0);
     Ok(())
 }

@@ -75,7 +75,7 @@ const STACK: u32 = 0x7FFF_FFE0;
 /// A word on that stack's page.
 const WORD: u32 = 0x7FFF_F000;
 
-const NEW: Tid = Tid(40_001);
+pub const NEW: Tid = Tid(40_001);
 
 /// The word of a thread that is there to be cleared at its end, a stack and a thread pointer of its own.
 const CLONE: Request = Request::Clone {
@@ -88,7 +88,7 @@ const CLONE: Request = Request::Clone {
 
 /// Adds a thread by a clone of the first one's.
 #[tactic(auto, using(crate::proofs::Putting::is_free))]
-fn add_thread(alloc: Global, guest: &mut Guest) -> Result<(), Fail> {
+pub fn add_thread(alloc: Global, guest: &mut Guest) -> Result<(), Fail> {
     guest.reserve_thread(alloc)?;
     if !guest.has_thread(THREAD) || guest.has_thread(NEW) {
         return Err(Fail::from("other threads"));

@@ -1,5 +1,6 @@
 -- The start of a job: each program in a process of its own, with its segments, its stack, its arguments and the console on 0, 1 and 2.
--- Source: System V ABI, chapter 5 (program loading, process initialization), and the RISC-V ELF psABI (the stack pointer is a multiple of 16).
+-- Source: System V ABI, chapter 5 (program loading), chapter 3 of its supplements (process initialization), and the RISC-V ELF psABI (the stack
+-- pointer is a multiple of 16).
 --     start jobs files      the plain state of programs in the order of the words and of named files
 use Rattle.std.specs.Prelude.{◌==◌, ◌&&◌, ◌≤◌, All, ℕ, zero, suc, ◌+◌, ◌-◌, ◌*◌, ◌/◌, ◌^◌, max, nat_le, nat_lt, Bool, true, false, List, [], ◌∷◌, ◌++◌, find, fold, length, take, drop, replicate, slice_index, slice_set, Option, Some, None, if◌then◌else◌}
 use Rattle.std.specs.List.{flat_map}

@@ -1,5 +1,5 @@
 -- What the next instruction of a thread does to its process's part: the fetch at the program counter, the row of the word there, its effect.
--- Source: unprivileged manual, section 1.5 (exceptions and traps) and chapter 2.
+-- Source: unprivileged manual, section 1.6 (exceptions, traps, and interrupts) and chapter 2.
 use Rattle.std.specs.Prelude.{◌==◌, ℕ, zero, suc, Bool, Option, Some, None, option_and_then, if◌then◌else◌}
 use Rattle.std.specs.List.{list_any}
 use Rattle.std.specs.FinMap as map

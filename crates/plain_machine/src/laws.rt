@@ -23,7 +23,8 @@ pub fn run_laws()
     ensures adds { ServeAdds }
 {}
 
-/// Worked examples of the definitions, so that a change of one shows. It does nothing.
+/// Worked examples of decoding, multiplication and division, the start of the stack and the word of a reply, so that a
+/// change of one of these definitions shows. It does nothing.
 pub fn worked_examples()
     ensures decoded { AreDecoded }
     ensures quotients { AreQuotients }

@@ -3,16 +3,18 @@
 //!
 //! A plain state has a kernel part and, for each live process, a user part. A record is one event; `step` says which
 //! state follows, `run` folds it over a trace, and `console` collects what was written. `specs/` has these definitions, a
-//! file a notion, each with the place of the public standard that it restates: the RISC-V unprivileged manual for
-//! instructions and memory, the ELF ABI for the start, Linux's manual pages for the calls.
+//! file a notion, each with the place of the public standard that it restates, the RISC-V unprivileged manual for
+//! instructions and memory and the ELF ABI for the start, or, for the calls, with the manual page of Linux that it is
+//! modelled on.
 //!
 //! Proved: `serve_slowly` and its twin in place, `PlainKernel::serve`, are the rows of the calls; the functions of
 //! `companion` are a thread's steps, from an access's bytes to so many steps in a row; `run_laws` has the laws:
 //! a start is valid, each step keeps valid, a record of one process leaves every other process's part, and a run and its
 //! console take one more record at a trace's end. `replay` takes a trace step by step: it gives the state of its run, or the
-//! number of its first record that is no step. `worked_examples` pins the definitions at values worked out by hand.
-//! The rows of write, exit_group, exit, tgkill and clone of a thread are built, and each other call that the kernel
-//! serves answers ENOSYS. Not claimed: that any hardware or kernel behaves so.
+//! number of its first record that is no step. `worked_examples` pins decoding, multiplication, division, the start of the
+//! stack and the word of a reply at values worked out by hand. The rows of write, exit_group, exit, tgkill and clone of a
+//! thread are built, and each other call that the kernel serves answers ENOSYS. Not claimed: that any hardware or kernel
+//! behaves so.
 #![tactic(auto)]
 
 pub mod buffers;

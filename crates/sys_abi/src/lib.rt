@@ -24,13 +24,13 @@ pub mod errors;
 pub mod flags;
 pub mod identity;
 pub mod life;
-#[cfg(test)]
-mod map_tests;
 pub mod page;
 pub mod record;
 pub mod reply;
 pub mod request;
 pub mod signals;
+#[cfg(test)]
+mod tests;
 pub mod transfer;
 
 pub use by_address::ByAddress;

@@ -13,14 +13,14 @@ pub struct Transfer {
 }
 
 impl Model for Transfer {
-    ghost use Rattle.std.specs.Prelude.{ℕ, ◌≤◌, List, vec_capacity};
+    ghost use Rattle.std.specs.Prelude.{ℕ, ◌≤◌, List, length, vec_capacity};
     ghost use Rattle.sys_abi.specs.declared.transfer.TheConstants.{TRANSFER_LIMIT};
 
     ghost Value = { List ℕ };
 
     ghost view = { λ t. t.bytes.items };
 
-    ghost invariant = { λ t. TRANSFER_LIMIT ≤ vec_capacity t.bytes };
+    ghost invariant = { λ t. (length t.bytes.items ≤ TRANSFER_LIMIT) × (TRANSFER_LIMIT ≤ vec_capacity t.bytes) };
 }
 
 impl Transfer {
@@ -48,7 +48,8 @@ impl Transfer {
     }
 
     pub fn as_slice(&self) -> &[u8]
-        ensures { result.now ≡ self.now }
+        ensures value { result.now ≡ self.now }
+        ensures size { length result.now ≤ TRANSFER_LIMIT }
     {
         self.bytes.as_slice()
     }

@@ -5,7 +5,8 @@ use crate::companion::test_process::{THREAD, with_one_page};
 use crate::{Right, SignalAction, UserPart};
 use std::alloc::{AllocError, Global};
 use std::test::Fail;
-use sys_abi::{Page, Request};
+use sys_abi::{Page, Request, Tid};
+use views::duplicate::Duplicate;
 use views::list_of::ListOf;
 
 /// That process. Its heap begins at 0x20000, and the word at 0x10000 is 5. It does what is usual on each signal.
@@ -204,16 +205,43 @@ fn a_mask_is_set_and_the_one_before_it_told(rt: HostRuntime) -> Result<(), Fail>
     Ok(())
 }
 
+/// Another thread of the process, which stands where the first one does.
+const WAITER: Tid = Tid(40_001);
+
+fn add_waiter(alloc: Global, user: &mut UserPart) -> Result<(), Fail> {
+    let thread = user.threads.get(THREAD.0).ok_or("no thread")?;
+    let copy = thread.duplicate(alloc)?;
+    user.threads.insert(WAITER.0, copy)?;
+    Ok(())
+}
+
+/// Where a thread stands, and its a0.
+fn place(user: &UserPart, t: Tid) -> Result<(u32, u32), Fail> {
+    let thread = user.threads.get(t.0).ok_or("no thread")?;
+    Ok((thread.regs.pc, thread.regs.x[10]))
+}
+
 #[test]
-fn a_thread_waits_on_a_word_that_is_as_expected(rt: HostRuntime) -> Result<(), Fail> {
+fn a_thread_does_not_wait_on_another_word(rt: HostRuntime) -> Result<(), Fail> {
     let alloc = rt.alloc();
     let mut user = user(alloc)?;
     assert_eq!(rt; answer(alloc, &mut user, &wait(6))?, Some(EAGAIN));
     assert_eq!(rt; user.waiters.len(), 0);
-    assert_eq!(rt; answer(alloc, &mut user, &wait(5))?, None);
+    assert_eq!(rt; answer(alloc, &mut user, &WAKE)?, Some(0));
+    Ok(())
+}
+
+#[test]
+fn a_thread_waits_at_its_call_until_another_wakes_it(rt: HostRuntime) -> Result<(), Fail> {
+    let alloc = rt.alloc();
+    let mut user = user(alloc)?;
+    add_waiter(alloc, &mut user)?;
+    let before = place(&user, WAITER)?;
+    local_row(alloc, &mut user, WAITER, &wait(5))?;
     assert_eq!(rt; user.waiters.len(), 1);
+    assert_eq!(rt; place(&user, WAITER)?, before);
     assert_eq!(rt; answer(alloc, &mut user, &WAKE)?, Some(1));
     assert_eq!(rt; user.waiters.len(), 0);
-    assert_eq!(rt; answer(alloc, &mut user, &WAKE)?, Some(0));
+    assert_eq!(rt; place(&user, WAITER)?, (0x0001_0004, 0));
     Ok(())
 }

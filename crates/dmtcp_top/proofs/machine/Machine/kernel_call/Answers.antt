@@ -14,7 +14,7 @@ use Rattle.dmtcp_top.proofs.Readiness.{ready_after}
 use Rattle.dmtcp_top.proofs.machine.Machine.kernel_call.Goals as goal
 
 pub serve-requires : goal.serve-requires
-serve-requires g c = subst (λ bytes. length bytes ≤ 65536) (sym c.as_slice.ensures) (lent_fits c.args.self.now.guest.user.memory c.args.request.now c.args.self.now.transfer c.requires.given)
+serve-requires g c = subst (λ bytes. length bytes ≤ 65536) (sym c.as_slice.ensures.value) (lent_fits c.args.self.now.guest.user.memory c.args.request.now c.args.self.now.transfer c.requires.given)
 
 pub unreachable-requires : goal.unreachable-requires
 unreachable-requires g c =
@@ -27,15 +27,15 @@ pub returns-in_err-show-clause-failed : goal.returns-in_err-show-clause-failed
 returns-in_err-show-clause-failed g c = λ _.
     let m = c.args.self.now in
     let answer = c.in-Some.answer in
-    let serves = told_serves m.kernel c.serve.new.self c.pid-p.result m.guest.pid c.args.t.0 c.args.request.now c.as_slice.result.now m.transfer _ answer c.in-Some.is c.as_slice.ensures c.pid-p.ensures c.in_ok-answer.ensures.ok in
-    let shown = subst (λ bytes. TookFront (sunk (g.O.Sink.taken c.args.out.now) (g.O.Sink.taken c.show.new.out)) (if answer.is_shown then bytes else [])) c.as_slice-2.ensures c.in_err-show.ensures.err in
+    let serves = told_serves m.kernel c.serve.new.self c.pid-p.result m.guest.pid c.args.t.0 c.args.request.now c.as_slice.result.now m.transfer _ answer c.in-Some.is c.as_slice.ensures.value c.pid-p.ensures c.in_ok-answer.ensures.ok in
+    let shown = subst (λ bytes. TookFront (sunk (g.O.Sink.taken c.args.out.now) (g.O.Sink.taken c.show.new.out)) (if answer.is_shown then bytes else [])) c.as_slice-2.ensures.value c.in_err-show.ensures.err in
     kernel_breaks m c.serve.new.self _ _ _ c.pid-p.result c.args.t c.args.request.now m.transfer answer c.pid-p.ensures c.requires.alive c.requires.asks c.requires.given c.requires.kernels serves c.append.ensures shown
 
 pub put-requires : goal.put-requires
 put-requires g c =
     let m = c.args.self.now in
     let answer = c.in-Some.answer in
-    let serves = told_serves m.kernel c.serve.new.self c.pid-p.result m.guest.pid c.args.t.0 c.args.request.now c.as_slice.result.now m.transfer _ answer c.in-Some.is c.as_slice.ensures c.pid-p.ensures c.in_ok-answer.ensures.ok in
+    let serves = told_serves m.kernel c.serve.new.self c.pid-p.result m.guest.pid c.args.t.0 c.args.request.now c.as_slice.result.now m.transfer _ answer c.in-Some.is c.as_slice.ensures.value c.pid-p.ensures c.in_ok-answer.ensures.ok in
     let short = answer_is_short m c.requires.ready c.requires.alive c.serve.new.self c.args.t c.args.request.now m.transfer answer c.requires.given serves in
     let same = ap length c.as_slice-3.ensures in
     let cleared : length c.clear.new.self ≡ 0 = ap length c.clear.ensures in
@@ -45,7 +45,7 @@ pub answer-requires-clause-writable : goal.answer-requires-clause-writable
 answer-requires-clause-writable g c =
     let m = c.args.self.now in
     let answer = c.in-Some.answer in
-    let serves = told_serves m.kernel c.serve.new.self c.pid-p.result m.guest.pid c.args.t.0 c.args.request.now c.as_slice.result.now m.transfer _ answer c.in-Some.is c.as_slice.ensures c.pid-p.ensures c.in_ok-answer.ensures.ok in
+    let serves = told_serves m.kernel c.serve.new.self c.pid-p.result m.guest.pid c.args.t.0 c.args.request.now c.as_slice.result.now m.transfer _ answer c.in-Some.is c.as_slice.ensures.value c.pid-p.ensures c.in_ok-answer.ensures.ok in
     let bytes : c.put.new.self ≡ answer.bytes = c.put.ensures ∙ ap (λ front. front ++ c.as_slice-3.result.now) c.clear.ensures ∙ c.as_slice-3.ensures in
     let fits = answer_fits m c.requires.ready c.requires.alive c.serve.new.self c.args.t c.args.request.now m.transfer answer c.requires.given serves in
     subst (λ (h : GuestPart). CanTake h.user.memory (written_spans h.user.memory c.args.request.now) c.put.new.self) (sym c.in_ok-reserve_for.ensures.same)
@@ -55,7 +55,7 @@ pub answer-requires-clause-added : goal.answer-requires-clause-added
 answer-requires-clause-added g c =
     let m = c.args.self.now in
     let answer = c.in-Some.answer in
-    let serves = told_serves m.kernel c.serve.new.self c.pid-p.result m.guest.pid c.args.t.0 c.args.request.now c.as_slice.result.now m.transfer _ answer c.in-Some.is c.as_slice.ensures c.pid-p.ensures c.in_ok-answer.ensures.ok in
+    let serves = told_serves m.kernel c.serve.new.self c.pid-p.result m.guest.pid c.args.t.0 c.args.request.now c.as_slice.result.now m.transfer _ answer c.in-Some.is c.as_slice.ensures.value c.pid-p.ensures c.in_ok-answer.ensures.ok in
     subst (λ (h : GuestPart). CanAdd h.user c.args.request.now answer.reply) (sym c.in_ok-reserve_for.ensures.same)
     (answer_adds m c.requires.ready c.requires.alive c.serve.new.self c.args.t c.args.request.now m.transfer answer c.requires.given serves)
 
@@ -63,8 +63,8 @@ pub returns-clause-ok : goal.returns-clause-ok
 returns-clause-ok g c =
     let m = c.args.self.now in
     let answer = c.in-Some.answer in
-    let serves = told_serves m.kernel c.serve.new.self c.pid-p.result m.guest.pid c.args.t.0 c.args.request.now c.as_slice.result.now m.transfer _ answer c.in-Some.is c.as_slice.ensures c.pid-p.ensures c.in_ok-answer.ensures.ok in
-    let shown = subst (λ bytes. Took (sunk (g.O.Sink.taken c.args.out.now) (g.O.Sink.taken c.show.new.out)) (if answer.is_shown then bytes else [])) c.as_slice-2.ensures c.in_ok-show.ensures.ok in
+    let serves = told_serves m.kernel c.serve.new.self c.pid-p.result m.guest.pid c.args.t.0 c.args.request.now c.as_slice.result.now m.transfer _ answer c.in-Some.is c.as_slice.ensures.value c.pid-p.ensures c.in_ok-answer.ensures.ok in
+    let shown = subst (λ bytes. Took (sunk (g.O.Sink.taken c.args.out.now) (g.O.Sink.taken c.show.new.out)) (if answer.is_shown then bytes else [])) c.as_slice-2.ensures.value c.in_ok-show.ensures.ok in
     let bytes : c.put.new.self ≡ answer.bytes = c.put.ensures ∙ ap (λ front. front ++ c.as_slice-3.result.now) c.clear.ensures ∙ c.as_slice-3.ensures in
     let number = c.answer.ensures.pid ∙ ap (λ (h : GuestPart). h.pid) c.in_ok-reserve_for.ensures.same in
     let part = c.answer.ensures.user ∙ ap (λ (h : GuestPart). put h.user c.args.t.0 c.args.request.now answer.reply c.put.new.self) c.in_ok-reserve_for.ensures.same

@@ -1,8 +1,8 @@
 // A call that only gave up for want of memory would meet its contract, so each is made here with
 // memory to spare.
 use crate::{
-    ByAddress, ByConn, ByDesc, ByDir, ByName, ByPid, BySlot, ConnId, DescId, Dir, Fd, RealAddr,
-    RealPid, Signal, Slot, Tid, VPid, VirtAddr,
+    ByAddress, ByConn, ByDesc, ByDir, ByName, ByPid, BySlot, ConnId, DescId, Dir, Fd, Page,
+    RealAddr, RealPid, Signal, Slot, Tid, Transfer, VPid, VirtAddr,
 };
 use std::test::Fail;
 use views::duplicate::Duplicate;
@@ -90,5 +90,20 @@ fn numbers_of_nodes_and_hosts_are_copied(rt: HostRuntime) -> Result<(), Fail> {
     assert_eq!(rt; port.duplicate(rt.alloc())?, port);
     let address = VirtAddr { host: 1, port: 80 };
     assert_eq!(rt; address.duplicate(rt.alloc())?, address);
+    Ok(())
+}
+
+#[test]
+fn pages_and_transfers(rt: HostRuntime) -> Result<(), Fail> {
+    let alloc = rt.alloc();
+    let mut page = Page::of_slice(alloc, [0x5A; 4096].as_slice())?;
+    let copy = page.duplicate(alloc)?;
+    page.set_byte(7, 1);
+    assert!(rt; copy.as_slice() == [0x5A; 4096].as_slice());
+    assert_eq!(rt; (page.byte(6), page.byte(7)), (0x5A, 1));
+    assert!(rt; Page::zeroed(alloc)?.as_slice() == [0; 4096].as_slice());
+    let mut transfer = Transfer::new(alloc)?;
+    transfer.put(b"hello");
+    assert_eq!(rt; transfer.as_slice(), b"hello".as_slice());
     Ok(())
 }
