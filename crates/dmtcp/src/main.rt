@@ -4,25 +4,26 @@
 //! its folder `dmtcp_set`, the console is standard output, the log standard error. The trace is written to `dmtcp.trace`
 //! where it has a record; that this fails changes nothing else. The exit status is that of the top call.
 //!
-//! The promise is the top call's, in the crate `dmtcp_top`. Proved here: the exit code is the status's number, and the
-//! trace is empty when it is handed in. That the program ends is not: the top call may wait on the host. What is left
-//! is that these arguments, files and streams are the ones handed in, and that the trace is written, since no clause
-//! can tell one stream of the host from another: the stored run shows it of the program's file and standard output, the
-//! scripts of `docs/TRIALS.md` of the folder of sets, standard error and the trace. A sole word `--help` or `--version`
-//! is answered here.
+//! The promise is the top call's, in the crate `dmtcp_top`. Proved here: what `exit_code`, `unreadable`, `greeting` and
+//! `said` answer to what they are handed, and that the trace is empty when it is handed in. That the program ends is
+//! not: the top call may wait on the host. What is left is that these arguments, files, streams and answers are the
+//! ones handed on, and that the trace is written, since no clause can tell one stream of the host from another: the
+//! stored run shows it of the program's file and standard output, the scripts of `docs/TRIALS.md` of each status, the
+//! folder of sets, standard error and the trace. A sole word `--help` or `--version` is answered here.
 #![tactic(auto)]
 
-ghost use Rattle.std.specs.Prelude.{◌≡◌, ◌⊎◌, length, IsSome};
+ghost use Rattle.std.specs.Prelude.{◌≡◌, ◌≢◌, map, string_bytes, option_map, codes};
+ghost use Rattle.std.specs.IoError.{error_kind};
 ghost use Rattle.std.specs.Process.{exit_status};
-ghost use Rattle.views.specs.Faults.{Rose};
-ghost use Rattle.edge_io.specs.Sink.{appended};
 ghost use Rattle.dmtcp_top.specs.Statuses.{number_of};
+ghost use Rattle.dmtcp.specs.Answers.{Greets, Said};
 
 use dmtcp_top::{Status, dmtcp};
 use edge_io::{HostInputs, HostSink, Sink};
 use set_disk::HostFolder;
 use std::alloc::Global;
 use std::env::Env;
+use std::io::ErrorKind;
 use std::process::ExitCode;
 use std::rt::Files;
 use std::{env, fs, io};
@@ -86,18 +87,20 @@ fn words_after_name<R: Env + Alloc<A = Global>>(rt: &R) -> io::Result<Vec<String
 
 /// The status where the words could not be read: those that are no text are none of the command line's.
 fn unreadable<L: Sink>(error: &io::Error, log: &mut L) -> Status
-    ensures { (result ≡ Status.Usage) ⊎ (result ≡ Status.Memory) ⊎ (result ≡ Status.SinkFault) }
+    ensures memory { error_kind error.now ≡ ErrorKind.OutOfMemory →
+        Said (codes "memory\n") Status.Memory result (L.taken log.old) (L.taken log.new) (L.faults log.old) (L.faults log.new) }
+    ensures usage { error_kind error.now ≢ ErrorKind.OutOfMemory →
+        Said (codes "usage\n") Status.Usage result (L.taken log.old) (L.taken log.new) (L.faults log.old) (L.faults log.new) }
 {
-    if error.kind() == io::ErrorKind::OutOfMemory {
-        said("memory\n", Status::Memory, log)
-    } else {
-        said("usage\n", Status::Usage, log)
+    match error.kind() {
+        ErrorKind::OutOfMemory => said("memory\n", Status::Memory, log),
+        _ => said("usage\n", Status::Usage, log),
     }
 }
 
 /// What to say where the words ask for nothing but help or the version.
 fn greeting(words: &[String]) -> Option<&'static str>
-    ensures { IsSome result → length words.now ≡ 1 }
+    ensures { Greets (map string_bytes words.now) (option_map (λ text. text.now) result) }
 {
     match words {
         [word] => match word.as_str() {
@@ -111,8 +114,7 @@ fn greeting(words: &[String]) -> Option<&'static str>
 
 /// Puts a text on a sink: the status, where it was taken whole.
 fn said<O: Sink>(text: &str, status: Status, sink: &mut O) -> Status
-    ensures { ((result ≡ status) × (O.taken sink.new ≡ appended (O.taken sink.old) text.now))
-        ⊎ ((result ≡ Status.SinkFault) × Rose (O.faults sink.old) (O.faults sink.new)) }
+    ensures { Said text.now status result (O.taken sink.old) (O.taken sink.new) (O.faults sink.old) (O.faults sink.new) }
 {
     match sink.put(text.as_bytes()) {
         Ok(()) => status,

@@ -6,11 +6,11 @@
 //! `specs/Ends.antt` says in one line for each status what holds of the trace, the console and the log,
 //! `specs/Promise.antt` what a crash at any moment leaves of the folder, and `specs/Words.antt` which words there are.
 //!
-//! The contract of [`dmtcp`] says all of that for every word list, all inputs, sinks and folders, also where these fail or
-//! tell nothing; which status comes where nothing outside fails; and that an answer of a failure outside comes only where
-//! there was one. It does not say that memory is there, nor what a file, a stream or a folder of the host holds. The
-//! words, the texts, the numbers of the statuses and the order of the rounds are this project's own and restate no
-//! standard.
+//! The contract of [`dmtcp`] says all of that for every word list, all inputs, sinks and folders, also where these fail;
+//! what it says of files, sets, the console and the log it says of those that tell their content. It says which status
+//! comes where nothing outside fails, and that an answer of a failure outside comes only where there was one. It does not
+//! say that memory is there, nor what a file, a stream or a folder of the host holds. The words, the texts, the numbers of
+//! the statuses and the order of the rounds are this project's own and restate no standard.
 #![tactic(auto)]
 
 mod carry_out;

@@ -55,8 +55,9 @@ fn files_of_the_host(rt: HostRuntime) -> Result<(), Fail> {
     Ok(())
 }
 
+// That the bytes arrive is shown where the program is run: its stored run and the scripts of docs/TRIALS.md.
 #[test]
-fn streams_of_the_host(rt: HostRuntime) -> Result<(), Fail> {
+fn streams_of_the_host_take_a_piece(rt: HostRuntime) -> Result<(), Fail> {
     HostSink::new(rt.stdout()).put(b"to standard output\n")?;
     HostSink::new(rt.stderr()).put(b"to standard error\n")?;
     Ok(())

@@ -14,7 +14,7 @@ use sys_abi::signals::{has_signal, with_signal, without_signal};
 use sys_abi::{Life, RealPid, Signal};
 use views::number_map::NumberMap;
 
-/// A process: its live parent, if it has one, its life, the signals that are pending for it, and for each of its
+/// A process: its parent, if it has one, its life, the signals that are pending for it, and for each of its
 /// threads those that are pending for that thread.
 #[derive(Drop)]
 pub struct Process {

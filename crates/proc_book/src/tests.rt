@@ -31,6 +31,10 @@ fn numbers_rise_on_each_node(rt: HostRuntime) -> Result<(), Fail> {
     assert_eq!(rt; procs.next_real_thread(FIRST, 100), Some(101));
     assert_eq!(rt; procs.parent(CHILD), Some(FIRST));
     assert_eq!(rt; procs.parent(FIRST), None);
+    assert!(rt; procs.has_real(1));
+    assert_eq!(rt; procs.next_real(1), 103);
+    assert!(rt; procs.has_real(0));
+    assert_eq!(rt; procs.next_real(0), 100);
     assert!(rt; !procs.has_real(2));
     Ok(())
 }

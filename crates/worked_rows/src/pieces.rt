@@ -20,7 +20,12 @@ fn run_three_writes<R: Wait + Threads + Sync>(
 
 #[test]
 fn each_write_is_one_piece(rt: HostRuntime) -> Result<(), Fail> {
-    let left = run_three_writes(&rt, rt.alloc(), NONE_FAIL)?;
+    // There is no fourth piece that could fail.
+    let failing = Failing {
+        out: &[4],
+        ..NONE_FAIL
+    };
+    let left = run_three_writes(&rt, rt.alloc(), failing)?;
     assert_eq!(rt; left.status, Status::Done);
     assert_eq!(rt; left.out.bytes(), b"abc".as_slice());
     let expected = [user(5), CALL, user(2), CALL, user(2), CALL, user(2), CALL];
@@ -82,6 +87,7 @@ fn a_budget_of_four_million_records_is_taken(rt: HostRuntime) -> Result<(), Fail
     let words = ["launch", "--records", "4000000", "0:none.elf"];
     let left = run_hello(&rt, rt.alloc(), &words, NONE_FAIL)?;
     assert_eq!(rt; left.status, Status::Missing);
+    assert_eq!(rt; left.trace.room(), 4_000_000);
     Ok(())
 }
 
