@@ -2,14 +2,15 @@
 use Rattle.std.specs.Prelude.{◌≡◌, ℕ, ◌≤◌, true, List, is_some, Some, refl}
 use Rattle.std.specs.Coded.{Coded, code_by, coded×, coded_ℕ, coded_list}
 use Rattle.std.specs.FinMap as map
-use Rattle.vfs_files.specs.declared.limits.TheConstants.{TOTAL_LIMIT}
+use Rattle.vfs_files.specs.declared.limits.TheConstants.{FILE_LIMIT, TOTAL_LIMIT}
 use Rattle.vfs_files.specs.Names.{Names}
 use Rattle.vfs_files.specs.FileTable.{FileTable, Contents, bytes_of, AllBelow}
 
--- the sum that is kept beside the files is theirs, a name's file is there, and no number is used up
+-- the sum that is kept beside the files is theirs, there are no more than there may be, a name's file is there, and no number is used up
 pub record IsKept (all : Names) (files : Contents) (next_file total : ℕ) : Type 0 where
   pub sum : total ≡ bytes_of files
   pub limit : total ≤ TOTAL_LIMIT
+  pub count : map.len files ≤ FILE_LIMIT
   pub named : (name : List ℕ) (file : ℕ) → map.get all name ≡ Some file → is_some (map.get files file) ≡ true
   pub below : AllBelow files next_file
 

@@ -153,6 +153,22 @@ impl Files {
         self.total -= remove_file(&mut self.files, file);
     }
 
+    /// How many files there are.
+    pub fn count(&self) -> usize
+        ensures count { result ≡ map.len self.now.files }
+        ensures limit { result ≤ FILE_LIMIT }
+    {
+        self.files.len()
+    }
+
+    /// How many bytes all files have.
+    pub fn total(&self) -> u64
+        ensures total { result ≡ table.bytes_of self.now.files }
+        ensures limit { result ≤ TOTAL_LIMIT }
+    {
+        self.total
+    }
+
     /// How many bytes a file has.
     pub fn len(&self, file: u32) -> Option<u32>
         ensures { result ≡ option_map length (map.get self.now.files file) }

@@ -84,6 +84,7 @@ fn no_byte_past_the_limits(rt: HostRuntime) -> Result<(), Fail> {
     assert_eq!(rt; files.write_at(1, end, b"y"), Err(FileFault::Space));
     assert!(rt; files.bytes(1).is_some());
     assert_eq!(rt; files.write_at(1, 0xFFFF_FFFF, b""), Ok(()));
+    assert_eq!(rt; (files.count(), files.total()), (1, 1));
     assert!(rt; holds(&files, 1, b"x"));
     Ok(())
 }
