@@ -294,3 +294,16 @@ fn memory_lies_from_0x1000_to_0x4000_0000_and_may_be_more_than_the_bytes(
     }
     Ok(())
 }
+
+#[test]
+fn a_fault_is_shown_as_its_rule_and_its_place(rt: HostRuntime) -> Result<(), Fail> {
+    let Err(fault) = read_elf(
+        rt.alloc(),
+        b"no program, but longer than a header of fifty-two bytes",
+    ) else {
+        return Err(Fail::from("a program"));
+    };
+    let text = format!(in rt.alloc(); "{fault}")?;
+    assert_eq!(rt; text.as_str(), "magic at 0");
+    Ok(())
+}
