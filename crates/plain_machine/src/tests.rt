@@ -152,8 +152,6 @@ fn signal_to_a_thread(rt: HostRuntime) -> Result<(), Fail> {
         .ok_or("waits")?;
     assert_eq!(rt; answer.reply, Reply::Value(0));
     assert_eq!(rt; kernel.pending(FIRST, THREAD), 0x200);
-    let process = kernel.processes.get(FIRST).ok_or("no process")?;
-    assert_eq!(rt; process.pending, 0);
     kernel.take(FIRST, THREAD, Signal(10));
     assert_eq!(rt; kernel.pending(FIRST, THREAD), 0);
     Ok(())
