@@ -1,4 +1,4 @@
-ghost use Rattle.std.specs.Prelude.{◌≡◌, ℕ, codes, IsTrue, OnOk};
+ghost use Rattle.std.specs.Prelude.{◌≡◌, ℕ, codes, IsTrue, OnOk, Some};
 ghost use Rattle.std.specs.Result.{result_err};
 ghost use Rattle.elf32.specs.Faults.{fault_at, needs, no_memory, word_of};
 
@@ -55,6 +55,8 @@ impl ElfReason {
 }
 
 impl fmt::Display for ElfReason {
+    ghost output = { λ reason. Some (word_of reason) };
+
     fn fmt<W: fmt::Write>(&self, f: &mut fmt::Formatter<W>) -> fmt::Result {
         f.write_str(self.word())
     }
