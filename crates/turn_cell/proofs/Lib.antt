@@ -1,0 +1,4 @@
+pub mod Prefixes
+pub mod Parts
+pub mod Keeping
+pub mod Sharing
