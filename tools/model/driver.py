@@ -55,7 +55,8 @@ class Keeper:
         if not self.trace.append(mark(Kind.CUT, self.generation + 1)):
             return
         self.generation += 1
-        # UNSAID: whether the set is put where the trace has room for the cut alone. It is, with no line on the log.
+        if self.trace.is_full():
+            return
         self.store.put_set([shared_image(machine, machine.process), process_image(machine.process)])
         if self.trace.append(mark(Kind.COMPLETE, self.generation)):
             self.lines.append(f"checkpoint {self.requests} complete: generation {self.generation}, drained 0")
