@@ -32,6 +32,11 @@ class Counts:
     differ: int = 0
 
 
+def model_outcome(case: Case) -> Outcome:
+    found = run(case.words, dict(case.files), dict(case.sets))
+    return Outcome(int(found.status), found.console, found.log, found.trace, found.sets)
+
+
 class Trial:
     """The runs so far, and what came of them."""
 
@@ -44,8 +49,7 @@ class Trial:
     def compare(self, seed: int, case: Case) -> Outcome:
         """Makes a call by both, says where they differ, and gives what the program left."""
         ours = run_program(self.program, case)
-        model = run(case.words, dict(case.files), dict(case.sets))
-        theirs = Outcome(int(model.status), model.console, model.log, model.trace, model.sets)
+        theirs = model_outcome(case)
         found = differences(ours, theirs)
         if found:
             self.counts.differ += 1
@@ -88,28 +92,38 @@ def whole(trial: Trial, seed: int, rng: random.Random) -> None:
     trial.compare(seed, Case(["launch", *options(rng, False), name_in(files)], files))
 
 
-def first_sets(trial: Trial, seed: int, rng: random.Random) -> Outcome:
+def first_launch(files: dict[str, bytes], rng: random.Random) -> Case:
     """A launch that is mostly cut off, and leaves sets."""
-    files = guest_of(trial, rng)
     records = rng.choice([rng.randint(3, 30), rng.randint(10, 150), rng.randint(10, 150), MOST_RECORDS])
     every = rng.choice([1, 2, 3, 5, 8, 13, 21, 34]) if records < 150 else rng.choice([13, 21, 34, 55])
     words = ["launch", "--every", str(every), "--records", str(records), name_in(files)]
-    return trial.compare(seed, Case(words, files))
+    return Case(words, files)
 
 
 def restarted(trial: Trial, seed: int, rng: random.Random) -> None:
     """A launch that leaves sets, and restarts from what each call left."""
-    left = first_sets(trial, seed, rng)
+    left = trial.compare(seed, first_launch(guest_of(trial, rng), rng))
     for _ in range(rng.randint(1, 3)):
         words = ["restart", *options(rng, rng.random() < 0.7, rng.choice([40, 100, 200]))]
         trial.counts.done["restarts"] += 1
         left = trial.compare(seed, Case(words, {}, left.sets))
 
 
+def resumed(trial: Trial, seed: int, rng: random.Random) -> None:
+    """Restarts from a set of the model, which was cut after some records of work."""
+    files = guest_of(trial, rng)
+    cut = rng.choice([1, 1, 1, 2, rng.randint(1, 20), rng.randint(1, 200)])
+    words = ["launch", "--every", str(cut), "--records", str(cut + 2), name_in(files)]
+    sets = model_outcome(Case(words, files)).sets
+    for every in (False, *rng.choice([[], [], [True], [True, True]])):
+        trial.counts.done["restarts"] += 1
+        sets = trial.compare(seed, Case(["restart", *options(rng, every)], {}, sets)).sets
+
+
 def launched_again(trial: Trial, seed: int, rng: random.Random) -> None:
     """A launch beside sets of another run, whole or damaged, and a restart."""
-    left = first_sets(trial, seed, rng)
-    sets = damaged(rng, left.sets) if rng.random() < 0.6 else left.sets
+    sets = model_outcome(first_launch(guest_of(trial, rng), rng)).sets
+    sets = damaged(rng, sets) if rng.random() < 0.6 else sets
     files = guest_of(trial, rng)
     words = ["launch", *options(rng, rng.random() < 0.8, 40), name_in(files)]
     left = trial.compare(seed, Case(words, files, sets))
@@ -118,12 +132,12 @@ def launched_again(trial: Trial, seed: int, rng: random.Random) -> None:
 
 
 def with_damage(trial: Trial, seed: int, rng: random.Random) -> None:
-    """A launch that leaves sets, and restarts from what damage made of them."""
-    left = first_sets(trial, seed, rng)
+    """Restarts from what damage made of sets of the model."""
+    sets = model_outcome(first_launch(guest_of(trial, rng), rng)).sets
     for _ in range(DAMAGED_SETS):
         words = ["restart", *options(rng, rng.random() < 0.3, 40)]
         trial.counts.done["damaged sets"] += 1
-        trial.compare(seed, Case(words, {}, damaged(rng, left.sets)))
+        trial.compare(seed, Case(words, {}, damaged(rng, sets)))
 
 
 def bad_files(trial: Trial, seed: int, rng: random.Random) -> None:
@@ -141,4 +155,5 @@ def odd_command_lines(trial: Trial, seed: int, rng: random.Random) -> None:
 
 
 KINDS: list[Callable[[Trial, int, random.Random], None]] = (
-    [whole] * 7 + [restarted] * 5 + [launched_again] + [with_damage] * 4 + [bad_files] * 2 + [odd_command_lines])
+    [whole] * 2 + [restarted] * 2 + [resumed] * 16 + [launched_again] + [with_damage] * 7 + [bad_files] * 2
+    + [odd_command_lines] * 2)

@@ -86,8 +86,14 @@ class Rounds:
         signal = due_signal(process, thread)
         if signal is None:
             return None
-        deliver(self.machine, process, thread, signal, Cause.PENDING)
+        deliver(self.machine, process, thread, signal, self._cause(process, thread, signal))
         return delivery(process.number, thread.number, signal)
+
+    def _cause(self, process: Process, thread: Thread, signal: int) -> Cause:
+        """A thread that stands at a trap with the signal that is due has it delivered for the trap; it stays pending."""
+        stand = None if process.waits(thread) else look(thread, process.memory)
+        traps = stand is not None and stand.at is StandsAt.TRAP and stand.signal == signal
+        return Cause.TRAP if traps else Cause.PENDING
 
     def _stand(self, process: Process, thread: Thread) -> Record | None:
         stand = look(thread, process.memory)
