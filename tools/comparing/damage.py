@@ -11,6 +11,8 @@ EDGES = [0, 1, 2, 3, 4, 7, 8, 9, 15, 16, 63, 64, 65, 128, 129, 130, 255, 256, 25
          0x80000FFE, 0xFFFFFFFE, 0xFFFFFFFF]
 WIDE_EDGES = [2**32, 2**63, 2**64 - 3, 2**64 - 2, 2**64 - 1]
 MANIFEST, SHARED, PROCESS = 0, 1, 2
+LAST_NUMBER = 2**31 - 1
+SHARED_BYTES = 100  # that a shared image has at least
 
 
 def name_of(slot: int, index: int) -> str:
@@ -149,6 +151,16 @@ def swap_slots(rng: random.Random, sets: Sets, slot: int) -> Sets:
     return moved
 
 
+def few_numbers(rng: random.Random, sets: Sets, slot: int) -> Sets:
+    """Leaves few numbers, or none, for new threads, or signals pending for the process."""
+    name = name_of(slot, SHARED)
+    shared = sets[name]
+    if rng.random() < 0.6:
+        return {**sets, name: put(shared, 8, (LAST_NUMBER - rng.choice([0, 0, 1, 2])).to_bytes(4, "little"))}
+    pending = next(field for field in fields_of(SHARED, shared).fields if field.name == "process.pending")
+    return {**sets, name: put(shared, pending.at, rng.getrandbits(31).to_bytes(4, "little"))}
+
+
 def damaged(rng: random.Random, sets: Sets) -> Sets:
     """The sets with one or two changes, mostly to the set that counts."""
     for _ in range(rng.choice([1, 1, 1, 2])):
@@ -157,6 +169,8 @@ def damaged(rng: random.Random, sets: Sets) -> Sets:
             slot = 1 - slot
         if name_of(slot, MANIFEST) not in sets:
             return sets
-        kind = rng.choice([change_file] * 8 + [remove_file, change_gate, swap_slots])
-        sets = kind(rng, sets, slot)
+        kinds = [change_file] * 8 + [remove_file, change_gate, swap_slots]
+        if name_of(slot, SHARED) in sets and len(sets[name_of(slot, SHARED)]) > SHARED_BYTES:
+            kinds += [few_numbers, few_numbers]
+        sets = rng.choice(kinds)(rng, sets, slot)
     return sets

@@ -3,11 +3,13 @@
 import enum
 from collections.abc import Callable
 
-from guests.builder import A0, FIRST_THREAD, RA, SP, T1, T2, VALUE, AREA, Area, Guest, Label, Operand, Own, OwnPlace, Register
-from guests.events import Mark, Tag, tag_of
+from guests.builder import (
+    A0, AREA, FIRST_THREAD, RA, SP, T1, T2, VALUE, Area, Guest, Label, Operand, Own, OwnPlace, Register, Word,
+)
+from guests.events import Futex, Mark, Tag, tag_of
 from guests.numbers import NEW_THREAD, Call, How
 from guests.routines import mix_own
-from riscv import NOP, immediate_word, jalr_word, load_word, register_word, shift_word, store_word
+from riscv import NOP, immediate_word, jalr_word, load_word, register_word, shift_word, store_word, words_of
 
 IGNORE, DEFAULT = 1, 0
 PATIENCE = 6  # how many traps handlers mend before they end the process
@@ -26,6 +28,7 @@ class Handler(enum.Enum):
     WAKES = "wakes"
     WRITES = "writes"
     CLONES = "clones"
+    WAITS = "waits"
     ENDS_THREAD = "ends_thread"
     ENDS_ALL = "ends_all"
     MENDS = "mends"  # of traps: overwrites the instruction
@@ -90,7 +93,14 @@ def put_deepens(guest: Guest) -> None:
 def put_wakes(guest: Guest) -> None:
     """Changes a word, and wakes who waits there."""
     guest.store(guest.futexes[0], Register(SP))
-    guest.call(Call.FUTEX, guest.futexes[0], 1, 1, variant=2)
+    guest.call(Call.FUTEX, guest.futexes[0], 1, 1, variant=Futex.WAKE)
+    guest.text.put(BACK)
+
+
+def put_waits(guest: Guest) -> None:
+    """Waits on the second word, whatever it holds."""
+    word = guest.futexes[1]
+    guest.call(Call.FUTEX, word, 0, Word(word), 0, variant=Futex.WAIT)
     guest.text.put(BACK)
 
 
@@ -159,7 +169,7 @@ def put_breaks_out(guest: Guest) -> None:
 BODIES: dict[Handler, Callable[[Guest], None]] = {
     Handler.PLAIN: put_plain, Handler.RETURNS_ITSELF: put_returns_itself, Handler.ASKS_MASK: put_asks_mask,
     Handler.UNBLOCKS: put_unblocks, Handler.NESTS: put_nests, Handler.DEEPENS: put_deepens, Handler.WAKES: put_wakes,
-    Handler.WRITES: put_writes, Handler.CLONES: put_clones,
+    Handler.WRITES: put_writes, Handler.CLONES: put_clones, Handler.WAITS: put_waits,
     Handler.ENDS_THREAD: put_ends_thread, Handler.ENDS_ALL: put_ends_all, Handler.MENDS: put_mends, Handler.BREAKS_OUT: put_breaks_out,
 }
 
@@ -174,7 +184,7 @@ def put_handlers(guest: Guest) -> None:
 
 def install(guest: Guest, signal: int, handler: Operand, flags: int = 0, mask: int = 0) -> None:
     """Sets what is done on a signal."""
-    action = guest.data.place(b"".join(n.to_bytes(4, "little") for n in (0, flags, mask, guest.rng.choice([0, 0xFFFFFFFF]))))
-    if handler != 0:
+    action = guest.data.place(words_of([0, flags, mask, guest.rng.choice([0, 0xFFFFFFFF])]))
+    if handler != DEFAULT:
         guest.store(action, handler)
     guest.call(Call.RT_SIGACTION, signal, action, guest.rng.choice([0, OwnPlace(Area.BYTES)]), 8)

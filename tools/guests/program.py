@@ -172,7 +172,8 @@ def put_ending(guest: Guest, ending: Ending) -> None:
             threads.wait(guest, guest.data.word(), 0)
             end_all(guest)
         case Ending.RUNS_OFF:
-            guest.flush()  # then come the words of another thread
+            guest.flush()
+            guest.text.jump("end")
 
 
 def make_guest(rng: random.Random) -> Made:
@@ -186,4 +187,5 @@ def make_guest(rng: random.Random) -> Made:
     put_routines(guest)
     put_handlers(guest)
     guest.put_all_later()
+    guest.text.label("end")  # what stands there is no instruction
     return Made(guest.file(strip_segments(rng, guest.layout)), theme, ending)

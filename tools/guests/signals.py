@@ -118,10 +118,11 @@ def signal_others(guest: Guest) -> None:
 
 
 def odd_handler(guest: Guest) -> None:
-    """A handler at an address that is no multiple of 4: its one word goes back."""
-    rng = guest.rng
+    """A handler at an address that is no multiple of 4, or across two pages: its one word goes back."""
+    rng, strip = guest.rng, guest.layout.strip
     signal = rng.choice(CATCHABLE)
-    at = guest.layout.page_with(rng, 7).address + 4 * rng.randrange(32, 900) + rng.randint(1, 3)
+    ends = [upper.address - rng.randint(1, 3) for lower, upper in zip(strip, strip[1:]) if lower.can(3) and upper.can(2)]
+    at = rng.choice([guest.layout.page_with(rng, 7).address + 4 * rng.randrange(32, 900) + rng.randint(1, 3), *ends])
     guest.text.number(T1, at)
     guest.text.number(T2, BACK)
     guest.text.put(store_word("sw", T2, 0, T1))

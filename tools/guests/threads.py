@@ -137,7 +137,8 @@ def interrupt(guest: Guest) -> None:
     """A thread that waits gets a signal from another one, and is woken at last."""
     rng = guest.rng
     signal, flags = rng.choice(CATCHABLE), rng.choice(FLAGS)
-    handler = rng.choice([Handler.PLAIN, Handler.WAKES, Handler.ASKS_MASK, Handler.WRITES])
+    handler = rng.choice([Handler.PLAIN, Handler.PLAIN, Handler.WAKES, Handler.ASKS_MASK, Handler.WRITES, Handler.WAITS,
+                          Handler.ENDS_THREAD, Handler.CLONES])
     is_ignored, is_blocked = rng.random() < 0.2, rng.random() < 0.2
     if is_ignored and rng.random() < 0.5:
         signal = rng.choice(IGNORED_BY_DEFAULT)
@@ -161,6 +162,10 @@ def interrupt(guest: Guest) -> None:
     if rng.random() < 0.4:
         guest.store(word, rng.getrandbits(32))
     wake(guest, word, ALL)
+    if handler is Handler.WAITS:
+        guest.call(Call.TGKILL, FIRST_THREAD, Word(spawned.number), rng.choice([0, signal]))
+        yields(guest, 2)
+        wake(guest, guest.futexes[1], ALL)
 
 
 def clear(guest: Guest) -> None:

@@ -97,6 +97,7 @@ def recover_behind(guest: Guest, put: Callable[[], None], signal: int) -> None:
     guest.store(OwnPlace(Area.FAULT), Label(fault))
     guest.store(OwnPlace(Area.RECOVERY), Label(recovery))
     guest.store(OwnPlace(Area.LEFT), TRAP_LIMIT)
+    guest.text.address(LINK, recovery)  # where code goes back to that is entered by chance
     guest.text.number(T1, bad_place(guest))
     guest.text.label(fault)
     put()
