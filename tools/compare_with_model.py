@@ -1,10 +1,12 @@
 #!/usr/bin/env python3
-"""Runs random guests by the built program and by the model of it that was written from the manual alone: both must leave
-the same.
+"""Runs random guests by the built program and by the model of it that was written from the manual alone (model/): both
+must leave the same.
 
-Each seed makes one of these: a guest that runs to its end; one that makes checkpoints, is cut off, and goes on by restarts;
-a launch beside sets that are there already; restarts from damaged sets; program files with odd headers; odd words. Status,
-console, log, trace and each file of the folder of sets are compared byte for byte.
+Each seed makes one of these: a guest that runs to its end; one that makes checkpoints, is cut off, and goes on by
+restarts; restarts from a set that the model made; a launch beside sets that are there already; restarts from damaged
+sets; program files with odd headers; odd words. Status, console, log, trace and each file of the folder of sets are
+compared byte for byte. What a guest tells on its console of the answers of its calls, of its handlers and of how it is
+to end is counted.
 
     tools/compare_with_model.py [SEEDS [DMTCP [FIRST_SEED]]]
 
@@ -24,6 +26,7 @@ from comparing.trial import Trial
 
 HOME = os.path.dirname(os.path.dirname(os.path.abspath(__file__)))
 FULL_SIZE = 1000  # seeds that reach all that is to be reached
+REPORTED = 50  # seeds after which the counts so far are told
 
 
 def summary(trial: Trial, seeds: int) -> str:
@@ -45,6 +48,8 @@ def main() -> int:
     trial = Trial(program, folder)
     for seed in range(first, first + seeds):
         trial.one_seed(seed)
+        if (seed - first) % REPORTED == REPORTED - 1:
+            print(summary(trial, seed - first + 1), file=sys.stderr, flush=True)
     for name, count in sorted(trial.tallies.counts.items()):
         print(f"{count:8} {name}")
     missing = trial.tallies.missing() if seeds >= FULL_SIZE else []

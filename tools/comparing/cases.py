@@ -63,7 +63,8 @@ def run_program(program: str, case: Case) -> Outcome:
         lay_out(case, folder)
         words = [program, *map(os.fsencode, case.words)]
         done = subprocess.run(words, cwd=folder, capture_output=True, timeout=LONGEST_RUN)
-        return Outcome(done.returncode, done.stdout, done.stderr, new_trace(case, folder), read_all(folder / SET_FOLDER))
+        sets = read_all(folder / SET_FOLDER)
+        return Outcome(done.returncode, done.stdout, done.stderr, new_trace(case, folder), sets)
     finally:
         shutil.rmtree(folder)
 

@@ -6,9 +6,9 @@ from collections.abc import Callable
 from comparing.set_fields import Entries, Field, fields_of
 
 Sets = dict[str, bytes]
-EDGES = [0, 1, 2, 3, 4, 7, 8, 9, 15, 16, 63, 64, 65, 128, 129, 130, 255, 256, 257, 2048, 2049, 4095, 4096, 39999, 40000, 40001,
-         0x400, 0x800, 0xC02, 0x402, 0x3FFFFFFF, 0x40000000, 0x40000001, 0x7FFFFFFE, 0x7FFFFFFF, 0x80000000, 0x80000001,
-         0x80000FFE, 0xFFFFFFFE, 0xFFFFFFFF]
+EDGES = [0, 1, 2, 3, 4, 7, 8, 9, 15, 16, 63, 64, 65, 128, 129, 130, 255, 256, 257, 2048, 2049, 4095, 4096, 39999, 40000,
+         40001, 0x400, 0x800, 0xC02, 0x402, 0x3FFFFFFF, 0x40000000, 0x40000001, 0x7FFFFFFE, 0x7FFFFFFF, 0x80000000,
+         0x80000001, 0x80000FFE, 0xFFFFFFFE, 0xFFFFFFFF]
 WIDE_EDGES = [2**32, 2**63, 2**64 - 3, 2**64 - 2, 2**64 - 1]
 MANIFEST, SHARED, PROCESS = 0, 1, 2
 LAST_NUMBER = 2**31 - 1
@@ -100,7 +100,8 @@ def change_list(rng: random.Random, content: bytes, index: int) -> bytes:
         case 1:
             pieces.insert(chosen, pieces[chosen])
         case 2:
-            pieces.append(put(pieces[-1], 0, edge_for(rng, int.from_bytes(pieces[-1][:4], "little"), 4).to_bytes(4, "little")))
+            first = edge_for(rng, int.from_bytes(pieces[-1][:4], "little"), 4)
+            pieces.append(put(pieces[-1], 0, first.to_bytes(4, "little")))
         case _:
             other = rng.randrange(len(pieces))
             pieces[chosen], pieces[other] = pieces[other], pieces[chosen]

@@ -4,13 +4,15 @@ import random
 
 GUEST = "g.elf"
 NAMES = [GUEST, GUEST, GUEST, "none.elf", "a:b.elf", ":", "dmtcp.trace", "g.elf\n", "\u00e9.elf", "n" * 255, "n" * 256,
-         "\u00e9" * 127 + "n", "\u00e9" * 128, "g,elf", ",", "", " ", "--every", "g.elf ", "none/none.elf", "\udcff", "g\udc80"]
+         "\u00e9" * 127 + "n", "\u00e9" * 128, "g,elf", ",", "", " ", "--every", "g.elf ", "none/none.elf", "\udcff",
+         "g\udc80"]
 HOSTS = ["0:", "0:", "0:", "0:", "1:", ":", "", "00:", "0", "+0:", "0 :", "0::", " 0:", "-0:", "15:", "\u0660:"]
-NUMBERS = ["1", "2", "3", "7", "10", "400", "4000000", "4000001", "0", "00", "01", "-1", "+1", "", " 1", "1 ", "1.0", "0x1", "1e3",
-           "1_0", "4294967297", "18446744073709551617", "\u0661", "--records", "\udcff", "999999999999999999999999", "1\n"]
+NUMBERS = ["1", "2", "3", "7", "10", "400", "4000000", "4000001", "0", "00", "01", "-1", "+1", "", " 1", "1 ", "1.0",
+           "0x1", "1e3", "1_0", "4294967297", "18446744073709551617", "\u0661", "--records", "\udcff",
+           "999999999999999999999999", "1\n"]
 OPTIONS = ["--every", "--every", "--records", "--records", "--Every", "-every", "--every=3", "--record", "--", "-e", ""]
-VERBS = ["launch", "launch", "launch", "launch", "restart", "restart", "restart", "Launch", "launch ", "", "run", "--help",
-         "--version", "-h", "--help=", "\udcfe"]
+VERBS = ["launch", "launch", "launch", "launch", "restart", "restart", "restart", "Launch", "launch ", "", "run",
+         "--help", "--version", "-h", "--help=", "\udcfe"]
 FOLDER = ["a:b.elf", ":", "\u00e9.elf", "g.elf\n", "dmtcp.trace", " "]  # names that the guest's file has beside its own
 
 

@@ -1,5 +1,5 @@
-"""Where the fields of a set's files lie (docs/FORMATS.md): each with its name, its place and its size, and each list with
-its count and its entries."""
+"""Where the fields of a set's files lie (docs/FORMATS.md): each with its name, place and size, and each list with its
+count and its entries."""
 
 from dataclasses import dataclass, field
 
@@ -87,6 +87,7 @@ def shared_fields(content: bytes) -> Fields:
 def process_fields(content: bytes) -> Fields:
     """Those of the image of a process."""
     walk = Walk(content)
+    context = [(f"x{register}", 4) for register in range(1, REGISTERS)] + [("pc", 4), ("mask", 4)]
     walk.one("magic", 8)
     for name in ("number", "break start", "break"):
         walk.one(name)
@@ -100,7 +101,7 @@ def process_fields(content: bytes) -> Fields:
             walk.one(f"thread.x{register}")
         for name in ("pc", "mask", "word to clear"):
             walk.one(f"thread.{name}")
-        walk.listed("context", [(f"x{register}", 4) for register in range(1, REGISTERS)] + [("pc", 4), ("mask", 4)], 132)
+        walk.listed("context", context, 4 * len(context))
     return walk.found
 
 

@@ -2,8 +2,7 @@
 
 from collections.abc import Callable
 
-from guests.builder import FIRST_THREAD, SCRATCH_BYTES, Guest, Operand, Own, OwnPlace, Word
-from guests.builder import Area
+from guests.builder import FIRST_THREAD, SCRATCH_BYTES, Area, Guest, Operand, Own, OwnPlace, Word
 from guests.layout import PAGE, STACK, STACK_END
 from guests.numbers import NEVER_SENT, NEW_PROCESS, NEW_THREAD, SIGNALS, THREAD_OPTIONS, Clone
 
@@ -23,7 +22,7 @@ def descriptor(guest: Guest) -> Operand:
 
 
 def buffer(size: int, right: int) -> Argument:
-    """A place of so many bytes: inside the scratch bytes, at the end of a page with the right, or where it is missing."""
+    """A place of so many bytes: in the scratch bytes, at the end of a page with the right, or where it is missing."""
 
     def choose(guest: Guest) -> Operand:
         rng = guest.rng

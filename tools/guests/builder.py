@@ -4,10 +4,10 @@ import random
 from collections.abc import Callable
 from dataclasses import dataclass
 
+from guests.assembler import Assembler
 from guests.events import MAGIC, Mark, Tag, tag_of
 from guests.layout import DATA_BYTES, LINK, Layout, Pool
-from guests.assembler import Assembler
-from riscv import ECALL, Segment, elf_file, immediate_word, load_word, store_word, words_of
+from riscv import ECALL, Segment, elf_file, immediate_word, load_word, register_word, store_word, words_of
 
 RA, SP, TP, A0, A7 = 1, 2, 4, 10, 17
 AREA, TAG, VALUE, T1, T2 = 27, 28, 29, 30, 31
@@ -126,7 +126,7 @@ class Guest:
             self.text.put(immediate_word("addi", register, register, value))
             return
         self.text.number(T2, value)
-        self.text.put(0x33 | register << 7 | register << 15 | T2 << 20)
+        self.text.put(register_word("add", register, register, T2))
 
     def store(self, place: Operand, value: Operand) -> None:
         """Stores a word, through T1 and T2."""

@@ -1,8 +1,8 @@
 """Snippets that make one call each, with good and with bad arguments."""
 
 from guests.arguments import (
-    Argument, aligned_word, buffer, descriptor, eight, how, length, no_timeout, operation, or_none, process, protection,
-    ready_word, refused_flags, signal, thread, unsent, wild, writing,
+    Argument, aligned_word, buffer, descriptor, eight, how, length, no_timeout, operation, or_none, process,
+    protection, ready_word, refused_flags, signal, thread, unsent, wild, writing,
 )
 from guests.builder import A0, Area, Guest, OwnPlace, Register
 from guests.events import Futex, Tag, tag_of
@@ -28,6 +28,9 @@ UNBUILT: dict[Call, list[Argument]] = {
     Call.WAIT4: [wild, or_none(buffer(4, 6)), wild, wild],
 }
 
+# those that have a buffer in their first, second or fourth argument
+FAULTING = [Call.UNLINKAT, Call.OPENAT, Call.PIPE2, Call.SOCKETPAIR, Call.BIND, Call.CONNECT, Call.WAIT4]
+
 LOCAL: dict[Call, list[Argument]] = {
     Call.SCHED_YIELD: [wild, wild], Call.GETTID: [],
     Call.MUNMAP: [lambda guest: guest.layout.edge(guest.rng), length],
@@ -40,15 +43,14 @@ def of_table(guest: Guest, call: Call, kinds: list[Argument]) -> None:
 
 
 def unbuilt(guest: Guest) -> None:
-    call = guest.rng.choice(list(UNBUILT))
-    of_table(guest, call, UNBUILT[call])
+    for call in guest.rng.sample(list(UNBUILT), 3):
+        of_table(guest, call, UNBUILT[call])
 
 
 def bad_place(guest: Guest) -> None:
     """A call that is not built, with a buffer that is not there."""
     place = guest.layout.page_without(guest.rng, 4).address
-    call = guest.rng.choice([Call.UNLINKAT, Call.OPENAT, Call.PIPE2, Call.SOCKETPAIR, Call.BIND, Call.CONNECT, Call.WAIT4])
-    guest.call(call, place, place, 16, place)
+    guest.call(guest.rng.choice(FAULTING), place, place, 16, place)
 
 
 def read(guest: Guest) -> None:
@@ -89,11 +91,12 @@ def write(guest: Guest) -> None:
 
 
 def futex(guest: Guest) -> None:
-    """A futex call that does not wait, since the word is another one or the call is refused."""
+    """A futex call that does not wait: the word is another one or not there, or the call is refused."""
     kind = operation(guest)
+    place = guest.layout.page_without(guest.rng, 4).address if guest.rng.random() < 0.2 else aligned_word(guest)
     variant = {0: Futex.WAIT, 128: Futex.WAIT, 1: Futex.WAKE, 129: Futex.WAKE}.get(kind, Futex.OTHER)
     value = ready_word(guest) if variant is Futex.WAIT else guest.rng.choice([0, 1, 2, 64, 0xFFFFFFFF])
-    guest.call(Call.FUTEX, aligned_word(guest), kind, value, no_timeout(guest), variant=variant)
+    guest.call(Call.FUTEX, place, kind, value, no_timeout(guest), variant=variant)
 
 
 def clone(guest: Guest) -> None:
@@ -115,8 +118,9 @@ def bad_action(guest: Guest) -> None:
     """An action that is refused: for its signal, its size or one of its buffers."""
     rng = guest.rng
     bad = rng.randrange(4)
-    new = buffer(16, 4)(guest) if bad == 0 else guest.scratch
-    old = buffer(16, 6)(guest) if bad == 1 else rng.choice([0, OwnPlace(Area.BYTES)])
+    missing = guest.layout.page_without(rng, 4).address
+    new = rng.choice([missing, buffer(16, 4)(guest)]) if bad == 0 else guest.scratch
+    old = rng.choice([missing, buffer(16, 6)(guest)]) if bad == 1 else rng.choice([0, OwnPlace(Area.BYTES)])
     which = rng.choice([0, 9, 19, 32, 0xFFFFFFFF]) if bad != 2 else 19
     size = rng.choice([0, 4, 16]) if bad == 3 else 8
     guest.call(Call.RT_SIGACTION, which, new, old, size)
@@ -136,7 +140,7 @@ def mask(guest: Guest) -> None:
 def bad_mask(guest: Guest) -> None:
     """A mask from and to any buffers, with any size, and then the old one again."""
     guest.call(Call.RT_SIGPROCMASK, 0, 0, OwnPlace(Area.BYTES), 8)
-    guest.call(Call.RT_SIGPROCMASK, how(guest), or_none(buffer(8, 4))(guest), or_none(buffer(8, 6))(guest), eight(guest))
+    of_table(guest, Call.RT_SIGPROCMASK, [how, or_none(buffer(8, 4)), or_none(buffer(8, 6)), eight])
     guest.call(Call.RT_SIGPROCMASK, How.SET, OwnPlace(Area.BYTES), 0, 8)
 
 
@@ -166,5 +170,5 @@ def mix_scratch(guest: Guest) -> None:
     mix_memory(guest, guest.scratch, 64)
 
 
-SNIPPETS = [unbuilt, unbuilt, unbuilt, bad_place, read, named_length, path, local, local, unknown, write, write, futex, futex, clone, old_action,
-            bad_action, mask, bad_mask, same_buffers, mapping, mix_scratch]
+SNIPPETS = [unbuilt, unbuilt, unbuilt, bad_place, read, named_length, path, local, local, unknown, write, write, futex,
+            futex, clone, old_action, bad_action, mask, bad_mask, same_buffers, mapping, mix_scratch]

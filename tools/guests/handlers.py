@@ -38,8 +38,8 @@ class Handler(enum.Enum):
         return Label(f"handler.{self.value}")
 
 
-RETURNING = [Handler.PLAIN, Handler.RETURNS_ITSELF, Handler.ASKS_MASK, Handler.UNBLOCKS, Handler.NESTS, Handler.WAKES,
-             Handler.WRITES, Handler.CLONES]
+RETURNING = [Handler.PLAIN, Handler.RETURNS_ITSELF, Handler.ASKS_MASK, Handler.UNBLOCKS, Handler.NESTS,
+             Handler.WAKES, Handler.WRITES, Handler.CLONES]
 BACK = jalr_word(0, 0, RA)
 
 
@@ -170,7 +170,8 @@ BODIES: dict[Handler, Callable[[Guest], None]] = {
     Handler.PLAIN: put_plain, Handler.RETURNS_ITSELF: put_returns_itself, Handler.ASKS_MASK: put_asks_mask,
     Handler.UNBLOCKS: put_unblocks, Handler.NESTS: put_nests, Handler.DEEPENS: put_deepens, Handler.WAKES: put_wakes,
     Handler.WRITES: put_writes, Handler.CLONES: put_clones, Handler.WAITS: put_waits,
-    Handler.ENDS_THREAD: put_ends_thread, Handler.ENDS_ALL: put_ends_all, Handler.MENDS: put_mends, Handler.BREAKS_OUT: put_breaks_out,
+    Handler.ENDS_THREAD: put_ends_thread, Handler.ENDS_ALL: put_ends_all, Handler.MENDS: put_mends,
+    Handler.BREAKS_OUT: put_breaks_out,
 }
 
 

@@ -45,7 +45,7 @@ class Ending(enum.Enum):
 
 THEMES = [Theme.ALL] * 4 + [Theme.CALLS, Theme.MEMORY, Theme.SIGNALS, Theme.SIGNALS, Theme.TRAPS, Theme.TRAPS] + [
     Theme.THREADS] * 3 + [Theme.DEEP, Theme.CROWD, Theme.FULL]
-ENDINGS = [Ending.ENDS_ALL] * 3 + [Ending.LEAVES] * 4 + [Ending.LEAVES_FIRST] * 2 + [Ending.DIES] * 3 + [
+ENDINGS = [Ending.ENDS_ALL] * 3 + [Ending.LEAVES] * 4 + [Ending.LEAVES_FIRST] * 2 + [Ending.DIES] * 5 + [
     Ending.WAITS_FOR_EVER, Ending.RUNS_OFF]
 
 EVERY: list[Snippet] = [*compute.SNIPPETS, *calls.SNIPPETS, *memory.SNIPPETS, *signals.SNIPPETS, *traps.SNIPPETS]
@@ -74,7 +74,7 @@ class Made:
 
 
 def put_start(guest: Guest) -> None:
-    """The first words: what the registers and the stack hold, the thread's number, the break, and the first handlers."""
+    """The first words: what registers and stack hold, the thread's number, the break, and the first handlers."""
     text = guest.text
     text.label("start")
     text.number(AREA, guest.areas[0])

@@ -1,7 +1,7 @@
 """Snippets that send signals to the thread itself, and set what is done on them."""
 
 from guests.arguments import thread
-from guests.builder import FIRST_THREAD, SP, T1, T2, Area, Guest, Own, OwnPlace
+from guests.builder import FIRST_THREAD, SP, T1, T2, Area, Guest, Operand, Own, OwnPlace
 from guests.compute import number
 from guests.events import Mark
 from guests.handlers import BACK, DEFAULT, IGNORE, RETURNING, Handler, install
@@ -23,6 +23,10 @@ def some_mask(guest: Guest) -> int:
     rng = guest.rng
     mask = rng.choice([0, 0, bit(rng.choice(CATCHABLE)), rng.getrandbits(32), 0xFFFFFFFF])
     return mask & ~sum(bit(s) for s in TRAPS)
+
+
+def ignored_or_handled(guest: Guest) -> Operand:
+    return guest.rng.choice([IGNORE, *(handler.place() for handler in RETURNING)])
 
 
 def send(guest: Guest, signal: int) -> None:
@@ -64,7 +68,7 @@ def blocked(guest: Guest) -> None:
     rng = guest.rng
     chosen = rng.sample(CATCHABLE, rng.randint(1, 3))
     for signal in chosen:
-        install(guest, signal, rng.choice([IGNORE, *(h.place() for h in RETURNING)]), rng.choice(FLAGS), some_mask(guest))
+        install(guest, signal, ignored_or_handled(guest), rng.choice(FLAGS), some_mask(guest))
     mask = sum(bit(s) for s in chosen) | bit(9) | bit(19) | rng.choice([0, 0xFF << 32])
     change_mask(guest, rng.choice([How.BLOCK, How.BLOCK, How.SET]), mask)
     for signal in rng.choices(chosen, k=len(chosen) + 1):
@@ -112,7 +116,7 @@ def signal_others(guest: Guest) -> None:
     """Sends a signal that is handled, or ignored, to some thread that may be there."""
     rng = guest.rng
     signal = rng.choice([s for s in CATCHABLE if s not in IGNORED_BY_DEFAULT])
-    install(guest, signal, rng.choice([IGNORE, *(h.place() for h in RETURNING)]), rng.choice(FLAGS), some_mask(guest))
+    install(guest, signal, ignored_or_handled(guest), rng.choice(FLAGS), some_mask(guest))
     for _ in range(rng.randint(1, 3)):
         guest.call(Call.TGKILL, FIRST_THREAD, thread(guest), signal)
 
@@ -121,8 +125,8 @@ def odd_handler(guest: Guest) -> None:
     """A handler at an address that is no multiple of 4, or across two pages: its one word goes back."""
     rng, strip = guest.rng, guest.layout.strip
     signal = rng.choice(CATCHABLE)
-    ends = [upper.address - rng.randint(1, 3) for lower, upper in zip(strip, strip[1:]) if lower.can(3) and upper.can(2)]
-    at = rng.choice([guest.layout.page_with(rng, 7).address + 4 * rng.randrange(32, 900) + rng.randint(1, 3), *ends])
+    ends = [upper.address - 4 for lower, upper in zip(strip, strip[1:]) if lower.can(3) and upper.can(2)]
+    at = rng.choice([guest.layout.page_with(rng, 7).address + 4 * rng.randrange(32, 900), *ends]) + rng.randint(1, 3)
     guest.text.number(T1, at)
     guest.text.number(T2, BACK)
     guest.text.put(store_word("sw", T2, 0, T1))
@@ -140,5 +144,5 @@ def uncatchable(guest: Guest) -> None:
     mix_own(guest)
 
 
-SNIPPETS = [handled, handled, handled, ignored, blocked, blocked, nested, returns_from_nothing, signal_others, uncatchable,
-            odd_handler]
+SNIPPETS = [handled, handled, handled, ignored, blocked, blocked, nested, returns_from_nothing, signal_others,
+            uncatchable, odd_handler]

@@ -1,4 +1,5 @@
-"""Snippets that trap: each cause, with a handler that mends the instruction or breaks out, and the ways to end by a signal."""
+"""Snippets that trap: each cause, with a handler that mends the instruction or breaks out; and the ways to end by a
+signal."""
 
 from collections.abc import Callable
 
@@ -6,12 +7,12 @@ from guests import threads
 from guests.builder import A0, FIRST_THREAD, FREE, T1, Area, Guest, Label, Own, OwnPlace, Word
 from guests.events import Death, Mark
 from guests.handlers import DEFAULT, IGNORE, Handler, install
-from guests.layout import LINK, PAGE, STACK_END, Code
+from guests.layout import LINK, PAGE, RETURN_PAGE_END, STACK_END, Code
 from guests.numbers import SA_NODEFER, TRAPS, Call, How
 from guests.routines import mix_registers
 from guests.signals import CATCHABLE, CONTEXTS, bit, change_mask, send
 from riscv import (
-    BRANCH, EBREAK, ECALL, LOAD, REGISTER, STORE, branch_word, i_type, j_type, jalr_word, load_word, r_type, s_type,
+    EBREAK, ECALL, LOAD, REGISTER, STORE, branch_word, i_type, j_type, jalr_word, load_word, r_type, s_type,
     store_word,
 )
 
@@ -32,8 +33,8 @@ def no_instruction(guest: Guest) -> int:
         i_type(0, rs1, rng.choice([3, 6, 7]), rd, 0x03), s_type(0, rs2, rs1, rng.randrange(3, 8)),
         r_type(0, rs2, rs1, rng.choice([2, 3]), 8, 0x63), i_type(0, rs1, rng.randrange(1, 8), rd, 0x67),
         i_type(0, 0, rng.randrange(1, 8), 0, 0x0F), i_type(0x305, rs1, 1, rd, 0x73), 0x30200073, 0x10500073, 0x00200073,
-        ECALL | 1 << 7, EBREAK | 1 << 15, ECALL | 1 << 12, rng.getrandbits(25) << 7 | 0x2F, rng.getrandbits(25) << 7 | 0x53,
-        rng.getrandbits(25) << 7 | 0x07, rng.getrandbits(25) << 7 | 0x1B, rng.getrandbits(25) << 7 | 0x3B,
+        ECALL | 1 << 7, EBREAK | 1 << 15, ECALL | 1 << 12,
+        rng.getrandbits(25) << 7 | rng.choice([0x07, 0x1B, 0x27, 0x2F, 0x3B, 0x43, 0x53, 0x5B, 0x77, 0x7F]),
     ])
 
 
@@ -70,7 +71,8 @@ def bad_place(guest: Guest) -> int:
     page = guest.layout.page_without(rng, rng.choice([2, 4]))
     return rng.choice([
         page.address + rng.randrange(PAGE), page.address - rng.randint(1, 3), page.address + PAGE - rng.randint(1, 3),
-        guest.layout.edge(rng), 0xFFFFFFFF - rng.randrange(4), STACK_END - rng.randint(1, 3), 0x80001000 - rng.randint(1, 3),
+        guest.layout.edge(rng), 0xFFFFFFFF - rng.randrange(4), STACK_END - rng.randint(1, 3),
+        RETURN_PAGE_END - rng.randint(1, 3),
     ])
 
 
@@ -163,9 +165,9 @@ def leave_code(guest: Guest) -> None:
     install(guest, FAULT, Handler.BREAKS_OUT.place(), SA_NODEFER)
 
     def put() -> None:
-        page = layout.page_without(rng, 1)
-        ends = [lower.address for lower, upper in zip(layout.strip, layout.strip[1:]) if lower.can(1) and not upper.can(1)]
-        target = rng.choice([page.address + 4 * rng.randrange(1024), *(end + Code.RUNS_OFF for end in ends)])
+        pairs = zip(layout.strip, layout.strip[1:])
+        ends = [lower.address + Code.RUNS_OFF for lower, upper in pairs if lower.can(1) and not upper.can(1)]
+        target = rng.choice([layout.page_without(rng, 1).address + 4 * rng.randrange(1024), *ends])
         guest.text.number(T1, target)
         guest.text.put(jalr_word(LINK, 0, T1))
 

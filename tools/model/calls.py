@@ -14,6 +14,7 @@ from .state import A7, NUMBER_END, SP, TP, Machine, Process, Thread, signal_bit
 CONSOLE_LIMIT = 65536
 THREADS_LIMIT = 64
 TGKILL_SIGNALS = set(range(0, 32)) - {18, 19, 20, 21, 22}
+SIGNED_END = 1 << 31
 PROCESS_FORM = 17
 THREAD_FORM = CloneFlag.VM | CloneFlag.FS | CloneFlag.FILES | CloneFlag.SIGHAND | CloneFlag.THREAD
 PLACES = CloneFlag.PARENT_SETTID | CloneFlag.CHILD_SETTID | CloneFlag.CHILD_CLEARTID
@@ -55,8 +56,7 @@ def _exit_group(machine: Machine, _process: Process, _thread: Thread) -> None:
 def _tgkill(_machine: Machine, process: Process, thread: Thread) -> int:
     """Call 131."""
     pid, tid, signal = thread.argument(0), thread.argument(1), thread.argument(2)
-    # UNSAID: whether "above 0" takes the number as signed. It is taken as it stands in the register, unsigned.
-    if pid == 0 or signal not in TGKILL_SIGNALS:
+    if not 0 < pid < SIGNED_END or signal not in TGKILL_SIGNALS:  # above 0 as a signed number
         return -Errno.EINVAL
     if pid != process.number or tid not in process.threads:
         return -Errno.ESRCH

@@ -66,7 +66,6 @@ class Store:
 
     def content(self, slot: int, index: int) -> bytes:
         """A file's bytes; one that is not there has none."""
-        # UNSAID: whether a file that is missing and should have no byte is damaged. It has its length, 0.
         return self.files.get(file_name(slot, index), b"")
 
     def counting(self) -> Counting | None:
@@ -95,7 +94,7 @@ class Store:
         lengths = self._read(slot, 0, read_manifest)
         for index, length in enumerate(lengths, start=1):
             found = len(self.content(slot, index))
-            if found != length:
+            if found != length or file_name(slot, index) not in self.files:  # missing, also where it should have no byte
                 raise SetDamaged(slot, index, min(found, length))
         machine = self._read(slot, 1, read_shared)
         if len(lengths) != 2:
