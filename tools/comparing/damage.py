@@ -159,7 +159,8 @@ def few_numbers(rng: random.Random, sets: Sets, slot: int) -> Sets:
     if rng.random() < 0.6:
         return {**sets, name: put(shared, 8, (LAST_NUMBER - rng.choice([0, 0, 1, 2])).to_bytes(4, "little"))}
     pending = next(field for field in fields_of(SHARED, shared).fields if field.name == "process.pending")
-    return {**sets, name: put(shared, pending.at, rng.getrandbits(31).to_bytes(4, "little"))}
+    signals = rng.choice([rng.getrandbits(31), 1 << rng.randrange(31), 1 << rng.randrange(31)])
+    return {**sets, name: put(shared, pending.at, signals.to_bytes(4, "little"))}
 
 
 def damaged(rng: random.Random, sets: Sets) -> Sets:
