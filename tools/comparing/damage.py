@@ -153,14 +153,28 @@ def swap_slots(rng: random.Random, sets: Sets, slot: int) -> Sets:
 
 
 def few_numbers(rng: random.Random, sets: Sets, slot: int) -> Sets:
-    """Leaves few numbers, or none, for new threads, or signals pending for the process."""
+    """Leaves few numbers, or none, for new threads."""
     name = name_of(slot, SHARED)
-    shared = sets[name]
-    if rng.random() < 0.6:
-        return {**sets, name: put(shared, 8, (LAST_NUMBER - rng.choice([0, 0, 1, 2])).to_bytes(4, "little"))}
-    pending = next(field for field in fields_of(SHARED, shared).fields if field.name == "process.pending")
-    signals = rng.choice([rng.getrandbits(31), 1 << rng.randrange(31), 1 << rng.randrange(31)])
-    return {**sets, name: put(shared, pending.at, signals.to_bytes(4, "little"))}
+    return {**sets, name: put(sets[name], 8, (LAST_NUMBER - rng.choice([0, 0, 1, 2])).to_bytes(4, "little"))}
+
+
+def set_named(content: bytes, index: int, name: str, which: int, value: int) -> bytes:
+    """Sets one of the fields of a name."""
+    fields = [field for field in fields_of(index, content).fields if field.name == name]
+    return put(content, fields[which].at, value.to_bytes(fields[which].size, "little")) if fields else content
+
+
+def odd_signals(rng: random.Random, sets: Sets, slot: int) -> Sets:
+    """Has signals pending for the process and perhaps for its first thread, and an action on one of them that no call sets."""
+    signal = rng.choice([9, *range(1, 32)])
+    pending = rng.choice([1 << signal - 1, 1 << signal - 1, 1 << signal - 1 | rng.getrandbits(31)])
+    shared, process = name_of(slot, SHARED), name_of(slot, PROCESS)
+    changed = {**sets, shared: set_named(sets[shared], SHARED, "process.pending", 0, pending)}
+    if rng.random() < 0.5:
+        changed[shared] = set_named(changed[shared], SHARED, "thread.pending", 0, pending)
+    if rng.random() < 0.6 and process in sets:
+        changed[process] = set_named(sets[process], PROCESS, "action.handler", signal - 1, rng.choice([0, 1, 1, 0x80000000]))
+    return changed
 
 
 def damaged(rng: random.Random, sets: Sets) -> Sets:
@@ -173,6 +187,6 @@ def damaged(rng: random.Random, sets: Sets) -> Sets:
             return sets
         kinds = [change_file] * 8 + [remove_file, change_gate, swap_slots]
         if name_of(slot, SHARED) in sets and len(sets[name_of(slot, SHARED)]) > SHARED_BYTES:
-            kinds += [few_numbers, few_numbers]
+            kinds += [few_numbers, odd_signals, odd_signals]
         sets = rng.choice(kinds)(rng, sets, slot)
     return sets
