@@ -1,0 +1,1 @@
+"""Random guest programs, each made from its seed: see program.py."""

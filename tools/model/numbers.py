@@ -1,0 +1,73 @@
+"""Numbers of calls and errors (docs/MACHINE.md, "Calls")."""
+
+from enum import IntEnum
+
+
+class Errno(IntEnum):
+    """The errors that calls answer."""
+
+    ESRCH = 3
+    EINTR = 4
+    EBADF = 9
+    EAGAIN = 11
+    ENOMEM = 12
+    EFAULT = 14
+    EINVAL = 22
+    ENOSYS = 38
+
+
+class Number(IntEnum):
+    """The numbers in `a7` of calls that have buffers or do something."""
+
+    # UNSAID: the numbers of calls that are not built but have buffers. They are those of Linux for RISC-V.
+    UNLINKAT = 35
+    OPENAT = 56
+    PIPE2 = 59
+    READ = 63
+    SOCKETPAIR = 199
+    BIND = 200
+    ACCEPT = 202
+    CONNECT = 203
+    GETSOCKNAME = 204
+    GETPEERNAME = 205
+    WAIT4 = 260
+    # Those that the manual numbers.
+    WRITE = 64
+    EXIT = 93
+    EXIT_GROUP = 94
+    SET_TID_ADDRESS = 96
+    FUTEX = 98
+    SCHED_YIELD = 124
+    TGKILL = 131
+    RT_SIGACTION = 134
+    RT_SIGPROCMASK = 135
+    RT_SIGRETURN = 139
+    GETTID = 178
+    BRK = 214
+    MUNMAP = 215
+    CLONE = 220
+    MMAP = 222
+
+
+class CloneFlag(IntEnum):
+    """The bits of `clone`."""
+
+    # UNSAID: the values of the named bits. They are those of Linux.
+    VM = 0x100
+    FS = 0x200
+    FILES = 0x400
+    SIGHAND = 0x800
+    THREAD = 0x10000
+    IGNORED = 0x40000
+    SETTLS = 0x80000
+    PARENT_SETTID = 0x100000
+    CHILD_CLEARTID = 0x200000
+    CHILD_SETTID = 0x1000000
+
+
+FUTEX_WAIT, FUTEX_WAKE, FUTEX_PRIVATE = 0, 1, 128
+
+
+def futex_operation(word: int) -> int:
+    """A futex's operation without the bit that does nothing."""
+    return word & ~FUTEX_PRIVATE

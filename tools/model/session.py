@@ -1,0 +1,111 @@
+"""One call of the program: words, start, run, status and last line (docs/CLI.md)."""
+
+from dataclasses import dataclass
+from enum import IntEnum
+
+from .driver import Keeper, RunEnd, drive
+from .elf import BadProgram, read_elf
+from .start import start
+from .state import Machine
+from .store import SetDamaged, Store
+from .trace import Trace
+from .words import Command, Usage, Verb, read_words
+
+FILE_LIMIT = 67_108_864
+# UNSAID: the bytes of `--help` beyond "the first two lines above", and what the version is.
+HELP = "dmtcp launch [--every K] [--records M] 0:NAME\ndmtcp restart [--every K] [--records M]\n"
+VERSION = "dmtcp 0.1.0\n"
+GREETINGS = {"--help": HELP, "--version": VERSION}
+
+
+class Status(IntEnum):
+    """The statuses that a call has where nothing outside fails."""
+
+    DONE = 0
+    USAGE = 10
+    INPUT_FAULT = 11
+    MISSING = 12
+    BAD_PROGRAM = 13
+    NO_SET = 16
+    DAMAGED = 17
+    SPENT = 18
+    STUCK = 19
+
+
+@dataclass
+class Outcome:
+    """What a call leaves: `trace` is None where no file dmtcp.trace is written."""
+
+    status: int
+    console: bytes
+    log: bytes
+    trace: bytes | None
+    sets: dict[str, bytes]
+
+
+class Ended(Exception):
+    """A call that ends before its run."""
+
+    def __init__(self, status: Status, line: str) -> None:
+        super().__init__(status, line)
+        self.status = status
+        self.line = line
+
+
+def _launched(command: Command, files: dict[str, bytes]) -> Machine:
+    """The start of the program that the words name."""
+    # UNSAID: a name with a slash, or one of a folder. It is looked up as the name of a file of the current folder.
+    data = files.get(command.name)
+    if data is None:
+        raise Ended(Status.MISSING, f"missing: {command.name}")
+    if len(data) > FILE_LIMIT:
+        raise Ended(Status.INPUT_FAULT, f"input fault: {command.name}")
+    try:
+        program = read_elf(data)
+    except BadProgram as bad:
+        raise Ended(Status.BAD_PROGRAM, f"bad program: {command.name}: {bad.reason} at {bad.place}") from bad
+    return start(program, command.name.encode())
+
+
+def _restarted(store: Store) -> Machine:
+    """The state that the set which counts spells."""
+    counting = store.counting()
+    if counting is None:
+        raise Ended(Status.NO_SET, "no set")
+    try:
+        return store.get_machine(counting.slot)
+    except SetDamaged as bad:
+        raise Ended(Status.DAMAGED, f"damaged: slot {bad.slot} file {bad.file} at {bad.offset}") from bad
+
+
+def _last_line(end: RunEnd, records: int) -> Ended:
+    """The status of a run, with its line."""
+    if end is RunEnd.SPENT:
+        return Ended(Status.SPENT, f"budget spent: {records} records")
+    return Ended(Status.STUCK, "stuck") if end is RunEnd.STUCK else Ended(Status.DONE, "done")
+
+
+def _run(command: Command, machine: Machine, store: Store) -> Outcome:
+    """A run from its start to its last line."""
+    counting = store.counting()
+    opening = counting.generation if counting else 0
+    keeper = Keeper(command.every, opening, store, Trace(command.records))
+    last = _last_line(drive(machine, keeper), command.records)
+    log = "".join(line + "\n" for line in [*keeper.lines, last.line])
+    trace = bytes(keeper.trace.data) or None
+    return Outcome(last.status, bytes(machine.console), log.encode(), trace, store.files)
+
+
+def run(words: list[str], files: dict[str, bytes], sets: dict[str, bytes]) -> Outcome:
+    """What the program does with these words, in a folder with these files and these sets."""
+    if len(words) == 1 and words[0] in GREETINGS:
+        return Outcome(Status.DONE, GREETINGS[words[0]].encode(), b"", None, dict(sets))
+    store = Store(dict(sets))
+    try:
+        command = read_words(words)
+        machine = _launched(command, files) if command.verb is Verb.LAUNCH else _restarted(store)
+    except Usage:
+        return Outcome(Status.USAGE, b"", b"usage\n", None, store.files)
+    except Ended as ended:
+        return Outcome(ended.status, b"", ended.line.encode() + b"\n", None, store.files)
+    return _run(command, machine, store)

@@ -1,0 +1,83 @@
+"""The state before the first record (docs/MACHINE.md, "The start")."""
+
+from .bits import words_bytes
+from .elf import Program
+from .memory import EXECUTE, PAGE_SHIFT, PAGE_SIZE, READ, WRITE, Memory, blank_page, page_up
+from .state import (
+    FIRST_NUMBER,
+    READ_AND_WRITE,
+    SP,
+    Description,
+    DescriptionName,
+    Descriptor,
+    Machine,
+    Process,
+    Thread,
+)
+
+STACK_START = 0x7FFC0000
+STACK_END = 0x80000000
+RETURN_PAGE = STACK_END >> PAGE_SHIFT
+RETURN_ADDRESS = STACK_END
+RETURN_CODE = words_bytes([0x08B00893, 0x00000073])
+"""`li a7, 139; ecall`, to which a signal handler returns."""
+STANDARD_DESCRIPTORS = (0, 1, 2)
+
+
+def _load(program: Program) -> Memory:
+    """Segments, break, stack and the page to which handlers return."""
+    end = max(segment.end() for segment in program.segments)
+    break_start = page_up(end) << PAGE_SHIFT
+    memory = Memory(break_start, break_start)
+    for number, rights in program.page_rights.items():
+        memory.pages[number] = blank_page(rights)
+    for segment in program.segments:
+        memory.poke(segment.address, segment.data)
+    for number in range(STACK_START >> PAGE_SHIFT, STACK_END >> PAGE_SHIFT):
+        memory.pages[number] = blank_page(READ | WRITE)
+    memory.pages[RETURN_PAGE] = blank_page(READ | EXECUTE)
+    memory.poke(RETURN_ADDRESS, RETURN_CODE)
+    return memory
+
+
+def _put_arguments(memory: Memory, arguments: list[bytes]) -> int:
+    """Strings and words on the stack; gives `sp`."""
+    text = b"".join(argument + b"\0" for argument in arguments)
+    place = STACK_END - len(text)
+    memory.poke(place, text)
+    pointers = []
+    for argument in arguments:
+        pointers.append(place)
+        place += len(argument) + 1
+    words = words_bytes([len(arguments), *pointers, 0, 0, 0, 0])
+    sp = (STACK_END - len(text) - len(words)) & ~15
+    memory.poke(sp, words)
+    return sp
+
+
+def start(program: Program, name: bytes) -> Machine:
+    """One process, with one thread of its own number, and the console on its descriptors."""
+    memory = _load(program)
+    thread = Thread(FIRST_NUMBER, pc=program.entry)
+    thread.regs[SP] = _put_arguments(memory, [name])
+    # UNSAID: the console's status flags, its owner, the process's count of what it made, and the next file's number.
+    # The flags are 2 (open for reading and writing), the owner is 0, one thing was made, and files begin at 1.
+    console = DescriptionName(FIRST_NUMBER, 0)
+    process = Process(
+        number=FIRST_NUMBER,
+        memory=memory,
+        made=1,
+        threads={FIRST_NUMBER: thread},
+        descriptors={number: Descriptor(console) for number in STANDARD_DESCRIPTORS},
+    )
+    return Machine(
+        next_id=FIRST_NUMBER + 1,
+        next_file=1,
+        descriptions={console: Description(READ_AND_WRITE, 0)},
+        process=process,
+    )
+
+
+def whole_page(content: bytes) -> bytes:
+    """A page's content that begins so, with zeros behind it."""
+    return content + bytes(PAGE_SIZE - len(content))
