@@ -1,7 +1,6 @@
 """A reference model of `dmtcp`, written from its manual alone (docs/, README.md): what a call leaves, byte for byte.
 
-It knows ample memory, and a disk, inputs and sinks that never fail. Where the manual is silent or unclear a comment
-`UNSAID:` says which reading was taken.
+It knows ample memory, and a disk, inputs and sinks that never fail.
 """
 
 from .session import Outcome, Status, run

@@ -32,8 +32,6 @@ def _unless_zero(address: int, length: int, right: int) -> list[Buffer]:
 
 
 def _clone_buffers(thread: Thread) -> list[Buffer]:
-    # UNSAID: which flag bits ask for which word. PARENT_SETTID for the parent's and CHILD_SETTID for the child's, also
-    # where the flags are of no form; CHILD_CLEARTID asks for none.
     flags, found = thread.argument(0), []
     if flags & CloneFlag.PARENT_SETTID:
         found.append(Buffer(thread.argument(2), WORD_SIZE, WRITE))
@@ -44,7 +42,6 @@ def _clone_buffers(thread: Thread) -> list[Buffer]:
 
 def _plain_buffers(thread: Thread, number: int) -> list[Buffer]:
     """The buffers that the registers alone tell."""
-    # UNSAID: in which argument each buffer of a call that is not built is. As in Linux.
     argument = thread.argument
     if number == Number.FUTEX and futex_operation(argument(1)) == FUTEX_WAIT:
         return [Buffer(argument(0), WORD_SIZE, READ)]

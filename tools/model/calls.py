@@ -44,7 +44,6 @@ def _exit(machine: Machine, process: Process, thread: Thread) -> None:
         return
     if process.memory.allows(place, WORD_SIZE, WRITE):
         process.memory.poke(place, bytes(WORD_SIZE))
-    # UNSAID: whether a waiter goes on where the word can't be written. It does.
     process.wake(place, 1)
 
 

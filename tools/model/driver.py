@@ -40,7 +40,6 @@ class Keeper:
         if self.every is None or self.work % self.every or self.generation >= LAST_ASKED:
             return
         self.requests += 1
-        # UNSAID: how many further records of work (0 to 2 of a process) come before the outcome. None.
         if machine.process is None:
             self._lapse()
         else:

@@ -120,7 +120,6 @@ def _header(data: bytes, place: int) -> Header:
 
 def _fits(header: Header, file_length: int) -> bool:
     """The rule on one segment's place in the file and in memory."""
-    # UNSAID: whether a file part of no bytes lies in the file where its offset is past the end. It does not.
     return (
         header.offset + header.file_size <= file_length
         and header.file_size <= header.memory_size

@@ -45,7 +45,6 @@ def _futex(process: Process, thread: Thread) -> int | None:
     if address & 3 or (operation == FUTEX_WAIT and timeout != 0):
         return -Errno.EINVAL
     if operation == FUTEX_WAKE:
-        # UNSAID: whether `value` is signed. It is taken unsigned, so that 0xFFFFFFFF wakes all.
         return process.wake(address, value)
     if _word(process, address) != value:
         return -Errno.EAGAIN

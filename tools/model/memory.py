@@ -75,8 +75,7 @@ class Memory:
 
     def fetch(self, address: int) -> int:
         """The word of an instruction."""
-        # UNSAID: what a fetch at an address that is no multiple of 4 does (a handler's address, a pc of an image).
-        # It takes the four bytes from there on, as a load does.
+        # At an address that is no multiple of 4 it is the four bytes from there on.
         page = self.pages.get(address >> PAGE_SHIFT)
         offset = address & OFFSET_MASK
         if page is None or not page.rights & EXECUTE:
@@ -125,7 +124,6 @@ class Memory:
             self.pages[number] = blank_page(READ | WRITE)
         for number in range(new_end, old_end):
             self.pages.pop(number, None)
-        # UNSAID: bytes between the break and the end of its page after the break went down. They are kept.
         self.break_now = address
         return address
 

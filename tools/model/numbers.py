@@ -19,7 +19,6 @@ class Errno(IntEnum):
 class Number(IntEnum):
     """The numbers in `a7` of calls that have buffers or do something."""
 
-    # UNSAID: the numbers of calls that are not built but have buffers. They are those of Linux for RISC-V.
     UNLINKAT = 35
     OPENAT = 56
     PIPE2 = 59
@@ -52,7 +51,6 @@ class Number(IntEnum):
 class CloneFlag(IntEnum):
     """The bits of `clone`."""
 
-    # UNSAID: the values of the named bits. They are those of Linux.
     VM = 0x100
     FS = 0x200
     FILES = 0x400

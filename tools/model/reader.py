@@ -28,7 +28,6 @@ class Reader:
 
     def field(self, size: int) -> bytes:
         """So many bytes; a file that ends before or within them is damaged at its length."""
-        # UNSAID: a magic of which a byte is wrong and the file ends within it. The file's length counts.
         end = self.place + size
         if end > len(self.data):
             raise Damage(len(self.data))

@@ -1,4 +1,4 @@
-"""Whose turn it is (docs/ARCHITECTURE.md, "The way of a turn"; docs/MACHINE.md, "Signals")."""
+"""Whose turn it is (docs/MACHINE.md, "Rounds" and "Signals")."""
 
 from collections import deque
 from dataclasses import dataclass, field
@@ -42,8 +42,6 @@ class Rounds:
 
     def step(self) -> Record | None:
         """Makes the next record of work; None where nobody can go on. The process lives."""
-        # UNSAID: where in a round a run begins that goes on from a set. With a new round and a new turn.
-        # UNSAID: whether there is a `User` record of no instructions. There is none.
         process = self.machine.process
         while True:
             if self.turn is None:

@@ -12,7 +12,6 @@ from .trace import Trace
 from .words import Command, Usage, Verb, read_words
 
 FILE_LIMIT = 67_108_864
-# UNSAID: the bytes of `--help` beyond "the first two lines above", and what the version is.
 HELP = "dmtcp launch [--every K] [--records M] 0:NAME\ndmtcp restart [--every K] [--records M]\n"
 VERSION = "dmtcp 0.1.0\n"
 GREETINGS = {"--help": HELP, "--version": VERSION}
@@ -54,7 +53,7 @@ class Ended(Exception):
 
 def _launched(command: Command, files: dict[str, bytes]) -> Machine:
     """The start of the program that the words name."""
-    # UNSAID: a name with a slash, or one of a folder. It is looked up as the name of a file of the current folder.
+    # A name that is a path is looked up as the name of a file of the current folder: there are no other folders here.
     data = files.get(command.name)
     if data is None:
         raise Ended(Status.MISSING, f"missing: {command.name}")

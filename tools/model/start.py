@@ -60,8 +60,6 @@ def start(program: Program, name: bytes) -> Machine:
     memory = _load(program)
     thread = Thread(FIRST_NUMBER, pc=program.entry)
     thread.regs[SP] = _put_arguments(memory, [name])
-    # UNSAID: the console's status flags, its owner, the process's count of what it made, and the next file's number.
-    # The flags are 2 (open for reading and writing), the owner is 0, one thing was made, and files begin at 1.
     console = DescriptionName(FIRST_NUMBER, 0)
     process = Process(
         number=FIRST_NUMBER,
