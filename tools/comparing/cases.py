@@ -8,6 +8,7 @@ from dataclasses import dataclass, field
 from pathlib import Path
 
 from comparing.traces import first_difference
+from model import Outcome
 
 SET_FOLDER, TRACE_FILE = "dmtcp_set", "dmtcp.trace"
 LONGEST_RUN = 300  # seconds
@@ -20,17 +21,6 @@ class Case:
     words: list[str]
     files: dict[str, bytes]
     sets: dict[str, bytes] = field(default_factory=dict)
-
-
-@dataclass
-class Outcome:
-    """What a call leaves."""
-
-    status: int
-    console: bytes
-    log: bytes
-    trace: bytes | None
-    sets: dict[str, bytes]
 
 
 def read_all(folder: Path) -> dict[str, bytes]:
