@@ -2,7 +2,7 @@
 
 from collections import Counter
 
-from comparing.cases import Outcome
+from model import Outcome
 from comparing.traces import WORK, Kind, Record, records_of
 from guests.events import Death, Futex, Mark, Tag, Told, told_on
 from guests.numbers import TRAPS, Call, Errno

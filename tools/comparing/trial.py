@@ -8,13 +8,13 @@ from dataclasses import dataclass, field
 from pathlib import Path
 
 from comparing.bad_programs import CODE, bad_program
-from comparing.cases import Case, Outcome, differences, keep, run_program
+from comparing.cases import Case, differences, keep, run_program
 from comparing.damage import damaged
 from comparing.odd_words import FOLDER, GUEST, odd_words
 from comparing.tallies import Tallies
 from comparing.traces import records_of
 from guests.program import make_guest
-from model import run
+from model import Outcome, run
 from riscv import Segment, elf_file
 
 MOST_RECORDS = 400
@@ -32,11 +32,6 @@ class Counts:
     differ: int = 0
 
 
-def model_outcome(case: Case) -> Outcome:
-    found = run(case.words, dict(case.files), dict(case.sets))
-    return Outcome(int(found.status), found.console, found.log, found.trace, found.sets)
-
-
 class Trial:
     """The runs so far, and what came of them."""
 
@@ -49,7 +44,7 @@ class Trial:
     def compare(self, seed: int, case: Case) -> Outcome:
         """Makes a call by both, says where they differ, and gives what the program left."""
         ours = run_program(self.program, case)
-        theirs = model_outcome(case)
+        theirs = run(case.words, case.files, case.sets)
         found = differences(ours, theirs)
         if found:
             self.counts.differ += 1
