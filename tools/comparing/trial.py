@@ -32,6 +32,10 @@ class Counts:
     differ: int = 0
 
 
+def model_outcome(case: Case) -> Outcome:
+    return run(case.words, case.files, case.sets)
+
+
 class Trial:
     """The runs so far, and what came of them."""
 
@@ -44,7 +48,7 @@ class Trial:
     def compare(self, seed: int, case: Case) -> Outcome:
         """Makes a call by both, says where they differ, and gives what the program left."""
         ours = run_program(self.program, case)
-        theirs = run(case.words, case.files, case.sets)
+        theirs = model_outcome(case)
         found = differences(ours, theirs)
         if found:
             self.counts.differ += 1
