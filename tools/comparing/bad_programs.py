@@ -9,10 +9,14 @@ from riscv import (
     program_header, words_of,
 )
 
-EDGES = [0, 1, 2, 3, 4, 31, 32, 33, 51, 52, 53, 63, 64, 65, 84, 242, 243, 244, 0xFFF, 0x1000, 0x1001, 0xFFFF, 0x10000,
-         0x3FFFF000, 0x3FFFFFFF, 0x40000000, 0x40000001, 0x7FFFFFFF, 0x80000000, 0xFFFFFFE0, 0xFFFFFFFF]
-HEADER_FIELDS = [(0, 1), (1, 1), (2, 1), (3, 1), (4, 1), (5, 1), (6, 1), (7, 1), (16, 2), (16, 2), (18, 2), (18, 2), (20, 4),
-                 (24, 4), (28, 4), (32, 4), (36, 4), (36, 4), (40, 2), (42, 2), (44, 2), (46, 2)]
+EDGES = [0, 1, 2, 3, 4, 8, 16, 31, 32, 33, 51, 52, 53, 63, 64, 65, 84, 242, 243, 244, 0xFFF, 0x1000, 0x1001, 0xFFFF,
+         0x10000, 0x3FFFF000, 0x3FFFFFFF, 0x40000000, 0x40000001, 0x7FFFFFFF, 0x80000000, 0xFFFFFFE0, 0xFFFFFFFF]
+HEADER_FIELDS = [(0, 1), (1, 1), (2, 1), (3, 1), (4, 1), (5, 1), (6, 1), (7, 1), (16, 2), (16, 2), (18, 2), (18, 2),
+                 (20, 4), (24, 4), (28, 4), (32, 4), (36, 4), (36, 4), (40, 2), (42, 2), (44, 2), (46, 2)]
+HEADER_LIMITS = {
+    16: [1, 2, 3], 18: [242, 243, 244], 28: [51, 52, 53], 36: [1, 2, 4, 8, 16, 0x80000000], 42: [31, 32, 33],
+    44: [0, 1, 2, 64, 65],
+}
 SEGMENT_FIELDS = [(0, 4), (4, 4), (8, 4), (12, 4), (16, 4), (20, 4), (24, 4), (28, 4)]
 TYPES = [0, 1, 2, 3, 4, 6, 7, 0x6474E551, 0x70000003, 0xFFFFFFFF]
 PAGE, HEAP_END, PROGRAM_PAGES, MOST_SEGMENTS = 4096, 0x40000000, 1536, 64
@@ -51,7 +55,8 @@ def change_header(rng: random.Random, content: bytes) -> bytes:
     place = rng.choice(places)
     old = int.from_bytes(content[place.at:place.at + place.size], "little")
     flipped = old ^ 1 << rng.randrange(8 * place.size)
-    value = rng.choice([rng.choice(EDGES), rng.choice(TYPES), old + 1, old - 1, flipped])
+    limits = HEADER_LIMITS.get(place.at, EDGES)
+    value = rng.choice([rng.choice(limits), rng.choice(limits), rng.choice(EDGES), old + 1, old - 1, flipped])
     return set_number(content, place, value)
 
 

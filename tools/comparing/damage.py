@@ -3,7 +3,7 @@
 import random
 from collections.abc import Callable
 
-from comparing.set_fields import Entries, Field, fields_of
+from comparing.set_fields import LIMITS, Entries, Field, fields_of
 
 Sets = dict[str, bytes]
 EDGES = [0, 1, 2, 3, 4, 7, 8, 9, 15, 16, 63, 64, 65, 128, 129, 130, 255, 256, 257, 2048, 2049, 4095, 4096, 39999, 40000,
@@ -66,8 +66,11 @@ def lengthen(rng: random.Random, content: bytes, index: int) -> bytes:
     return content + rng.randbytes(rng.choice([1, 4, 8, 100]))
 
 
-def edge_for(rng: random.Random, old: int, size: int) -> int:
+def edge_for(rng: random.Random, old: int, size: int, kind: str = "") -> int:
+    """An edge value: one of the field's own as often as any."""
     edges = EDGES + WIDE_EDGES if size == 8 else EDGES
+    if kind in LIMITS and rng.random() < 0.7:
+        return rng.choice(LIMITS[kind])
     return rng.choice([*edges, old + 1, old - 1, old ^ 0x80000000, rng.getrandbits(32)]) & (1 << 8 * size) - 1
 
 
@@ -79,10 +82,12 @@ def kind_of(field: Field) -> str:
 def set_field(rng: random.Random, content: bytes, index: int) -> bytes:
     """Sets a field to an edge value. Fields of one kind are as likely together as one of another kind."""
     fields = fields_of(index, content).fields
-    kind = rng.choice(sorted({kind_of(field) for field in fields}))
+    kinds = sorted({kind_of(field) for field in fields})
+    limited = [kind for kind in kinds if kind in LIMITS]
+    kind = rng.choice(limited if limited and rng.random() < 0.6 else kinds)
     field: Field = rng.choice([field for field in fields if kind_of(field) == kind])
     old = int.from_bytes(content[field.at:field.at + field.size], "little")
-    return put(content, field.at, edge_for(rng, old, field.size).to_bytes(field.size, "little"))
+    return put(content, field.at, edge_for(rng, old, field.size, kind).to_bytes(field.size, "little"))
 
 
 def change_list(rng: random.Random, content: bytes, index: int) -> bytes:
@@ -161,20 +166,42 @@ def few_numbers(rng: random.Random, sets: Sets, slot: int) -> Sets:
 def set_named(content: bytes, index: int, name: str, which: int, value: int) -> bytes:
     """Sets one of the fields of a name."""
     fields = [field for field in fields_of(index, content).fields if field.name == name]
-    return put(content, fields[which].at, value.to_bytes(fields[which].size, "little")) if fields else content
+    if which >= len(fields):
+        return content
+    return put(content, fields[which].at, value.to_bytes(fields[which].size, "little"))
 
 
 def odd_signals(rng: random.Random, sets: Sets, slot: int) -> Sets:
-    """Has signals pending for the process and perhaps for its first thread, and an action on one of them that no call sets."""
-    signal = rng.choice([9, *range(1, 32)])
+    """Has signals pending for the process and perhaps for a thread, and an action on one of them that no call sets."""
+    signal = rng.choice([9, 9, 9, *range(1, 32)])
     pending = rng.choice([1 << signal - 1, 1 << signal - 1, 1 << signal - 1 | rng.getrandbits(31)])
     shared, process = name_of(slot, SHARED), name_of(slot, PROCESS)
     changed = {**sets, shared: set_named(sets[shared], SHARED, "process.pending", 0, pending)}
     if rng.random() < 0.5:
         changed[shared] = set_named(changed[shared], SHARED, "thread.pending", 0, pending)
     if rng.random() < 0.6 and process in sets:
-        changed[process] = set_named(sets[process], PROCESS, "action.handler", signal - 1, rng.choice([0, 1, 1, 0x80000000]))
+        handler = rng.choice([0, 1, 1, 0x80000000])
+        changed[process] = set_named(sets[process], PROCESS, "action.handler", signal - 1, handler)
     return changed
+
+
+def odd_descriptions(rng: random.Random, sets: Sets, slot: int) -> Sets:
+    """Adds a second description with other flags or another owner, and mostly has a descriptor refer to it."""
+    name = name_of(slot, SHARED)
+    shared = sets[name]
+    listed = next(entries for entries in fields_of(SHARED, shared).lists if entries.name == "description")
+    if not listed.starts:
+        return sets
+    end = listed.starts[-1] + listed.size
+    maker = shared[listed.starts[-1]:listed.starts[-1] + 4]
+    flags, owner = rng.choice(LIMITS["description.flags"]), rng.choice([0, 0, 0, 40000, 40001])
+    new = maker + (1).to_bytes(4, "little") + b"\0" + flags.to_bytes(4, "little") + owner.to_bytes(4, "little")
+    shared = put(shared, listed.count_at, (len(listed.starts) + 1).to_bytes(4, "little"))
+    shared = shared[:end] + new + shared[end:]
+    shared = set_named(shared, SHARED, "process.made", 0, rng.choice([1, 2, 2, 2, 2, 3]))
+    if rng.random() < 0.8:
+        shared = set_named(shared, SHARED, "descriptor.num", rng.randrange(3), 1)
+    return with_lengths({**sets, name: shared}, slot)
 
 
 def damaged(rng: random.Random, sets: Sets) -> Sets:
@@ -187,6 +214,6 @@ def damaged(rng: random.Random, sets: Sets) -> Sets:
             return sets
         kinds = [change_file] * 8 + [remove_file, change_gate, swap_slots]
         if name_of(slot, SHARED) in sets and len(sets[name_of(slot, SHARED)]) > SHARED_BYTES:
-            kinds += [few_numbers, odd_signals, odd_signals]
+            kinds += [few_numbers, odd_signals, odd_signals, odd_descriptions, odd_descriptions]
         sets = rng.choice(kinds)(rng, sets, slot)
     return sets

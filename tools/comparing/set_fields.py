@@ -14,6 +14,22 @@ ACTION = [("handler", 4), ("flags", 4), ("mask", 4)]
 WAITER = [("thread", 4), ("address", 4)]
 
 
+# numbers at and beside what is allowed, by the field's name without a register's number (docs/FORMATS.md)
+LIMITS = {
+    "count": [0, 1, 2, 3, 128, 129, 130], "next_id": [39999, 40000, 40001, 2**31 - 2, 2**31 - 1, 2**31],
+    "next_file": [0, 1], "processes.count": [0, 1, 2], "process.pid": [39999, 40000, 40001],
+    "process.parent": [0, 1, 2, 40000], "process.host": [14, 15, 16], "process.made": [0, 1, 2],
+    "process.state": [0, 1, 2], "process.status": [0, 1], "process.pending": [2**31 - 1, 2**31],
+    "threads.count": [0, 1, 63, 64, 65], "thread.pending": [2**31 - 1, 2**31], "descriptors.count": [0, 255, 256, 257],
+    "descriptor.number": [254, 255, 256], "descriptor.close-on-exec": [0, 1, 2], "descriptions.count": [0, 1, 2],
+    "description.flags": [0, 1, 2, 3, 4, 0x400, 0x401, 0x402, 0x403, 0x802, 0xC02, 0x1002],
+    "description.owner": [0, 1, 40000, 40001], "break start": [0, 4096, 0x3FFFF000, 0x40000000, 0x40001000],
+    "break": [0x3FFFFFFF, 0x40000000, 0x40000001], "pages.count": [0, 1, 2047, 2048, 2049],
+    "page.number": [0, 0x40000, 0x80000, 0xFFFFF, 0x100000], "page.rights": [0, 1, 2, 3, 4, 5, 6, 7, 8],
+    "contexts.count": [0, 1, 63, 64, 65], "waiters.count": [0, 1, 2, 64],
+}
+
+
 @dataclass
 class Field:
     """A number in a file."""

@@ -18,7 +18,7 @@ from model import Outcome, run
 from riscv import Segment, elf_file
 
 MOST_RECORDS = 400
-DAMAGED_SETS, BAD_FILES, ODD_WORDS = 4, 8, 4  # of one seed
+DAMAGED_SETS, BAD_FILES, ODD_WORDS = 8, 8, 4  # of one seed
 FEW_RECORDS = 20  # of a program that is not made by make_guest
 
 

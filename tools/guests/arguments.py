@@ -73,7 +73,8 @@ def how(guest: Guest) -> Operand:
 
 
 def process(guest: Guest) -> Operand:
-    return guest.rng.choice([FIRST_THREAD] * 4 + [FIRST_THREAD - 1, FIRST_THREAD + 1, 0, 1, 0x80000000, 0xFFFFFFFF])
+    first = FIRST_THREAD
+    return guest.rng.choice([first] * 4 + [first - 1, first + 1, first + 1, 0, 1, 0x80000000, 0xFFFFFFFF])
 
 
 def thread(guest: Guest) -> Operand:
@@ -84,7 +85,7 @@ def thread(guest: Guest) -> Operand:
 
 def unsent(guest: Guest) -> Operand:
     """A signal that a call only asks for, or refuses."""
-    return guest.rng.choice([0, 0, 32, 33, 0x80000000, 0xFFFFFFFF, *NEVER_SENT])
+    return 0 if guest.rng.random() < 0.5 else guest.rng.choice([32, 33, 0x80000000, 0xFFFFFFFF, *NEVER_SENT])
 
 
 def refused_flags(guest: Guest) -> Operand:

@@ -75,9 +75,15 @@ def path(guest: Guest) -> None:
     guest.call(guest.rng.choice([Call.OPENAT, Call.UNLINKAT]), wild(guest), place, wild(guest), wild(guest))
 
 
+def asks(guest: Guest) -> None:
+    """Asks whether some process has some thread."""
+    for _ in range(3):
+        guest.call(Call.TGKILL, process(guest), thread(guest), 0)
+
+
 def local(guest: Guest) -> None:
-    call = guest.rng.choice(list(LOCAL))
-    of_table(guest, call, LOCAL[call])
+    for call in guest.rng.sample(list(LOCAL), 2):
+        of_table(guest, call, LOCAL[call])
     mix_registers(guest)
 
 
@@ -170,5 +176,5 @@ def mix_scratch(guest: Guest) -> None:
     mix_memory(guest, guest.scratch, 64)
 
 
-SNIPPETS = [unbuilt, unbuilt, unbuilt, bad_place, read, named_length, path, local, local, unknown, write, write, futex,
-            futex, clone, old_action, bad_action, mask, bad_mask, same_buffers, mapping, mix_scratch]
+SNIPPETS = [unbuilt, unbuilt, unbuilt, bad_place, read, named_length, path, local, local, asks, unknown, write, write,
+            futex, futex, clone, old_action, bad_action, mask, bad_mask, same_buffers, mapping, mix_scratch]

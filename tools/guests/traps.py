@@ -9,7 +9,7 @@ from guests.events import Death, Mark
 from guests.handlers import DEFAULT, IGNORE, Handler, install
 from guests.layout import LINK, PAGE, RETURN_PAGE_END, STACK_END, Code
 from guests.numbers import SA_NODEFER, TRAPS, Call, How
-from guests.routines import mix_registers
+from guests.routines import mix_memory, mix_registers
 from guests.signals import CATCHABLE, CONTEXTS, bit, change_mask, send
 from riscv import (
     EBREAK, ECALL, LOAD, REGISTER, STORE, branch_word, i_type, j_type, jalr_word, load_word, r_type, s_type,
@@ -56,9 +56,17 @@ def put_misaligned(guest: Guest) -> None:
     ]))
 
 
+def table_size(name: str) -> int:
+    """How many bytes a load or store touches."""
+    return LOAD[name][1] if name in LOAD else STORE[name][1]
+
+
 def put_fault(guest: Guest) -> None:
     """A load or store of which some byte may not be touched. Its address was put into T1."""
-    name = guest.rng.choice([*LOAD, *STORE])
+    put_access(guest, guest.rng.choice([*LOAD, *STORE]))
+
+
+def put_access(guest: Guest, name: str) -> None:
     if name in LOAD:
         guest.text.put(load_word(name, guest.rng.choice(FREE), 0, T1))
     else:
@@ -116,6 +124,31 @@ def trap(guest: Guest) -> None:
     if guest.rng.random() < 0.3:
         guard(guest, signal)
     recover_behind(guest, lambda: BODIES[signal](guest), signal)
+
+
+def trap_across(guest: Guest) -> None:
+    """A load or store across two pages of which one lacks the right. A store then writes no byte of the other."""
+    rng, strip = guest.rng, guest.layout.strip
+    table = rng.choice([LOAD, STORE, STORE])
+    right = 4 if table is LOAD else 2
+    names = [name for name in table if table_size(name) > 1]
+    uppers = [upper for lower, upper in zip(strip, strip[1:]) if lower.can(right) != upper.can(right)]
+    if not uppers:
+        return
+    upper, name = rng.choice(uppers), rng.choice(names)
+    guard(guest, FAULT)
+
+    def put() -> None:
+        fault = guest.text.fresh("across")
+        guest.store(OwnPlace(Area.FAULT), Label(fault))
+        guest.text.number(T1, upper.address - rng.randrange(1, table_size(name)))
+        guest.text.label(fault)
+        put_access(guest, name)
+
+    recover_behind(guest, put, FAULT)
+    for page, at in ((strip[strip.index(upper) - 1], upper.address - 8), (upper, upper.address)):
+        if page.can(4):
+            mix_memory(guest, at, 2)
 
 
 def trap_pending(guest: Guest) -> None:
@@ -231,4 +264,4 @@ def die_by_trap(guest: Guest, death: Death, signal: int) -> None:
     BODIES[signal](guest)
 
 
-SNIPPETS = [trap, trap, trap, trap_pending, trap_due, visit_return_page, leave_code]
+SNIPPETS = [trap, trap, trap, trap_across, trap_pending, trap_due, visit_return_page, leave_code]
