@@ -3,9 +3,10 @@
 from collections import Counter
 
 from model import Outcome
-from comparing.traces import WORK, Kind, Record, records_of
+from comparing.traces import Record, records_of
 from guests.events import Death, Futex, Mark, Tag, Told, told_on
 from guests.numbers import TRAPS, Call, Errno
+from model.trace import WORK, Kind
 
 ANSWERED, WHOLE_QUANTUM = "answered", "a whole quantum"
 QUANTUM = 4096

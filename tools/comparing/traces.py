@@ -1,28 +1,9 @@
 """The records of a trace, in words."""
 
-import enum
 import struct
 from dataclasses import dataclass
 
-RECORD_BYTES = 16
-
-
-class Kind(enum.IntEnum):
-    """The kinds of records (docs/FORMATS.md)."""
-
-    USER = 1
-    CALL = 2
-    DELIVER = 3
-    ARRIVE = 4
-    CUT = 5
-    DRAINED = 6
-    REFILLED = 7
-    COMPLETE = 8
-    REFUSED = 9
-    LAPSED = 10
-
-
-WORK = {Kind.USER, Kind.CALL, Kind.DELIVER}
+from model.trace import RECORD_BYTES, RECORD_FORM, Kind
 
 
 @dataclass
@@ -44,7 +25,7 @@ class Record:
 def records_of(trace: bytes) -> list[Record]:
     """The records. A rest that is too short for one is left out."""
     whole = len(trace) - len(trace) % RECORD_BYTES
-    return [Record(*fields) for fields in struct.iter_unpack("<BBHIII", trace[:whole])]
+    return [Record(*fields) for fields in struct.iter_unpack(RECORD_FORM, trace[:whole])]
 
 
 def first_difference(ours: bytes, theirs: bytes) -> str:

@@ -18,7 +18,7 @@ SIGNED_END = 1 << 31
 PROCESS_FORM = 17
 THREAD_FORM = CloneFlag.VM | CloneFlag.FS | CloneFlag.FILES | CloneFlag.SIGHAND | CloneFlag.THREAD
 PLACES = CloneFlag.PARENT_SETTID | CloneFlag.CHILD_SETTID | CloneFlag.CHILD_CLEARTID
-THREAD_OPTIONS = PLACES | CloneFlag.SETTLS | CloneFlag.IGNORED
+THREAD_OPTIONS = PLACES | CloneFlag.SETTLS | CloneFlag.SYSVSEM
 
 Call = Callable[[Machine, Process, Thread], "int | None"]
 

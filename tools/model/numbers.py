@@ -1,4 +1,4 @@
-"""Numbers of calls and errors (docs/MACHINE.md, "Calls")."""
+"""Numbers of calls, of their flags and of errors (docs/MACHINE.md, "Calls")."""
 
 from enum import IntEnum
 
@@ -17,35 +17,47 @@ class Errno(IntEnum):
 
 
 class Number(IntEnum):
-    """The numbers in `a7` of calls that have buffers or do something."""
+    """The numbers in `a7` of calls; those that the manual gives no row are named as Linux for RISC-V names them."""
 
+    EVENTFD2 = 19
+    DUP = 23
+    DUP3 = 24
+    FCNTL = 25
     UNLINKAT = 35
     OPENAT = 56
+    CLOSE = 57
     PIPE2 = 59
+    LSEEK = 62
     READ = 63
-    SOCKETPAIR = 199
-    BIND = 200
-    ACCEPT = 202
-    CONNECT = 203
-    GETSOCKNAME = 204
-    GETPEERNAME = 205
-    WAIT4 = 260
-    # Those that the manual numbers.
     WRITE = 64
     EXIT = 93
     EXIT_GROUP = 94
     SET_TID_ADDRESS = 96
     FUTEX = 98
     SCHED_YIELD = 124
+    KILL = 129
     TGKILL = 131
     RT_SIGACTION = 134
     RT_SIGPROCMASK = 135
     RT_SIGRETURN = 139
+    GETPID = 172
+    GETPPID = 173
     GETTID = 178
+    SOCKET = 198
+    SOCKETPAIR = 199
+    BIND = 200
+    LISTEN = 201
+    ACCEPT = 202
+    CONNECT = 203
+    GETSOCKNAME = 204
+    GETPEERNAME = 205
+    SETSOCKOPT = 208
+    SHUTDOWN = 210
     BRK = 214
     MUNMAP = 215
     CLONE = 220
     MMAP = 222
+    WAIT4 = 260
 
 
 class CloneFlag(IntEnum):
@@ -56,7 +68,7 @@ class CloneFlag(IntEnum):
     FILES = 0x400
     SIGHAND = 0x800
     THREAD = 0x10000
-    IGNORED = 0x40000
+    SYSVSEM = 0x40000
     SETTLS = 0x80000
     PARENT_SETTID = 0x100000
     CHILD_CLEARTID = 0x200000

@@ -1,0 +1,123 @@
+"""A trace told with the state that it began at: each call with its arguments and its answer, and how the guest ended."""
+
+from dataclasses import dataclass
+from pathlib import Path
+
+from model.calls import make_call
+from model.cpu import Stand, StandsAt, look, run_quantum
+from model.elf import BadProgram, read_elf
+from model.numbers import Number
+from model.signals import Cause, deliver
+from model.start import start
+from model.state import A0, A7, Machine, Process, Thread
+from model.trace import Kind, Record
+from showing.naming import answer_text, call_text, signal_name
+from showing.sets import read_folder, spelled
+from showing.traces import record_text
+
+
+class NoStart(Exception):
+    """The state that a trace is to begin at can't be had."""
+
+
+class NoStep(Exception):
+    """A record that is no step of the state before it."""
+
+
+def launched(program: Path) -> Machine:
+    """The start of a program's file."""
+    try:
+        return start(read_elf(program.read_bytes()), program.name.encode())
+    except BadProgram as bad:
+        raise NoStart(f"{program} is no program: {bad.reason} at {bad.place}") from bad
+
+
+def restarted(folder: Path) -> Machine:
+    """The state of the set that counts in a folder."""
+    store = read_folder(folder)
+    counting = store.counting()
+    if counting is None:
+        raise NoStart(f"no set counts in {folder}")
+    found = spelled(store, counting.slot)
+    if isinstance(found, str):
+        raise NoStart(f"slot {counting.slot} of {folder} is damaged: {found}")
+    return found
+
+
+@dataclass
+class Replay:
+    """The state after the records so far."""
+
+    machine: Machine
+    ending: str = ""
+
+    def step(self, record: Record) -> str:
+        """Makes one step, and tells it."""
+        if record.kind is Kind.USER:
+            return self._run(record)
+        if record.kind is Kind.CALL:
+            return self._call(record)
+        if record.kind is Kind.DELIVER:
+            return self._deliver(record)
+        if record.kind is Kind.ARRIVE:
+            raise NoStep("no channel is known")
+        return record_text(record)
+
+    def _thread(self, record: Record) -> tuple[Process, Thread]:
+        process = self.machine.process
+        if process is None or process.number != record.a or record.b not in process.threads:
+            raise NoStep("there is no such thread")
+        return process, process.threads[record.b]
+
+    def _stand(self, process: Process, thread: Thread) -> Stand:
+        return Stand(StandsAt.INSTRUCTION) if process.waits(thread) else look(thread, process.memory)
+
+    def _run(self, record: Record) -> str:
+        process, thread = self._thread(record)
+        count = 0 if process.waits(thread) else run_quantum(thread, process.memory)
+        if count != record.n:
+            raise NoStep(f"the thread runs {count:,} instructions there")
+        return record_text(record)
+
+    def _call(self, record: Record) -> str:
+        process, thread = self._thread(record)
+        if self._stand(process, thread).at is not StandsAt.CALL:
+            raise NoStep("the thread stands at no call there")
+        number, text = thread.regs[A7], call_text(thread, process.memory)
+        make_call(self.machine, process, thread)
+        self._note_end(f"by {text}")
+        return f"{record.a}/{record.b} {text}{self._outcome(process, thread, number)}"
+
+    def _outcome(self, process: Process, thread: Thread, number: int) -> str:
+        """What a call came to, as far as it came to anything at once."""
+        if self.machine.process is None:
+            return ": the process ends"
+        if thread.number not in process.threads:
+            return ": the thread ends"
+        if process.waits(thread):
+            return ": waits"
+        if number == Number.RT_SIGRETURN:
+            return f": goes on at {thread.pc:#x}"
+        return f" = {answer_text(number, thread.regs[A0])}"
+
+    def _deliver(self, record: Record) -> str:
+        process, thread = self._thread(record)
+        stand, contexts = self._stand(process, thread), len(thread.contexts)
+        if stand.at is StandsAt.TRAP and stand.signal == record.x:
+            cause = Cause.TRAP
+        elif (thread.pending | process.pending) & ~thread.mask & 1 << (record.x - 1):
+            cause = Cause.PENDING
+        else:
+            raise NoStep(f"{signal_name(record.x)} is not due there")
+        deliver(self.machine, process, thread, record.x, cause)
+        self._note_end(f"by {signal_name(record.x)}")
+        return f"{record_text(record)}{' of a trap' if cause is Cause.TRAP else ''}{self._effect(thread, contexts)}"
+
+    def _effect(self, thread: Thread, contexts: int) -> str:
+        if self.machine.process is None:
+            return ": the process ends"
+        return f": the handler at {thread.pc:#x} begins" if len(thread.contexts) > contexts else ": ignored"
+
+    def _note_end(self, how: str) -> None:
+        if self.machine.process is None:
+            self.ending = how
