@@ -6,16 +6,10 @@
 # DMTCP is a built program, else crates/dmtcp/out/dmtcp, which `cd crates/dmtcp && rt run -- --version` proves and builds.
 # Status 20 is tried by tools/refuse_memory.py. It wants /dev/full.
 set -u
-here=$(cd "$(dirname "$0")/.." && pwd)
-dmtcp=${1:-$here/crates/dmtcp/out/dmtcp}
-if [ ! -x "$dmtcp" ]; then
-    echo "no program at $dmtcp: build it by 'cd crates/dmtcp && rt run -- --version', or give the path of one" >&2
-    exit 2
-fi
-dmtcp=$(cd "$(dirname "$dmtcp")" && pwd)/$(basename "$dmtcp")
-folder=$(mktemp -d) || exit 2
-trap 'rm -rf "$folder"' EXIT
-cp "$here/examples/hello.elf" "$folder/" && cd "$folder" || exit 2
+# shellcheck source=tools/common.sh
+. "$(dirname "$0")/common.sh"
+find_program "${1:-}"
+enter_folder hello.elf
 
 runs=0
 failures=0

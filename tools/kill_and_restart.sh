@@ -13,18 +13,12 @@
 # or behind it, since a set is made after each record of work and so one line at most is written again, each line is one
 # further than the one before, and the last is 500.
 set -u
-here=$(cd "$(dirname "$0")/.." && pwd)
-dmtcp=${1:-$here/crates/dmtcp/out/dmtcp}
+# shellcheck source=tools/common.sh
+. "$(dirname "$0")/common.sh"
+find_program "${1:-}"
+enter_folder count.elf
 kills=${KILLS:-20}
 longest=${LONGEST:-2000}
-if [ ! -x "$dmtcp" ]; then
-    echo "no program at $dmtcp: build it by 'cd crates/dmtcp && rt run -- --version', or give the path of one" >&2
-    exit 2
-fi
-dmtcp=$(cd "$(dirname "$dmtcp")" && pwd)/$(basename "$dmtcp")
-folder=$(mktemp -d) || exit 2
-trap 'rm -rf "$folder"' EXIT
-cp "$here/examples/count.elf" "$folder/" && cd "$folder" || exit 2
 
 fail() {
     echo "FAILED: $*; the log's end: $(tail -n 1 log)" >&2
