@@ -2,22 +2,26 @@
 """Shows what a folder of sets or a trace holds.
 
     tools/show.py FOLDER [--registers]
-    tools/show.py TRACE [--program FILE | --set FOLDER]
+    tools/show.py TRACE [--program FILE | --set FOLDER] [--svg FILE]
 
-Of a folder of sets (`dmtcp_set`): each slot's files, generation and standing, and the state that its set spells, or the
-first damage in it. `--registers` also has the registers of each thread and each saved context.
+Of a folder of sets (`dmtcp_set`): each slot's files, generation and standing, and the state that its set spells,
+or the first damage in it. `--registers` also has the registers of each thread and each saved context.
 
-Of a trace (`dmtcp.trace`): a line for each record, and a summary. With the program's file that was launched, or a copy
-of the folder of sets as it was before the restart, the records are replayed by the model of the manual (tools/model): a
-line then has the call with its arguments and its answer, and the last one how the guest ended.
+Of a trace (`dmtcp.trace`): a line for each record, and a summary. With the file of the program that was launched,
+or a copy of the folder of sets as it was before the restart, the records are replayed by the model of the manual
+(tools/model): a line then has the call with its arguments and its answer, and the last one how the guest ended.
+`--svg` also draws the run: a row for each thread and one for the store.
 
-Status 1 where a set that counts is damaged, where a trace has bytes that spell no record, or where a record is no step.
+Status 1 where the set that counts is damaged, where a trace has bytes that spell no record, or where a record is
+no step.
 """
 
 import argparse
 import sys
 from pathlib import Path
 
+from model.trace import Record
+from showing.picture import draw
 from showing.replay import NoStart, NoStep, Replay, launched, restarted
 from showing.sets import read_folder, set_lines, spelled
 from showing.traces import read_trace, record_lines, record_text, summary_lines
@@ -40,21 +44,30 @@ def _start_of(words: argparse.Namespace) -> Replay | None:
     return Replay(restarted(words.set)) if words.set else None
 
 
-def show_trace(data: bytes, replay: Replay | None) -> int:
-    """Shows a trace, told by a replay where there is one."""
-    records, bad = read_trace(data)
-    told = []
-    no_step = ""
+def _tell(records: list[Record], replay: Replay | None) -> tuple[list[str], str]:
+    """What is told of each record, and of the first that is no step, after which there are none."""
+    told: list[str] = []
     try:
         for record in records:
             told.append(replay.step(record) if replay else record_text(record))
     except NoStep as reason:
-        no_step = f"record {len(told) + 1} is no step of this run: {reason} ({record_text(records[len(told)])})"
+        bad = record_text(records[len(told)])
+        return told, f"record {len(told) + 1} is no step of this run: {reason} ({bad})"
+    return told, ""
+
+
+def show_trace(words: argparse.Namespace) -> int:
+    """Shows a trace, told by a replay where there is a start for one."""
+    records, bad = read_trace(words.path.read_bytes())
+    replay = _start_of(words)
+    told, no_step = _tell(records, replay)
     print("\n".join([*record_lines(records[: len(told)], told), *summary_lines(records)]))
-    if replay and not no_step:
-        print(f"the process ended {replay.ending}" if replay.ending else "a process lives")
+    if words.svg:
+        words.svg.write_text(draw(records, told, words.path.name))
     if no_step:
         print(no_step)
+    elif replay:
+        print(f"the process ended {replay.ending}" if replay.ending else "a process lives")
     if bad is not None:
         print(f"the bytes at {bad} spell no record")
     return DAMAGED if no_step or bad is not None else 0
@@ -65,8 +78,9 @@ def _words() -> argparse.Namespace:
     parser.add_argument("path", type=Path, help="a folder of sets, or a trace")
     parser.add_argument("--registers", action="store_true", help="of a folder: the registers of each thread")
     start = parser.add_mutually_exclusive_group()
-    start.add_argument("--program", type=Path, metavar="FILE", help="of a trace: the program that was launched")
-    start.add_argument("--set", type=Path, metavar="FOLDER", help="of a trace: the sets as they were before the restart")
+    start.add_argument("--program", type=Path, metavar="FILE", help="of a trace: the launched program")
+    start.add_argument("--set", type=Path, metavar="FOLDER", help="of a trace: the sets before the restart")
+    parser.add_argument("--svg", type=Path, metavar="FILE", help="of a trace: draws the run into this file")
     return parser.parse_args()
 
 
@@ -76,7 +90,7 @@ def main() -> int:
     try:
         if words.path.is_dir():
             return show_sets(words.path, words.registers)
-        return show_trace(words.path.read_bytes(), _start_of(words))
+        return show_trace(words)
     except (OSError, NoStart) as error:
         print(f"show.py: {error}", file=sys.stderr)
         return USAGE

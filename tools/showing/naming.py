@@ -11,7 +11,8 @@ from model.state import ACCESS_MODE, A7, Thread
 LAST_ERROR = 4095
 TEXT_SHOWN = 40
 
-# Of each call that there is, its arguments: d decimal, x hexadecimal, t a text whose length is the next argument.
+# Of each call that there is, its arguments: d decimal, x hexadecimal, s a signal, o what a futex is to do,
+# t a text whose length is the next argument.
 ARGUMENTS = {
     Number.WRITE: "dtd",
     Number.EXIT: "d",
@@ -54,7 +55,8 @@ def signal_list(mask: int) -> str:
 
 def rights_text(rights: int) -> str:
     """Rights as `ls` writes them."""
-    return "".join(letter if rights & bit else "-" for letter, bit in (("r", READ), ("w", WRITE), ("x", EXECUTE)))
+    letters = (("r", READ), ("w", WRITE), ("x", EXECUTE))
+    return "".join(letter if rights & bit else "-" for letter, bit in letters)
 
 
 def description_flags(flags: int) -> str:

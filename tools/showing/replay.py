@@ -1,4 +1,4 @@
-"""A trace told with the state that it began at: each call with its arguments and its answer, and how the guest ended."""
+"""A trace told with the state that it began at: calls with arguments and answers, and how the guest ended."""
 
 from dataclasses import dataclass
 from pathlib import Path
@@ -111,7 +111,8 @@ class Replay:
             raise NoStep(f"{signal_name(record.x)} is not due there")
         deliver(self.machine, process, thread, record.x, cause)
         self._note_end(f"by {signal_name(record.x)}")
-        return f"{record_text(record)}{' of a trap' if cause is Cause.TRAP else ''}{self._effect(thread, contexts)}"
+        trap = " of a trap" if cause is Cause.TRAP else ""
+        return f"{record_text(record)}{trap}{self._effect(thread, contexts)}"
 
     def _effect(self, thread: Thread, contexts: int) -> str:
         if self.machine.process is None:

@@ -59,7 +59,7 @@ def _file_lines(store: Store, slot: int) -> list[str]:
 
 
 def _field_at(index: int, content: bytes, offset: int) -> str:
-    """The field of a file that lies at an offset, with its place among those of its name and what it holds."""
+    """The field of a file at an offset, with its place among those of its name and what it holds."""
     earlier: dict[str, int] = {}
     for field in fields_of(index, content).fields:
         earlier[field.name] = earlier.get(field.name, 0) + 1
@@ -109,9 +109,9 @@ def _slot_lines(store: Store, slot: int, registers: bool) -> list[str]:
 def set_lines(folder: Path, registers: bool) -> list[str]:
     """All that a folder of sets holds."""
     store = read_folder(folder)
-    lines = []
+    lines, named = [], set()
     for slot in SLOTS:
         lines += _slot_lines(store, slot, registers)
-    named = {file_name(slot, index) for slot in SLOTS for index in range(len(_lengths(store.content(slot, 0))) + 1)}
+        named |= {file_name(slot, index) for index in range(len(_lengths(store.content(slot, 0))) + 1)}
     others = sorted(set(store.files) - named)
     return [*lines, f"files that no manifest names: {', '.join(others)}"] if others else lines

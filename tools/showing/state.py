@@ -15,7 +15,8 @@ def _shared_lines(machine: Machine) -> list[str]:
     for name in sorted(machine.descriptions):
         description = machine.descriptions[name]
         owner = f", owner {description.owner}" if description.owner else ""
-        lines.append(f"description ({name.pid}, {name.num}): console, {description_flags(description.flags)}{owner}")
+        flags = description_flags(description.flags)
+        lines.append(f"description ({name.pid}, {name.num}): console, {flags}{owner}")
     return lines
 
 
@@ -29,14 +30,15 @@ def _page_ranges(memory: Memory) -> list[str]:
         blank = sum(not any(memory.pages[number].data) for number in row)
         zeros = f", {blank:,} of zeros" if blank else ""
         first, last = row[0] << PAGE_SHIFT, (row[-1] << PAGE_SHIFT) + PAGE_SIZE - 1
-        lines.append(f"  {first:#010x} to {last:#010x}  {rights_text(rights)}  {count_text(len(row), 'page')}{zeros}")
+        size = f"{count_text(len(row), 'page')}{zeros}"
+        lines.append(f"  {first:#010x} to {last:#010x}  {rights_text(rights)}  {size}")
     return lines
 
 
 def _memory_lines(memory: Memory) -> list[str]:
     heap = memory.break_now - memory.break_start
-    head = f"memory: {count_text(len(memory.pages), 'page')}; heap of {count_text(heap, 'byte')} from {memory.break_start:#x}"
-    return [head, *_page_ranges(memory)]
+    pages, size = count_text(len(memory.pages), "page"), count_text(heap, "byte")
+    return [f"memory: {pages}; heap of {size} from {memory.break_start:#x}", *_page_ranges(memory)]
 
 
 def _action_text(action: Action) -> str:
@@ -54,7 +56,8 @@ def standing_text(process: Process, thread: Thread) -> str:
     """What a thread is about to do."""
     for place, waiter in enumerate(process.waiters, start=1):
         if waiter.thread == thread.number:
-            return f"waits on the word at {waiter.address:#x}, number {place} of {len(process.waiters)} in the row"
+            row = f"number {place} of {len(process.waiters)} in the row"
+            return f"waits on the word at {waiter.address:#x}, {row}"
     stand = look(thread, process.memory)
     if stand.at is StandsAt.CALL:
         return f"about to call {call_text(thread, process.memory)}"
@@ -63,7 +66,8 @@ def standing_text(process: Process, thread: Thread) -> str:
 
 def _register_lines(registers: list[int]) -> list[str]:
     texts = [f"x{number:<2} {registers[number]:08x}" for number in range(1, 32)]
-    return ["    " + "  ".join(texts[at : at + REGISTERS_A_LINE]) for at in range(0, len(texts), REGISTERS_A_LINE)]
+    starts = range(0, len(texts), REGISTERS_A_LINE)
+    return ["    " + "  ".join(texts[at : at + REGISTERS_A_LINE]) for at in starts]
 
 
 def _thread_lines(process: Process, thread: Thread, registers: bool) -> list[str]:
@@ -83,8 +87,8 @@ def process_lines(process: Process, registers: bool) -> list[str]:
     """A process, with all of its threads."""
     lines = [f"process {process.number} of host {process.host}: {count_text(len(process.threads), 'thread')}"]
     for number, descriptor in sorted(process.descriptors.items()):
-        close = ", closed by exec" if descriptor.close_on_exec else ""
-        lines.append(f"  descriptor {number}: description ({descriptor.name.pid}, {descriptor.name.num}){close}")
+        name, close = descriptor.name, ", closed by exec" if descriptor.close_on_exec else ""
+        lines.append(f"  descriptor {number}: description ({name.pid}, {name.num}){close}")
     if process.pending:
         lines.append(f"  pending: {signal_list(process.pending)}")
     lines += [f"  {line}" for line in _memory_lines(process.memory) + _action_lines(process)]

