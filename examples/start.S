@@ -18,7 +18,7 @@ start_thread:
     addi a2, a2, -16
     sw   a0, 0(a2)
     sw   a1, 4(a2)
-    li   a0, 0x1210F00      # VM, FS, FILES, SIGHAND, THREAD, CHILD_CLEARTID, CHILD_SETTID
+    li   a0, 0x1250F00      # VM, FS, FILES, SIGHAND, THREAD, SYSVSEM, CHILD_CLEARTID, CHILD_SETTID
     mv   a1, a2             # the new thread's stack
     mv   a4, a3             # its number's place
     li   a2, 0

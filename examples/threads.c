@@ -22,12 +22,13 @@ static word is_prime(word number)
     return number >= 2;
 }
 
-/* Writes who found how many primes from the first number to below the end. */
-static void report(const char *who, word primes, word first, word end)
+/* Writes how many primes a thread, or main in place of thread 0, found from the first number to below the end. */
+static void report(word thread, word primes, word first, word end)
 {
     char line[64];
-    char *to = put_text(line, who);
-    to = put_number(to, gettid(), 10, 1);
+    char *to = put_text(line, thread == 0 ? "main" : "thread ");
+    if (thread != 0)
+        to = put_number(to, thread, 10, 1);
     to = put_text(to, ": ");
     to = put_number(to, primes, 10, 1);
     to = put_text(to, " primes from ");
@@ -45,7 +46,7 @@ static void count_share(word share)
     word whose;
     while ((whose = turn) != share)
         futex_wait(&turn, whose);
-    report("thread ", found[share], first, end);
+    report(share + 1, found[share], first, end);
     turn = share + 1;
     futex_wake(&turn, THREADS);
 }
@@ -62,6 +63,6 @@ int main(void)
             futex_wait(&alive[share], number);
         sum += found[share];
     }
-    report("main ", sum, 0, LIMIT);
+    report(0, sum, 0, LIMIT);
     return 0;
 }

@@ -35,7 +35,9 @@ DATA, LOOP = 31, 30  # registers that no random instruction writes: where the da
 DATA_BYTES, UNITS, ROUNDS = 256, 700, 10
 BUDGET = 18  # the status of a run that its number of records cut off
 EDGES = [0, 1, 2, 3, 31, 32, 0x7FFFFFFF, 0x80000000, 0x80000001, 0xFFFFFFFF, 0xFFFFFFFE, 0x0000FFFF, 0xFFFF8000]
-STORED = ["hello.elf", "total.elf", "count.elf"]  # fill.elf fills a memory that QEMU does not bound
+# by its own status, which is QEMU's; fill.elf fills a memory that QEMU does not bound
+STORED = {"hello.elf": 0, "total.elf": 0, "count.elf": 0, "threads.elf": 0, "handler.elf": 7}
+DONE = 0  # the status of a guest's end, whatever its own status is
 
 
 def number(rng):
@@ -118,17 +120,20 @@ def result_of(words, folder):
     return done.returncode, done.stdout
 
 
-def differs(dmtcp, qemu, folder, file):
-    """Whether a launch, or a restart from the first checkpoint, ends or writes otherwise than QEMU."""
+def differs(dmtcp, qemu, folder, file, own_status=0):
+    """Whether a launch, or a restart from the first checkpoint, writes otherwise than QEMU, or one does not end."""
     os.chmod(file, 0o755)
     shutil.rmtree(os.path.join(folder, "dmtcp_set"), ignore_errors=True)
     job = "0:" + os.path.basename(file)
-    wanted = result_of([qemu, file], folder)
+    status, written = result_of([qemu, file], folder)
+    wanted = (DONE, written)
     # room for one record of work, the cut, and that its set is complete
     cut_off = result_of([dmtcp, "launch", "--every", "1", "--records", "3", job], folder)
     restarted = result_of([dmtcp, "restart"], folder)
     launched = result_of([dmtcp, "launch", job], folder)
-    return not wanted[1] or cut_off != (BUDGET, b"") or restarted != wanted or launched != wanted
+    if status != own_status or not written or cut_off != (BUDGET, b""):
+        return True
+    return restarted != wanted or launched != wanted
 
 
 def main():
@@ -139,9 +144,9 @@ def main():
     qemu = words[3] if len(words) > 3 else "qemu-riscv32"
     used, differ, ran = collections.Counter(), [], 0
     folder = tempfile.mkdtemp()
-    for name in STORED:
+    for name, own_status in STORED.items():
         file = shutil.copy(os.path.join(HOME, "examples", name), folder)
-        if differs(dmtcp, qemu, folder, file):
+        if differs(dmtcp, qemu, folder, file, own_status):
             differ.append(name)
     for seed in range(first, first + count):
         file = os.path.join(folder, f"random{seed}.elf")
