@@ -16,15 +16,14 @@ It ends with status 1, and keeps the files, where any two differ, and where so m
 comparing/tallies.py lists have not done so.
 """
 
-import os
 import shutil
 import sys
 import tempfile
 from pathlib import Path
 
+from built import built_program
 from comparing.trial import Trial
 
-HOME = os.path.dirname(os.path.dirname(os.path.abspath(__file__)))
 FULL_SIZE = 1000  # seeds that reach all that is to be reached
 REPORTED = 50  # seeds after which the counts so far are told
 
@@ -39,11 +38,8 @@ def summary(trial: Trial, seeds: int) -> str:
 def main() -> int:
     words = sys.argv[1:]
     seeds = int(words[0]) if words else FULL_SIZE
-    program = os.path.abspath(words[1] if len(words) > 1 else os.path.join(HOME, "crates/dmtcp/out/dmtcp"))
+    program = built_program(words, 1)
     first = int(words[2]) if len(words) > 2 else 1
-    if not os.access(program, os.X_OK):
-        print(f"no program at {program}: build it by 'cd crates/dmtcp && rt run -- --version'", file=sys.stderr)
-        return 2
     folder = Path(tempfile.mkdtemp())
     trial = Trial(program, folder)
     for seed in range(first, first + seeds):

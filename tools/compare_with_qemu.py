@@ -23,13 +23,13 @@ import subprocess
 import sys
 import tempfile
 
+from built import HOME, built_program
 from riscv import (
     BRANCH, ECALL, FENCE, FILE_HEADER_BYTES, IMMEDIATE, LOAD, NOP, PROGRAM_HEADER_BYTES, REGISTER, SHIFT, STORE,
     Segment, branch_word, file_header, immediate_word, j_type, jalr_word, load_number, load_word, program_header,
     register_word, shift_word, store_word, u_type, words_of,
 )
 
-HOME = os.path.dirname(os.path.dirname(os.path.abspath(__file__)))
 BASE, HEADERS = 0x10000, FILE_HEADER_BYTES + PROGRAM_HEADER_BYTES
 DATA, LOOP = 31, 30  # registers that no random instruction writes: where the data is, rounds left
 DATA_BYTES, UNITS, ROUNDS = 256, 700, 10
@@ -140,7 +140,7 @@ def main():
     words = sys.argv[1:]
     count = int(words[0]) if words else 500
     first = int(words[1]) if len(words) > 1 else 1
-    dmtcp = os.path.abspath(words[2]) if len(words) > 2 else os.path.join(HOME, "crates/dmtcp/out/dmtcp")
+    dmtcp = built_program(words, 2)
     qemu = words[3] if len(words) > 3 else "qemu-riscv32"
     used, differ, ran = collections.Counter(), [], 0
     folder = tempfile.mkdtemp()

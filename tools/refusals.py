@@ -14,6 +14,8 @@ from collections import Counter
 from dataclasses import dataclass
 from typing import Optional
 
+from built import built_program
+
 TOP = os.path.dirname(os.path.dirname(os.path.abspath(__file__)))
 COMPLETE = re.compile(r"checkpoint (\d+) complete: generation (\d+), drained 0")
 
@@ -220,10 +222,7 @@ def tell(trial, each, came):
 
 def try_out(source, trials):
     """Calls `trials` with a bench for the program that the first argument names, and the library of this source."""
-    program = os.path.abspath(sys.argv[1] if len(sys.argv) > 1 else f"{TOP}/crates/dmtcp/out/dmtcp")
-    if not os.access(program, os.X_OK):
-        print(f"no program at {program}: build it by 'cd crates/dmtcp && rt run -- --version'", file=sys.stderr)
-        return 2
+    program = built_program(sys.argv, 1)
     with tempfile.TemporaryDirectory() as folder:
         trials(Bench(program, folder, source))
     return 0
