@@ -7,7 +7,7 @@ from ..session import Outcome, run
 from ..store import Store
 from .guests import example, header
 
-NAMES = ["hello.elf", "total.elf", "count.elf", "fill.elf"]
+NAMES = ["hello.elf", "total.elf", "count.elf", "fill.elf", "threads.elf", "handler.elf"]
 
 
 def files() -> dict[str, bytes]:
@@ -56,6 +56,25 @@ class Examples(unittest.TestCase):
         after = said("restart --every 250", outcome.sets)
         self.assertEqual((after.status, after.console), (0, lines(151, 500)))
         self.assertEqual(said("restart", after.sets).console, lines(401, 500))
+
+    def test_threads(self) -> None:
+        found = [(1, 64, 1500, 1999), (2, 71, 1000, 1499), (3, 73, 500, 999), (4, 95, 0, 499)]
+        said_by = [b"thread %d: %d primes from %d to %d\n" % one for one in found]
+        whole = b"".join([*said_by, b"main: 303 primes from 0 to 1999\n"])
+        self.assertEqual(said("launch 0:threads.elf").console, whole)
+        outcome = said("launch --every 36 --records 42 0:threads.elf")
+        self.assertEqual((outcome.status, outcome.console), (18, b"".join(said_by[:2])))
+        self.assertEqual(said("restart", outcome.sets).console, whole[len(said_by[0]) :])
+
+    def test_handlers(self) -> None:
+        inner = b"  inner handler, signal 12\n"
+        before = b"count 1\ncount 2\n handler begins, signal 10\n"
+        after = inner + b" handler ends, handled 2\ncount 3\n"
+        self.assertEqual(said("launch 0:handler.elf").console, before + after)
+        outcome = said("launch --every 22 --records 26 0:handler.elf")
+        self.assertEqual((outcome.status, outcome.console), (18, before + inner))
+        after_restart = said("restart", outcome.sets)
+        self.assertEqual((after_restart.status, after_restart.console), (0, after))
 
     def test_fill(self) -> None:
         whole = said("launch 0:fill.elf").console
