@@ -149,7 +149,7 @@ def main():
     report(command, cost)
     if options.raw:
         write_raw(options.raw, command, cost)
-    return cost.usage.status
+    return cost.usage.status if cost.usage.status >= 0 else 128 - cost.usage.status
 
 
 if __name__ == "__main__":

@@ -84,7 +84,7 @@ class Meter:
             look = looks.get(pid)
             if look:
                 before = self.seen.get((pid, look.begun))
-                look.place = self.place_of(*words_of(pid)) or (before and before.place) or above
+                look.place = (before and before.place) or self.place_of(*words_of(pid)) or above
                 now[pid, look.begun] = look
                 self.memory[look.place] = max(self.memory[look.place], look.memory)
                 left += [(child, look.place) for child in below[pid]]
@@ -128,5 +128,7 @@ def measure(command, place_of):
     meter.settle({})
     _, status, used = os.wait4(running.pid, 0)
     running.returncode = os.waitstatus_to_exitcode(status)
-    clock, total = time.monotonic() - begun, used.ru_utime + used.ru_stime
+    clock = time.monotonic() - begun
+    # The kernel's count lacks what nobody waited for, as where the command was killed.
+    total = max(used.ru_utime + used.ru_stime, sum(meter.seconds.values()))
     return Usage(running.returncode, clock, total, dict(meter.seconds), dict(meter.memory))

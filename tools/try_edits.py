@@ -121,7 +121,7 @@ def options_of(words):
     reader.add_argument("--all", action="store_true", help="those of every crate")
     reader.add_argument("--dropped", action="store_true", help="only those that the gate passes over")
     reader.add_argument("--anew", action="store_true", help="also those whose answer is known from before")
-    options = reader.parse_args(words)
+    options = reader.parse_intermixed_args(words)
     if bool(options.crate) == options.all:
         reader.error("name a crate, or every crate by --all")
     return options
