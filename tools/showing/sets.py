@@ -3,11 +3,15 @@
 from pathlib import Path
 
 from comparing.set_fields import fields_of
+from model.read_process import read_process
+from model.reader import Damage
 from model.state import Machine
 from model.store import COUNT_LIMIT, HEAD_SIZE, MAGIC, OPEN_GATE, SLOTS, SetDamaged, Store, file_name
-from showing.state import state_lines
+from showing.listed import read_listed
+from showing.state import process_lines, state_lines
 
 KINDS_OF_FILES = ("manifest", "shared image")
+SHARED = 1
 COUNT_AT, LENGTHS_AT = 16, 20
 
 
@@ -93,6 +97,20 @@ def spelled(store: Store, slot: int) -> Machine | str:
         return damage_text(store, damaged)
 
 
+def _readable_lines(store: Store, slot: int, registers: bool) -> list[str]:
+    """What the files hold by their layout, where they spell no state."""
+    listed = read_listed(store.content(slot, SHARED))
+    lines = listed.lines + ([f"{file_name(slot, SHARED)}: {listed.stopped}"] if listed.stopped else [])
+    for index, process in enumerate(listed.processes, start=SHARED + 1):
+        try:
+            read_process(store.content(slot, index), process)
+            lines += process_lines(process, registers)
+        except Damage as damage:
+            what = f"no image of process {process.number} from {damage.offset} on"
+            lines.append(f"{file_name(slot, index)}: {what}")
+    return lines
+
+
 def _slot_lines(store: Store, slot: int, registers: bool) -> list[str]:
     lines = [f"slot {slot}: {_standing(store, slot)}"]
     if not store.content(slot, 0):
@@ -102,7 +120,8 @@ def _slot_lines(store: Store, slot: int, registers: bool) -> list[str]:
         return lines
     found = spelled(store, slot)
     if isinstance(found, str):
-        return [*lines, f"  first damage: {found}"]
+        lines += [f"  first damage: {found}", "  what can be read all the same, whatever the fields hold:"]
+        return lines + [f"    {line}" for line in _readable_lines(store, slot, registers)]
     return lines + [f"  {line}" for line in state_lines(found, registers)]
 
 

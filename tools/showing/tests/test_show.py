@@ -111,6 +111,12 @@ class Damage(unittest.TestCase):
         self.assertEqual(line, "  first damage: file 2 (s0_2.img, process image) at 271214: "
                                "the file has 271,215 bytes in place of 271,214")
 
+    def test_what_can_be_read_all_the_same(self) -> None:
+        with left_by("launch --every 2 0:hello.elf") as place:
+            place.change("s0_1.img", 37, b"\7")
+            status, text = place.show("dmtcp_set")
+        self.assertEqual((status, text), (1, expected("damaged_flags")))
+
     def test_a_missing_file(self) -> None:
         with left_by("launch --every 2 0:hello.elf") as place:
             (place.path / "dmtcp_set" / "s0_2.img").unlink()
