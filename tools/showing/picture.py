@@ -16,7 +16,7 @@ COLOURS = {
     Kind.USER: "#5b8db8",
     Kind.CALL: "#e0a030",
     Kind.DELIVER: "#c0392b",
-    Kind.ARRIVE: "#4fa3a5",
+    Kind.ARRIVE: "#2f6f9f",
     Kind.CUT: "#444444",
     Kind.DRAINED: "#4fa3a5",
     Kind.REFILLED: "#8fc3c5",
@@ -28,7 +28,10 @@ LEGEND = {
     Kind.USER: "instructions",
     Kind.CALL: "call",
     Kind.DELIVER: "signal",
+    Kind.ARRIVE: "bytes arrive",
     Kind.CUT: "cut",
+    Kind.DRAINED: "drained",
+    Kind.REFILLED: "refilled",
     Kind.COMPLETE: "set complete",
     Kind.REFUSED: "refused",
     Kind.LAPSED: "lapsed",
@@ -144,7 +147,8 @@ def _label(picture: Picture, place: int) -> None:
     picture.text(LEFT + picture.step * place, y, words, 'font-size="7"')
 
 
-def _draw_legend(picture: Picture) -> None:
+def _draw_legend(picture: Picture) -> float:
+    """Says what the colours are; gives where that ends."""
     x, y = float(LEFT), picture.bottom() + 24
     present = {record.kind for record in picture.records}
     for kind, words in LEGEND.items():
@@ -152,6 +156,7 @@ def _draw_legend(picture: Picture) -> None:
             picture.put(f'<rect x="{x}" y="{y - 9}" width="10" height="10" fill="{COLOURS[kind]}"/>')
             picture.text(x + 14, y, words)
             x += 30 + 7 * len(words)
+    return x
 
 
 def draw(records: list[Record], told: list[str], title: str) -> str:
@@ -162,10 +167,10 @@ def draw(records: list[Record], told: list[str], title: str) -> str:
     _draw_waits(picture)
     for place in range(shown):
         _draw_record(picture, place)
-    _draw_legend(picture)
+    legend = _draw_legend(picture)
     first = "" if shown == len(records) else f"the first {shown:,} of "
     picture.text(LEFT, TOP - 12, f"{title}: {first}{len(records):,} records", 'font-weight="bold"')
-    width, height = picture.right() + RIGHT, picture.bottom() + BOTTOM
+    width, height = max(picture.right() + RIGHT, legend), picture.bottom() + BOTTOM
     size = f'width="{width:.0f}" height="{height}"'
     head = f'<svg xmlns="http://www.w3.org/2000/svg" {size} font-family="sans-serif" font-size="11">'
     return "\n".join([head, '<rect width="100%" height="100%" fill="white"/>', *picture.parts, "</svg>", ""])
