@@ -1,6 +1,6 @@
-use crate::channel::{Channel, Direction, Listening};
-use crate::description::{Description, Descriptor};
-use crate::process::{Maker, Process};
+use plain_tables::channel::{Channel, Direction, Listening};
+use plain_tables::description::{Description, Descriptor};
+use plain_tables::process::{Maker, Process};
 use std::alloc::{AllocError, Global};
 use sys_abi::{ByAddress, ByConn, ByDesc, ByDir, ByName, ByPid, BySlot};
 use views::duplicate::Duplicate;

@@ -5,7 +5,7 @@ ghost use Rattle.plain_machine.specs.Rows.Write as write;
 ghost use Rattle.plain_machine.specs.Serve.{serve};
 ghost use Rattle.plain_machine.specs.Answers.{row_told, answer_of, answer_told};
 
-use crate::description::Object;
+use plain_tables::description::Object;
 use crate::kernel::PlainKernel;
 use std::alloc::{AllocError, Global};
 use sys_abi::errors::{EBADF, ENOSYS};
@@ -81,7 +81,7 @@ impl PlainKernel {
     }
 
     /// write (`man 2 write`), of these bytes.
-    #[tactic(auto, unfolding(crate::specs::Rows::Write::write_row, crate::specs::Rows::Write::write_object, crate::specs::Attempts::and_then, crate::specs::Attempts::need, crate::specs::Attempts::found))]
+    #[tactic(auto, unfolding(crate::specs::Rows::Write::write_row, crate::specs::Rows::Write::write_object, plain_process::specs::Attempts::and_then, plain_process::specs::Attempts::need, plain_process::specs::Attempts::found))]
     fn write(&self, alloc: Global, p: VPid, fd: u32, given: &[u8]) -> Result<Answer, Errno>
         requires { length given.now ≤ TRANSFER_LIMIT }
         ensures { write.write_row self.now p fd given.now ≡ row_told self.now given.now result }

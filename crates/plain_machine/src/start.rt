@@ -1,11 +1,11 @@
 ghost use Rattle.std.specs.Prelude.{◌≡◌, ◌+◌, ◌^◌, ◌<◌, IfOk, OnOk, OnErr};
 ghost use Rattle.std.specs.FinMap as map;
-ghost use Rattle.plain_machine.specs.Kernel.{slot};
+ghost use Rattle.plain_tables.specs.Tables.{slot};
 ghost use Rattle.plain_machine.specs.Start as words;
 
-use crate::description::{Description, Descriptor, Object};
+use plain_tables::description::{Description, Descriptor, Object};
 use crate::kernel::PlainKernel;
-use crate::process::{Maker, Process};
+use plain_tables::process::{Maker, Process};
 use std::alloc::{AllocError, Global};
 use sys_abi::flags::O_RDWR;
 use sys_abi::{ByAddress, ByConn, ByDesc, ByDir, ByName, ByPid, BySlot, DescId, Life, Slot, VPid};
