@@ -1,7 +1,7 @@
 use plain_process::user_part::SignalAction;
 
 /// What a call answers that its process answers alone.
-#[derive(Clone, Copy, Debug, PartialEq, Eq)]
+#[derive(Clone, Copy)]
 pub enum LocalAnswer {
     /// A word.
     Value(u32),

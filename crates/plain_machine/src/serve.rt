@@ -13,7 +13,7 @@ use sys_abi::{Errno, Reply, Request, Tid, VPid};
 use views::list_of::ListOf;
 
 /// What a call answers, apart from the change of the kernel part.
-#[derive(Debug, Drop)]
+#[derive(Drop)]
 pub struct Answer {
     pub reply: Reply,
     /// The bytes for the guest's memory.

@@ -1,4 +1,4 @@
-ghost use Rattle.std.specs.Prelude.{◌≡◌, ◌≤◌, ◌+◌, ◌&&◌, nat_le, length, Some, None, IfOk, if◌then◌else◌};
+ghost use Rattle.std.specs.Prelude.{◌≡◌, ◌≤◌, ◌+◌, ◌&&◌, nat_le, not, is_some, length, Some, None, IfOk, if◌then◌else◌};
 ghost use Rattle.std.specs.FinMap as map;
 ghost use Rattle.sys_abi.specs.declared.transfer.TheConstants.{TRANSFER_LIMIT};
 ghost use Rattle.plain_process.specs.Buffers.{lent};
@@ -15,8 +15,8 @@ use plain_calls::local::local_row;
 use plain_calls::putting::{put, put_fault};
 use plain_steps::steps::{UserStep, user_step, user_steps};
 use plain_process::memory::Frame;
+use plain_machine::kernel::PlainKernel;
 use plain_machine::plain::Plain;
-use crate::served::{Served, serve_slowly};
 use plain_process::user_part::UserPart;
 use std::alloc::{AllocError, Global};
 use sys_abi::signals::{has_signal, without_signals};
@@ -59,15 +59,21 @@ fn run_thread(alloc: Global, g: &mut Plain, p: VPid, t: Tid, n: u32) -> Result<b
     if n < 1 || QUANTUM < n {
         return Ok(false);
     }
-    let mut user = user.duplicate(alloc)?;
+    let mut user = copied(alloc, user)?;
     let Ok(()) = user_steps(n, &mut user, t) else {
         return Ok(false);
     };
     if !may_end(alloc, n, &user, t)? {
         return Ok(false);
     }
-    g.users.insert(p, user)?;
+    g.users.insert(p, Box::into_inner(user))?;
     Ok(true)
+}
+
+fn copied(alloc: Global, user: &UserPart) -> Result<Box<UserPart>, AllocError>
+    ensures { IfOk result (λ copy. copy.value ≡ user.now) }
+{
+    Ok(Box::new(alloc, user.duplicate(alloc)?)?)
 }
 
 /// Whether a record may end after so many instructions, where the thread stands so after them.
@@ -97,7 +103,7 @@ fn serve_thread(alloc: Global, g: &mut Plain, p: VPid, t: Tid) -> Result<bool, A
     let Some(user) = g.users.get(p) else {
         return Ok(false);
     };
-    let mut user = user.duplicate(alloc)?;
+    let mut user = copied(alloc, user)?;
     let UserStep::Asks(request) = user_step(&mut user, t) else {
         return Ok(false);
     };
@@ -110,20 +116,20 @@ fn answer(
     g: &mut Plain,
     p: VPid,
     t: Tid,
-    user: UserPart,
+    user: Box<UserPart>,
     request: &Request,
 ) -> Result<bool, AllocError>
-    ensures { IfOk result (λ is_step. state_of (words.outcome_of_lent g.old p t.0 user request.now (lent user.memory request.now)) ≡ after_told is_step g.new) }
+    ensures { IfOk result (λ is_step. state_of (words.outcome_of_lent g.old p t.0 user.value request.now (lent user.value.memory request.now)) ≡ after_told is_step g.new) }
 {
     let mut user = user;
     let Some(given) = lent(alloc, &user.memory, request)? else {
         put_fault(alloc, &mut user, t, request)?;
-        g.users.insert(p, user)?;
+        g.users.insert(p, Box::into_inner(user))?;
         return Ok(true);
     };
     if is_local(request) {
         local_row(alloc, &mut user, t, request)?;
-        g.users.insert(p, user)?;
+        g.users.insert(p, Box::into_inner(user))?;
         return Ok(true);
     }
     serve(alloc, g, p, t, user, request, given.as_slice())
@@ -135,12 +141,12 @@ fn serve(
     g: &mut Plain,
     p: VPid,
     t: Tid,
-    user: UserPart,
+    user: Box<UserPart>,
     request: &Request,
     given: &[u8],
 ) -> Result<bool, AllocError>
     requires { length given.now ≤ TRANSFER_LIMIT }
-    ensures { IfOk result (λ is_step. state_of (words.outcome_of_serve g.old p t.0 user request.now (serve g.old.kernel p t.0 request.now given.now)) ≡ after_told is_step g.new) }
+    ensures { IfOk result (λ is_step. state_of (words.outcome_of_serve g.old p t.0 user.value request.now (serve g.old.kernel p t.0 request.now given.now)) ≡ after_told is_step g.new) }
 {
     let mut user = user;
     let Some(answer) = g.kernel.serve(alloc, p, t, request, given)? else {
@@ -154,7 +160,7 @@ fn serve(
         answer.reply,
         answer.bytes.as_slice(),
     )?;
-    g.users.insert(p, user)?;
+    g.users.insert(p, Box::into_inner(user))?;
     keep_living(g);
     Ok(true)
 }
@@ -172,7 +178,7 @@ fn deliver_signal(
     let Some(user) = g.users.get(p) else {
         return Ok(false);
     };
-    let mut user = user.duplicate(alloc)?;
+    let mut user = copied(alloc, user)?;
     let Some(thread) = user.threads.get(t.0) else {
         return Ok(false);
     };
@@ -193,12 +199,12 @@ fn deliver_signal(
 }
 
 /// What a delivery does to the state, where `user` is the part after it.
-fn settle(g: &mut Plain, p: VPid, user: UserPart, told: Delivered) -> Result<(), AllocError>
-    ensures { IfOk result (λ done. g.new ≡ words.delivered g.old p (delivery_told told user)) }
+fn settle(g: &mut Plain, p: VPid, user: Box<UserPart>, told: Delivered) -> Result<(), AllocError>
+    ensures { IfOk result (λ done. g.new ≡ words.delivered g.old p (delivery_told told user.value)) }
 {
     match told {
         Delivered::Entered => {
-            g.users.insert(p, user)?;
+            g.users.insert(p, Box::into_inner(user))?;
             Ok(())
         }
         Delivered::Ignored => Ok(()),
@@ -244,9 +250,25 @@ fn waits_at(
     if is_local(request) {
         return Ok(false);
     }
-    match serve_slowly(alloc, &g.kernel, p, t, request, given.as_slice())? {
-        Served::NotReady => Ok(true),
-        Served::Done { .. } => Ok(false),
+    waits_with(alloc, &g.kernel, p, t, request, given.as_slice())
+}
+
+/// Whether a call waits that has these bytes to read.
+fn waits_with(
+    alloc: Global,
+    k: &PlainKernel,
+    p: VPid,
+    t: Tid,
+    request: &Request,
+    given: &[u8],
+) -> Result<bool, AllocError>
+    requires { length given.now ≤ TRANSFER_LIMIT }
+    ensures { IfOk result (λ waits. waits ≡ not (is_some (serve k.now p t.0 request.now given.now))) }
+{
+    let mut kernel = Box::new(alloc, k.duplicate(alloc)?)?;
+    match kernel.serve(alloc, p, t, request, given)? {
+        Some(_) => Ok(false),
+        None => Ok(true),
     }
 }
 

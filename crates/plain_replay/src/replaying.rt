@@ -34,7 +34,22 @@ pub fn replay(alloc: Global, start: &Plain, trace: &[Record]) -> Result<Plain, R
     ensures found { IfOk result (λ plain. run start.now trace.now ≡ Some plain) }
     ensures refused { (n : ℕ) → result ≡ Err (Refused n) → FirstRefused start.now trace.now n }
 {
-    let mut g = start.duplicate(alloc)?;
+    let walked = walk(alloc, copied(alloc, start)?, trace)?;
+    Ok(Box::into_inner(walked))
+}
+
+fn copied(alloc: Global, start: &Plain) -> Result<Box<Plain>, AllocError>
+    ensures { IfOk result (λ copy. copy.value ≡ start.now) }
+{
+    Ok(Box::new(alloc, start.duplicate(alloc)?)?)
+}
+
+/// The state after a trace, in the place of the one before it.
+fn walk(alloc: Global, start: Box<Plain>, trace: &[Record]) -> Result<Box<Plain>, ReplayFault>
+    ensures found { IfOk result (λ after. run start.value trace.now ≡ Some after.value) }
+    ensures refused { (n : ℕ) → result ≡ Err (Refused n) → FirstRefused start.value trace.now n }
+{
+    let mut g = start;
     for (i, record) in trace.iter().enumerate() {
         if !step(alloc, &mut g, record)? {
             return Err(ReplayFault::Refused(i as u64));

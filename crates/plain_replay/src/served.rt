@@ -1,4 +1,4 @@
-ghost use Rattle.std.specs.Prelude.{◌≡◌, ◌≤◌, length, IfOk};
+ghost use Rattle.std.specs.Prelude.{◌≡◌, ◌≤◌, [], length, IfOk, if◌then◌else◌};
 ghost use Rattle.sys_abi.specs.declared.transfer.TheConstants.{TRANSFER_LIMIT};
 ghost use Rattle.plain_machine.specs.Serve.{serve};
 ghost use Rattle.plain_replay.specs.Answers.{served_told};
@@ -37,15 +37,23 @@ pub fn serve_slowly(
     requires { length given.now ≤ TRANSFER_LIMIT }
     ensures { IfOk result (λ served. serve k.now p t.0 request.now given.now ≡ served_told served) }
 {
-    let mut kernel = k.duplicate(alloc)?;
+    let mut kernel = Box::new(alloc, k.duplicate(alloc)?)?;
     let Some(answer) = kernel.serve(alloc, p, t, request, given)? else {
         return Ok(Served::NotReady);
     };
-    let shown: &[u8] = if answer.is_shown { given } else { &[] };
+    let console = shown(alloc, answer.is_shown, given)?;
     Ok(Served::Done {
-        kernel,
+        kernel: Box::into_inner(kernel),
         reply: answer.reply,
         bytes: answer.bytes,
-        console: ListOf::from_vec(shown.to_vec(alloc)?),
+        console,
     })
+}
+
+/// The bytes for the console.
+fn shown(alloc: Global, is_shown: bool, given: &[u8]) -> Result<ListOf<u8>, AllocError>
+    ensures { IfOk result (λ shown. shown ≡ (if is_shown then given.now else [])) }
+{
+    let shown: &[u8] = if is_shown { given } else { &[] };
+    Ok(ListOf::from_vec(shown.to_vec(alloc)?))
 }

@@ -1,7 +1,7 @@
 use sys_abi::Signal;
 
 /// What an instruction does.
-#[derive(Clone, Copy, Debug, PartialEq, Eq)]
+#[derive(Clone, Copy)]
 pub enum Effect {
     /// It goes on.
     Next,

@@ -1,6 +1,6 @@
 /// Which fields an instruction has besides its opcode (unprivileged manual, sections 2.2 and 2.3). A shift's amount stands
 /// where rs2 does, and a whole word has none.
-#[derive(Clone, Copy, Debug, PartialEq, Eq)]
+#[derive(Clone, Copy)]
 pub enum Format {
     R,
     I,
@@ -13,7 +13,7 @@ pub enum Format {
 }
 
 /// The fixed fields of a row of the instruction table.
-#[derive(Clone, Copy, Debug, PartialEq, Eq)]
+#[derive(Clone, Copy)]
 pub struct Encoding {
     pub format: Format,
     pub opcode: u32,

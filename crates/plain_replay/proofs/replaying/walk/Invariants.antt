@@ -1,7 +1,7 @@
 use Rattle.std.proofs.Common.{◌≡◌, take}
 use Rattle.std.specs.Prelude.{Some}
 use Rattle.plain_machine.specs.Runs.{run}
-use Rattle.plain_replay.proofs.replaying.replay.Given as goal
+use Rattle.plain_replay.proofs.replaying.walk.Given as goal
 
 abbrev pub invariant-loop-i : goal.invariant-loop-i
-invariant-loop-i l = run l.start (take l.i l.trace) ≡ Some l.g
+invariant-loop-i l = run l.start.value (take l.i l.trace) ≡ Some l.g.value
