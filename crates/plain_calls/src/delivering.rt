@@ -5,10 +5,10 @@ ghost use Rattle.plain_process.specs.Steps.{user_step};
 ghost use Rattle.plain_steps.specs.Results.{step_told};
 ghost use Rattle.plain_process.specs.Delivered.{delivery_told, KeepsUnlessEntered};
 
-use plain_steps::steps::{UserStep, user_step};
 use crate::waking::stop_waiting;
 use plain_process::deliveries::{action_on, decided, handler_mask, handler_regs, interrupted};
 use plain_process::user_part::{Context, SignalAction, ThreadPart, UserPart};
+use plain_steps::steps::{UserStep, user_step};
 use std::alloc::{AllocError, Global};
 use sys_abi::{Delivered, Signal, Tid};
 use views::duplicate::Duplicate;

@@ -6,12 +6,12 @@ ghost use Rattle.plain_calls.specs.LocalAnswers.{DoesRow, answer_told};
 ghost use Rattle.plain_process.specs.declared.user_part.ThreadPart.{ThreadPart};
 ghost use Rattle.plain_process.specs.declared.user_part.UserPart.{UserPart};
 
-use plain_memory::lending::lent;
 use crate::local_answer::LocalAnswer;
 use crate::local_handlers::{sigaction, sigprocmask, sigreturn};
 use crate::local_memory::{brk, mmap, munmap};
 use crate::local_threads::{futex, set_tid_address};
 use crate::putting::{put, put_fault};
+use plain_memory::lending::lent;
 use plain_process::handlers::{action_bytes, mask_bytes};
 use plain_process::user_part::UserPart;
 use std::alloc::{AllocError, Global};

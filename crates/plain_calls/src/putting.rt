@@ -3,14 +3,14 @@ ghost use Rattle.plain_process.specs.Buffers as buffers;
 ghost use Rattle.plain_process.specs.Put as words;
 ghost use Rattle.plain_process.specs.Threads.{new_thread};
 
-use plain_process::buffers::Spans;
+use crate::waking::end_thread;
 use plain_memory::lending::written_spans;
 use plain_memory::memory::put_bytes;
-use plain_steps::steps::set_regs;
-use crate::waking::end_thread;
+use plain_process::buffers::Spans;
 use plain_process::memory::Frame;
 use plain_process::threads::{added_thread, after_call, new_clear_tid, new_regs};
 use plain_process::user_part::{ThreadPart, UserPart};
+use plain_steps::steps::set_regs;
 use std::alloc::{AllocError, Global};
 use sys_abi::errors::EFAULT;
 use sys_abi::{Errno, Reply, Request, Tid};

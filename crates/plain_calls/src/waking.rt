@@ -3,10 +3,10 @@ ghost use Rattle.plain_process.specs.Memory.{store};
 ghost use Rattle.plain_process.specs.Threads as words;
 
 use plain_memory::memory::store;
-use plain_steps::steps::set_regs;
 use plain_process::memory::Frame;
 use plain_process::threads::{after_call, first_waiter, remove_waiter};
 use plain_process::user_part::UserPart;
+use plain_steps::steps::set_regs;
 use std::alloc::Global;
 use std::mem;
 use sys_abi::Tid;

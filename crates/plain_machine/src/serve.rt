@@ -5,8 +5,8 @@ ghost use Rattle.plain_machine.specs.Rows.Write as write;
 ghost use Rattle.plain_machine.specs.Serve.{serve};
 ghost use Rattle.plain_machine.specs.Answers.{row_told, answer_of, answer_told};
 
-use plain_tables::description::Object;
 use crate::kernel::PlainKernel;
+use plain_tables::description::Object;
 use std::alloc::{AllocError, Global};
 use sys_abi::errors::{EBADF, ENOSYS};
 use sys_abi::{Errno, Reply, Request, Tid, VPid};

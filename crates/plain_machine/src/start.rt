@@ -3,8 +3,8 @@ ghost use Rattle.std.specs.FinMap as map;
 ghost use Rattle.plain_tables.specs.Tables.{pid, slot};
 ghost use Rattle.plain_machine.specs.Start as words;
 
-use plain_tables::description::{Description, Descriptor, Object};
 use crate::kernel::PlainKernel;
+use plain_tables::description::{Description, Descriptor, Object};
 use plain_tables::process::{Maker, Process};
 use std::alloc::{AllocError, Global};
 use sys_abi::flags::O_RDWR;

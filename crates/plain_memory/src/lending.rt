@@ -3,8 +3,8 @@ ghost use Rattle.std.specs.List.{list_all};
 ghost use Rattle.sys_abi.specs.declared.transfer.TheConstants.{TRANSFER_LIMIT};
 ghost use Rattle.plain_process.specs.Buffers as words;
 
-use plain_process::buffers::{Source, Span, Spans, length_place, reads_of, writes_of};
 use crate::memory::{byte_at, bytes_at, has_bytes, load};
+use plain_process::buffers::{Source, Span, Spans, length_place, reads_of, writes_of};
 use plain_process::memory::{Frame, Right};
 use std::alloc::{AllocError, Global};
 use sys_abi::Request;

@@ -14,9 +14,9 @@
 
 pub mod buffers;
 pub mod deliveries;
-pub mod laws;
 pub mod handlers;
 pub mod instruction;
+pub mod laws;
 pub mod mappings;
 pub mod memory;
 pub mod regs;
@@ -24,8 +24,8 @@ pub mod threads;
 pub mod user_part;
 
 pub use buffers::{Source, Span, Spans, length_place, reads_of, writes_of};
-pub use laws::worked_examples;
 pub use instruction::{Insn, Op};
+pub use laws::worked_examples;
 pub use memory::{Frame, Right};
 pub use regs::Regs;
 pub use user_part::{Context, SignalAction, ThreadPart, UserPart, Waiter};

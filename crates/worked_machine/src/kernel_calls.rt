@@ -51,9 +51,7 @@ fn write(alloc: Global, fd: u32) -> Result<Said, Fail> {
         buffer: 0,
         count: 6,
     };
-    said(serve_slowly(
-        alloc, &kernel, FIRST, THREAD, &call, b"hello\n",
-    )?)
+    said(serve_slowly(alloc, &kernel, FIRST, THREAD, &call, b"hello\n")?)
 }
 
 #[test]
@@ -82,12 +80,7 @@ fn has(rt: &impl Abort, kernel: &PlainKernel, want: [usize; 4]) {
 }
 
 /// What a call of a thread of the first process answers.
-fn answer(
-    alloc: Global,
-    kernel: &mut PlainKernel,
-    t: Tid,
-    call: &Request,
-) -> Result<Answer, Fail> {
+fn answer(alloc: Global, kernel: &mut PlainKernel, t: Tid, call: &Request) -> Result<Answer, Fail> {
     Ok(kernel.serve(alloc, FIRST, t, call, b"")?.ok_or("waits")?)
 }
 
