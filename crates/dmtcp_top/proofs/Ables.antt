@@ -8,12 +8,12 @@ use Rattle.sys_abi.specs.declared.identity.Tid.{Tid}
 use Rattle.sys_abi.specs.declared.identity.Signal.{Signal}
 use Rattle.sys_abi.specs.declared.record.Record.TheVariants.{Deliver}
 use Rattle.sys_abi.specs.Signals.{has_signal, lowest_signal}
-use Rattle.plain_machine.specs.declared.user_part.UserPart.{UserPart}
-use Rattle.plain_machine.specs.declared.user_part.ThreadPart.{ThreadPart}
+use Rattle.plain_process.specs.declared.user_part.UserPart.{UserPart}
+use Rattle.plain_process.specs.declared.user_part.ThreadPart.{ThreadPart}
 use Rattle.guest_proc.specs.Guests.{ran_at}
 use Rattle.guest_proc.specs.declared.ran.Ran.TheVariants.{Trapped as RanTrapped}
-use Rattle.plain_machine.specs.Deliveries.{traps_with}
-use Rattle.plain_machine.specs.Steps.{UserStep, Stepped, Asks, Trapped, Waits, NoThread, user_step}
+use Rattle.plain_process.specs.Deliveries.{traps_with}
+use Rattle.plain_process.specs.Steps.{UserStep, Stepped, Asks, Trapped, Waits, NoThread, user_step}
 use Rattle.plain_machine.specs.Records.{Outcome, outcome, outcome_of_signal, outcome_of_pending, deliverable}
 use Rattle.dmtcp_top.specs.declared.machine.Machine.{Machine}
 use Rattle.dmtcp_top.specs.Machines.{plain_of, lives, CanDeliver}

@@ -10,12 +10,12 @@ use Rattle.sys_abi.specs.declared.record.Record.{Record}
 use Rattle.sys_abi.specs.declared.record.Record.TheVariants.{User, Call, Deliver, Arrive, Cut, Drained, Refilled, Complete, Refused, Lapsed}
 use Rattle.sys_abi.specs.Signals.{has_signal, without_signals}
 use Rattle.plain_machine.specs.declared.plain.Plain.{Plain}
-use Rattle.plain_machine.specs.declared.user_part.UserPart.{UserPart}
-use Rattle.plain_machine.specs.declared.user_part.ThreadPart.{ThreadPart}
-use Rattle.plain_machine.specs.Buffers.{lent}
-use Rattle.plain_machine.specs.Deliveries.{traps_with}
+use Rattle.plain_process.specs.declared.user_part.UserPart.{UserPart}
+use Rattle.plain_process.specs.declared.user_part.ThreadPart.{ThreadPart}
+use Rattle.plain_process.specs.Buffers.{lent}
+use Rattle.plain_process.specs.Deliveries.{traps_with}
 use Rattle.plain_machine.specs.Kernel.{is_live}
-use Rattle.plain_machine.specs.Steps.{NoThread, Asks, user_step, user_steps}
+use Rattle.plain_process.specs.Steps.{NoThread, Asks, user_step, user_steps}
 use Rattle.plain_machine.specs.Records.{Outcome, QUANTUM, outcome, outcome_of_user, outcome_of_call, outcome_of_ask, outcome_of_signal, outcome_of_pending, deliverable, user_ends, if_ends}
 use Rattle.plain_machine.specs.Tests.{ended, full_arrive, is_work, IsStuck}
 use Rattle.plain_machine.specs.Valid.{IsValid}

@@ -16,13 +16,13 @@ use Rattle.sys_abi.specs.Signals.{is_signal, has_signal}
 use Rattle.sys_abi.specs.Orders.{vpid_cmp}
 use Rattle.plain_machine.specs.declared.kernel.PlainKernel.{PlainKernel}
 use Rattle.plain_machine.specs.declared.plain.Plain.{Plain}
-use Rattle.plain_machine.specs.declared.user_part.UserPart.{UserPart}
-use Rattle.plain_machine.specs.declared.user_part.ThreadPart.{ThreadPart}
-use Rattle.plain_machine.specs.Instructions.{Effect, Next, Calls, Traps}
+use Rattle.plain_process.specs.declared.user_part.UserPart.{UserPart}
+use Rattle.plain_process.specs.declared.user_part.ThreadPart.{ThreadPart}
+use Rattle.plain_process.specs.Instructions.{Effect, Next, Calls, Traps}
 use Rattle.plain_machine.specs.Kernel.{is_live, after_end, after_take}
-use Rattle.plain_machine.specs.Steps.{UserStep, Stepped, Asks, Trapped, Waits, NoThread, user_step, step_by, step_of, waits, effect_at}
-use Rattle.plain_machine.specs.Buffers.{lent}
-use Rattle.plain_machine.specs.Deliveries.{Delivery, Enters, Ignores, Kills, deliver, traps_with}
+use Rattle.plain_process.specs.Steps.{UserStep, Stepped, Asks, Trapped, Waits, NoThread, user_step, step_by, step_of, waits, effect_at}
+use Rattle.plain_process.specs.Buffers.{lent}
+use Rattle.plain_process.specs.Deliveries.{Delivery, Enters, Ignores, Kills, deliver, traps_with}
 use Rattle.plain_machine.specs.Serve.{serve}
 use Rattle.plain_machine.specs.Records.{Outcome, outcome, quiet, living, is_unready, waits_at, delivered, deliverable, outcome_of_pending, outcome_of_signal}
 use Rattle.plain_machine.proofs.KernelThreads.{take_threads}

@@ -13,13 +13,12 @@ use Rattle.sys_abi.specs.declared.record.Record.{Record}
 use Rattle.sys_abi.specs.declared.record.Record.TheVariants.{User, Call, Deliver, Arrive, Cut, Drained, Refilled, Complete, Refused, Lapsed}
 use Rattle.sys_abi.specs.declared.request.Request.{Request}
 use Rattle.plain_machine.specs.declared.plain.Plain.{Plain}
-use Rattle.plain_machine.specs.declared.user_part.UserPart.{UserPart}
-use Rattle.plain_machine.specs.declared.companion.steps.UserStep.TheVariants as at_place
-use Rattle.plain_machine.specs.Deliveries.{traps_with}
+use Rattle.plain_process.specs.declared.user_part.UserPart.{UserPart}
+use Rattle.plain_process.specs.Deliveries.{traps_with}
 use Rattle.plain_machine.specs.Records.{Outcome, QUANTUM, outcome, outcome_of_user, outcome_of_call, outcome_of_ask, stands, user_ends, if_ends}
-use Rattle.plain_machine.specs.Steps.{UserStep, Stepped, Asks, Trapped, Waits, NoThread, user_step, user_steps}
-use Rattle.plain_machine.proofs.Giving.{Giving, gives, nothing, where_, then_}
-use Rattle.plain_machine.proofs.StepsInRow.{stops}
+use Rattle.plain_process.specs.Steps.{UserStep, Stepped, Asks, Trapped, Waits, NoThread, stepped, user_step, user_steps}
+use Rattle.plain_process.proofs.Giving.{Giving, gives, nothing, where_, then_}
+use Rattle.plain_process.proofs.StepsInRow.{steps_stopped}
 use Rattle.dmtcp_top.specs.Rounds.{Place, is_turn_of, traps_in, is_due_signal, is_due_in, is_due_at}
 use Rattle.dmtcp_top.proofs.Walks.{left_true, right_true}
 
@@ -152,8 +151,8 @@ halted : (k n : ℕ) (user before : UserPart) (t : ℕ) → k < n → user_steps
 halted k n user before t fewer so_far standing = by (user_step before t) refl standing
   where
     by : (place : UserStep) → user_step before t ≡ place → stands place ≡ true → user_steps n user t ≡ None
-    by (Asks q) is e = (stops k n user t before before (at_place.Asks q) fewer so_far is refl (λ differs. cc)).1
-    by (Trapped s) is e = (stops k n user t before before (at_place.Trapped (signal s)) fewer so_far is refl (λ differs. cc)).1
+    by (Asks q) is e = steps_stopped k n user t before fewer so_far (ap stepped is)
+    by (Trapped s) is e = steps_stopped k n user t before fewer so_far (ap stepped is)
     by (Stepped after) is e = true_false (sym e)
     by Waits is e = true_false (sym e)
     by NoThread is e = true_false (sym e)

@@ -8,9 +8,9 @@ use Rattle.sys_abi.specs.declared.identity.Tid.{Tid}
 use Rattle.sys_abi.specs.declared.identity.Signal.{Signal}
 use Rattle.sys_abi.specs.declared.record.Record.TheVariants.{User, Call, Deliver}
 use Rattle.trace_log.specs.Trace.{TraceState}
-use Rattle.plain_machine.specs.Deliveries.{traps_with}
+use Rattle.plain_process.specs.Deliveries.{traps_with}
 use Rattle.plain_machine.specs.Records.{stands}
-use Rattle.plain_machine.specs.Steps.{UserStep, Trapped, user_step}
+use Rattle.plain_process.specs.Steps.{UserStep, Trapped, user_step}
 use Rattle.dmtcp_top.specs.declared.machine.Machine.{Machine}
 use Rattle.dmtcp_top.specs.declared.turn.Turn.{Turn}
 use Rattle.dmtcp_top.specs.Sessions.{Sunk}

@@ -7,7 +7,8 @@ use Rattle.sys_abi.proofs.OrderLaws.{vpid_total, vpid_exact}
 use Rattle.views.proofs.MapLaws.{same_or_other, true_false}
 use Rattle.views.proofs.MapValues.{none_among-values, some_among-values}
 use Rattle.plain_machine.specs.declared.kernel.PlainKernel.{PlainKernel}
-use Rattle.plain_machine.specs.Kernel.{is_live, is_live_process}
+use Rattle.plain_machine.specs.Kernel.{is_live}
+use Rattle.plain_tables.specs.Tables.{is_live_process}
 use Rattle.plain_machine.specs.Tests.{has_life, ended}
 use Rattle.dmtcp_top.specs.declared.machine.Machine.{Machine}
 use Rattle.dmtcp_top.specs.Machines.{plain_of, lives, IsSingle}

@@ -13,19 +13,21 @@ use Rattle.sys_abi.specs.Clones.{clone_form}
 use Rattle.sys_abi.specs.Requests.{is_local}
 use Rattle.plain_machine.specs.declared.plain.Plain.{Plain}
 use Rattle.plain_machine.specs.declared.kernel.PlainKernel.{PlainKernel}
-use Rattle.plain_machine.specs.declared.user_part.UserPart.{UserPart}
-use Rattle.plain_machine.specs.declared.description.Object.{Object}
-use Rattle.plain_machine.specs.declared.description.Object.TheVariants.{Console, File, Stream, Socket, Listener, Datagram, Counter}
-use Rattle.plain_machine.specs.Attempts.{Try, Fails, NotReady, Gives, Served, and_then, found, need, settled}
-use Rattle.plain_machine.specs.Kernel.{is_live, description_at, may_write}
+use Rattle.plain_process.specs.declared.user_part.UserPart.{UserPart}
+use Rattle.plain_tables.specs.declared.description.Object.{Object}
+use Rattle.plain_tables.specs.declared.description.Object.TheVariants.{Console, File, Stream, Socket, Listener, Datagram, Counter}
+use Rattle.plain_process.specs.Attempts.{Try, Fails, NotReady, Gives, and_then, found, need}
+use Rattle.plain_machine.specs.Attempts.{Served, settled}
+use Rattle.plain_machine.specs.Kernel.{is_live, description_at}
+use Rattle.plain_tables.specs.Tables.{may_write}
 use Rattle.plain_machine.specs.Rows.Write.{write_row, write_object}
 use Rattle.plain_machine.specs.Rows.End.{exit_group_row, exit_row}
 use Rattle.plain_machine.specs.Rows.Send.{tgkill_row}
 use Rattle.plain_machine.specs.Rows.Clone.{clone_row, clone_by, clone_thread}
 use Rattle.plain_machine.specs.Serve.{row, serve}
-use Rattle.plain_machine.specs.Steps.{Asks, user_step}
-use Rattle.plain_machine.specs.Buffers.{lent}
-use Rattle.plain_machine.specs.Local.{local_row}
+use Rattle.plain_process.specs.Steps.{Asks, user_step}
+use Rattle.plain_process.specs.Buffers.{lent}
+use Rattle.plain_process.specs.Local.{local_row}
 use Rattle.plain_machine.specs.Records.{Outcome, quiet, with_user, step, outcome, outcome_of_lent, outcome_of_serve}
 use Rattle.dmtcp_top.specs.Machines.{single}
 use Rattle.dmtcp_top.proofs.Outcomes.{asked}

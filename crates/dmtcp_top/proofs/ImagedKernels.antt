@@ -12,9 +12,9 @@ use Rattle.sys_abi.proofs.OrderLaws.{desc_total}
 use Rattle.views.proofs.TreeMaps.{entries-empty as no_entries}
 use Rattle.plain_machine.specs.declared.plain.Plain.{Plain}
 use Rattle.plain_machine.specs.declared.kernel.PlainKernel.{PlainKernel}
-use Rattle.plain_machine.specs.declared.channel.Direction.{Direction}
-use Rattle.plain_machine.specs.declared.description.Description.{Description}
-use Rattle.plain_machine.specs.declared.description.Object.TheVariants.{Console as TheConsole}
+use Rattle.plain_tables.specs.declared.channel.Direction.{Direction}
+use Rattle.plain_tables.specs.declared.description.Description.{Description}
+use Rattle.plain_tables.specs.declared.description.Object.TheVariants.{Console as TheConsole}
 use Rattle.plain_machine.specs.Tests.{UnsupportedAt, unsupported, unsupported_entry, unsupported_by, unsupported_kind, first_of, full_arrive}
 use Rattle.trace_log.specs.Requests.{cut_marks}
 use Rattle.trace_log.proofs.RequestCuts.{no_channels}

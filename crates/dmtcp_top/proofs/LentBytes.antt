@@ -6,12 +6,12 @@ use Rattle.std.specs.Option.{option_map}
 use Rattle.std.proofs.lemmas.Grind.{common_steps}
 use Rattle.sys_abi.specs.declared.request.Request.{Request}
 use Rattle.sys_abi.specs.declared.request.Request.TheVariants.{Unlinkat, Openat, Write, Futex, RtSigaction, RtSigprocmask, Bind, Accept, Connect, Getsockname, Getpeername}
-use Rattle.plain_machine.specs.declared.memory.Right.TheVariants.{Read as ToRead}
-use Rattle.plain_machine.specs.declared.buffers.Source.{Source}
-use Rattle.plain_machine.specs.declared.buffers.Source.TheVariants.{Nothing, Bytes, Text}
-use Rattle.plain_machine.specs.declared.memory.Right.{Right}
-use Rattle.plain_machine.specs.Memory.{Memory, byte_at, bytes_at, followed_by}
-use Rattle.plain_machine.specs.Buffers.{bytes_of, text_at, text_from, given_of, if_writable, lent, reads_of, unless_zero, is_wait, can_write, written_spans}
+use Rattle.plain_process.specs.declared.memory.Right.TheVariants.{Read as ToRead}
+use Rattle.plain_process.specs.declared.buffers.Source.{Source}
+use Rattle.plain_process.specs.declared.buffers.Source.TheVariants.{Nothing, Bytes, Text}
+use Rattle.plain_process.specs.declared.memory.Right.{Right}
+use Rattle.plain_process.specs.Memory.{Memory, byte_at, bytes_at, followed_by}
+use Rattle.plain_process.specs.Buffers.{bytes_of, text_at, text_from, given_of, if_writable, lent, reads_of, unless_zero, is_wait, can_write, written_spans}
 
 abbrev Fits : Option (List ℕ) → ℕ → Type 0
 Fits None most = Unit {0}

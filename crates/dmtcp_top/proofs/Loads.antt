@@ -19,7 +19,7 @@ use Rattle.image_store.specs.declared.set_info.SetInfo.{SetInfo}
 use Rattle.image_store.specs.Slots.{last}
 use Rattle.image_codec.specs.declared.damage.Damage.{Damage}
 use Rattle.image_codec.specs.Sets.{DamagedFiles}
-use Rattle.plain_machine.specs.Valid.{IsByte}
+use Rattle.plain_process.specs.Valid.{IsByte}
 use Rattle.image_store.specs.SetDamages.{HasDamage}
 use Rattle.image_store.specs.FoundSets.{FoundSet, set_of, last_set, IsSet, HasSet}
 use Rattle.image_store.specs.StoreStates.{Known, FitsFolder, next_generation, generation_after}

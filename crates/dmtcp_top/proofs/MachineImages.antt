@@ -6,11 +6,13 @@ use Rattle.views.proofs.MapLaws.{get_insert_same, same_or_other, true_false}
 use Rattle.sys_abi.specs.declared.identity.VPid.{VPid}
 use Rattle.sys_abi.proofs.OrderLaws.{vpid_total, vpid_exact}
 use Rattle.plain_machine.specs.declared.kernel.PlainKernel.{PlainKernel}
-use Rattle.plain_machine.specs.declared.process.Process.{Process}
+use Rattle.plain_tables.specs.declared.process.Process.{Process}
 use Rattle.sys_abi.specs.declared.life.Life.{Life}
 use Rattle.sys_abi.specs.declared.life.Life.TheVariants.{Live, Zombie}
-use Rattle.plain_machine.specs.Kernel.{is_live, is_live_process}
-use Rattle.plain_machine.specs.Valid.{FitsLife, IsUser, SameThreads}
+use Rattle.plain_machine.specs.Kernel.{is_live}
+use Rattle.plain_tables.specs.Tables.{is_live_process}
+use Rattle.plain_machine.specs.Valid.{FitsLife, SameThreads}
+use Rattle.plain_process.specs.Valid.{IsUser}
 use Rattle.plain_machine.proofs.ThreadKeys.{same_len}
 use Rattle.image_codec.specs.declared.process_image.ProcImage.{ProcImage}
 use Rattle.image_codec.specs.declared.shared.Shared.{Shared}

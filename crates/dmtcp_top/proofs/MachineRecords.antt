@@ -10,16 +10,16 @@ use Rattle.sys_abi.specs.declared.request.Request.{Request}
 use Rattle.sys_abi.specs.Requests.{is_local}
 use Rattle.trace_log.specs.Trace.{TraceState}
 use Rattle.guest_proc.specs.Guests.{GuestPart, delivered_by, part_after}
-use Rattle.plain_machine.specs.declared.user_part.UserPart.{UserPart}
+use Rattle.plain_process.specs.declared.user_part.UserPart.{UserPart}
 use Rattle.plain_machine.specs.declared.plain.Plain.{Plain}
 use Rattle.plain_machine.specs.declared.kernel.PlainKernel.{PlainKernel}
 use Rattle.plain_machine.specs.declared.serve.Answer.{Answer}
 use Rattle.plain_machine.specs.Answers.{served_by}
-use Rattle.plain_machine.specs.Steps.{Asks, user_step, waits}
-use Rattle.plain_machine.specs.Buffers.{lent}
-use Rattle.plain_machine.specs.Put.{put, put_fault}
-use Rattle.plain_machine.specs.Local.{local_row}
-use Rattle.plain_machine.specs.Deliveries.{Delivery, Enters, Ignores, Kills, deliver}
+use Rattle.plain_process.specs.Steps.{Asks, user_step, waits}
+use Rattle.plain_process.specs.Buffers.{lent}
+use Rattle.plain_process.specs.Put.{put, put_fault}
+use Rattle.plain_process.specs.Local.{local_row}
+use Rattle.plain_process.specs.Deliveries.{Delivery, Enters, Ignores, Kills, deliver}
 use Rattle.plain_machine.specs.Serve.{serve}
 use Rattle.plain_machine.specs.Records.{outcome, quiet}
 use Rattle.dmtcp_top.specs.declared.machine.Machine.{Machine}

@@ -9,9 +9,9 @@ use Rattle.guest_proc.specs.declared.ran.Ran.TheVariants.{Asks as RanAsks, Trapp
 use Rattle.sys_abi.specs.declared.identity.Signal.{Signal}
 use Rattle.sys_abi.specs.declared.request.Request.{Request}
 use Rattle.plain_machine.specs.declared.plain.Plain.{Plain}
-use Rattle.plain_machine.specs.declared.user_part.UserPart.{UserPart}
+use Rattle.plain_process.specs.declared.user_part.UserPart.{UserPart}
 use Rattle.plain_machine.specs.Records.{stands}
-use Rattle.plain_machine.specs.Steps.{UserStep, Stepped, Asks, Trapped, Waits, NoThread, user_step}
+use Rattle.plain_process.specs.Steps.{UserStep, Stepped, Asks, Trapped, Waits, NoThread, user_step}
 use Rattle.dmtcp_top.specs.declared.machine.Machine.{Machine}
 use Rattle.dmtcp_top.specs.Machines.{plain_of, lives}
 use Rattle.dmtcp_top.specs.Rounds.{Place, or_else, due_signal, goes_on, turn_with, turn_of, threads_in, first_thread, first_turn, new_round, next_turn, same_turn, stands_in}

@@ -2,10 +2,12 @@
 use Rattle.std.proofs.Common.{◌≡◌, ℕ, ◌<◌, ◌≤◌, true, Option, Some, None, refl, sym, ap, ◌∙◌, arith}
 use Rattle.std.specs.Prelude.{is_some}
 use Rattle.std.specs.FinMap as map
-use Rattle.plain_machine.specs.declared.process.Process.{Process}
-use Rattle.plain_machine.specs.declared.user_part.ThreadPart.{ThreadPart}
-use Rattle.plain_machine.specs.Kernel.{is_live, is_live_process}
-use Rattle.plain_machine.specs.Valid.{IsUser, IsValid}
+use Rattle.plain_tables.specs.declared.process.Process.{Process}
+use Rattle.plain_process.specs.declared.user_part.ThreadPart.{ThreadPart}
+use Rattle.plain_machine.specs.Kernel.{is_live}
+use Rattle.plain_tables.specs.Tables.{is_live_process}
+use Rattle.plain_process.specs.Valid.{IsUser}
+use Rattle.plain_machine.specs.Valid.{IsValid}
 use Rattle.dmtcp_top.specs.declared.machine.Machine.{Machine}
 use Rattle.dmtcp_top.specs.Machines.{plain_of, lives}
 use Rattle.dmtcp_top.proofs.Walks.{part_while_live}

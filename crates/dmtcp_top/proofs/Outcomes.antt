@@ -12,13 +12,13 @@ use Rattle.sys_abi.proofs.OrderLaws.{vpid_total, vpid_exact}
 use Rattle.views.proofs.MapLaws.{get_insert_same, insert_insert, retain_keys-insert, retain_keys-insert_other, retain_all}
 use Rattle.plain_machine.specs.declared.kernel.PlainKernel.{PlainKernel}
 use Rattle.plain_machine.specs.declared.plain.Plain.{Plain}
-use Rattle.plain_machine.specs.declared.user_part.UserPart.{UserPart}
+use Rattle.plain_process.specs.declared.user_part.UserPart.{UserPart}
 use Rattle.plain_machine.specs.Attempts.{Served}
 use Rattle.plain_machine.specs.Kernel.{is_live}
-use Rattle.plain_machine.specs.Steps.{Asks, user_step, user_steps}
-use Rattle.plain_machine.specs.Buffers.{lent}
-use Rattle.plain_machine.specs.Put.{put, put_fault}
-use Rattle.plain_machine.specs.Local.{local_row}
+use Rattle.plain_process.specs.Steps.{Asks, user_step, user_steps}
+use Rattle.plain_process.specs.Buffers.{lent}
+use Rattle.plain_process.specs.Put.{put, put_fault}
+use Rattle.plain_process.specs.Local.{local_row}
 use Rattle.plain_machine.specs.Serve.{serve}
 use Rattle.plain_machine.specs.Records.{Outcome, outcome, quiet, living, stands, with_user, if_ends, outcome_of_user, outcome_of_call, outcome_of_ask, outcome_of_lent, outcome_of_serve}
 use Rattle.dmtcp_top.specs.Machines.{only, single}

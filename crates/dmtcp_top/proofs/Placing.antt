@@ -7,11 +7,11 @@ use Rattle.sys_abi.specs.Signals.{lowest_signal, without_signals}
 use Rattle.guest_proc.specs.Guests.{ran_at}
 use Rattle.guest_proc.specs.declared.ran.Ran.TheVariants.{Waits as RanWaits}
 use Rattle.plain_machine.specs.declared.plain.Plain.{Plain}
-use Rattle.plain_machine.specs.declared.user_part.UserPart.{UserPart}
-use Rattle.plain_machine.specs.declared.user_part.ThreadPart.{ThreadPart}
-use Rattle.plain_machine.specs.Instructions.{Effect, Next, Calls, Traps}
+use Rattle.plain_process.specs.declared.user_part.UserPart.{UserPart}
+use Rattle.plain_process.specs.declared.user_part.ThreadPart.{ThreadPart}
+use Rattle.plain_process.specs.Instructions.{Effect, Next, Calls, Traps}
 use Rattle.plain_machine.specs.Kernel.{pending}
-use Rattle.plain_machine.specs.Steps.{UserStep, Stepped, Asks, Trapped, Waits, NoThread, waits, effect_at, step_by, step_of, user_step}
+use Rattle.plain_process.specs.Steps.{UserStep, Stepped, Asks, Trapped, Waits, NoThread, waits, effect_at, step_by, step_of, user_step}
 use Rattle.dmtcp_top.specs.declared.machine.Machine.{Machine}
 use Rattle.dmtcp_top.specs.Machines.{plain_of, lives}
 use Rattle.dmtcp_top.specs.Rounds.{Place, or_else, signal_for, due_signal, goes_on_at, goes_on, turn_with, turn_of, first_thread}

@@ -5,10 +5,10 @@ use Rattle.std.specs.FinMap as map
 use Rattle.guest_proc.specs.Guests.{Tells, ran_at}
 use Rattle.guest_proc.specs.declared.ran.Ran.{Ran}
 use Rattle.guest_proc.specs.declared.ran.Ran.TheVariants.{Whole as RanWhole, Asks as RanAsks, Trapped as RanTrapped, Waits as RanWaits, Memory as RanMemory}
-use Rattle.plain_machine.specs.declared.user_part.UserPart.{UserPart}
-use Rattle.plain_machine.specs.declared.user_part.ThreadPart.{ThreadPart}
-use Rattle.plain_machine.specs.Instructions.{Effect, Next, Calls, Traps}
-use Rattle.plain_machine.specs.Steps.{UserStep, Stepped, Asks, Trapped, Waits, NoThread, waits, with_regs, with_thread, effect_at, step_by, step_of, stepped, user_step, user_steps}
+use Rattle.plain_process.specs.declared.user_part.UserPart.{UserPart}
+use Rattle.plain_process.specs.declared.user_part.ThreadPart.{ThreadPart}
+use Rattle.plain_process.specs.Instructions.{Effect, Next, Calls, Traps}
+use Rattle.plain_process.specs.Steps.{UserStep, Stepped, Asks, Trapped, Waits, NoThread, waits, with_regs, with_thread, effect_at, step_by, step_of, stepped, user_step, user_steps}
 use Rattle.plain_machine.specs.Records.{stands}
 
 none_run : (user next : UserPart) (t : ℕ) → user_steps 0 user t ≡ Some next → next ≡ user

@@ -12,19 +12,19 @@ use Rattle.sys_abi.specs.Requests.{is_local}
 use Rattle.sys_abi.specs.Signals.{has_signal}
 use Rattle.trace_log.specs.Trace.{TraceState}
 use Rattle.plain_machine.specs.declared.plain.Plain.{Plain}
-use Rattle.plain_machine.specs.declared.user_part.UserPart.{UserPart}
-use Rattle.plain_machine.specs.declared.user_part.ThreadPart.{ThreadPart}
+use Rattle.plain_process.specs.declared.user_part.UserPart.{UserPart}
+use Rattle.plain_process.specs.declared.user_part.ThreadPart.{ThreadPart}
 use Rattle.plain_machine.specs.declared.kernel.PlainKernel.{PlainKernel}
 use Rattle.plain_machine.specs.Attempts.{Served}
 use Rattle.plain_machine.specs.Kernel.{is_live, after_take}
-use Rattle.plain_machine.specs.Steps.{UserStep, Stepped, Asks, Trapped, Waits, NoThread, user_step, user_steps}
-use Rattle.plain_machine.specs.Buffers.{lent}
-use Rattle.plain_machine.specs.Deliveries.{Delivery, Enters, Ignores, Kills, deliver, traps_with}
+use Rattle.plain_process.specs.Steps.{UserStep, Stepped, Asks, Trapped, Waits, NoThread, user_step, user_steps}
+use Rattle.plain_process.specs.Buffers.{lent}
+use Rattle.plain_process.specs.Deliveries.{Delivery, Enters, Ignores, Kills, deliver, traps_with}
 use Rattle.plain_machine.specs.Serve.{serve}
 use Rattle.plain_machine.specs.Records.{Outcome, QUANTUM, outcome, user_ends, if_ends, is_unready, delivered, deliverable, outcome_of_user, outcome_of_call, outcome_of_ask, outcome_of_lent, outcome_of_serve, outcome_of_pending, outcome_of_signal}
 use Rattle.plain_machine.specs.Valid.{IsKernel, IsValid}
 use Rattle.plain_machine.specs.Laws.{subject}
-use Rattle.plain_machine.proofs.Giving.{Giving, gives, nothing, where_, either, then_}
+use Rattle.plain_process.proofs.Giving.{Giving, gives, nothing, where_, either, then_}
 use Rattle.plain_machine.proofs.StepBounds.{step_keeps_valid}
 use Rattle.dmtcp_top.specs.declared.machine.Machine.{Machine}
 use Rattle.dmtcp_top.specs.Sessions.{Sunk}

@@ -11,10 +11,11 @@ use Rattle.sys_abi.specs.Orders.{vpid_cmp}
 use Rattle.sys_abi.proofs.OrderLaws.{vpid_total, vpid_exact}
 use Rattle.plain_machine.specs.declared.kernel.PlainKernel.{PlainKernel}
 use Rattle.plain_machine.specs.declared.plain.Plain.{Plain}
-use Rattle.plain_machine.specs.declared.process.Process.{Process}
-use Rattle.plain_machine.specs.declared.user_part.UserPart.{UserPart}
+use Rattle.plain_tables.specs.declared.process.Process.{Process}
+use Rattle.plain_process.specs.declared.user_part.UserPart.{UserPart}
 use Rattle.plain_machine.specs.Kernel.{is_live}
-use Rattle.plain_machine.specs.Valid.{IsByte, IsUser, IsValid, SameThreads}
+use Rattle.plain_process.specs.Valid.{IsByte, IsUser}
+use Rattle.plain_machine.specs.Valid.{IsValid, SameThreads}
 use Rattle.image_codec.specs.declared.process_image.ProcImage.{ProcImage}
 use Rattle.image_codec.specs.declared.shared.Shared.{Shared}
 use Rattle.image_codec.specs.SharedFits.{IsShared}
@@ -34,7 +35,7 @@ use Rattle.dmtcp_top.specs.declared.machine.Machine.{Machine}
 use Rattle.dmtcp_top.specs.Machines.{IsReady, only, plain_of, single}
 use Rattle.dmtcp_top.specs.OneOrder.{SetIsValid}
 use Rattle.dmtcp_top.proofs.Outcomes.{users_while_live}
-use Rattle.plain_machine.proofs.StartPages.{all_tail}
+use Rattle.plain_process.proofs.StartPages.{all_tail}
 
 -- the shared image is file 1, and its one process file 2
 pub record IsOneImage (s : Shared) (images : List ProcImage) : Type 0 where

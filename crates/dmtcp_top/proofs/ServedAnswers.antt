@@ -11,10 +11,10 @@ use Rattle.plain_machine.specs.declared.kernel.PlainKernel.{PlainKernel}
 use Rattle.plain_machine.specs.declared.serve.Answer.{Answer}
 use Rattle.plain_machine.specs.Answers.{answer_told, served_by}
 use Rattle.plain_machine.specs.Attempts.{Served}
-use Rattle.plain_machine.specs.Buffers.{lent, written_spans}
-use Rattle.plain_machine.specs.Put.{CanTake, added_thread}
+use Rattle.plain_process.specs.Buffers.{lent, written_spans}
+use Rattle.plain_process.specs.Put.{CanTake, added_thread}
 use Rattle.plain_machine.specs.Serve.{serve}
-use Rattle.plain_machine.specs.Valid.{CanAdd}
+use Rattle.plain_process.specs.Valid.{CanAdd}
 use Rattle.plain_machine.proofs.CallBounds as calls
 use Rattle.plain_machine.proofs.AddedThreads.{serve_adds}
 use Rattle.dmtcp_top.specs.declared.machine.Machine.{Machine}

@@ -10,10 +10,12 @@ use Rattle.sys_abi.specs.Clones.{clone_form}
 use Rattle.sys_abi.specs.declared.request.Request.{Request}
 use Rattle.sys_abi.specs.declared.request.Request.TheVariants.{Write, Exit, ExitGroup, Tgkill, Clone}
 use Rattle.plain_machine.specs.declared.kernel.PlainKernel.{PlainKernel}
-use Rattle.plain_machine.specs.declared.description.Object.{Object}
-use Rattle.plain_machine.specs.declared.description.Object.TheVariants.{Console}
-use Rattle.plain_machine.specs.Attempts.{Try, Fails, NotReady, Gives, Served, and_then, found, need, settled}
-use Rattle.plain_machine.specs.Kernel.{description_at, may_write}
+use Rattle.plain_tables.specs.declared.description.Object.{Object}
+use Rattle.plain_tables.specs.declared.description.Object.TheVariants.{Console}
+use Rattle.plain_process.specs.Attempts.{Try, Fails, NotReady, Gives, and_then, found, need}
+use Rattle.plain_machine.specs.Attempts.{Served, settled}
+use Rattle.plain_machine.specs.Kernel.{description_at}
+use Rattle.plain_tables.specs.Tables.{may_write}
 use Rattle.plain_machine.specs.Rows.Write.{write_row, write_object}
 use Rattle.plain_machine.specs.Rows.End.{exit_row, exit_group_row}
 use Rattle.plain_machine.specs.Rows.Send.{tgkill_row}

@@ -18,11 +18,11 @@ use Rattle.sys_abi.specs.declared.record.Record.{Record}
 use Rattle.sys_abi.specs.declared.record.Record.TheVariants.{User, Call, Deliver, Arrive, Cut, Drained, Refilled, Complete, Refused, Lapsed}
 use Rattle.sys_abi.specs.Signals.{is_signal, has_signal, lowest_signal, without_signals}
 use Rattle.plain_machine.specs.declared.plain.Plain.{Plain}
-use Rattle.plain_machine.specs.declared.user_part.UserPart.{UserPart}
-use Rattle.plain_machine.specs.declared.user_part.ThreadPart.{ThreadPart}
-use Rattle.plain_machine.specs.Deliveries.{traps_with}
+use Rattle.plain_process.specs.declared.user_part.UserPart.{UserPart}
+use Rattle.plain_process.specs.declared.user_part.ThreadPart.{ThreadPart}
+use Rattle.plain_process.specs.Deliveries.{traps_with}
 use Rattle.plain_machine.specs.Kernel.{pending}
-use Rattle.plain_machine.specs.Steps.{UserStep, Stepped, Asks, Trapped, Waits, NoThread, stepped, step_of, user_step, user_steps}
+use Rattle.plain_process.specs.Steps.{UserStep, Stepped, Asks, Trapped, Waits, NoThread, stepped, step_of, user_step, user_steps}
 use Rattle.plain_machine.specs.Records.{Outcome, outcome, outcome_of_user, outcome_of_call, outcome_of_ask, outcome_of_signal, outcome_of_pending, deliverable, if_ends}
 use Rattle.plain_machine.specs.Tests.{IsStuck, is_work, full_arrive, has_life}
 use Rattle.dmtcp_top.specs.declared.machine.Machine.{Machine}

@@ -9,15 +9,17 @@ use Rattle.views.proofs.MapLaws.{get_insert_same, get_insert_other}
 use Rattle.elf32.specs.declared.program.Program.{Program}
 use Rattle.plain_machine.specs.declared.kernel.PlainKernel.{PlainKernel}
 use Rattle.plain_machine.specs.declared.plain.Plain.{Plain}
-use Rattle.plain_machine.specs.declared.process.Process.{Process}
-use Rattle.plain_machine.specs.Kernel.{pid, is_live, is_live_process}
-use Rattle.plain_machine.specs.Launches.{IsLaunched}
+use Rattle.plain_tables.specs.declared.process.Process.{Process}
+use Rattle.plain_tables.specs.Tables.{pid, is_live_process}
+use Rattle.plain_machine.specs.Kernel.{is_live}
+use Rattle.plain_process.specs.Launches.{IsLaunched}
 use Rattle.plain_machine.specs.Valid.{IsValid}
 use Rattle.plain_machine.proofs.StartKernels.{start_is_valid}
 use Rattle.image_codec.specs.KernelImages.{HasImage}
 use Rattle.image_codec.specs.StartImages.{start_image}
 use Rattle.image_codec.proofs.StartImages.{start_has_image}
-use Rattle.plain_machine.specs.Start.{Launched, start, start_kernel, with_processes, with_process, with_files, with_users, empty_kernel, start_user, start_process}
+use Rattle.plain_process.specs.Start.{Launched, start_user}
+use Rattle.plain_machine.specs.Start.{start, start_kernel, with_processes, with_process, with_files, with_users, empty_kernel, start_process}
 use Rattle.dmtcp_top.specs.Machines.{only, single}
 use Rattle.dmtcp_top.proofs.Outcomes.{users_while_live}
 

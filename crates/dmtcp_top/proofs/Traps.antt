@@ -2,16 +2,16 @@
 use Rattle.std.proofs.Common.{◌≡◌, ℕ, ◌+◌, ◌*◌, ◌/◌, ◌%◌, ◌^◌, ◌≤◌, Bool, true, false, not, cond, Option, Some, None, subst, arith}
 use Rattle.std.specs.Prelude.{◌==◌, nat_lt, int_lt}
 use Rattle.std.specs.FinMap as map
-use Rattle.plain_machine.specs.declared.instruction.Insn.{Insn}
-use Rattle.plain_machine.specs.declared.instruction.Op.{Op}
-use Rattle.plain_machine.specs.declared.instruction.Op.TheVariants.{Jal, Jalr, Beq, Bne, Blt, Bge, Bltu, Bgeu, Lb, Lh, Lw, Lbu, Lhu, Sb, Sh, Sw, Ebreak}
-use Rattle.plain_machine.specs.declared.regs.Regs.{Regs}
-use Rattle.plain_machine.specs.declared.user_part.UserPart.{UserPart}
-use Rattle.plain_machine.specs.declared.user_part.ThreadPart.{ThreadPart}
-use Rattle.plain_machine.specs.Memory.{Memory, load, store, fetch}
-use Rattle.plain_machine.specs.Instructions.{Effect, Next, Calls, Traps, goes_to, jumps, branches, loads, stores, effect_by, effect, decoded, signed, sign_extended, same, word}
-use Rattle.plain_machine.specs.Registers.{reg, with_reg, at_pc, next_pc}
-use Rattle.plain_machine.specs.Steps.{UserStep, Trapped, Waits, effect_of_insn, effect_of_word, effect_at, step_by, step_of, user_step, waits}
+use Rattle.plain_process.specs.declared.instruction.Insn.{Insn}
+use Rattle.plain_process.specs.declared.instruction.Op.{Op}
+use Rattle.plain_process.specs.declared.instruction.Op.TheVariants.{Jal, Jalr, Beq, Bne, Blt, Bge, Bltu, Bgeu, Lb, Lh, Lw, Lbu, Lhu, Sb, Sh, Sw, Ebreak}
+use Rattle.plain_process.specs.declared.regs.Regs.{Regs}
+use Rattle.plain_process.specs.declared.user_part.UserPart.{UserPart}
+use Rattle.plain_process.specs.declared.user_part.ThreadPart.{ThreadPart}
+use Rattle.plain_process.specs.Memory.{Memory, load, store, fetch}
+use Rattle.plain_process.specs.Instructions.{Effect, Next, Calls, Traps, goes_to, jumps, branches, loads, stores, effect_by, effect, decoded, signed, sign_extended, same, word}
+use Rattle.plain_process.specs.Registers.{reg, with_reg, at_pc, next_pc}
+use Rattle.plain_process.specs.Steps.{UserStep, Trapped, Waits, effect_of_insn, effect_of_word, effect_at, step_by, step_of, user_step, waits}
 
 abbrev IsSignal : ℕ → Type 0
 IsSignal s = (1 ≤ s) × (s ≤ 31)

@@ -8,7 +8,7 @@ use Rattle.sys_abi.proofs.OrderLaws.{vpid_total, vpid_exact}
 use Rattle.sys_abi.specs.Orders.{vpid_cmp}
 use Rattle.views.proofs.MapLaws.{get_insert_same, true_false}
 use Rattle.plain_machine.specs.declared.plain.Plain.{Plain}
-use Rattle.plain_machine.specs.declared.user_part.UserPart.{UserPart}
+use Rattle.plain_process.specs.declared.user_part.UserPart.{UserPart}
 use Rattle.plain_machine.specs.Records.{step}
 use Rattle.plain_machine.specs.Runs.{run}
 use Rattle.trace_log.specs.declared.requests.Schedule.{Schedule}

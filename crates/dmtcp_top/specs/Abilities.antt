@@ -4,7 +4,7 @@
 --     HasTurn m turn               the same of a turn; where it has run its quantum it stands at a call or a trap
 use Rattle.std.specs.Prelude.{◌≡◌, ◌≢◌, ℕ, true, false, List, [], None, IfSome, option_map}
 use Rattle.plain_machine.specs.Records.{stands}
-use Rattle.plain_machine.specs.Steps.{Waits, user_step}
+use Rattle.plain_process.specs.Steps.{Waits, user_step}
 use Rattle.guest_proc.specs.Guests.{HasThread}
 use Rattle.dmtcp_top.specs.declared.machine.Machine.{Machine}
 use Rattle.dmtcp_top.specs.declared.turn.Turn.{Turn}

@@ -3,8 +3,8 @@ use Rattle.std.specs.Prelude.{◌≡◌, ◌≢◌, ℕ, List, Option, Some, Non
 use Rattle.elf32.specs.Rules.{first_fault}
 use Rattle.elf32.specs.Programs.{program_of}
 use Rattle.elf32.specs.declared.program.Program.{Program}
-use Rattle.plain_machine.specs.Launches.{IsLaunched as CanLaunch}
-use Rattle.plain_machine.specs.Valid.{IsByte}
+use Rattle.plain_process.specs.Launches.{IsLaunched as CanLaunch}
+use Rattle.plain_process.specs.Valid.{IsByte}
 use Rattle.set_disk.specs.Moments.{LeavesOnly}
 use Rattle.image_store.specs.declared.set_info.SetInfo.{SetInfo}
 use Rattle.image_store.specs.StoreStates.{Known}

@@ -18,7 +18,7 @@ use Rattle.sys_abi.specs.declared.record.Record.TheVariants.{Deliver}
 use Rattle.trace_log.specs.Trace.{TraceState}
 use Rattle.plain_machine.specs.declared.plain.Plain.{Plain}
 use Rattle.plain_machine.specs.declared.kernel.PlainKernel.{PlainKernel}
-use Rattle.plain_machine.specs.declared.user_part.UserPart.{UserPart}
+use Rattle.plain_process.specs.declared.user_part.UserPart.{UserPart}
 use Rattle.plain_machine.specs.Kernel.{is_live, after_end}
 use Rattle.plain_machine.specs.Valid.{IsValid}
 use Rattle.image_codec.specs.KernelImages.{HasImage}

@@ -13,7 +13,8 @@ use Rattle.sys_abi.specs.declared.record.Record.{Record}
 use Rattle.plain_machine.specs.declared.plain.Plain.{Plain}
 use Rattle.plain_machine.specs.Runs.{run, console}
 use Rattle.plain_machine.specs.Tests.{is_work, ended, IsStuck}
-use Rattle.plain_machine.specs.Valid.{IsByte, IsValid}
+use Rattle.plain_process.specs.Valid.{IsByte}
+use Rattle.plain_machine.specs.Valid.{IsValid}
 use Rattle.trace_log.specs.declared.requests.Schedule.{Schedule}
 use Rattle.trace_log.specs.Requests.{is_mark}
 use Rattle.set_disk.specs.Files.{Files as Folder}

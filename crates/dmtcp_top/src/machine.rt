@@ -1,12 +1,12 @@
 ghost use Rattle.std.specs.Prelude.{◌≡◌, ◌≢◌, ℕ, ◌<◌, ◌≤◌, [], ◌∷◌, true, false, if◌then◌else◌, Option, None, Some, length, Err, IsErrOf, IfOk, IfSome, OnOk, OnErr};
 ghost use Rattle.views.specs.Faults.{Rose, IsFaultOf};
-ghost use Rattle.plain_machine.specs.Launches.{IsLaunched};
-ghost use Rattle.plain_machine.specs.Buffers.{lent};
+ghost use Rattle.plain_process.specs.Launches.{IsLaunched};
+ghost use Rattle.plain_process.specs.Buffers.{lent};
 ghost use Rattle.plain_machine.specs.Start.{start};
 ghost use Rattle.plain_machine.specs.Kernel.{after_take};
-ghost use Rattle.plain_machine.specs.Deliveries.{traps_with};
-ghost use Rattle.plain_machine.specs.Put.{added_thread};
-ghost use Rattle.plain_machine.specs.Steps.{user_step, waits, Asks};
+ghost use Rattle.plain_process.specs.Deliveries.{traps_with};
+ghost use Rattle.plain_process.specs.Put.{added_thread};
+ghost use Rattle.plain_process.specs.Steps.{user_step, waits, Asks};
 ghost use Rattle.guest_proc.specs.Guests.{HasThread};
 ghost use Rattle.sys_abi.specs.declared.record.Record.TheVariants as a_record;
 ghost use Rattle.sys_abi.specs.declared.reply.Reply.{Reply};

@@ -1,5 +1,5 @@
 ghost use Rattle.std.specs.Prelude.{ℕ, List, All, IfOk};
-ghost use Rattle.plain_machine.specs.Valid.{IsByte};
+ghost use Rattle.plain_process.specs.Valid.{IsByte};
 ghost use Rattle.image_codec.specs.Sets.{SpellsFiles, IsStateOf};
 ghost use Rattle.dmtcp_top.specs.Machines.{plain_of, IsReady};
 

@@ -2,7 +2,7 @@ ghost use Rattle.std.specs.Prelude.{◌≡◌, ℕ, ◌<◌, ◌≤◌, List, []
 ghost use Rattle.std.specs.Result.{result_ok};
 ghost use Rattle.std.specs.FinMap as map;
 ghost use Rattle.views.specs.Faults.{IsFaultOf};
-ghost use Rattle.plain_machine.specs.Steps.{user_step};
+ghost use Rattle.plain_process.specs.Steps.{user_step};
 ghost use Rattle.plain_machine.specs.Records.{stands};
 ghost use Rattle.sys_abi.specs.declared.record.Record.TheVariants as a_record;
 ghost use Rattle.guest_proc.specs.Guests.{HasThread, ran_at};

@@ -11,17 +11,17 @@ use Rattle.std.proofs.lemmas.Bool.{cases_eq}
 use Rattle.std.specs.Prelude.{Option, Some, None, Result, Ok, Err, IsSome, OnOk, is_some}
 use Rattle.std.specs.Result.{is_ok, result_err}
 use Rattle.std.specs.FinMap as map
-use Rattle.plain_machine.specs.declared.memory.Right.{Right}
-use Rattle.plain_machine.specs.declared.memory.Right.TheVariants.{Write}
-use Rattle.plain_machine.specs.declared.memory.Frame.{Frame}
-use Rattle.plain_machine.specs.Memory.{Memory, allows, byte_at, followed_by, bytes_at, with_bytes, store_bytes}
+use Rattle.plain_process.specs.declared.memory.Right.{Right}
+use Rattle.plain_process.specs.declared.memory.Right.TheVariants.{Write}
+use Rattle.plain_process.specs.declared.memory.Frame.{Frame}
+use Rattle.plain_process.specs.Memory.{Memory, allows, byte_at, followed_by, bytes_at, with_bytes, store_bytes}
 use Rattle.guest_mem.specs.declared.mem_fault.MemFault.{MemFault}
 use Rattle.guest_mem.specs.declared.mem_fault.MemFault.TheVariants.{Unmapped, Rights}
 use Rattle.guest_mem.specs.Refusals.{granted, is_mapped, refusal, stored}
 use Rattle.guest_mem.specs.Pages.{IsSpace}
 use Rattle.guest_mem.proofs.InPage.{bytes_of, is_mapped-in_page, bytes_at-in_page}
 use Rattle.guest_mem.proofs.Ranges.{joined, bytes_at-split, is_mapped-split, is_mapped-readable, false_true}
-use Rattle.plain_machine.proofs.PageByPage.{and_false}
+use Rattle.plain_process.proofs.PageByPage.{and_false}
 
 both_some : (front back : Option (List ℕ)) → is_some (joined front back) ≡ is_some front && is_some back
 both_some None back = refl

@@ -15,8 +15,8 @@ use Rattle.std.proofs.Math.ListN.{get_or-eq_default}
 use Rattle.std.proofs.lemmas.List.{get_or-set_same, get_or-set_other, get_or_default}
 use Rattle.std.proofs.lemmas.Bool.{cases_eq, cases_lt}
 use Rattle.views.proofs.MapLaws.{get_insert_same, get_insert_other, get_remove_same, get_remove_other, remove_absent}
-use Rattle.plain_machine.specs.declared.memory.Frame.{Frame}
-use Rattle.plain_machine.specs.Memory.{Memory}
+use Rattle.plain_process.specs.declared.memory.Frame.{Frame}
+use Rattle.plain_process.specs.Memory.{Memory}
 use Rattle.guest_mem.specs.Cells.{IsSameCells, SetsCell, IsFirstPlace}
 use Rattle.guest_mem.specs.FrameTable.{Rows, cell_at, with_cell, frames_below, frames_of, IsSameRows, IsFirstPage}
 use Rattle.guest_mem.proofs.Ranges.{false_true}

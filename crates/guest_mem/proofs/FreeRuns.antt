@@ -4,10 +4,10 @@ use Rattle.std.proofs.Common.{◌≡◌, ℕ, zero, suc, ◌+◌, ◌-◌, ◌�
 use Rattle.std.specs.Prelude.{Some, None, is_some, not}
 use Rattle.std.specs.FinMap as map
 use Rattle.std.proofs.lemmas.Bool.{cases_eq, cases_lt}
-use Rattle.plain_machine.specs.Memory.{Memory}
-use Rattle.plain_machine.specs.Pages.{IsFree, is_free, free_run}
+use Rattle.plain_process.specs.Memory.{Memory}
+use Rattle.plain_process.specs.Pages.{IsFree, is_free, free_run}
 use Rattle.guest_mem.specs.Pages.{IsTaken}
-use Rattle.plain_machine.proofs.PageByPage.{and_false, find_place, find_nowhere}
+use Rattle.plain_process.proofs.PageByPage.{and_false, find_place, find_nowhere}
 
 both : (a b : Bool) → a ≡ true → b ≡ true → a && b ≡ true
 both a b first second = λ i. first i && second i

@@ -11,9 +11,9 @@ use Rattle.std.specs.FinMap as map
 use Rattle.std.proofs.Math.Seq.{sets, take-suc}
 use Rattle.std.proofs.lemmas.List.Edits.{sets-eq}
 use Rattle.views.proofs.MapLaws.{get_insert_same, insert_insert, insert_same}
-use Rattle.plain_machine.specs.declared.memory.Right.{Right}
-use Rattle.plain_machine.specs.declared.memory.Frame.{Frame}
-use Rattle.plain_machine.specs.Memory.{Memory, allows, byte_in, byte_at, followed_by, bytes_at, with_byte_in, with_byte, with_bytes, little_endian, low_bytes}
+use Rattle.plain_process.specs.declared.memory.Right.{Right}
+use Rattle.plain_process.specs.declared.memory.Frame.{Frame}
+use Rattle.plain_process.specs.Memory.{Memory, allows, byte_in, byte_at, followed_by, bytes_at, with_byte_in, with_byte, with_bytes, little_endian, low_bytes}
 use Rattle.guest_mem.specs.declared.mem_fault.MemFault.{MemFault}
 use Rattle.guest_mem.specs.declared.mem_fault.MemFault.TheVariants.{Unmapped, Rights}
 use Rattle.guest_mem.specs.Refusals.{granted, is_mapped, refusal}

@@ -10,8 +10,8 @@ use Rattle.std.proofs.lemmas.Bool.{cases_lt, cases_order}
 use borrow.Author.Tests.{lt-ltb, le-ltb, ltb-true}
 use Rattle.views.specs.NumberMap.{is_above}
 use Rattle.views.proofs.MapLaws.{key_tied, other_key}
-use Rattle.plain_machine.specs.declared.memory.Frame.{Frame}
-use Rattle.plain_machine.specs.Memory.{Memory}
+use Rattle.plain_process.specs.declared.memory.Frame.{Frame}
+use Rattle.plain_process.specs.Memory.{Memory}
 use Rattle.guest_mem.specs.FrameTable.{IsNextPage, start_of}
 use Rattle.guest_mem.proofs.Ranges.{false_true}
 

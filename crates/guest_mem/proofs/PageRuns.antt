@@ -9,11 +9,11 @@ use Rattle.std.specs.Cmp.{nat_cmp_total}
 use Rattle.std.specs.FinMap as map
 use Rattle.std.proofs.lemmas.Bool.{cases_lt}
 use Rattle.views.proofs.MapLaws.{get_insert_other}
-use Rattle.plain_machine.specs.declared.memory.Frame.{Frame}
-use Rattle.plain_machine.specs.Memory.{Memory}
-use Rattle.plain_machine.specs.Start.{with_pages}
+use Rattle.plain_process.specs.declared.memory.Frame.{Frame}
+use Rattle.plain_process.specs.Memory.{Memory}
+use Rattle.plain_process.specs.Start.{with_pages}
 use Rattle.guest_mem.specs.Pages.{IsFree, without_pages}
-use Rattle.plain_machine.proofs.PageByPage.{get_inside, get_outside, place, without_more}
+use Rattle.plain_process.proofs.PageByPage.{get_inside, get_outside, place, without_more}
 
 pub get-with_pages_other : (m : Memory) (page n rights : ℕ) (content : List ℕ) (q : ℕ) → (q < page) ⊎ (page + n ≤ q) → map.get (with_pages m page n rights content) q ≡ map.get m q
 unfolding with_pages

@@ -5,9 +5,9 @@ use Rattle.std.proofs.Common.{◌≡◌, ℕ, zero, suc, ◌+◌, ◌/◌, ◌%�
 use Rattle.std.proofs.lemmas.List.{append-nil}
 use Rattle.std.specs.Prelude.{Option, Some, None, IsSome, is_some}
 use Rattle.std.specs.FinMap as map
-use Rattle.plain_machine.specs.declared.memory.Right.{Right}
-use Rattle.plain_machine.specs.declared.memory.Frame.{Frame}
-use Rattle.plain_machine.specs.Memory.{Memory, byte_in, byte_at, followed_by, bytes_at, with_byte, with_bytes}
+use Rattle.plain_process.specs.declared.memory.Right.{Right}
+use Rattle.plain_process.specs.declared.memory.Frame.{Frame}
+use Rattle.plain_process.specs.Memory.{Memory, byte_in, byte_at, followed_by, bytes_at, with_byte, with_bytes}
 use Rattle.guest_mem.specs.Refusals.{is_mapped}
 
 abbrev pub joined : Option (List ℕ) → Option (List ℕ) → Option (List ℕ)

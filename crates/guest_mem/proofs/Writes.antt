@@ -8,8 +8,8 @@ use Rattle.std.specs.Cmp.{nat_cmp_total}
 use Rattle.std.specs.FinMap as map
 use Rattle.std.proofs.lemmas.Bool.{cases_lt}
 use Rattle.views.proofs.MapLaws.{get_insert_other, remove_absent}
-use Rattle.plain_machine.specs.declared.memory.Frame.{Frame}
-use Rattle.plain_machine.specs.Memory.{Memory, with_bytes}
+use Rattle.plain_process.specs.declared.memory.Frame.{Frame}
+use Rattle.plain_process.specs.Memory.{Memory, with_bytes}
 use Rattle.guest_mem.specs.Bytes.{with_piece}
 use Rattle.guest_mem.specs.FrameTable.{with_cell, changed_at}
 use Rattle.guest_mem.specs.Pages.{IsSpace}

@@ -2,7 +2,7 @@
 --     bytes_from page offset n               n of its bytes, from an offset on
 --     with_piece frame offset piece          the frame, with the piece in the place of as many bytes
 use Rattle.std.specs.Prelude.{ℕ, zero, suc, ◌+◌, List, [], ◌∷◌, ◌++◌, length, take, drop, slice_index}
-use Rattle.plain_machine.specs.declared.memory.Frame.{Frame}
+use Rattle.plain_process.specs.declared.memory.Frame.{Frame}
 
 unfoldable pub bytes_from : List ℕ → ℕ → ℕ → List ℕ
 bytes_from page offset zero = []

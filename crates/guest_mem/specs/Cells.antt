@@ -3,7 +3,7 @@
 --     SetsCell old new at cell       one place holds this, each other what it held
 --     IsNextPlace row start place    the first place from a start on, below 1,024, that holds a frame, if there is one
 use Rattle.std.specs.Prelude.{◌≡◌, ◌≢◌, ℕ, ◌≤◌, ◌<◌, List, Option, None, Some, is_some, true, slice_index_or}
-use Rattle.plain_machine.specs.declared.memory.Frame.{Frame}
+use Rattle.plain_process.specs.declared.memory.Frame.{Frame}
 
 pub record IsSameCells (old new : List (Option Frame)) : Type 0 where
   pub same : (at : ℕ) → slice_index_or new at None ≡ slice_index_or old at None

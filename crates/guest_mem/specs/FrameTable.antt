@@ -8,8 +8,8 @@
 --     IsNextPage memory start number    the first number from a start on at which a frame stands, if there is one
 use Rattle.std.specs.Prelude.{◌≡◌, ℕ, ◌+◌, ◌≤◌, ◌<◌, ◌^◌, true, is_some, zero, suc, ◌*◌, ◌/◌, ◌%◌, List, [], length, Option, Some, None, option_map, slice_index_or}
 use Rattle.std.specs.FinMap as map
-use Rattle.plain_machine.specs.declared.memory.Frame.{Frame}
-use Rattle.plain_machine.specs.Memory.{Memory}
+use Rattle.plain_process.specs.declared.memory.Frame.{Frame}
+use Rattle.plain_process.specs.Memory.{Memory}
 
 abbrev pub Rows : Type 0
 Rows = List (List (Option Frame))

@@ -5,9 +5,9 @@
 --     IsFirstTaken memory page count taken   the first of the pages that is there, if one is
 use Rattle.std.specs.Prelude.{◌≡◌, ◌^◌, ℕ, ◌+◌, ◌<◌, ◌≤◌, Option, Some, None, is_some, true}
 use Rattle.std.specs.FinMap as map
-use Rattle.plain_machine.specs.Memory.{Memory}
-pub use Rattle.plain_machine.specs.Pages.{is_among, IsFree}
-unfoldable pub use Rattle.plain_machine.specs.Pages.{without_pages}
+use Rattle.plain_process.specs.Memory.{Memory}
+pub use Rattle.plain_process.specs.Pages.{is_among, IsFree}
+unfoldable pub use Rattle.plain_process.specs.Pages.{without_pages}
 
 pub record IsSpace (memory : Memory) : Type 0 where
   pub bounded : (number : ℕ) → 2 ^ 20 ≤ number → map.get memory number ≡ None

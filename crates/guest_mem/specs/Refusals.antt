@@ -6,9 +6,9 @@
 --     IsRoomFault fault                      why a page may not be added
 use Rattle.std.specs.Prelude.{◌≡◌, ℕ, zero, suc, ◌+◌, ◌/◌, ◌&&◌, Bool, true, Option, Some, None, Result, Ok, Err, ◌⊎◌, is_some, if◌then◌else◌}
 use Rattle.std.specs.FinMap as map
-use Rattle.plain_machine.specs.declared.memory.Right.{Right}
-use Rattle.plain_machine.specs.declared.memory.Frame.{Frame}
-use Rattle.plain_machine.specs.Memory.{Memory as Pages, bytes_at, allows}
+use Rattle.plain_process.specs.declared.memory.Right.{Right}
+use Rattle.plain_process.specs.declared.memory.Frame.{Frame}
+use Rattle.plain_process.specs.Memory.{Memory as Pages, bytes_at, allows}
 use Rattle.guest_mem.specs.declared.mem_fault.MemFault.{MemFault}
 use Rattle.guest_mem.specs.declared.mem_fault.MemFault.TheVariants.{Unmapped, Rights, Full, Memory}
 

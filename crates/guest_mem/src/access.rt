@@ -1,8 +1,8 @@
 ghost use Rattle.std.specs.Prelude.{◌≡◌, ◌+◌, ◌≤◌, ◌<◌, ◌⊎◌, ◌/◌, ◌%◌, ◌^◌, min, ◌-◌, length};
-ghost use Rattle.plain_machine.specs.Memory.{allows as allowed, little_endian, low_bytes};
+ghost use Rattle.plain_process.specs.Memory.{allows as allowed, little_endian, low_bytes};
 ghost use Rattle.guest_mem.specs.Bytes.{bytes_from, with_piece};
 
-use plain_machine::{Frame, Right};
+use plain_process::{Frame, Right};
 use sys_abi::page::PAGE_SIZE;
 
 /// Whether rights have the one that an access needs.

@@ -1,11 +1,11 @@
 ghost use Rattle.std.specs.Prelude.{◌≡◌, ◌≢◌, ◌+◌, ◌<◌, ◌≤◌, ◌⊎◌, ℕ, [], Some, None, length, option_map, slice_index_or, slice_set, IfSome, IfOk, OnOk, OnErr};
 ghost use Rattle.std.specs.Option.{option_copied};
-ghost use Rattle.plain_machine.specs.Memory.{low_bytes};
+ghost use Rattle.plain_process.specs.Memory.{low_bytes};
 ghost use Rattle.guest_mem.specs.Bytes.{with_piece};
 ghost use Rattle.guest_mem.specs.Cells.{IsSameCells, SetsCell, IsNextPlace};
 
 use crate::access;
-use plain_machine::Frame;
+use plain_process::Frame;
 use std::alloc::{AllocError, Global};
 use std::marker::Model;
 use sys_abi::Page;
@@ -18,7 +18,7 @@ pub struct FrameBlock {
 
 impl Model for FrameBlock {
     ghost use Rattle.std.specs.Prelude.{List, Option};
-    ghost use Rattle.plain_machine.specs.declared.memory.Frame.{Frame};
+    ghost use Rattle.plain_process.specs.declared.memory.Frame.{Frame};
 
     ghost Value = { List (Option Frame) };
 

@@ -1,12 +1,12 @@
 ghost use Rattle.std.specs.Prelude.{◌≡◌, ◌+◌, ◌*◌, ◌/◌, ◌%◌, ◌<◌, ◌≤◌, ◌^◌, ◌⊎◌, Some, None, length, is_some, option_map, max, IfSome, IfOk, OnOk, OnErr};
 ghost use Rattle.std.specs.Option.{option_copied};
 ghost use Rattle.std.specs.FinMap as map;
-ghost use Rattle.plain_machine.specs.Memory.{low_bytes};
+ghost use Rattle.plain_process.specs.Memory.{low_bytes};
 ghost use Rattle.guest_mem.specs.Bytes.{with_piece};
 ghost use Rattle.guest_mem.specs.FrameTable.{IsSameRows, IsNextPage, changed_at};
 
 use crate::frame_block::FrameBlock;
-use plain_machine::Frame;
+use plain_process::Frame;
 use std::alloc::{AllocError, Global};
 use std::marker::Model;
 
@@ -23,8 +23,8 @@ pub struct FrameTable {
 impl Model for FrameTable {
     ghost use Rattle.std.specs.Coded.{coded_ℕ};
     ghost use Rattle.std.specs.FinMap as map;
-    ghost use Rattle.plain_machine.specs.contracts.memory.Frame as frame;
-    ghost use Rattle.plain_machine.specs.Memory.{Memory};
+    ghost use Rattle.plain_process.specs.contracts.memory.Frame as frame;
+    ghost use Rattle.plain_process.specs.Memory.{Memory};
     ghost use Rattle.guest_mem.specs.FrameTable.{frames_of, IsTable};
 
     ghost Value = { Memory };

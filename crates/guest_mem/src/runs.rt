@@ -1,8 +1,8 @@
 //! Runs of pages for mappings and for the heap.
 ghost use Rattle.std.specs.Prelude.{◌≡◌, ◌+◌, ◌≤◌, ◌<◌, ◌^◌, [], IfSome, IfOk, OnOk, OnErr};
 ghost use Rattle.std.specs.FinMap as map;
-ghost use Rattle.plain_machine.specs.Pages.{free_run};
-ghost use Rattle.plain_machine.specs.Start.{with_pages};
+ghost use Rattle.plain_process.specs.Pages.{free_run};
+ghost use Rattle.plain_process.specs.Start.{with_pages};
 ghost use Rattle.guest_mem.specs.Pages.{IsFree, IsFirstTaken};
 
 use crate::mem_fault::MemFault;

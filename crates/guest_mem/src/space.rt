@@ -2,9 +2,9 @@ ghost use Rattle.std.specs.Prelude.{◌≡◌, ◌+◌, ◌≤◌, ◌<◌, ◌*
 ghost use Rattle.std.specs.Option.{option_copied};
 ghost use Rattle.std.specs.Result.{result_ok, result_err, result_map_both};
 ghost use Rattle.std.specs.FinMap as map;
-ghost use Rattle.plain_machine.specs.Memory.{bytes_at, byte_at, with_bytes, little_endian, low_bytes, load as load_of, fetch as fetch_of, store as memory_after};
-ghost use Rattle.plain_machine.specs.declared.memory.Right.TheVariants as right;
-ghost use Rattle.plain_machine.specs.Start.{with_pages};
+ghost use Rattle.plain_process.specs.Memory.{bytes_at, byte_at, with_bytes, little_endian, low_bytes, load as load_of, fetch as fetch_of, store as memory_after};
+ghost use Rattle.plain_process.specs.declared.memory.Right.TheVariants as right;
+ghost use Rattle.plain_process.specs.Start.{with_pages};
 ghost use Rattle.sys_abi.specs.declared.transfer.TheConstants.{TRANSFER_LIMIT};
 ghost use Rattle.views.specs.NumberMap.{is_above};
 ghost use Rattle.guest_mem.specs.Refusals.{granted, refusal, stored, IsRoomFault};
@@ -14,7 +14,7 @@ ghost use Rattle.guest_mem.specs.Pages.{IsFree, without_pages};
 use crate::access::{allows, number_at, room_in_page};
 use crate::frame_table::FrameTable;
 use crate::mem_fault::MemFault;
-use plain_machine::{Frame, Right};
+use plain_process::{Frame, Right};
 use std::alloc::{AllocError, Global};
 use std::marker::Model;
 use sys_abi::page::PAGE_SIZE;
@@ -32,8 +32,8 @@ pub struct Space {
 impl Model for Space {
     ghost use Rattle.std.specs.Coded.{coded_ℕ};
     ghost use Rattle.std.specs.FinMap as map;
-    ghost use Rattle.plain_machine.specs.contracts.memory.Frame as frame;
-    ghost use Rattle.plain_machine.specs.Memory.{Memory};
+    ghost use Rattle.plain_process.specs.contracts.memory.Frame as frame;
+    ghost use Rattle.plain_process.specs.Memory.{Memory};
     ghost use Rattle.guest_mem.specs.Pages.{IsSpace};
 
     ghost Value = { Memory };

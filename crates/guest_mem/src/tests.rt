@@ -1,7 +1,7 @@
 // What no clause can say: that calls succeed with memory to spare. The expected values are worked by hand from the
 // little-endian order of the RISC-V unprivileged manual, section 2.6.
 use crate::{MemFault, Space};
-use plain_machine::{Frame, Right};
+use plain_process::{Frame, Right};
 use std::test::Fail;
 use sys_abi::{Page, Transfer};
 

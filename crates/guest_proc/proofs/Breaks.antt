@@ -5,7 +5,7 @@ use Rattle.std.proofs.Math.Seq.{take-append-add}
 use Rattle.std.proofs.lemmas.List.{take-replicate, drop-replicate}
 use Rattle.elf32.specs.declared.program.Segment.{Segment}
 use Rattle.elf32.specs.Programs.{IsWellPlaced}
-use Rattle.plain_machine.specs.Start.{highest_end, page_of}
+use Rattle.plain_process.specs.Start.{highest_end, page_of}
 
 bounded : (a b : ℕ) → a ≤ 0x4000_0000 → b ≤ 0x4000_0000 → max a b ≤ 0x4000_0000
 bounded a b first second = grind arith

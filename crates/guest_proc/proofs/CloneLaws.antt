@@ -4,11 +4,11 @@ use Rattle.std.proofs.Common.{◌≡◌, ℕ, ap, ◌∙◌, if◌then◌else◌
 use Rattle.std.specs.Prelude.{Option, Some, None, option_map}
 use Rattle.std.specs.FinMap as map
 use Rattle.sys_abi.specs.declared.flags.TheConstants.{CLONE_CHILD_CLEARTID}
-use Rattle.plain_machine.specs.declared.regs.Regs.{Regs}
-use Rattle.plain_machine.specs.declared.user_part.UserPart.{UserPart}
-use Rattle.plain_machine.specs.declared.user_part.ThreadPart.{ThreadPart}
-use Rattle.plain_machine.specs.Registers.{A0, with_reg, at_pc, next_pc}
-use Rattle.plain_machine.specs.Threads.{new_regs, with_new_thread_by, with_new_thread, with_called_thread_by}
+use Rattle.plain_process.specs.declared.regs.Regs.{Regs}
+use Rattle.plain_process.specs.declared.user_part.UserPart.{UserPart}
+use Rattle.plain_process.specs.declared.user_part.ThreadPart.{ThreadPart}
+use Rattle.plain_process.specs.Registers.{A0, with_reg, at_pc, next_pc}
+use Rattle.plain_process.specs.Threads.{new_regs, with_new_thread_by, with_new_thread, with_called_thread_by}
 use Rattle.guest_proc.specs.Guests.{with_threads}
 use Rattle.guest_proc.specs.Threads.{fresh}
 use Rattle.sys_abi.specs.Flags.{has_flag}

@@ -11,17 +11,17 @@ use Rattle.std.proofs.lemmas.Bool.Decides.{nat_tests}
 use Rattle.views.proofs.MapLaws.{get_insert_same, insert_insert}
 use Rattle.sys_abi.specs.declared.delivery.Delivered.{Delivered}
 use Rattle.sys_abi.specs.declared.delivery.Delivered.TheVariants as came
-use Rattle.plain_machine.specs.declared.regs.Regs.{Regs}
-use Rattle.plain_machine.specs.declared.user_part.Context.{Context}
-use Rattle.plain_machine.specs.declared.user_part.SignalAction.{SignalAction}
-use Rattle.plain_machine.specs.declared.user_part.ThreadPart.{ThreadPart}
-use Rattle.plain_machine.specs.declared.user_part.UserPart.{UserPart}
-use Rattle.plain_machine.specs.Steps.{with_regs, user_step}
-use Rattle.plain_machine.specs.Rows.Handlers.{with_mask}
-use Rattle.plain_machine.specs.Deliveries.{Delivery, Enters, Ignores, Kills, CONTEXT_LIMIT, action_on, interrupted, handler_regs, handler_mask, entered, with_entered, delivery, traps_with, deliver_to, deliver, delivered_told}
+use Rattle.plain_process.specs.declared.regs.Regs.{Regs}
+use Rattle.plain_process.specs.declared.user_part.Context.{Context}
+use Rattle.plain_process.specs.declared.user_part.SignalAction.{SignalAction}
+use Rattle.plain_process.specs.declared.user_part.ThreadPart.{ThreadPart}
+use Rattle.plain_process.specs.declared.user_part.UserPart.{UserPart}
+use Rattle.plain_process.specs.Steps.{with_regs, user_step}
+use Rattle.plain_process.specs.Rows.Handlers.{with_mask}
+use Rattle.plain_process.specs.Deliveries.{Delivery, Enters, Ignores, Kills, CONTEXT_LIMIT, action_on, interrupted, handler_regs, handler_mask, entered, with_entered, delivery, traps_with, deliver_to, deliver, delivered_told}
 use Rattle.guest_proc.specs.Guests.{HasThread, part_after, entered_in}
 use Rattle.guest_proc.specs.Threads.{ThreadTable, with_contexts, changed_by, changed, at_thread}
-use Rattle.plain_machine.proofs.Delivering.{chosen}
+use Rattle.plain_process.proofs.Delivering.{chosen}
 
 -- two changes of one thread
 twice_by : (threads : map.FinMap nat_cmp ThreadPart) (t : ℕ) (first then : ThreadPart → ThreadPart) (found : Option ThreadPart) → map.get threads t ≡ found

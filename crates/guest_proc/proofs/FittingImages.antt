@@ -12,10 +12,10 @@ use Rattle.std.proofs.lemmas.Bool.Decides.{nat_tests}
 use Rattle.std.proofs.lemmas.List.{length-map}
 use Rattle.std.proofs.lemmas.List.Elements.{All-nil, All-cons}
 use Rattle.views.proofs.MapLaws.{key_tied, other_key, same_or_other}
-use Rattle.plain_machine.specs.declared.memory.Frame.{Frame}
-use Rattle.plain_machine.specs.declared.user_part.UserPart.{UserPart}
-use Rattle.plain_machine.specs.Start.{RETURN_PAGE, return_bytes, return_frame}
-use Rattle.plain_machine.specs.Valid.{Each, IsFrame, IsThread, IsUser}
+use Rattle.plain_process.specs.declared.memory.Frame.{Frame}
+use Rattle.plain_process.specs.declared.user_part.UserPart.{UserPart}
+use Rattle.plain_process.specs.Start.{RETURN_PAGE, return_bytes, return_frame}
+use Rattle.plain_process.specs.Valid.{Each, IsFrame, IsThread, IsUser}
 use Rattle.image_codec.specs.declared.page_image.PageImage.{PageImage}
 use Rattle.image_codec.specs.declared.thread_image.ThreadImage.{ThreadImage}
 use Rattle.image_codec.specs.declared.process_image.ProcImage.{ProcImage}
@@ -26,7 +26,7 @@ use Rattle.image_codec.specs.ProcessImages.{IsPage, IsWaiter, IsThreadImage, is_
 use Rattle.image_codec.proofs.DistinctWaiters.{waiters_fit}
 use Rattle.image_codec.proofs.OneProcess.{keys_there, part_keys}
 use Rattle.guest_proc.proofs.Images.{front, back, rising, past_front, lt_true}
-use Rattle.plain_machine.proofs.StartPages.{all_tail}
+use Rattle.plain_process.proofs.StartPages.{all_tail}
 
 -- entries
 found_after : {X : Type 0} (k q : ℕ) (v : X) (es : List (ℕ × X)) → T (below_all nat_cmp k es) → map.find nat_cmp q es ≡ Some v → k < q

@@ -6,13 +6,13 @@ use Rattle.std.specs.Cmp.{nat_cmp_total}
 use Rattle.std.specs.FinMap as map
 use Rattle.views.proofs.MapLaws.{get_insert_same}
 use Rattle.elf32.specs.declared.program.Program.{Program}
-use Rattle.plain_machine.specs.Start.{start_user, start_thread, start_regs}
-use Rattle.plain_machine.specs.declared.regs.Regs.{Regs}
-use Rattle.plain_machine.specs.declared.user_part.UserPart.{UserPart}
-use Rattle.plain_machine.specs.declared.user_part.ThreadPart.{ThreadPart}
-use Rattle.plain_machine.specs.Memory.{Memory}
-use Rattle.plain_machine.specs.Instructions.{Effect}
-use Rattle.plain_machine.specs.Steps.{Running, effect_at, Waits, waits, with_regs, step_by, step_of, user_step, user_steps}
+use Rattle.plain_process.specs.Start.{start_user, start_thread, start_regs}
+use Rattle.plain_process.specs.declared.regs.Regs.{Regs}
+use Rattle.plain_process.specs.declared.user_part.UserPart.{UserPart}
+use Rattle.plain_process.specs.declared.user_part.ThreadPart.{ThreadPart}
+use Rattle.plain_process.specs.Memory.{Memory}
+use Rattle.plain_process.specs.Instructions.{Effect}
+use Rattle.plain_process.specs.Steps.{Running, effect_at, Waits, waits, with_regs, step_by, step_of, user_step, user_steps}
 use Rattle.guest_proc.specs.declared.run.Stop.{Stop}
 use Rattle.guest_proc.specs.declared.run.Stop.TheVariants.{Quantum, Call, Trap}
 use Rattle.guest_proc.specs.declared.ran.Ran.{Ran}

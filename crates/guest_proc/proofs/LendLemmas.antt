@@ -3,10 +3,10 @@ use Rattle.std.proofs.Common.{◌≡◌, List, ℕ, refl, sym, ap, ◌∙◌, tr
 use Rattle.std.specs.Prelude.{Option, Some, None, option_and_then}
 use Rattle.std.specs.List.{list_all}
 use Rattle.sys_abi.specs.declared.request.Request.{Request}
-use Rattle.plain_machine.specs.declared.buffers.Source.{Source}
-use Rattle.plain_machine.specs.declared.buffers.Span.{Span}
-use Rattle.plain_machine.specs.Memory.{Memory}
-use Rattle.plain_machine.specs.Buffers.{bytes_of, reads_of, written_spans, can_write, if_writable, given_of, lent}
+use Rattle.plain_process.specs.declared.buffers.Source.{Source}
+use Rattle.plain_process.specs.declared.buffers.Span.{Span}
+use Rattle.plain_process.specs.Memory.{Memory}
+use Rattle.plain_process.specs.Buffers.{bytes_of, reads_of, written_spans, can_write, if_writable, given_of, lent}
 
 lent_by : (memory : Memory) (q : Request) (source : Source) (given : Option (List ℕ)) → source ≡ reads_of q → bytes_of memory source ≡ given
     → lent memory q ≡ option_and_then (if_writable memory q) given

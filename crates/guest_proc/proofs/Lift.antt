@@ -5,12 +5,12 @@ use Rattle.std.specs.Cmp.{nat_cmp_total}
 use Rattle.std.specs.FinMap as map
 use Rattle.std.specs.FinMap.{nat_cmp-IsAntisymmetric}
 use Rattle.views.proofs.MapLaws.{get_insert_same, insert_insert, insert_same}
-use Rattle.plain_machine.specs.declared.regs.Regs.{Regs}
-use Rattle.plain_machine.specs.declared.user_part.UserPart.{UserPart}
-use Rattle.plain_machine.specs.declared.user_part.ThreadPart.{ThreadPart}
-use Rattle.plain_machine.specs.Memory.{Memory}
-use Rattle.plain_machine.specs.Instructions.{Effect, Next, Calls, Traps}
-use Rattle.plain_machine.specs.Steps.{Running, running_after, effect_at, instructions, waits, with_regs, with_thread, step_by, step_of, user_step, stepped, user_steps}
+use Rattle.plain_process.specs.declared.regs.Regs.{Regs}
+use Rattle.plain_process.specs.declared.user_part.UserPart.{UserPart}
+use Rattle.plain_process.specs.declared.user_part.ThreadPart.{ThreadPart}
+use Rattle.plain_process.specs.Memory.{Memory}
+use Rattle.plain_process.specs.Instructions.{Effect, Next, Calls, Traps}
+use Rattle.plain_process.specs.Steps.{Running, running_after, effect_at, instructions, waits, with_regs, with_thread, step_by, step_of, user_step, stepped, user_steps}
 
 abbrev pub run_to : UserPart → ℕ → ThreadPart → Running → UserPart
 run_to user t thread at = with_thread user t (with_regs thread at.regs) at.memory

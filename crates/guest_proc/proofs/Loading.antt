@@ -7,9 +7,9 @@ use Rattle.std.specs.FinMap as map
 use Rattle.elf32.specs.declared.program.Segment.{Segment}
 use Rattle.elf32.specs.Pages.{is_touched, pages_below, page_count}
 use Rattle.elf32.proofs.PageCounts.{pages_below-suc}
-use Rattle.plain_machine.specs.declared.memory.Frame.{Frame}
-use Rattle.plain_machine.specs.Memory.{Memory}
-use Rattle.plain_machine.specs.Start.{segment_byte, segment_bytes, segment_page, segment_pages, page_of, with_pages}
+use Rattle.plain_process.specs.declared.memory.Frame.{Frame}
+use Rattle.plain_process.specs.Memory.{Memory}
+use Rattle.plain_process.specs.Start.{segment_byte, segment_bytes, segment_page, segment_pages, page_of, with_pages}
 
 pub no_bytes : (segments : List Segment) (address : ℕ) → [] ≡ segment_bytes segments address 0
 unfolding segment_bytes

@@ -9,12 +9,12 @@ use Rattle.sys_abi.specs.declared.request.Request.{Request}
 use Rattle.sys_abi.specs.declared.request.Request.TheVariants.{Clone}
 use Rattle.sys_abi.specs.declared.reply.Errno.{Errno}
 use Rattle.sys_abi.specs.declared.reply.Reply.TheVariants.{Error}
-use Rattle.plain_machine.specs.declared.user_part.UserPart.{UserPart}
-use Rattle.plain_machine.specs.declared.user_part.ThreadPart.{ThreadPart}
-use Rattle.plain_machine.specs.Attempts.{Gives}
-use Rattle.plain_machine.specs.Buffers.{lent}
-use Rattle.plain_machine.specs.Put.{added_thread, put, put_fault}
-use Rattle.plain_machine.specs.Local.{local_settled, local_lent, local_row}
+use Rattle.plain_process.specs.declared.user_part.UserPart.{UserPart}
+use Rattle.plain_process.specs.declared.user_part.ThreadPart.{ThreadPart}
+use Rattle.plain_process.specs.Attempts.{Gives}
+use Rattle.plain_process.specs.Buffers.{lent}
+use Rattle.plain_process.specs.Put.{added_thread, put, put_fault}
+use Rattle.plain_process.specs.Local.{local_settled, local_lent, local_row}
 use Rattle.guest_proc.specs.declared.local_answer.LocalAnswer.{LocalAnswer}
 use Rattle.guest_proc.specs.declared.local_answer.LocalFault.TheVariants.{Refused, Memory}
 use Rattle.guest_proc.specs.Guests.{GuestPart, with_user}

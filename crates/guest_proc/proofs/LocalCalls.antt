@@ -9,18 +9,18 @@ use Rattle.std.specs.List.{list_all}
 use Rattle.sys_abi.specs.declared.request.Request.{Request}
 use Rattle.sys_abi.specs.declared.request.Request.TheVariants.{RtSigaction, RtSigprocmask}
 use Rattle.sys_abi.specs.declared.reply.Reply.TheVariants.{Value as ToValue}
-use Rattle.plain_machine.specs.declared.memory.Right.TheVariants.{Write}
-use Rattle.plain_machine.specs.declared.user_part.UserPart.{UserPart}
-use Rattle.plain_machine.specs.declared.user_part.ThreadPart.{ThreadPart}
-use Rattle.plain_machine.specs.declared.user_part.SignalAction.{SignalAction}
-use Rattle.plain_machine.specs.Memory.{Memory as Pages, bytes_at, low_bytes}
-use Rattle.plain_machine.specs.Attempts.{Try, Fails}
-use Rattle.plain_machine.specs.Buffers.{lent, given_of, if_writable, can_write, written_spans, writes_of, is_wait}
-use Rattle.plain_machine.specs.Put.{CanTake, added_thread}
-use Rattle.plain_machine.specs.Local.{local_by}
-use Rattle.plain_machine.specs.Rows.Locals.{Local}
-use Rattle.plain_machine.specs.Rows.Handlers.{action_bytes}
-use Rattle.plain_machine.specs.Rows.Futex.{is_wake, futex_wait, futex_wake, futex_row}
+use Rattle.plain_process.specs.declared.memory.Right.TheVariants.{Write}
+use Rattle.plain_process.specs.declared.user_part.UserPart.{UserPart}
+use Rattle.plain_process.specs.declared.user_part.ThreadPart.{ThreadPart}
+use Rattle.plain_process.specs.declared.user_part.SignalAction.{SignalAction}
+use Rattle.plain_process.specs.Memory.{Memory as Pages, bytes_at, low_bytes}
+use Rattle.plain_process.specs.Attempts.{Try, Fails}
+use Rattle.plain_process.specs.Buffers.{lent, given_of, if_writable, can_write, written_spans, writes_of, is_wait}
+use Rattle.plain_process.specs.Put.{CanTake, added_thread}
+use Rattle.plain_process.specs.Local.{local_by}
+use Rattle.plain_process.specs.Rows.Locals.{Local}
+use Rattle.plain_process.specs.Rows.Handlers.{action_bytes}
+use Rattle.plain_process.specs.Rows.Futex.{is_wake, futex_wait, futex_wake, futex_row}
 use Rattle.guest_proc.specs.declared.local_answer.LocalAnswer.{LocalAnswer}
 use Rattle.guest_proc.specs.declared.local_answer.LocalFault.{LocalFault}
 use Rattle.guest_proc.specs.declared.local_answer.LocalFault.TheVariants.{Refused, Memory}

@@ -8,17 +8,17 @@ use Rattle.std.specs.List.{list_all}
 use Rattle.std.specs.Prelude.{◌==◌, Bool, Option, Some, None, is_some, option_map, if◌then◌else◌}
 use Rattle.guest_mem.proofs.Ranges.{joined, bytes_at-split}
 use Rattle.guest_mem.proofs.Copies.{length-bytes_at}
-use Rattle.plain_machine.specs.declared.memory.Right.{Right}
-use Rattle.plain_machine.specs.declared.memory.Right.TheVariants.{Read}
-use Rattle.plain_machine.specs.declared.buffers.Source.{Source}
-use Rattle.plain_machine.specs.declared.buffers.Source.TheVariants.{Nothing, Bytes}
-use Rattle.plain_machine.specs.Memory.{Memory, bytes_at, load, little_endian}
-use Rattle.plain_machine.specs.Buffers.{bytes_of, unless_zero, span, is_wait, reads_of, given_of, written_spans, can_write, lent}
+use Rattle.plain_process.specs.declared.memory.Right.{Right}
+use Rattle.plain_process.specs.declared.memory.Right.TheVariants.{Read}
+use Rattle.plain_process.specs.declared.buffers.Source.{Source}
+use Rattle.plain_process.specs.declared.buffers.Source.TheVariants.{Nothing, Bytes}
+use Rattle.plain_process.specs.Memory.{Memory, bytes_at, load, little_endian}
+use Rattle.plain_process.specs.Buffers.{bytes_of, unless_zero, span, is_wait, reads_of, given_of, written_spans, can_write, lent}
 use Rattle.sys_abi.specs.declared.request.Request.{Request}
 use Rattle.sys_abi.specs.declared.request.Request.TheVariants.{Futex}
-use Rattle.plain_machine.specs.declared.buffers.Span.{Span}
+use Rattle.plain_process.specs.declared.buffers.Span.{Span}
 use Rattle.guest_proc.proofs.LendLemmas.{unwritable, lent_whole}
-use Rattle.plain_machine.specs.Rows.Handlers.{word_in, action_in}
+use Rattle.plain_process.specs.Rows.Handlers.{word_in, action_in}
 use Rattle.sys_abi.specs.Signals.{blockable}
 use Rattle.guest_proc.specs.Local.{NamesSet}
 

@@ -8,14 +8,14 @@ use Rattle.std.specs.Cmp.{nat_cmp_total}
 use Rattle.std.proofs.lemmas.Option.{slice_get-get_or}
 use Rattle.std.specs.FinMap as map
 use Rattle.views.proofs.MapLaws.{get_insert_same, insert_same, insert_insert}
-use Rattle.plain_machine.specs.declared.user_part.Context.{Context}
-use Rattle.plain_machine.specs.declared.user_part.ThreadPart.{ThreadPart}
-use Rattle.plain_machine.specs.declared.user_part.UserPart.{UserPart}
-use Rattle.plain_machine.specs.Memory.{low_bytes}
-use Rattle.plain_machine.specs.Steps.{with_regs, with_thread}
-use Rattle.plain_machine.specs.Attempts.{Fails, Gives, and_then, need, found}
-use Rattle.plain_machine.specs.Rows.Locals.{Replies, Stays as StaysAs}
-use Rattle.plain_machine.specs.Rows.Handlers.{with_mask, mask_by, word_in, last_context, returned, sigprocmask_row, sigreturn_row}
+use Rattle.plain_process.specs.declared.user_part.Context.{Context}
+use Rattle.plain_process.specs.declared.user_part.ThreadPart.{ThreadPart}
+use Rattle.plain_process.specs.declared.user_part.UserPart.{UserPart}
+use Rattle.plain_process.specs.Memory.{low_bytes}
+use Rattle.plain_process.specs.Steps.{with_regs, with_thread}
+use Rattle.plain_process.specs.Attempts.{Fails, Gives, and_then, need, found}
+use Rattle.plain_process.specs.Rows.Locals.{Replies, Stays as StaysAs}
+use Rattle.plain_process.specs.Rows.Handlers.{with_mask, mask_by, word_in, last_context, returned, sigprocmask_row, sigreturn_row}
 use Rattle.guest_proc.specs.Guests.{GuestPart}
 use Rattle.guest_proc.specs.Threads.{with_contexts, earlier, changed_by, changed}
 use Rattle.guest_proc.specs.Local.{DoesRow, mask_told, stays_told, with_change}

@@ -2,11 +2,11 @@
 use Rattle.std.proofs.Common.{◌≡◌, ℕ, refl, sym, ap, ◌∙◌, false, if◌then◌else◌}
 use Rattle.std.specs.Prelude.{Option, Some, None, option_map}
 use Rattle.std.specs.FinMap as map
-use Rattle.plain_machine.specs.declared.regs.Regs.{Regs}
-use Rattle.plain_machine.specs.declared.user_part.UserPart.{UserPart}
-use Rattle.plain_machine.specs.declared.user_part.ThreadPart.{ThreadPart}
-use Rattle.plain_machine.specs.Instructions.{Effect, Next as ToNext, Calls, Traps}
-use Rattle.plain_machine.specs.Steps.{Waits, waits, effect_at, step_by, step_of, user_step}
+use Rattle.plain_process.specs.declared.regs.Regs.{Regs}
+use Rattle.plain_process.specs.declared.user_part.UserPart.{UserPart}
+use Rattle.plain_process.specs.declared.user_part.ThreadPart.{ThreadPart}
+use Rattle.plain_process.specs.Instructions.{Effect, Next as ToNext, Calls, Traps}
+use Rattle.plain_process.specs.Steps.{Waits, waits, effect_at, step_by, step_of, user_step}
 use Rattle.rv_isa.specs.declared.outcome.Outcome.TheVariants.{Next, Memory as NoMemory}
 use Rattle.guest_proc.specs.declared.ran.Ran.{Ran}
 use Rattle.guest_proc.specs.declared.ran.Ran.TheVariants.{Whole}

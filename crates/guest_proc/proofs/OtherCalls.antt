@@ -3,10 +3,10 @@
 use Rattle.std.proofs.Common.{◌≡◌, ℕ, List, refl}
 use Rattle.sys_abi.specs.declared.request.Request.{Request}
 use Rattle.sys_abi.specs.declared.request.Request.TheVariants.{SetTidAddress, Futex, SchedYield, RtSigaction, RtSigprocmask, RtSigreturn, Gettid, Brk, Munmap, Mmap}
-use Rattle.plain_machine.specs.declared.user_part.UserPart.{UserPart}
-use Rattle.plain_machine.specs.declared.user_part.ThreadPart.{ThreadPart}
-use Rattle.plain_machine.specs.Attempts.{Fails}
-use Rattle.plain_machine.specs.Local.{local_by}
+use Rattle.plain_process.specs.declared.user_part.UserPart.{UserPart}
+use Rattle.plain_process.specs.declared.user_part.ThreadPart.{ThreadPart}
+use Rattle.plain_process.specs.Attempts.{Fails}
+use Rattle.plain_process.specs.Local.{local_by}
 
 pub record IsOther (q : Request) : Type 0 where
   pub set_tid_address : (a : ℕ) → q ≡ SetTidAddress a → ⊥

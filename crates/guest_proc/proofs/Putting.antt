@@ -8,14 +8,14 @@ use Rattle.std.specs.FinMap as map
 use Rattle.views.proofs.MapLaws.{get_insert_same, get_insert_other, same_or_other}
 use Rattle.sys_abi.specs.declared.request.Request.{Request}
 use Rattle.sys_abi.specs.declared.reply.Reply.{Reply}
-use Rattle.plain_machine.specs.declared.user_part.UserPart.{UserPart}
-use Rattle.plain_machine.specs.declared.user_part.ThreadPart.{ThreadPart}
-use Rattle.plain_machine.specs.Buffers.{written_spans}
-use Rattle.plain_machine.specs.Put.{after_call, added_thread, after_threads, put, put_by, with_spans, word_of}
-use Rattle.plain_machine.specs.Valid.{CanAdd, CanAddAs}
+use Rattle.plain_process.specs.declared.user_part.UserPart.{UserPart}
+use Rattle.plain_process.specs.declared.user_part.ThreadPart.{ThreadPart}
+use Rattle.plain_process.specs.Buffers.{written_spans}
+use Rattle.plain_process.specs.Put.{after_call, added_thread, after_threads, put, put_by, with_spans, word_of}
+use Rattle.plain_process.specs.Valid.{CanAdd, CanAddAs}
 use Rattle.guest_proc.specs.Guests.{GuestPart, HasThread, with_user, with_threads}
 use Rattle.guest_proc.specs.Threads.{changed, changed_by}
-use Rattle.plain_machine.specs.Rows.Mappings.{with_memory}
+use Rattle.plain_process.specs.Rows.Mappings.{with_memory}
 
 -- look-ups after a change of a thread that is there
 has_by : (threads : map.FinMap nat_cmp ThreadPart) (t : ℕ) (change : ThreadPart → ThreadPart) (found : Option ThreadPart) → is_some found ≡ true

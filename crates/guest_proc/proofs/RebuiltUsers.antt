@@ -13,11 +13,11 @@ use Rattle.std.proofs.lemmas.List.Elements.{All-nil, All-cons}
 use Rattle.std.proofs.lemmas.Slice.Eq.{bytes_eq-Decides}
 use Rattle.std.proofs.lemmas.Bool.{cases_lt}
 use Rattle.views.proofs.MapLaws.{other_key, key_tied, same_or_other, true_false}
-use Rattle.plain_machine.specs.declared.memory.Frame.{Frame}
-use Rattle.plain_machine.specs.declared.user_part.Waiter.{Waiter}
-use Rattle.plain_machine.specs.Memory.{Memory}
-use Rattle.plain_machine.specs.Start.{RETURN_PAGE, return_bytes, return_frame}
-use Rattle.plain_machine.specs.Valid.{Each, IsByte, IsWord, IsFrame, IsThread, IsWaiter, IsHeap, IsUser}
+use Rattle.plain_process.specs.declared.memory.Frame.{Frame}
+use Rattle.plain_process.specs.declared.user_part.Waiter.{Waiter}
+use Rattle.plain_process.specs.Memory.{Memory}
+use Rattle.plain_process.specs.Start.{RETURN_PAGE, return_bytes, return_frame}
+use Rattle.plain_process.specs.Valid.{Each, IsByte, IsWord, IsFrame, IsThread, IsWaiter, IsHeap, IsUser}
 use Rattle.image_codec.specs.declared.page_image.PageImage.{PageImage}
 use Rattle.image_codec.specs.declared.thread_image.ThreadImage.{ThreadImage}
 use Rattle.image_codec.specs.declared.process_image.ProcImage.{ProcImage}
@@ -30,7 +30,7 @@ use Rattle.image_codec.proofs.DistinctWaiters.{waiters_among, waiters_apart}
 use Rattle.image_codec.proofs.OneProcess.{parts_there}
 use Rattle.image_codec.proofs.Owners.{same_tids}
 use Rattle.guest_proc.proofs.FittingImages.{page_there, image_few, from_eq, from_le, from_lt, and_first, and_second, first_of}
-use Rattle.plain_machine.proofs.StartPages.{all_tail}
+use Rattle.plain_process.proofs.StartPages.{all_tail}
 
 -- the bytes of pages in a text
 left_of : (P : ℕ → Type 0) (xs ys : List ℕ) → All P (xs ++ ys) → All P xs

@@ -14,7 +14,7 @@ use Rattle.std.specs.FinMap.Entries.{put, by_order, below_all, where_key, is_sor
 use Rattle.std.proofs.lemmas.Bool.Decides.{nat_tests}
 use Rattle.std.proofs.lemmas.List.{drop_all, length-map}
 use Rattle.std.proofs.lemmas.Option.{slice_get-get_or}
-use Rattle.plain_machine.specs.declared.user_part.ThreadPart.{ThreadPart}
+use Rattle.plain_process.specs.declared.user_part.ThreadPart.{ThreadPart}
 use Rattle.guest_proc.specs.declared.rows.Row.{Row}
 use Rattle.guest_proc.proofs.Images.{front, back, rising}
 use Rattle.guest_proc.specs.Rows.{part_of, entry_of, entries_of, threads_of, IsRising, place, IsIndex}

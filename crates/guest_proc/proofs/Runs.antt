@@ -1,10 +1,10 @@
 -- One more instruction in a row.
 use Rattle.std.proofs.Common.{◌≡◌, ℕ, suc, ◌+◌, refl, ap, ◌∙◌, arith}
 use Rattle.std.specs.Prelude.{option_and_then}
-use Rattle.plain_machine.specs.declared.regs.Regs.{Regs}
-use Rattle.plain_machine.specs.Memory.{Memory}
-use Rattle.plain_machine.specs.Instructions.{Next}
-use Rattle.plain_machine.specs.Steps.{running_after, effect_at, instructions}
+use Rattle.plain_process.specs.declared.regs.Regs.{Regs}
+use Rattle.plain_process.specs.Memory.{Memory}
+use Rattle.plain_process.specs.Instructions.{Next}
+use Rattle.plain_process.specs.Steps.{running_after, effect_at, instructions}
 use Rattle.guest_proc.specs.Running.{HasRun}
 
 pub none_yet : (regs : Regs) (memory : Memory) → HasRun 0 regs memory regs memory

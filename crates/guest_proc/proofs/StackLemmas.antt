@@ -2,7 +2,7 @@
 use Rattle.std.proofs.Common.{◌≡◌, ◌∙◌, ℕ, ◌+◌, ◌-◌, ◌*◌, ◌/◌, ◌<◌, ◌≤◌, Bool, true, false, List, [], ◌∷◌, ◌++◌, length, get_or, drop, replicate, refl, ap, sym, append_assoc, add-one, arith, length-append, drop-cons}
 use Rattle.std.specs.Prelude.{◌==◌}
 use Rattle.std.proofs.lemmas.List.{length-replicate, append-nil, drop_all}
-use Rattle.plain_machine.specs.Start.{string_places, start_words, argument_places, words_bytes, start_sp, start_stack}
+use Rattle.plain_process.specs.Start.{string_places, start_words, argument_places, words_bytes, start_sp, start_stack}
 
 -- a byte where a string begins
 pub places-fresh : (items all xs : List ℕ) (first i : ℕ) → i < length xs → items ++ string_places (first + i) true (drop i xs) ≡ all

@@ -1,9 +1,9 @@
 -- An answer with no bytes for the guest can always be put.
 use Rattle.std.proofs.Common.{◌≡◌, ℕ, ◌-◌, List, [], ◌∷◌, take, drop, refl, sym, subst, true, arith}
 use Rattle.std.specs.Prelude.{is_some}
-use Rattle.plain_machine.specs.declared.memory.Right.TheVariants.{Write}
-use Rattle.plain_machine.specs.declared.buffers.Span.{Span}
-use Rattle.plain_machine.specs.Memory.{Memory, bytes_at, with_bytes}
+use Rattle.plain_process.specs.declared.memory.Right.TheVariants.{Write}
+use Rattle.plain_process.specs.declared.buffers.Span.{Span}
+use Rattle.plain_process.specs.Memory.{Memory, bytes_at, with_bytes}
 use Rattle.guest_proc.specs.Lending.{CanHold, CanTake}
 
 holds_nothing : (memory : Memory) (address : ℕ) → is_some (bytes_at memory Write address 0) ≡ true

@@ -3,12 +3,12 @@ use Rattle.std.proofs.Common.{◌≡◌, ℕ, suc, ◌+◌, ◌-◌, ◌==◌, �
 use Rattle.std.proofs.lemmas.Bool.{true≢false}
 use Rattle.std.proofs.lemmas.Bool.Decides.{nat_tests}
 use Rattle.std.specs.Prelude.{Option, Some, None, is_some, option_map}
-use Rattle.plain_machine.specs.declared.memory.Right.TheVariants.{Read}
-use Rattle.plain_machine.specs.Memory.{Memory, byte_at, bytes_at, followed_by}
-use Rattle.plain_machine.specs.declared.buffers.Source.{Source}
-use Rattle.plain_machine.specs.declared.buffers.Source.TheVariants.{Nothing}
-use Rattle.plain_machine.specs.Buffers.{text_at, text_from, bytes_of}
-use Rattle.plain_machine.proofs.TextBytes.{text-zero, rest_at, text_from-some, behind}
+use Rattle.plain_process.specs.declared.memory.Right.TheVariants.{Read}
+use Rattle.plain_process.specs.Memory.{Memory, byte_at, bytes_at, followed_by}
+use Rattle.plain_process.specs.declared.buffers.Source.{Source}
+use Rattle.plain_process.specs.declared.buffers.Source.TheVariants.{Nothing}
+use Rattle.plain_process.specs.Buffers.{text_at, text_from, bytes_of}
+use Rattle.plain_process.proofs.TextBytes.{text-zero, rest_at, text_from-some, behind}
 
 -- the first so many bytes are there, none of them zero, and the text goes on after them
 pub record TextSoFar (memory : Memory) (address done : ℕ) : Type 0 where

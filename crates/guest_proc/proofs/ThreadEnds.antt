@@ -2,9 +2,9 @@
 use Rattle.std.proofs.Common.{◌≡◌, ℕ, ap, sym, ◌∙◌}
 use Rattle.std.specs.Prelude.{Option, Some, None, option_map}
 use Rattle.std.specs.FinMap as map
-use Rattle.plain_machine.specs.declared.user_part.UserPart.{UserPart}
-use Rattle.plain_machine.specs.declared.user_part.ThreadPart.{ThreadPart}
-use Rattle.plain_machine.specs.Threads.{without_thread, after_clearing, thread_end_by, after_thread_end}
+use Rattle.plain_process.specs.declared.user_part.UserPart.{UserPart}
+use Rattle.plain_process.specs.declared.user_part.ThreadPart.{ThreadPart}
+use Rattle.plain_process.specs.Threads.{without_thread, after_clearing, thread_end_by, after_thread_end}
 
 none_found : (user : UserPart) (t : ℕ) (found : Option ThreadPart) → option_map (λ thread. thread.clear_tid) found ≡ None → user ≡ thread_end_by user t found
 none_found user t None none = λ i. user

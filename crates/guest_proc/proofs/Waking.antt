@@ -3,10 +3,10 @@
 use Rattle.std.proofs.Common.{◌≡◌, ℕ, zero, suc, ◌+◌, ◌-◌, ◌≤◌, refl, sym, ap, ◌∙◌, arith}
 use Rattle.std.specs.Prelude.{Option, Some, None}
 use Rattle.std.specs.FinMap as map
-use Rattle.plain_machine.specs.declared.user_part.UserPart.{UserPart}
-use Rattle.plain_machine.specs.declared.user_part.ThreadPart.{ThreadPart}
-use Rattle.plain_machine.specs.declared.user_part.Waiter.{Waiter}
-use Rattle.plain_machine.specs.Threads.{after_call, with_waiters, without_waiter, awake, awake_by, first_waiter, Woken, woken_by, wake_one, wake}
+use Rattle.plain_process.specs.declared.user_part.UserPart.{UserPart}
+use Rattle.plain_process.specs.declared.user_part.ThreadPart.{ThreadPart}
+use Rattle.plain_process.specs.declared.user_part.Waiter.{Waiter}
+use Rattle.plain_process.specs.Threads.{after_call, with_waiters, without_waiter, awake, awake_by, first_waiter, Woken, woken_by, wake_one, wake}
 use Rattle.guest_proc.specs.Guests.{with_threads}
 use Rattle.guest_proc.specs.Threads.{changed, changed_by}
 

@@ -4,19 +4,19 @@ use Rattle.std.specs.Coded.{Coded, code_by, coded×, coded_ℕ}
 use Rattle.std.specs.Ordering.{nat_cmp}
 use Rattle.std.specs.FinMap as map
 use Rattle.sys_abi.specs.declared.request.Request.{Request}
-use Rattle.plain_machine.specs.declared.user_part.ThreadPart.{ThreadPart}
-use Rattle.plain_machine.specs.Memory.{Memory}
+use Rattle.plain_process.specs.declared.user_part.ThreadPart.{ThreadPart}
+use Rattle.plain_process.specs.Memory.{Memory}
 use Rattle.sys_abi.specs.declared.identity.VPid.{VPid}
 use Rattle.sys_abi.specs.Orders.{coded_vpid}
-use Rattle.plain_machine.specs.declared.user_part.UserPart.{UserPart}
-use Rattle.plain_machine.specs.contracts.user_part.UserPart as user_part
-use Rattle.plain_machine.specs.Steps.{UserStep, Stepped, Asks, Trapped, Waits, NoThread}
-use Rattle.plain_machine.specs.declared.user_part.SignalAction.{SignalAction}
-use Rattle.plain_machine.specs.Deliveries.{Delivery, Enters, Ignores, Kills, with_entered}
-use Rattle.plain_machine.specs.Threads.{with_waiters, without_waiter}
+use Rattle.plain_process.specs.declared.user_part.UserPart.{UserPart}
+use Rattle.plain_process.specs.contracts.user_part.UserPart as user_part
+use Rattle.plain_process.specs.Steps.{UserStep, Stepped, Asks, Trapped, Waits, NoThread}
+use Rattle.plain_process.specs.declared.user_part.SignalAction.{SignalAction}
+use Rattle.plain_process.specs.Deliveries.{Delivery, Enters, Ignores, Kills, with_entered}
+use Rattle.plain_process.specs.Threads.{with_waiters, without_waiter}
 use Rattle.guest_proc.specs.declared.ran.Ran.{Ran}
 use Rattle.guest_proc.specs.declared.ran.Ran.TheVariants.{Whole as RanWhole, Asks as RanAsks, Trapped as RanTrapped, Waits as RanWaits, Memory as RanMemory}
-pub use Rattle.plain_machine.specs.Deliveries.{delivered_told as delivered_by}
+pub use Rattle.plain_process.specs.Deliveries.{delivered_told as delivered_by}
 
 pub record GuestPart : Type 0 where
   pub pid : VPid

@@ -1,10 +1,10 @@
 -- How the bytes that a call reads are lent: as a span of the memory.
 use Rattle.std.specs.Prelude.{◌≡◌, ℕ, ◌≤◌, List, Option, Some, None, is_some, true}
 use Rattle.sys_abi.specs.declared.transfer.TheConstants.{TRANSFER_LIMIT}
-use Rattle.plain_machine.specs.declared.memory.Right.TheVariants.{Read}
-use Rattle.plain_machine.specs.declared.buffers.Span.{Span}
-use Rattle.plain_machine.specs.Memory.{Memory, bytes_at}
-pub use Rattle.plain_machine.specs.Put.{CanHold, CanTake}
+use Rattle.plain_process.specs.declared.memory.Right.TheVariants.{Read}
+use Rattle.plain_process.specs.declared.buffers.Span.{Span}
+use Rattle.plain_process.specs.Memory.{Memory, bytes_at}
+pub use Rattle.plain_process.specs.Put.{CanHold, CanTake}
 
 -- the text is so many bytes from the address on, or can't be read
 abbrev pub IsTextLength : Memory → ℕ → Option ℕ → Option (List ℕ) → Type 0

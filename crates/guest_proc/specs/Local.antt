@@ -10,16 +10,16 @@ use Rattle.std.specs.Prelude.{◌≡◌, ◌==◌, ℕ, ◌++◌, List, [], true
 use Rattle.std.specs.FinMap as map
 use Rattle.sys_abi.specs.declared.request.Request.{Request}
 use Rattle.sys_abi.specs.declared.reply.Reply.TheVariants.{Value as ToValue}
-use Rattle.plain_machine.specs.declared.user_part.SignalAction.{SignalAction}
-use Rattle.plain_machine.specs.declared.user_part.ThreadPart.{ThreadPart}
-use Rattle.plain_machine.specs.declared.user_part.UserPart.{UserPart}
-use Rattle.plain_machine.specs.Memory.{Memory as Pages, low_bytes}
-use Rattle.plain_machine.specs.Buffers.{lent, written_spans}
-use Rattle.plain_machine.specs.Put.{CanTake, added_thread}
-use Rattle.plain_machine.specs.Local.{local_by}
-use Rattle.plain_machine.specs.Attempts.{Try, Fails, Gives}
-use Rattle.plain_machine.specs.Rows.Locals.{Local, Replies, Stays as StaysAs}
-use Rattle.plain_machine.specs.Rows.Handlers.{action_bytes, action_in, word_in}
+use Rattle.plain_process.specs.declared.user_part.SignalAction.{SignalAction}
+use Rattle.plain_process.specs.declared.user_part.ThreadPart.{ThreadPart}
+use Rattle.plain_process.specs.declared.user_part.UserPart.{UserPart}
+use Rattle.plain_process.specs.Memory.{Memory as Pages, low_bytes}
+use Rattle.plain_process.specs.Buffers.{lent, written_spans}
+use Rattle.plain_process.specs.Put.{CanTake, added_thread}
+use Rattle.plain_process.specs.Local.{local_by}
+use Rattle.plain_process.specs.Attempts.{Try, Fails, Gives}
+use Rattle.plain_process.specs.Rows.Locals.{Local, Replies, Stays as StaysAs}
+use Rattle.plain_process.specs.Rows.Handlers.{action_bytes, action_in, word_in}
 use Rattle.guest_proc.specs.declared.local_answer.LocalAnswer.{LocalAnswer}
 use Rattle.guest_proc.specs.declared.local_answer.LocalAnswer.TheVariants.{Value, Action, Mask, Stays}
 use Rattle.guest_proc.specs.declared.local_answer.LocalFault.{LocalFault}

@@ -1,7 +1,7 @@
 -- A memory that is looked at: the memory as it would be after the store that is remembered.
 use Rattle.std.specs.Prelude.{◌≡◌, Option, Some, None, unwrap_or}
-use Rattle.plain_machine.specs.Memory.{Memory, store}
-use Rattle.plain_machine.specs.Instructions.{Effect, Next as ToNext, Calls, Traps}
+use Rattle.plain_process.specs.Memory.{Memory, store}
+use Rattle.plain_process.specs.Instructions.{Effect, Next as ToNext, Calls, Traps}
 use Rattle.rv_isa.specs.declared.outcome.Outcome.{Outcome}
 use Rattle.rv_isa.specs.declared.outcome.Outcome.TheVariants.{Next, Call, Trap}
 use Rattle.guest_proc.specs.declared.peek.Peek.{Peek}

@@ -1,9 +1,9 @@
 -- Instructions in a row, as the loop of a run sees them.
 use Rattle.std.specs.Prelude.{◌≡◌, ℕ, Some}
-use Rattle.plain_machine.specs.declared.regs.Regs.{Regs}
-use Rattle.plain_machine.specs.Memory.{Memory}
-use Rattle.plain_machine.specs.Instructions.{Effect, Calls, Traps}
-use Rattle.plain_machine.specs.Steps.{Running, instructions}
+use Rattle.plain_process.specs.declared.regs.Regs.{Regs}
+use Rattle.plain_process.specs.Memory.{Memory}
+use Rattle.plain_process.specs.Instructions.{Effect, Calls, Traps}
+use Rattle.plain_process.specs.Steps.{Running, instructions}
 use Rattle.sys_abi.specs.Requests.{request_of}
 use Rattle.guest_proc.specs.declared.ran.Ran.{Ran}
 use Rattle.guest_proc.specs.declared.ran.Ran.TheVariants.{Whole as RanWhole, Asks as RanAsks, Trapped as RanTrapped}

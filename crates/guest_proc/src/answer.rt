@@ -1,15 +1,15 @@
 ghost use Rattle.std.specs.Prelude.{◌≡◌, ◌-◌, ◌≤◌, None, is_some, IfSome, IfNone};
 ghost use Rattle.std.specs.FinMap as map;
-ghost use Rattle.plain_machine.specs.Buffers.{written_spans};
-ghost use Rattle.plain_machine.specs.Put.{added_thread, after_threads, put, with_spans};
-ghost use Rattle.plain_machine.specs.Valid.{CanAdd};
+ghost use Rattle.plain_process.specs.Buffers.{written_spans};
+ghost use Rattle.plain_process.specs.Put.{added_thread, after_threads, put, with_spans};
+ghost use Rattle.plain_process.specs.Valid.{CanAdd};
 ghost use Rattle.guest_proc.specs.Guests.{HasThread, with_user};
 ghost use Rattle.guest_proc.specs.Lending.{CanTake};
-ghost use Rattle.plain_machine.specs.Rows.Mappings.{with_memory};
+ghost use Rattle.plain_process.specs.Rows.Mappings.{with_memory};
 
 use crate::buffers::{put_answer, word_of, written_spans};
 use crate::guest::Guest;
-use plain_machine::threads::added_thread;
+use plain_process::threads::added_thread;
 use sys_abi::{Reply, Request, Tid, Transfer};
 
 impl Guest {
@@ -62,7 +62,7 @@ impl Guest {
     }
 
     /// What an answer does to the threads.
-    #[tactic(auto, unfolding(plain_machine::specs::Put::added_thread, plain_machine::specs::Put::after_threads))]
+    #[tactic(auto, unfolding(plain_process::specs::Put::added_thread, plain_process::specs::Put::after_threads))]
     fn change_threads(&mut self, t: Tid, request: &Request, reply: Reply)
         requires thread { HasThread self.old.user t.0 }
         requires free { IfSome (added_thread request.now reply) (λ new. map.get self.old.user.threads new ≡ None) }

@@ -1,14 +1,14 @@
 ghost use Rattle.std.specs.Prelude.{◌≡◌, ◌≢◌, ◌≤◌, ◌↔◌, Some, None, is_some, true, Err, OnOk, OnErr};
 ghost use Rattle.std.specs.List.{list_all};
-ghost use Rattle.plain_machine.specs.Buffers as buffers;
-ghost use Rattle.plain_machine.specs.Memory.{bytes_at, with_bytes};
-ghost use Rattle.plain_machine.specs.Put.{with_spans, word_of};
-ghost use Rattle.plain_machine.specs.declared.memory.Right.TheVariants.{Read as ToRead};
+ghost use Rattle.plain_process.specs.Buffers as buffers;
+ghost use Rattle.plain_process.specs.Memory.{bytes_at, with_bytes};
+ghost use Rattle.plain_process.specs.Put.{with_spans, word_of};
+ghost use Rattle.plain_process.specs.declared.memory.Right.TheVariants.{Read as ToRead};
 ghost use Rattle.sys_abi.specs.declared.transfer.TheConstants.{TRANSFER_LIMIT};
 ghost use Rattle.guest_proc.specs.Lending.{IsSpanOf, IsTextLength, CanHold, CanTake};
 
 use guest_mem::Space;
-use plain_machine::{Right, Source, Span, Spans, length_place, reads_of, writes_of};
+use plain_process::{Right, Source, Span, Spans, length_place, reads_of, writes_of};
 use sys_abi::{Reply, Request, Transfer};
 
 /// Why a call's bytes were not lent.
@@ -83,7 +83,7 @@ pub fn can_write_all(space: &Space, spans: Spans) -> bool
 }
 
 /// The length of the address that the call writes, 0 where it writes none.
-#[tactic(auto, unfolding(plain_machine::specs::Buffers::size_of))]
+#[tactic(auto, unfolding(plain_process::specs::Buffers::size_of))]
 fn size_of(space: &Space, request: &Request) -> u32
     ensures { result ≡ buffers.size_of space.now request.now }
 {

@@ -1,14 +1,14 @@
 ghost use Rattle.std.specs.Prelude.{◌≡◌, ◌-◌, ◌≤◌, max, Some, None, OnOk, OnErr};
 ghost use Rattle.std.specs.FinMap as map;
 ghost use Rattle.sys_abi.specs.declared.reply.Reply.TheVariants.{Value};
-ghost use Rattle.plain_machine.specs.Put.{added_thread};
-ghost use Rattle.plain_machine.specs.Threads.{with_called_thread, with_called_thread_by, with_new_thread};
+ghost use Rattle.plain_process.specs.Put.{added_thread};
+ghost use Rattle.plain_process.specs.Threads.{with_called_thread, with_called_thread_by, with_new_thread};
 ghost use Rattle.guest_proc.specs.Guests.{HasThread, with_threads};
 ghost use Rattle.guest_proc.specs.Threads.{fresh};
 
 use crate::guest::Guest;
-use plain_machine::Regs;
-use plain_machine::threads::{after_call, new_clear_tid, new_regs};
+use plain_process::Regs;
+use plain_process::threads::{after_call, new_clear_tid, new_regs};
 use std::alloc::{AllocError, Global};
 use sys_abi::{Request, Tid};
 
@@ -23,7 +23,7 @@ impl Guest {
 
     /// Adds the thread that a clone makes of its caller, which still stands at the call, into room that is there. The new
     /// thread goes on after the call, with 0 in a0. Takes no memory.
-    #[tactic(auto, unfolding(plain_machine::specs::Put::added_thread, plain_machine::specs::Threads::with_called_thread))]
+    #[tactic(auto, unfolding(plain_process::specs::Put::added_thread, plain_process::specs::Threads::with_called_thread))]
     pub fn add_thread(&mut self, t: Tid, new: Tid, request: &Request)
         requires thread { HasThread self.old.user t.0 }
         requires clone { added_thread request.now (Value new.0) ≡ Some new.0 }

@@ -1,9 +1,9 @@
 ghost use Rattle.std.specs.Prelude.{◌≡◌, ◌-◌, ◌<◌, [], ◌∷◌, ◌++◌, length, take, IfOk};
-ghost use Rattle.plain_machine.specs.Deliveries.{CONTEXT_LIMIT as LIMIT};
-ghost use Rattle.plain_machine.specs.Rows.Handlers.{last_context};
+ghost use Rattle.plain_process.specs.Deliveries.{CONTEXT_LIMIT as LIMIT};
+ghost use Rattle.plain_process.specs.Rows.Handlers.{last_context};
 
-use plain_machine::Context;
-use plain_machine::deliveries::CONTEXT_LIMIT;
+use plain_process::Context;
+use plain_process::deliveries::CONTEXT_LIMIT;
 use std::alloc::{AllocError, Global};
 use std::marker::Model;
 use views::list_of::ListOf;
@@ -16,7 +16,7 @@ pub struct Contexts {
 
 impl Model for Contexts {
     ghost use Rattle.std.specs.Prelude.{◌≤◌, List, vec_capacity};
-    ghost use Rattle.plain_machine.specs.declared.user_part.Context.{Context};
+    ghost use Rattle.plain_process.specs.declared.user_part.Context.{Context};
 
     ghost Value = { List Context };
 

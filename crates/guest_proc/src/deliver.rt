@@ -1,16 +1,16 @@
 ghost use Rattle.std.specs.Prelude.{◌≡◌, ◌<◌, Bool, Some, length, option_map, IfSome};
 ghost use Rattle.std.specs.FinMap as map;
-ghost use Rattle.plain_machine.specs.Deliveries as words;
-ghost use Rattle.plain_machine.specs.Steps.{user_step};
-ghost use Rattle.plain_machine.specs.Deliveries.{CONTEXT_LIMIT};
+ghost use Rattle.plain_process.specs.Deliveries as words;
+ghost use Rattle.plain_process.specs.Steps.{user_step};
+ghost use Rattle.plain_process.specs.Deliveries.{CONTEXT_LIMIT};
 ghost use Rattle.guest_proc.specs.Guests.{HasThread, with_user, delivered_by, part_after, entered_in};
 ghost use Rattle.guest_proc.specs.Threads.{at_thread};
 
 use crate::guest::Guest;
 use crate::ran::Ran;
 use crate::threads::Threads;
-use plain_machine::deliveries::{action_on, decided, handler_mask, handler_regs, interrupted};
-use plain_machine::{Context, SignalAction};
+use plain_process::deliveries::{action_on, decided, handler_mask, handler_regs, interrupted};
+use plain_process::{Context, SignalAction};
 use sys_abi::{Delivered, Signal, Tid};
 
 impl Guest {

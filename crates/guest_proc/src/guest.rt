@@ -3,10 +3,10 @@ ghost use Rattle.std.specs.FinMap as map;
 ghost use Rattle.views.specs.NumberMap.{is_above};
 ghost use Rattle.elf32.specs.Pages.{page_count};
 ghost use Rattle.elf32.specs.Programs.{IsWellPlaced};
-ghost use Rattle.plain_machine.specs.Start.{start_user};
-ghost use Rattle.plain_machine.specs.Steps.{user_step, user_steps, waits};
-ghost use Rattle.plain_machine.specs.Buffers.{lent};
-ghost use Rattle.plain_machine.specs.Valid.{IsByte, IsUser};
+ghost use Rattle.plain_process.specs.Start.{start_user};
+ghost use Rattle.plain_process.specs.Steps.{user_step, user_steps, waits};
+ghost use Rattle.plain_process.specs.Buffers.{lent};
+ghost use Rattle.plain_process.specs.Valid.{IsByte, IsUser};
 ghost use Rattle.image_codec.specs.ProcessImages.{HasImage, SpellsProcess};
 ghost use Rattle.image_codec.specs.UserParts.{user_of, page_entry, thread_entry};
 ghost use Rattle.guest_proc.specs.Guests.{HasThread, Tells, ran_at};
@@ -22,7 +22,7 @@ use crate::threads::Threads;
 use crate::waiters::Waiters;
 use elf32::Program;
 use image_codec::ProcImage;
-use plain_machine::{Regs, SignalAction};
+use plain_process::{Regs, SignalAction};
 use std::alloc::{AllocError, Global};
 use std::marker::Model;
 use sys_abi::{Request, Tid, Transfer, VPid};
@@ -65,7 +65,7 @@ impl Model for Guest {
 impl Guest {
     /// The start of a program with these argument strings, each with its zero byte, the name first: its one thread has the
     /// process's own number.
-    #[tactic(auto, unfolding(plain_machine::specs::Start::start_user))]
+    #[tactic(auto, unfolding(plain_process::specs::Start::start_user))]
     pub fn load(
         alloc: Global,
         pid: VPid,
@@ -236,7 +236,7 @@ impl Guest {
     /// # Errors
     ///
     /// `Fault` exactly where some buffer of the call is not readable or writable as it needs; the transfer is as before.
-    #[tactic(auto, unfolding(plain_machine::specs::Buffers::lent, plain_machine::specs::Buffers::given_of))]
+    #[tactic(auto, unfolding(plain_process::specs::Buffers::lent, plain_process::specs::Buffers::given_of))]
     pub fn lend(
         &mut self,
         t: Tid,

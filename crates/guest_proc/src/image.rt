@@ -8,7 +8,7 @@ use crate::load::insert_page;
 use crate::rows::{Row, put_row};
 use guest_mem::Space;
 use image_codec::{PageImage, ThreadImage};
-use plain_machine::ThreadPart;
+use plain_process::ThreadPart;
 use std::alloc::{AllocError, Global};
 use views::duplicate::Duplicate;
 use views::list_of::ListOf;

@@ -1,14 +1,14 @@
 ghost use Rattle.std.specs.Prelude.{◌≡◌, ◌+◌, ◌*◌, ◌^◌, ◌≤◌, ◌<◌, length, find, Some, IfOk, OnOk};
 ghost use Rattle.std.specs.Option.{option_copied};
 ghost use Rattle.std.specs.FinMap as map;
-ghost use Rattle.plain_machine.specs.Start as start;
+ghost use Rattle.plain_process.specs.Start as start;
 ghost use Rattle.elf32.specs.Pages.{page_count};
 ghost use Rattle.guest_proc.specs.declared.load.TheConstants.{PROGRAM_PAGES};
 
 use elf32::page::{is_touched, page_rights};
 use elf32::{Program, Segment};
 use guest_mem::{MemFault, Space};
-use plain_machine::Frame;
+use plain_process::Frame;
 use std::alloc::{AllocError, Global};
 use sys_abi::Page;
 
@@ -30,7 +30,7 @@ fn segment_at(segments: &[Segment], address: u32) -> Option<&Segment>
 }
 
 /// The byte of the segments at an address, 0 where none of them has one.
-#[tactic(auto, unfolding(plain_machine::specs::Start::segment_byte))]
+#[tactic(auto, unfolding(plain_process::specs::Start::segment_byte))]
 fn segment_byte(segments: &[Segment], address: u32) -> u8
     ensures { result ≡ start.segment_byte segments.now address }
 {

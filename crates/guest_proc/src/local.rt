@@ -1,14 +1,14 @@
 //! The calls that a process answers alone.
 ghost use Rattle.std.specs.Prelude.{◌≡◌, ℕ, List, [], Some, is_some, true, OnOk, OnErr};
-ghost use Rattle.plain_machine.specs.Buffers as buffers;
-ghost use Rattle.plain_machine.specs.Local.{local_by, local_row, local_settled};
-ghost use Rattle.plain_machine.specs.Memory as memory;
-ghost use Rattle.plain_machine.specs.Put.{put};
-ghost use Rattle.plain_machine.specs.Attempts.{Gives};
-ghost use Rattle.plain_machine.specs.Rows.Futex as futex;
-ghost use Rattle.plain_machine.specs.declared.buffers.Source.TheVariants.{Bytes};
-ghost use Rattle.plain_machine.specs.declared.user_part.ThreadPart.{ThreadPart};
-ghost use Rattle.plain_machine.specs.declared.user_part.UserPart.{UserPart};
+ghost use Rattle.plain_process.specs.Buffers as buffers;
+ghost use Rattle.plain_process.specs.Local.{local_by, local_row, local_settled};
+ghost use Rattle.plain_process.specs.Memory as memory;
+ghost use Rattle.plain_process.specs.Put.{put};
+ghost use Rattle.plain_process.specs.Attempts.{Gives};
+ghost use Rattle.plain_process.specs.Rows.Futex as futex;
+ghost use Rattle.plain_process.specs.declared.buffers.Source.TheVariants.{Bytes};
+ghost use Rattle.plain_process.specs.declared.user_part.ThreadPart.{ThreadPart};
+ghost use Rattle.plain_process.specs.declared.user_part.UserPart.{UserPart};
 ghost use Rattle.sys_abi.specs.declared.reply.Reply.TheVariants.{Error};
 ghost use Rattle.sys_abi.specs.declared.request.Request.TheVariants.{Futex};
 ghost use Rattle.guest_proc.specs.Guests.{HasThread, with_user};
@@ -19,8 +19,8 @@ use crate::local_answer::{
     LocalAnswer, LocalFault, UNKNOWN, action_answer, mask_answer, no_answer, value_answer,
 };
 use crate::local_reads::{is_lendable, new_action, new_set, word_at};
-use plain_machine::SignalAction;
-use plain_machine::handlers::{action_bytes, mask_bytes};
+use plain_process::SignalAction;
+use plain_process::handlers::{action_bytes, mask_bytes};
 use std::alloc::{AllocError, Global};
 use sys_abi::errors::EFAULT;
 use sys_abi::{Errno, Reply, Request, Tid};

@@ -1,7 +1,7 @@
 ghost use Rattle.std.specs.Prelude.{◌≡◌};
 ghost use Rattle.guest_proc.specs.Local as words;
 
-use plain_machine::SignalAction;
+use plain_process::SignalAction;
 use sys_abi::Errno;
 use sys_abi::errors::{EINVAL, ENOSYS};
 

@@ -2,17 +2,17 @@
 ghost use Rattle.std.specs.Prelude.{◌≡◌, ◌==◌, ◌&&◌, ◌||◌, ℕ, ◌-◌, List, not, nat_le, slice_set, Some, if◌then◌else◌};
 ghost use Rattle.std.specs.FinMap as map;
 ghost use Rattle.sys_abi.specs.Signals.{is_signal as is_number};
-ghost use Rattle.plain_machine.specs.Rows.Handlers as rows;
-ghost use Rattle.plain_machine.specs.Steps.{with_regs, with_thread};
-ghost use Rattle.plain_machine.specs.declared.user_part.ThreadPart.{ThreadPart};
+ghost use Rattle.plain_process.specs.Rows.Handlers as rows;
+ghost use Rattle.plain_process.specs.Steps.{with_regs, with_thread};
+ghost use Rattle.plain_process.specs.declared.user_part.ThreadPart.{ThreadPart};
 ghost use Rattle.guest_proc.specs.Guests.{HasThread};
 ghost use Rattle.guest_proc.specs.Local.{DoesRow, action_told, mask_told, stays_told, NamesAction, NamesSet, with_change};
 ghost use Rattle.guest_proc.specs.Threads.{with_contexts, earlier};
 
 use crate::guest::Guest;
 use crate::local_answer::{INVALID, LocalFault};
-use plain_machine::handlers::{is_uncatchable, mask_by};
-use plain_machine::{Context, Regs, SignalAction};
+use plain_process::handlers::{is_uncatchable, mask_by};
+use plain_process::{Context, Regs, SignalAction};
 use sys_abi::signals::is_signal;
 use sys_abi::{Signal, Tid};
 use views::list_of::ListOf;
@@ -51,7 +51,7 @@ impl Guest {
     }
 
     /// rt_sigaction: it answers the old action.
-    #[tactic(auto, unfolding(plain_machine::specs::Rows::Handlers::sigaction_row, plain_machine::specs::Attempts::and_then, plain_machine::specs::Attempts::need))]
+    #[tactic(auto, unfolding(plain_process::specs::Rows::Handlers::sigaction_row, plain_process::specs::Attempts::and_then, plain_process::specs::Attempts::need))]
     pub(crate) fn sigaction(
         &mut self,
         signal: u32,
@@ -85,7 +85,7 @@ impl Guest {
     }
 
     /// rt_sigprocmask: it answers the old mask.
-    #[tactic(auto, unfolding(plain_machine::specs::Rows::Handlers::sigprocmask_row, plain_machine::specs::Attempts::and_then, plain_machine::specs::Attempts::need))]
+    #[tactic(auto, unfolding(plain_process::specs::Rows::Handlers::sigprocmask_row, plain_process::specs::Attempts::and_then, plain_process::specs::Attempts::need))]
     pub(crate) fn sigprocmask(
         &mut self,
         t: Tid,

@@ -1,15 +1,15 @@
 //! brk, munmap and mmap (`man 2 brk`, `man 2 mmap`).
 ghost use Rattle.std.specs.Prelude.{◌≡◌, ◌+◌, ◌-◌, ◌≤◌, ◌<◌, ◌^◌, ◌==◌, ◌&&◌, ◌%◌, not, nat_le, nat_lt, IfSome, OnOk, OnErr};
 ghost use Rattle.std.specs.FinMap as map;
-ghost use Rattle.plain_machine.specs.Pages.{MAPPING_START as START, MAPPING_END as END, IsFree};
-ghost use Rattle.plain_machine.specs.Rows.Mappings as rows;
+ghost use Rattle.plain_process.specs.Pages.{MAPPING_START as START, MAPPING_END as END, IsFree};
+ghost use Rattle.plain_process.specs.Rows.Mappings as rows;
 ghost use Rattle.guest_proc.specs.Local.{DoesRow, value_told};
 
 use crate::guest::Guest;
 use crate::local_answer::{INVALID, LocalFault};
 use guest_mem::Space;
 use guest_mem::space::PAGE_LIMIT;
-use plain_machine::mappings::{pages_of, rights_of};
+use plain_process::mappings::{pages_of, rights_of};
 use std::alloc::{AllocError, Global};
 use sys_abi::Errno;
 use sys_abi::errors::ENOMEM;
@@ -81,7 +81,7 @@ impl Guest {
             && pages.saturating_sub(pages_of(self.break_end) as usize) <= PAGE_LIMIT
     }
 
-    #[tactic(auto, unfolding(plain_machine::specs::Rows::Mappings::brk_row))]
+    #[tactic(auto, unfolding(plain_process::specs::Rows::Mappings::brk_row))]
     pub(crate) fn brk(&mut self, alloc: Global, address: u32) -> Result<u32, LocalFault>
         ensures { DoesRow value_told self.old self.new (rows.brk_row self.old.user address) result }
     {
@@ -96,7 +96,7 @@ impl Guest {
         Ok(address)
     }
 
-    #[tactic(auto, unfolding(plain_machine::specs::Rows::Mappings::munmap_row, plain_machine::specs::Attempts::and_then, plain_machine::specs::Attempts::need))]
+    #[tactic(auto, unfolding(plain_process::specs::Rows::Mappings::munmap_row, plain_process::specs::Attempts::and_then, plain_process::specs::Attempts::need))]
     pub(crate) fn munmap(&mut self, address: u32, length: u32) -> Result<u32, LocalFault>
         ensures { DoesRow value_told self.old self.new (rows.munmap_row self.old.user address length) result }
     {
@@ -107,7 +107,7 @@ impl Guest {
         Ok(0)
     }
 
-    #[tactic(auto, unfolding(plain_machine::specs::Rows::Mappings::mmap_row, plain_machine::specs::Attempts::and_then, plain_machine::specs::Attempts::need, plain_machine::specs::Attempts::found))]
+    #[tactic(auto, unfolding(plain_process::specs::Rows::Mappings::mmap_row, plain_process::specs::Attempts::and_then, plain_process::specs::Attempts::need, plain_process::specs::Attempts::found))]
     pub(crate) fn mmap(
         &mut self,
         length: u32,

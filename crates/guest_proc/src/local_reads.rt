@@ -1,15 +1,15 @@
 //! What the calls read that a process answers alone.
 ghost use Rattle.std.specs.Prelude.{◌≡◌, ℕ, List, Some, IsSome, is_some, option_map};
-ghost use Rattle.plain_machine.specs.Buffers.{bytes_of, unless_zero, span, lent};
-ghost use Rattle.plain_machine.specs.Memory.{bytes_at, load};
-ghost use Rattle.plain_machine.specs.Rows.Handlers.{action_in};
-ghost use Rattle.plain_machine.specs.declared.buffers.Source.TheVariants.{Bytes};
-ghost use Rattle.plain_machine.specs.declared.memory.Right.TheVariants.{Read as ToRead};
+ghost use Rattle.plain_process.specs.Buffers.{bytes_of, unless_zero, span, lent};
+ghost use Rattle.plain_process.specs.Memory.{bytes_at, load};
+ghost use Rattle.plain_process.specs.Rows.Handlers.{action_in};
+ghost use Rattle.plain_process.specs.declared.buffers.Source.TheVariants.{Bytes};
+ghost use Rattle.plain_process.specs.declared.memory.Right.TheVariants.{Read as ToRead};
 ghost use Rattle.guest_proc.specs.Local.{NamesAction, NamesSet};
 
 use crate::buffers::{can_write_all, readable_span, written_spans};
 use guest_mem::Space;
-use plain_machine::{SignalAction, reads_of};
+use plain_process::{SignalAction, reads_of};
 use sys_abi::Request;
 use sys_abi::signals::blockable;
 

@@ -1,17 +1,17 @@
 ghost use Rattle.std.specs.Prelude.{◌≡◌};
-ghost use Rattle.plain_machine.specs.Steps.{effect_at};
+ghost use Rattle.plain_process.specs.Steps.{effect_at};
 ghost use Rattle.guest_proc.specs.Looking.{ran_by};
 
 use crate::peek::outcome_of;
 use crate::ram::Ram;
 use crate::ran::Ran;
 use crate::run::{SIGNAL_FAULT, SIGNAL_ILLEGAL};
-use plain_machine::Regs;
+use plain_process::Regs;
 use rv_isa::{Outcome, decode};
 use sys_abi::{Signal, request_of};
 
 /// What the instruction at these registers would come to.
-#[tactic(auto, unfolding(plain_machine::specs::Steps::effect_at))]
+#[tactic(auto, unfolding(plain_process::specs::Steps::effect_at))]
 pub fn look_at(regs: &Regs, ram: &Ram) -> Ran
     ensures { result ≡ ran_by (effect_at regs.now ram.now) regs.now }
 {

@@ -1,9 +1,9 @@
 ghost use Rattle.std.specs.Prelude.{◌≡◌, None};
-ghost use Rattle.plain_machine.specs.Instructions.{effect};
+ghost use Rattle.plain_process.specs.Instructions.{effect};
 ghost use Rattle.guest_proc.specs.Peeking.{memory_of, IsTaken, IsOutcomeOf};
 
 use crate::ram::Ram;
-use plain_machine::{Insn, Regs};
+use plain_process::{Insn, Regs};
 use rv_isa::{AccessFault, GuestMemory, Outcome, exec};
 
 /// A store that is not made yet.

@@ -1,6 +1,6 @@
 ghost use Rattle.std.specs.Prelude.{◌≡◌, ◌<◌, ◌≤◌, ◌^◌, ℕ, Option, length, map as each, All, IfOk};
 ghost use Rattle.std.specs.FinMap as map;
-ghost use Rattle.plain_machine.specs.Memory.{Memory, fetch};
+ghost use Rattle.plain_process.specs.Memory.{Memory, fetch};
 ghost use Rattle.image_codec.specs.UserParts.{page_entry};
 
 use crate::image::page_images;
@@ -18,10 +18,10 @@ pub struct Ram {
 }
 
 impl Model for Ram {
-    ghost use Rattle.plain_machine.specs.Memory.{Memory};
+    ghost use Rattle.plain_process.specs.Memory.{Memory};
     ghost use Rattle.std.specs.FinMap as map;
     ghost use Rattle.std.specs.Coded.{coded_ℕ};
-    ghost use Rattle.plain_machine.specs.contracts.memory.Frame as frame;
+    ghost use Rattle.plain_process.specs.contracts.memory.Frame as frame;
 
     ghost Value = { Memory };
 

@@ -1,16 +1,16 @@
 ghost use Rattle.std.specs.Prelude.{◌≡◌, ◌==◌, ◌<◌, ◌≤◌, ◌+◌, ◌∷◌, ◌++◌, [], find, slice_get, length, vec_len, vec_capacity, option_map, option_and_then, IsOk, OnOk, OnErr, IfSome};
 ghost use Rattle.std.specs.Option.{option_copied};
 ghost use Rattle.std.specs.FinMap as map;
-ghost use Rattle.plain_machine.specs.Deliveries.{CONTEXT_LIMIT};
-ghost use Rattle.plain_machine.specs.Local.{with_clear_tid};
-ghost use Rattle.plain_machine.specs.Rows.Handlers.{last_context, with_mask};
-ghost use Rattle.plain_machine.specs.Steps.{with_regs};
+ghost use Rattle.plain_process.specs.Deliveries.{CONTEXT_LIMIT};
+ghost use Rattle.plain_process.specs.Local.{with_clear_tid};
+ghost use Rattle.plain_process.specs.Rows.Handlers.{last_context, with_mask};
+ghost use Rattle.plain_process.specs.Steps.{with_regs};
 ghost use Rattle.views.specs.NumberMap.{is_above};
 ghost use Rattle.guest_proc.specs.Rows.{part_of, threads_of, place, IsRising, IsIndex};
 ghost use Rattle.guest_proc.specs.Threads.{changed, with_contexts, earlier};
 
 use crate::contexts::Contexts;
-use plain_machine::{Context, Regs};
+use plain_process::{Context, Regs};
 use std::alloc::AllocError;
 
 /// A thread of a process with its number.

@@ -1,10 +1,10 @@
 ghost use Rattle.std.specs.Prelude.{◌≡◌, ◌≢◌, ◌↔◌, ◌≤◌};
-ghost use Rattle.plain_machine.specs.Steps.{effect_at};
+ghost use Rattle.plain_process.specs.Steps.{effect_at};
 ghost use Rattle.guest_proc.specs.Running.{HasRun, IsStop};
 ghost use Rattle.rv_isa.specs.Outcomes.{IsOutcome, KeepsUnlessNext};
 
 use crate::ram::Ram;
-use plain_machine::Regs;
+use plain_process::Regs;
 use rv_isa::{Outcome, decode, exec};
 use sys_abi::Signal;
 
@@ -23,7 +23,7 @@ pub enum Stop {
 
 /// One instruction at the program counter.
 #[inline]
-#[tactic(auto, unfolding(plain_machine::specs::Steps::effect_at))]
+#[tactic(auto, unfolding(plain_process::specs::Steps::effect_at))]
 fn instruction(regs: &mut Regs, ram: &mut Ram) -> Outcome
     ensures outcome { IsOutcome result (effect_at regs.old ram.old) regs.new ram.new }
     ensures regs { KeepsUnlessNext result regs.old regs.new }

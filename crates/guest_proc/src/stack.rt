@@ -1,6 +1,6 @@
 ghost use Rattle.std.specs.Prelude.{◌≡◌, ℕ, ◌+◌, ◌-◌, ◌*◌, ◌/◌, ◌≤◌, ◌++◌, length, replicate, vec_len, IfOk, OnOk};
-ghost use Rattle.plain_machine.specs.Memory as memory;
-ghost use Rattle.plain_machine.specs.Start as start;
+ghost use Rattle.plain_process.specs.Memory as memory;
+ghost use Rattle.plain_process.specs.Start as start;
 
 use std::alloc::{AllocError, Global};
 
@@ -40,7 +40,7 @@ fn sp_below(length: usize, count: usize) -> usize
 }
 
 /// The stack pointer at the start.
-#[tactic(auto, unfolding(plain_machine::specs::Start::start_sp))]
+#[tactic(auto, unfolding(plain_process::specs::Start::start_sp))]
 pub fn start_sp(alloc: Global, arguments: &[u8]) -> Result<u32, AllocError>
     requires some { 1 ≤ length arguments.now }
     requires few { length arguments.now ≤ 4096 }
@@ -89,7 +89,7 @@ fn put_zeros(alloc: Global, bytes: &mut Vec<u8>, count: usize) -> Result<(), All
 }
 
 /// What the stack's pages hold at the start.
-#[tactic(auto, unfolding(plain_machine::specs::Start::start_stack, plain_machine::specs::Start::start_sp))]
+#[tactic(auto, unfolding(plain_process::specs::Start::start_stack, plain_process::specs::Start::start_sp))]
 pub fn start_stack(alloc: Global, arguments: &[u8]) -> Result<Vec<u8>, AllocError>
     requires some { 1 ≤ length arguments.now }
     requires few { length arguments.now ≤ 4096 }

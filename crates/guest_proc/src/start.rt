@@ -2,14 +2,14 @@ ghost use Rattle.std.specs.Prelude.{◌≡◌, ◌≤◌, ◌+◌, length, repli
 ghost use Rattle.std.specs.FinMap as map;
 ghost use Rattle.elf32.specs.Pages.{page_count};
 ghost use Rattle.elf32.specs.Programs.{IsWellPlaced};
-ghost use Rattle.plain_machine.specs.Start as start;
+ghost use Rattle.plain_process.specs.Start as start;
 
 use crate::load::{insert_page, put_pages, put_segments};
 use crate::stack::{start_sp, start_stack};
 use crate::threads::Threads;
 use elf32::{Program, Segment};
 use guest_mem::Space;
-use plain_machine::{Frame, Regs, SignalAction};
+use plain_process::{Frame, Regs, SignalAction};
 use std::alloc::{AllocError, Global};
 use sys_abi::Page;
 use views::list_of::ListOf;
@@ -37,7 +37,7 @@ fn return_page(alloc: Global) -> Result<Page, AllocError>
     Ok(page)
 }
 
-#[tactic(auto, unfolding(plain_machine::specs::Start::with_pages))]
+#[tactic(auto, unfolding(plain_process::specs::Start::with_pages))]
 fn put_return_page(alloc: Global, space: &mut Space) -> Result<(), AllocError>
     requires { map.len space.old ≤ 1600 }
     ensures { OnOk result (space.new ≡ start.with_pages space.old start.RETURN_PAGE 1 5 start.return_code) }
@@ -50,7 +50,7 @@ fn put_return_page(alloc: Global, space: &mut Space) -> Result<(), AllocError>
 }
 
 /// The memory of a program at its start.
-#[tactic(auto, unfolding(plain_machine::specs::Start::start_memory))]
+#[tactic(auto, unfolding(plain_process::specs::Start::start_memory))]
 pub fn start_space(alloc: Global, program: &Program, arguments: &[u8]) -> Result<Space, AllocError>
     requires pages { page_count program.now.segments ≤ 1536 }
     requires some { 1 ≤ length arguments.now }
@@ -82,7 +82,7 @@ fn highest_end(segments: &[Segment]) -> u64
 }
 
 /// Where the break starts.
-#[tactic(auto, unfolding(plain_machine::specs::Start::break_of), using(crate::proofs::Breaks::highest_end_low))]
+#[tactic(auto, unfolding(plain_process::specs::Start::break_of), using(crate::proofs::Breaks::highest_end_low))]
 pub fn break_of(segments: &[Segment]) -> u32
     requires { All IsWellPlaced segments.now }
     ensures { result ≡ start.break_of segments.now }
@@ -91,7 +91,7 @@ pub fn break_of(segments: &[Segment]) -> u32
     (4096 * pages) as u32
 }
 
-#[tactic(auto, unfolding(plain_machine::specs::Start::start_regs))]
+#[tactic(auto, unfolding(plain_process::specs::Start::start_regs))]
 fn start_regs(alloc: Global, program: &Program, arguments: &[u8]) -> Result<Regs, AllocError>
     requires some { 1 ≤ length arguments.now }
     requires few { length arguments.now ≤ 4096 }

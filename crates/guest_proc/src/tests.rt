@@ -5,8 +5,8 @@ ghost use Rattle.guest_proc.specs.Guests.{HasThread};
 
 use crate::{Guest, Ran};
 use elf32::read_elf;
-use plain_machine::Regs;
-use plain_machine::threads::added_thread;
+use plain_process::Regs;
+use plain_process::threads::added_thread;
 use std::alloc::{AllocError, Global};
 use std::test::Fail;
 use sys_abi::{Reply, Request, Tid, VPid};

@@ -1,6 +1,6 @@
 ghost use Rattle.std.specs.Prelude.{◌≡◌, ◌↔◌, IsTrue, option_map};
 ghost use Rattle.std.specs.FinMap as map;
-ghost use Rattle.plain_machine.specs.Threads as words;
+ghost use Rattle.plain_process.specs.Threads as words;
 ghost use Rattle.guest_proc.specs.Guests.{with_user};
 
 use crate::guest::Guest;

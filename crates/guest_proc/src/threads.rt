@@ -3,10 +3,10 @@ ghost use Rattle.std.specs.Option.{option_copied};
 ghost use Rattle.std.specs.FinMap as map;
 ghost use Rattle.views.specs.NumberMap.{is_above};
 ghost use Rattle.image_codec.specs.UserParts.{thread_entry};
-ghost use Rattle.plain_machine.specs.Deliveries.{CONTEXT_LIMIT};
-ghost use Rattle.plain_machine.specs.Local.{with_clear_tid};
-ghost use Rattle.plain_machine.specs.Rows.Handlers.{last_context, with_mask};
-ghost use Rattle.plain_machine.specs.Steps.{with_regs};
+ghost use Rattle.plain_process.specs.Deliveries.{CONTEXT_LIMIT};
+ghost use Rattle.plain_process.specs.Local.{with_clear_tid};
+ghost use Rattle.plain_process.specs.Rows.Handlers.{last_context, with_mask};
+ghost use Rattle.plain_process.specs.Steps.{with_regs};
 ghost use Rattle.guest_proc.specs.Rows.{part_of};
 ghost use Rattle.guest_proc.specs.Threads.{at_thread, with_contexts, earlier, fresh};
 
@@ -17,7 +17,7 @@ use crate::rows::{
     set_mask, set_regs,
 };
 use image_codec::ThreadImage;
-use plain_machine::{Context, Regs};
+use plain_process::{Context, Regs};
 use std::alloc::{AllocError, Global};
 use std::marker::Model;
 use views::list_of::ListOf;

@@ -1,9 +1,9 @@
 ghost use Rattle.std.specs.Prelude.{◌≡◌, ◌==◌, [], ◌∷◌, ◌++◌, IfOk, OnOk, OnErr};
 ghost use Rattle.std.specs.List.{list_any};
-ghost use Rattle.plain_machine.specs.Threads as words;
+ghost use Rattle.plain_process.specs.Threads as words;
 
-use plain_machine::Waiter;
-use plain_machine::threads::{first_waiter, remove_waiter};
+use plain_process::Waiter;
+use plain_process::threads::{first_waiter, remove_waiter};
 use std::alloc::{AllocError, Global};
 use std::marker::Model;
 use views::list_of::ListOf;
@@ -16,7 +16,7 @@ pub struct Waiters {
 
 impl Model for Waiters {
     ghost use Rattle.std.specs.Prelude.{List};
-    ghost use Rattle.plain_machine.specs.declared.user_part.Waiter.{Waiter};
+    ghost use Rattle.plain_process.specs.declared.user_part.Waiter.{Waiter};
 
     ghost Value = { List Waiter };
 

@@ -1,11 +1,11 @@
 ghost use Rattle.std.specs.Prelude.{◌≡◌, ℕ};
-ghost use Rattle.plain_machine.specs.Threads as words;
+ghost use Rattle.plain_process.specs.Threads as words;
 ghost use Rattle.guest_proc.specs.Guests.{with_user, with_threads};
 ghost use Rattle.guest_proc.specs.Threads.{changed};
 
 use crate::guest::Guest;
-use plain_machine::Waiter;
-use plain_machine::threads::after_call;
+use plain_process::Waiter;
+use plain_process::threads::after_call;
 
 impl Guest {
     /// A thread's call answers this word, if the thread is there.

@@ -11,7 +11,7 @@ use Rattle.std.proofs.lemmas.List.Elements.{All-nil, All-cons, All-head, All-tai
 use Rattle.std.proofs.lemmas.List.Kept.{AllPairs-cons}
 use Rattle.std.proofs.lemmas.List.Sums.{count_by-le-length, sum_by-cons}
 use Rattle.views.proofs.MapLaws.{true_false}
-use Rattle.plain_machine.specs.declared.user_part.Waiter.{Waiter}
+use Rattle.plain_process.specs.declared.user_part.Waiter.{Waiter}
 use Rattle.image_codec.specs.Texts.{EachFrom}
 use Rattle.image_codec.specs.ProcessTests.{is_among}
 use Rattle.image_codec.specs.ProcessImages.{IsWaiter}

@@ -17,12 +17,13 @@ use Rattle.sys_abi.specs.declared.identity.DescId.{DescId}
 use Rattle.sys_abi.specs.Orders.{vpid_cmp, slot_cmp, desc_cmp, dir_cmp}
 use Rattle.sys_abi.proofs.OrderLaws.{vpid_total, vpid_exact, slot_total, slot_exact, desc_total, desc_exact, dir_total, dir_exact}
 use Rattle.plain_machine.specs.declared.kernel.PlainKernel.{PlainKernel}
-use Rattle.plain_machine.specs.declared.process.Process.{Process}
-use Rattle.plain_machine.specs.declared.process.Maker.{Maker}
+use Rattle.plain_tables.specs.declared.process.Process.{Process}
+use Rattle.plain_tables.specs.declared.process.Maker.{Maker}
 use Rattle.sys_abi.specs.declared.life.Life.{Life}
-use Rattle.plain_machine.specs.declared.description.Descriptor.{Descriptor}
-use Rattle.plain_machine.specs.Kernel.{is_held, refers_to}
-use Rattle.plain_machine.specs.Valid.{Each, FitsLife, IsDescriptor, IsDirection, IsGivenOut, IsKernel, IsProcess, IsSignalSet}
+use Rattle.plain_tables.specs.declared.description.Descriptor.{Descriptor}
+use Rattle.plain_tables.specs.Tables.{is_held, refers_to}
+use Rattle.plain_process.specs.Valid.{Each}
+use Rattle.plain_machine.specs.Valid.{FitsLife, IsDescriptor, IsDirection, IsGivenOut, IsKernel, IsProcess, IsSignalSet}
 use Rattle.image_codec.specs.declared.shared.ChannelImage.{ChannelImage}
 use Rattle.image_codec.specs.declared.shared.DescriptionImage.{DescriptionImage}
 use Rattle.image_codec.specs.declared.shared.DescriptorEntry.{DescriptorEntry}

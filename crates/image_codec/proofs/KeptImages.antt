@@ -15,7 +15,7 @@ use Rattle.views.proofs.MapValues.{EachEntry, each_entry}
 use Rattle.sys_abi.specs.declared.identity.VPid.{VPid}
 use Rattle.sys_abi.proofs.OrderLaws.{vpid_total, vpid_exact}
 use Rattle.plain_machine.specs.declared.kernel.PlainKernel.{PlainKernel}
-use Rattle.plain_machine.specs.declared.process.Process.{Process}
+use Rattle.plain_tables.specs.declared.process.Process.{Process}
 use Rattle.sys_abi.specs.declared.life.Life.{Life}
 use Rattle.sys_abi.specs.declared.life.Life.TheVariants.{Live}
 use Rattle.plain_machine.specs.Valid.{FitsLife, IsGivenOut, IsKernel, IsProcess, IsSignalSet}

@@ -3,9 +3,9 @@ use Rattle.std.proofs.Common.{◌≡◌, ℕ, suc, ◌<◌, ◌^◌, ◌==◌, �
 use Rattle.std.specs.Prelude.{All, slice_index, if◌then◌else◌}
 use Rattle.std.proofs.lemmas.Bool.Decides.{nat_tests}
 use Rattle.std.proofs.lemmas.List.Elements.{All-weaker, All-cons, All-tail}
-use Rattle.plain_machine.specs.declared.user_part.Context.{Context}
-use Rattle.plain_machine.specs.declared.user_part.SignalAction.{SignalAction}
-use Rattle.plain_machine.specs.declared.user_part.Waiter.{Waiter}
+use Rattle.plain_process.specs.declared.user_part.Context.{Context}
+use Rattle.plain_process.specs.declared.user_part.SignalAction.{SignalAction}
+use Rattle.plain_process.specs.declared.user_part.Waiter.{Waiter}
 use Rattle.image_codec.specs.declared.page_image.PageImage.{PageImage}
 use Rattle.image_codec.specs.declared.thread_image.ThreadImage.{ThreadImage}
 use Rattle.image_codec.specs.Format.{n8, n32, any, bytes_of}
@@ -13,7 +13,7 @@ use Rattle.image_codec.specs.Texts.{FitsField}
 use Rattle.image_codec.specs.ProcessTests.{is_page_number, is_page_rights, is_page_content, is_waiting, is_context_count, is_thread_at}
 use Rattle.image_codec.specs.ProcessImages.{word_format, page_format, action_format, waiter_format, registers_format, context_format, thread_format, page_text, action_text, waiter_text, registers_text, context_text, thread_text, list_text, IsPage, IsWaiter, IsRegisters, IsThreadImage, ActionWords, ContextWords, WaiterWords, ThreadWords}
 use Rattle.image_codec.proofs.Texts.{Law, in_words, next_law, unsigned_law, raw_law, counted_law, each_law, give_law, all_from_each, each_from_all, both_from_each, each_from_both}
-use Rattle.plain_machine.specs.Valid.{IsWord}
+use Rattle.plain_process.specs.Valid.{IsWord}
 
 abbrev IsAnyWord : ℕ → Type 0
 IsAnyWord n = FitsField n32 any n

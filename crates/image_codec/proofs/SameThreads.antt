@@ -6,8 +6,8 @@ use Rattle.std.specs.FinMap as map
 use Rattle.std.specs.FinMap.{nat_cmp-IsAntisymmetric}
 use Rattle.views.specs.Maps.{map_values}
 use Rattle.views.proofs.MapValues.{get-map_values, keys-map_values}
-use Rattle.plain_machine.specs.declared.process.Process.{Process}
-use Rattle.plain_machine.specs.declared.user_part.ThreadPart.{ThreadPart}
+use Rattle.plain_tables.specs.declared.process.Process.{Process}
+use Rattle.plain_process.specs.declared.user_part.ThreadPart.{ThreadPart}
 use Rattle.image_codec.specs.ProcessTests.{is_among}
 use Rattle.image_codec.specs.ProcessImages.{pid_at, tids_at, threads_of}
 use Rattle.image_codec.specs.UserParts.{user_of}

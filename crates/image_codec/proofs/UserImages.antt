@@ -15,9 +15,9 @@ use Rattle.views.proofs.TreeMaps.{entries-from_entries}
 use Rattle.sys_abi.specs.declared.identity.VPid.{VPid}
 use Rattle.sys_abi.specs.Orders.{vpid_cmp}
 use Rattle.sys_abi.proofs.OrderLaws.{vpid_total}
-use Rattle.plain_machine.specs.declared.memory.Frame.{Frame}
-use Rattle.plain_machine.specs.declared.user_part.ThreadPart.{ThreadPart}
-use Rattle.plain_machine.specs.declared.user_part.UserPart.{UserPart}
+use Rattle.plain_process.specs.declared.memory.Frame.{Frame}
+use Rattle.plain_process.specs.declared.user_part.ThreadPart.{ThreadPart}
+use Rattle.plain_process.specs.declared.user_part.UserPart.{UserPart}
 use Rattle.image_codec.specs.declared.page_image.PageImage.{PageImage}
 use Rattle.image_codec.specs.declared.thread_image.ThreadImage.{ThreadImage}
 use Rattle.image_codec.specs.declared.process_image.ProcImage.{ProcImage}

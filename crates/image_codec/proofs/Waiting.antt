@@ -1,7 +1,7 @@
 -- The test of a waiter's thread, made of two searches
 use Rattle.std.proofs.Common.{◌≡◌, ℕ, ◌==◌, ◌&&◌, ◌||◌, not, Bool, true, false, List, [], ◌∷◌, map, refl, sym, ap, ◌∙◌}
 use Rattle.std.specs.List.{list_any}
-use Rattle.plain_machine.specs.declared.user_part.Waiter.{Waiter}
+use Rattle.plain_process.specs.declared.user_part.Waiter.{Waiter}
 use Rattle.image_codec.specs.declared.shared.ThreadEntry.{ThreadEntry}
 use Rattle.image_codec.specs.ProcessImages.{tids_of}
 use Rattle.image_codec.specs.ProcessTests.{is_among, is_waiting}

@@ -7,14 +7,14 @@ use Rattle.std.specs.FinMap as map
 use Rattle.sys_abi.specs.declared.identity.VPid.{VPid}
 use Rattle.sys_abi.specs.declared.identity.Slot.{Slot}
 use Rattle.sys_abi.specs.declared.identity.DescId.{DescId}
-use Rattle.plain_machine.specs.declared.process.Process.{Process}
-use Rattle.plain_machine.specs.declared.process.Maker.{Maker}
-use Rattle.plain_machine.specs.declared.description.Object.{Object}
-use Rattle.plain_machine.specs.declared.description.Object.TheVariants as object
-use Rattle.plain_machine.specs.declared.description.Description.{Description}
-use Rattle.plain_machine.specs.declared.description.Descriptor.{Descriptor}
+use Rattle.plain_tables.specs.declared.process.Process.{Process}
+use Rattle.plain_tables.specs.declared.process.Maker.{Maker}
+use Rattle.plain_tables.specs.declared.description.Object.{Object}
+use Rattle.plain_tables.specs.declared.description.Object.TheVariants as object
+use Rattle.plain_tables.specs.declared.description.Description.{Description}
+use Rattle.plain_tables.specs.declared.description.Descriptor.{Descriptor}
 use Rattle.plain_machine.specs.declared.kernel.PlainKernel.{PlainKernel}
-use Rattle.plain_machine.specs.Kernel.{is_slot_of}
+use Rattle.plain_tables.specs.Tables.{is_slot_of}
 use Rattle.image_codec.specs.declared.shared.ObjectImage.{ObjectImage}
 use Rattle.image_codec.specs.declared.shared.ObjectImage.TheVariants.{Console, File, Stream, Socket}
 use Rattle.image_codec.specs.declared.shared.DescriptionImage.{DescriptionImage}

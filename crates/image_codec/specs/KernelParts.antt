@@ -14,16 +14,16 @@ use Rattle.sys_abi.specs.declared.identity.ConnId.{ConnId}
 use Rattle.sys_abi.specs.declared.identity.Dir.{Dir}
 use Rattle.sys_abi.specs.declared.identity.VirtAddr.{VirtAddr}
 use Rattle.sys_abi.specs.Orders.{conn_cmp}
-use Rattle.plain_machine.specs.declared.process.Process.{Process}
-use Rattle.plain_machine.specs.declared.process.Maker.{Maker}
-use Rattle.plain_machine.specs.declared.description.Description.{Description}
-use Rattle.plain_machine.specs.declared.description.Descriptor.{Descriptor}
-use Rattle.plain_machine.specs.declared.description.Object.{Object}
-use Rattle.plain_machine.specs.declared.description.Object.TheVariants as object
-use Rattle.plain_machine.specs.declared.channel.Channel.{Channel}
-use Rattle.plain_machine.specs.declared.channel.ChannelEnd.{ChannelEnd}
-use Rattle.plain_machine.specs.declared.channel.Direction.{Direction}
-use Rattle.plain_machine.specs.declared.channel.Listening.{Listening}
+use Rattle.plain_tables.specs.declared.process.Process.{Process}
+use Rattle.plain_tables.specs.declared.process.Maker.{Maker}
+use Rattle.plain_tables.specs.declared.description.Description.{Description}
+use Rattle.plain_tables.specs.declared.description.Descriptor.{Descriptor}
+use Rattle.plain_tables.specs.declared.description.Object.{Object}
+use Rattle.plain_tables.specs.declared.description.Object.TheVariants as object
+use Rattle.plain_tables.specs.declared.channel.Channel.{Channel}
+use Rattle.plain_tables.specs.declared.channel.ChannelEnd.{ChannelEnd}
+use Rattle.plain_tables.specs.declared.channel.Direction.{Direction}
+use Rattle.plain_tables.specs.declared.channel.Listening.{Listening}
 use Rattle.plain_machine.specs.declared.kernel.PlainKernel.{PlainKernel}
 use Rattle.image_codec.specs.declared.shared.FileImage.{FileImage}
 use Rattle.image_codec.specs.declared.shared.SideImage.{SideImage}

@@ -10,9 +10,9 @@ use Rattle.std.specs.List.{flat_map}
 use Rattle.std.specs.Option.{option_map, option_map_or}
 use Rattle.sys_abi.specs.declared.life.Life.{Life}
 use Rattle.sys_abi.specs.declared.life.Life.TheVariants.{Live, Zombie}
-use Rattle.plain_machine.specs.declared.user_part.Context.{Context}
-use Rattle.plain_machine.specs.declared.user_part.SignalAction.{SignalAction}
-use Rattle.plain_machine.specs.declared.user_part.Waiter.{Waiter}
+use Rattle.plain_process.specs.declared.user_part.Context.{Context}
+use Rattle.plain_process.specs.declared.user_part.SignalAction.{SignalAction}
+use Rattle.plain_process.specs.declared.user_part.Waiter.{Waiter}
 use Rattle.image_codec.specs.declared.page_image.PageImage.{PageImage}
 use Rattle.image_codec.specs.declared.thread_image.ThreadImage.{ThreadImage}
 use Rattle.image_codec.specs.declared.process_image.ProcImage.{ProcImage}
@@ -23,7 +23,7 @@ use Rattle.image_codec.specs.Fields.{is_bytes}
 use Rattle.image_codec.specs.Format.{Format, unsigned, raw, give, ◌>>=◌, each, counted, any, n8, n32, bytes_of, Damaged}
 use Rattle.image_codec.specs.Texts.{EachFrom}
 use Rattle.image_codec.specs.ProcessTests.{is_number, is_break_start, is_break_end, is_page_count, is_page_number, is_page_rights, is_page_content, is_waiting, is_context_count, is_thread_count, is_thread_at, has_heap, has_return_page}
-use Rattle.plain_machine.specs.Valid.{IsWord}
+use Rattle.plain_process.specs.Valid.{IsWord}
 
 abbrev pub PROCESS_MAGIC : List ℕ
 PROCESS_MAGIC = codes "DMTPRC01"

@@ -7,7 +7,7 @@
 -- Source: docs/FORMATS.md, "Process image", and docs/MACHINE.md for the pages.
 use Rattle.std.specs.Prelude.{ℕ, zero, suc, ◌+◌, ◌-◌, ◌*◌, ◌/◌, ◌%◌, ◌^◌, ◌==◌, ◌&&◌, ◌||◌, not, nat_le, nat_lt, Bool, true, false, List, length, slice_get, Option, Some, None, if◌then◌else◌}
 use Rattle.std.specs.List.{list_any}
-use Rattle.plain_machine.specs.Start.{RETURN_PAGE, return_code, page_of}
+use Rattle.plain_process.specs.Start.{RETURN_PAGE, return_code, page_of}
 use Rattle.image_codec.specs.declared.page_image.PageImage.{PageImage}
 use Rattle.image_codec.specs.Fields.{is_bytes, is_within}
 

@@ -11,7 +11,7 @@
 use Rattle.std.specs.Prelude.{◌≡◌, ◌≢◌, ℕ, ◌+◌, ◌<◌, ◌⊎◌, List, [], ◌∷◌, length, slice_index, count_by, All, map as each}
 use Rattle.std.specs.FinMap as map
 use Rattle.sys_abi.specs.declared.identity.VPid.{VPid}
-use Rattle.plain_machine.specs.declared.user_part.UserPart.{UserPart}
+use Rattle.plain_process.specs.declared.user_part.UserPart.{UserPart}
 use Rattle.plain_machine.specs.declared.plain.Plain.{Plain}
 use Rattle.image_codec.specs.declared.process_image.ProcImage.{ProcImage}
 use Rattle.image_codec.specs.declared.shared.Shared.{Shared}

@@ -9,9 +9,9 @@ use Rattle.sys_abi.specs.declared.identity.VirtAddr.{VirtAddr}
 use Rattle.sys_abi.specs.declared.identity.DescId.{DescId}
 use Rattle.sys_abi.specs.declared.life.Life.{Life}
 use Rattle.sys_abi.specs.declared.life.Life.TheVariants.{Live, Zombie}
-use Rattle.plain_machine.specs.declared.channel.ChannelKind.{ChannelKind}
-use Rattle.plain_machine.specs.declared.channel.ChannelKind.TheVariants.{Pair, Internet, Pipe}
-use Rattle.plain_machine.specs.Kernel.{pid}
+use Rattle.plain_tables.specs.declared.channel.ChannelKind.{ChannelKind}
+use Rattle.plain_tables.specs.declared.channel.ChannelKind.TheVariants.{Pair, Internet, Pipe}
+use Rattle.plain_tables.specs.Tables.{pid}
 use Rattle.image_codec.specs.declared.shared.FileImage.{FileImage}
 use Rattle.image_codec.specs.declared.shared.SideImage.{SideImage}
 use Rattle.image_codec.specs.declared.shared.ChannelImage.{ChannelImage}

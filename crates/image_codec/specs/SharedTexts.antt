@@ -4,8 +4,8 @@ use Rattle.std.specs.Prelude.{ℕ, ◌+◌, ◌*◌, ◌^◌, ◌<◌, Bool, Lis
 use Rattle.std.specs.List.{flat_map}
 use Rattle.sys_abi.specs.declared.identity.VirtAddr.{VirtAddr}
 use Rattle.sys_abi.specs.declared.life.Life.{Life}
-use Rattle.plain_machine.specs.declared.channel.ChannelKind.{ChannelKind}
-use Rattle.plain_machine.specs.declared.channel.ChannelKind.TheVariants.{Pair, Internet, Pipe}
+use Rattle.plain_tables.specs.declared.channel.ChannelKind.{ChannelKind}
+use Rattle.plain_tables.specs.declared.channel.ChannelKind.TheVariants.{Pair, Internet, Pipe}
 use Rattle.image_codec.specs.declared.shared.FileImage.{FileImage}
 use Rattle.image_codec.specs.declared.shared.SideImage.{SideImage}
 use Rattle.image_codec.specs.declared.shared.ChannelImage.{ChannelImage}

@@ -5,8 +5,9 @@
 use Rattle.std.specs.Prelude.{ℕ, ◌+◌, ◌<◌, false, [], ◌∷◌}
 use Rattle.sys_abi.specs.declared.flags.TheConstants.{O_RDWR}
 use Rattle.sys_abi.specs.declared.life.Life.TheVariants.{Live}
-use Rattle.plain_machine.specs.Kernel.{pid}
-use Rattle.plain_machine.specs.Start.{Launched, FIRST_PID, NOBODY, console_of, start_kernel}
+use Rattle.plain_tables.specs.Tables.{pid}
+use Rattle.plain_process.specs.Start.{Launched}
+use Rattle.plain_machine.specs.Start.{FIRST_PID, NOBODY, console_of, start_kernel}
 use Rattle.image_codec.specs.declared.shared.ObjectImage.TheVariants.{Console}
 use Rattle.image_codec.specs.declared.shared.DescriptorEntry.{DescriptorEntry}
 use Rattle.image_codec.specs.declared.shared.Shared.{Shared}

@@ -1,9 +1,9 @@
 -- What the image of a process stands for: a process's own part.
 use Rattle.std.specs.Prelude.{ℕ, map as each}
 use Rattle.std.specs.FinMap as map
-use Rattle.plain_machine.specs.declared.memory.Frame.{Frame}
-use Rattle.plain_machine.specs.declared.user_part.UserPart.{UserPart}
-use Rattle.plain_machine.specs.declared.user_part.ThreadPart.{ThreadPart}
+use Rattle.plain_process.specs.declared.memory.Frame.{Frame}
+use Rattle.plain_process.specs.declared.user_part.UserPart.{UserPart}
+use Rattle.plain_process.specs.declared.user_part.ThreadPart.{ThreadPart}
 use Rattle.image_codec.specs.declared.page_image.PageImage.{PageImage}
 use Rattle.image_codec.specs.declared.thread_image.ThreadImage.{ThreadImage}
 use Rattle.image_codec.specs.declared.process_image.ProcImage.{ProcImage}

@@ -7,7 +7,7 @@ ghost use Rattle.image_codec.specs.Reading.{Gives, read};
 
 use crate::fields::{Fault, put_u32};
 use crate::thread_image::word_at;
-use plain_machine::SignalAction;
+use plain_process::SignalAction;
 use std::alloc::{AllocError, Global};
 use views::list_of::ListOf;
 

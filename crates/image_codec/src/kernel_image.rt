@@ -9,7 +9,8 @@ ghost use Rattle.image_codec.specs.KernelImages.{HasImage, IsImage, description_
 use crate::shared::{
     DescriptionImage, DescriptorEntry, ObjectImage, ProcessEntry, Shared, ThreadEntry,
 };
-use plain_machine::{Description, Descriptor, Maker, Object, PlainKernel, Process};
+use plain_machine::PlainKernel;
+use plain_tables::{Description, Descriptor, Maker, Object, Process};
 use std::alloc::{AllocError, Global};
 use sys_abi::{ByDesc, BySlot, VPid};
 use views::list_of::ListOf;

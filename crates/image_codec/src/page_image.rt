@@ -8,7 +8,7 @@ ghost use Rattle.image_codec.specs.Reading.{Gives, read};
 ghost use Rattle.image_codec.specs.Texts.{EachFrom};
 
 use crate::fields::{Fault, bytes_at, put_bytes, put_u8, put_u32, u8_at, u32_at};
-use plain_machine::Frame;
+use plain_process::Frame;
 use std::alloc::{AllocError, Global};
 use sys_abi::Page;
 use sys_abi::page::PAGE_SIZE;

@@ -15,7 +15,7 @@ use crate::page_image::{
 use crate::shared::{ProcessEntry, Shared, ThreadEntry};
 use crate::thread_image::{ThreadImage, put_threads, threads_at};
 use crate::waiters::{put_waiters, waiters_at};
-use plain_machine::{SignalAction, Waiter};
+use plain_process::{SignalAction, Waiter};
 use std::alloc::{AllocError, Global};
 use sys_abi::VPid;
 use sys_abi::page::PAGE_SIZE;

@@ -1,4 +1,5 @@
-use plain_machine::{ChannelKind, Life};
+use plain_machine::Life;
+use plain_tables::ChannelKind;
 use sys_abi::{ConnId, DescId, VPid, VirtAddr};
 use views::list_of::ListOf;
 

@@ -4,11 +4,11 @@ ghost use Rattle.image_codec.specs.Format.{bytes_of, counted, each, n32};
 ghost use Rattle.image_codec.specs.ProcessImages.{tids_of, word_format, registers_format, registers_text, context_format, context_text, thread_format, thread_text, list_text, ContextWords, ThreadWords};
 ghost use Rattle.image_codec.specs.ProcessTests.{is_context_count, is_thread_count, is_thread_at};
 ghost use Rattle.image_codec.specs.Reading.{Gives, read};
-ghost use Rattle.plain_machine.specs.Valid.{IsWord};
+ghost use Rattle.plain_process.specs.Valid.{IsWord};
 
 use crate::fields::{Fault, put_u32, u32_at};
 use crate::shared::ThreadEntry;
-use plain_machine::{Context, Regs, ThreadPart};
+use plain_process::{Context, Regs, ThreadPart};
 use std::alloc::{AllocError, Global};
 use views::list_of::ListOf;
 

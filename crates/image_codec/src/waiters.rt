@@ -9,7 +9,7 @@ ghost use Rattle.image_codec.specs.Reading.{Gives, read};
 use crate::fields::{Fault, put_u32, u32_at};
 use crate::shared::ThreadEntry;
 use crate::thread_image::word_at;
-use plain_machine::Waiter;
+use plain_process::Waiter;
 use std::alloc::{AllocError, Global};
 use views::list_of::ListOf;
 

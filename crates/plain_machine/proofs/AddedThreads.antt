@@ -13,16 +13,19 @@ use Rattle.sys_abi.specs.declared.cloning.CloneForm.{CloneForm}
 use Rattle.sys_abi.specs.declared.cloning.CloneForm.TheVariants.{Fork, Thread}
 use Rattle.sys_abi.specs.Clones.{clone_form}
 use Rattle.plain_machine.specs.declared.plain.Plain.{Plain}
-use Rattle.plain_machine.specs.declared.process.Process.{Process}
-use Rattle.plain_machine.specs.declared.user_part.UserPart.{UserPart}
-use Rattle.plain_machine.specs.Attempts.{Try, Fails, NotReady, Gives, Served, need, settled}
-use Rattle.plain_machine.specs.Kernel.{is_live_process, is_live, thread_count_in, thread_count, has_thread_in}
-use Rattle.plain_machine.specs.Put.{added_by, added_thread}
+use Rattle.plain_tables.specs.declared.process.Process.{Process}
+use Rattle.plain_process.specs.declared.user_part.UserPart.{UserPart}
+use Rattle.plain_process.specs.Attempts.{Try, Fails, NotReady, Gives, need}
+use Rattle.plain_machine.specs.Attempts.{Served, settled}
+use Rattle.plain_tables.specs.Tables.{is_live_process, thread_count_in, has_thread_in}
+use Rattle.plain_machine.specs.Kernel.{is_live, thread_count}
+use Rattle.plain_process.specs.Put.{added_by, added_thread}
 use Rattle.plain_machine.specs.Rows.Clone.{THREAD_LIMIT, LAST_ID, cloned, clone_thread, clone_by, clone_row}
 use Rattle.plain_machine.specs.Serve.{row, serve}
-use Rattle.plain_machine.specs.Valid.{IsWord, IsValid, CanAddAs, CanAdd}
+use Rattle.plain_process.specs.Valid.{IsWord, CanAddAs, CanAdd}
+use Rattle.plain_machine.specs.Valid.{IsValid}
 use Rattle.plain_machine.specs.Laws.{ServeAdds}
-use Rattle.plain_machine.proofs.Giving.{Giving, gives, nothing}
+use Rattle.plain_process.proofs.Giving.{Giving, gives, nothing}
 use Rattle.plain_machine.proofs.Trying.{Trying, succeeds, fails, after}
 use Rattle.plain_machine.proofs.LocalReplies.{needed}
 use Rattle.plain_machine.proofs.ThreadKeys.{same_len}

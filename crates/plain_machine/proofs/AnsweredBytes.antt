@@ -12,18 +12,20 @@ use Rattle.sys_abi.specs.declared.cloning.CloneForm.TheVariants.{Fork, Thread}
 use Rattle.sys_abi.specs.Clones.{clone_form}
 use Rattle.sys_abi.specs.Flags.{has_flag}
 use Rattle.plain_machine.specs.declared.kernel.PlainKernel.{PlainKernel}
-use Rattle.plain_machine.specs.declared.description.Object.{Object}
-use Rattle.plain_machine.specs.declared.description.Object.TheVariants.{Console}
+use Rattle.plain_tables.specs.declared.description.Object.{Object}
+use Rattle.plain_tables.specs.declared.description.Object.TheVariants.{Console}
 use Rattle.plain_machine.specs.declared.serve.Answer.{Answer}
 use Rattle.plain_machine.specs.Answers.{served_by, answer_told}
-use Rattle.plain_machine.specs.Attempts.{Try, Fails, NotReady, Gives, Served, need, found, refused, settled}
-use Rattle.plain_machine.specs.Kernel.{pid, description_at, may_write, is_neighbour, thread_count, has_thread}
+use Rattle.plain_process.specs.Attempts.{Try, Fails, NotReady, Gives, need, found}
+use Rattle.plain_machine.specs.Attempts.{Served, refused, settled}
+use Rattle.plain_tables.specs.Tables.{pid, may_write}
+use Rattle.plain_machine.specs.Kernel.{description_at, is_neighbour, thread_count, has_thread}
 use Rattle.plain_machine.specs.Rows.Write.{write_object, write_row}
 use Rattle.plain_machine.specs.Rows.End.{exit_group_row, exit_row}
 use Rattle.plain_machine.specs.Rows.Send.{is_above_zero, may_be_sent, tgkill_row}
 use Rattle.plain_machine.specs.Rows.Clone.{THREAD_LIMIT, LAST_ID, number_if, cloned, clone_thread, clone_by, clone_row}
 use Rattle.plain_machine.specs.Serve.{row, serve}
-use Rattle.plain_machine.proofs.Giving.{Giving, gives, nothing}
+use Rattle.plain_process.proofs.Giving.{Giving, gives, nothing}
 use Rattle.plain_machine.proofs.Trying.{Trying, succeeds, fails, after}
 
 abbrev Few : Served → Type 0

@@ -16,27 +16,30 @@ use Rattle.sys_abi.specs.declared.cloning.CloneForm.{CloneForm}
 use Rattle.sys_abi.specs.declared.cloning.CloneForm.TheVariants.{Fork, Thread}
 use Rattle.sys_abi.specs.Clones.{clone_form}
 use Rattle.plain_machine.specs.declared.kernel.PlainKernel.{PlainKernel}
-use Rattle.plain_machine.specs.declared.description.Object.{Object}
-use Rattle.plain_machine.specs.declared.description.Object.TheVariants.{Console}
-use Rattle.plain_machine.specs.declared.buffers.Span.{Span}
-use Rattle.plain_machine.specs.declared.buffers.Source.{Source}
-use Rattle.plain_machine.specs.declared.buffers.Source.TheVariants.{Nothing, Bytes, Text}
-use Rattle.plain_machine.specs.Attempts.{Try, Fails, NotReady, Gives, Served, need, found, replied, refused, settled}
-use Rattle.plain_machine.specs.Kernel.{pid, description_at, may_write, after_end, after_raise, is_neighbour, thread_count, has_thread, after_thread_end}
-use Rattle.plain_machine.specs.Memory.{Memory, byte_at}
-use Rattle.plain_machine.specs.declared.memory.Right.TheVariants.{Read as ToRead}
-use Rattle.plain_machine.specs.Buffers.{reads_of, bytes_of, given_of, text_from, text_at, PATH_LIMIT, if_writable, can_write, size_of, span_if, thread_spans, writes_of, written_spans, lent, span, is_wait}
-use Rattle.plain_machine.specs.Put.{word_of}
+use Rattle.plain_tables.specs.declared.description.Object.{Object}
+use Rattle.plain_tables.specs.declared.description.Object.TheVariants.{Console}
+use Rattle.plain_process.specs.declared.buffers.Span.{Span}
+use Rattle.plain_process.specs.declared.buffers.Source.{Source}
+use Rattle.plain_process.specs.declared.buffers.Source.TheVariants.{Nothing, Bytes, Text}
+use Rattle.plain_process.specs.Attempts.{Try, Fails, NotReady, Gives, need, found}
+use Rattle.plain_machine.specs.Attempts.{Served, replied, refused, settled}
+use Rattle.plain_tables.specs.Tables.{pid, may_write}
+use Rattle.plain_machine.specs.Kernel.{description_at, after_end, after_raise, is_neighbour, thread_count, has_thread, after_thread_end}
+use Rattle.plain_process.specs.Memory.{Memory, byte_at}
+use Rattle.plain_process.specs.declared.memory.Right.TheVariants.{Read as ToRead}
+use Rattle.plain_process.specs.Buffers.{reads_of, bytes_of, given_of, text_from, text_at, PATH_LIMIT, if_writable, can_write, size_of, span_if, thread_spans, writes_of, written_spans, lent, span, is_wait}
+use Rattle.plain_process.specs.Put.{word_of}
 use Rattle.plain_machine.specs.Rows.Write.{write_object, write_row}
 use Rattle.plain_machine.specs.Rows.End.{exit_group_row, exit_row}
 use Rattle.plain_machine.specs.Rows.Send.{is_above_zero, may_be_sent, tgkill_row}
 use Rattle.plain_machine.specs.Rows.Clone.{THREAD_LIMIT, LAST_ID, number_if, cloned, clone_thread, clone_by, clone_row}
 use Rattle.plain_machine.specs.Serve.{row, serve}
-use Rattle.plain_machine.specs.Valid.{IsWord, IsByte, IsKernel, IsFrame, Each}
+use Rattle.plain_process.specs.Valid.{IsWord, IsByte, IsFrame, Each}
+use Rattle.plain_machine.specs.Valid.{IsKernel}
 use Rattle.plain_machine.specs.Laws.{ServeAnswers}
-use Rattle.plain_machine.proofs.Giving.{Giving, gives, nothing, where_, either, then_, mapped}
+use Rattle.plain_process.proofs.Giving.{Giving, gives, nothing, where_, either, then_, mapped}
 use Rattle.plain_machine.proofs.Trying.{Trying, succeeds, fails, after}
-use Rattle.plain_machine.proofs.MemoryBounds.{bytes_read, low_bytes_are}
+use Rattle.plain_process.proofs.MemoryBounds.{bytes_read, low_bytes_are}
 use Rattle.plain_machine.proofs.MemoryPages.{FitsSpans, no_bytes_fit, fits_taken}
 use Rattle.sys_abi.specs.Flags.{has_flag}
 

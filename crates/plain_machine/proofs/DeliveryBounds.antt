@@ -11,16 +11,16 @@ use Rattle.views.proofs.MapLaws.{true_false}
 use Rattle.sys_abi.specs.Signals.{has_signal, bit_of}
 use Rattle.sys_abi.specs.declared.signals.TheConstants.{SIGKILL}
 use Rattle.sys_abi.specs.declared.flags.TheConstants.{SA_NODEFER}
-use Rattle.plain_machine.specs.declared.regs.Regs.{Regs}
-use Rattle.plain_machine.specs.declared.user_part.UserPart.{UserPart}
-use Rattle.plain_machine.specs.declared.user_part.ThreadPart.{ThreadPart}
-use Rattle.plain_machine.specs.declared.user_part.SignalAction.{SignalAction}
-use Rattle.plain_machine.specs.declared.user_part.Context.{Context}
-use Rattle.plain_machine.specs.Registers.{RA, SP, A0, A1, A2, reg, with_reg, at_pc, next_pc}
-use Rattle.plain_machine.specs.Steps.{user_step, with_thread}
-use Rattle.plain_machine.specs.Start.{default_action}
-use Rattle.plain_machine.specs.Deliveries.{Delivery, Enters, Ignores, Kills, action_on, is_ignored, interrupted, RETURN_ADDRESS, handler_regs, handler_mask, CONTEXT_LIMIT, entered, with_entered, handled, traps_with, deliver_to, deliver}
-use Rattle.plain_machine.specs.Valid.{IsWord, IsRegs, IsThread, IsAction, IsUser}
+use Rattle.plain_process.specs.declared.regs.Regs.{Regs}
+use Rattle.plain_process.specs.declared.user_part.UserPart.{UserPart}
+use Rattle.plain_process.specs.declared.user_part.ThreadPart.{ThreadPart}
+use Rattle.plain_process.specs.declared.user_part.SignalAction.{SignalAction}
+use Rattle.plain_process.specs.declared.user_part.Context.{Context}
+use Rattle.plain_process.specs.Registers.{RA, SP, A0, A1, A2, reg, with_reg, at_pc, next_pc}
+use Rattle.plain_process.specs.Steps.{user_step, with_thread}
+use Rattle.plain_process.specs.Start.{default_action}
+use Rattle.plain_process.specs.Deliveries.{Delivery, Enters, Ignores, Kills, action_on, is_ignored, interrupted, RETURN_ADDRESS, handler_regs, handler_mask, CONTEXT_LIMIT, entered, with_entered, handled, traps_with, deliver_to, deliver}
+use Rattle.plain_process.specs.Valid.{IsWord, IsRegs, IsThread, IsAction, IsUser}
 use Rattle.plain_machine.specs.Laws.{DeliveryKeepsUser}
 use Rattle.plain_machine.proofs.SignalBounds.{bit_small}
 use Rattle.plain_machine.proofs.MemoryPages.{kept_pages}

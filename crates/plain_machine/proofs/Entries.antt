@@ -5,7 +5,7 @@ use Rattle.std.specs.declared.cmp.Ordering.{Ordering}
 use Rattle.std.specs.Cmp.{IsTotalOrder}
 use Rattle.std.specs.FinMap as map
 use Rattle.views.proofs.MapLaws.{get_insert_same, get_insert_other, same_or_other}
-use Rattle.plain_machine.specs.Valid.{Each}
+use Rattle.plain_process.specs.Valid.{Each}
 
 most_with : (b : Bool) (n m : ℕ) → m ≡ cond b n (n + 1) → m ≤ n + 1
 most_with true n m is = omega arith

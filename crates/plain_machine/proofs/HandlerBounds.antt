@@ -12,21 +12,21 @@ use Rattle.sys_abi.specs.declared.request.Request.TheVariants.{RtSigaction, RtSi
 use Rattle.sys_abi.specs.declared.errors.TheConstants.{EINVAL}
 use Rattle.sys_abi.specs.declared.signals.TheConstants.{SIGKILL, SIGSTOP}
 use Rattle.sys_abi.specs.Signals.{is_signal, bit_of, without_signal, blockable}
-use Rattle.plain_machine.specs.declared.user_part.UserPart.{UserPart}
-use Rattle.plain_machine.specs.declared.user_part.ThreadPart.{ThreadPart}
-use Rattle.plain_machine.specs.declared.user_part.SignalAction.{SignalAction}
-use Rattle.plain_machine.specs.declared.user_part.Context.{Context}
-use Rattle.plain_machine.specs.declared.buffers.Span.{Span}
-use Rattle.plain_machine.specs.Memory.{little_endian, low_bytes}
-use Rattle.plain_machine.specs.Attempts.{need, found}
-use Rattle.plain_machine.specs.Steps.{with_thread}
-use Rattle.plain_machine.specs.Buffers.{span, writes_of, written_spans, can_write}
-use Rattle.plain_machine.specs.Put.{CanTake}
-use Rattle.plain_machine.specs.Deliveries.{action_on}
-use Rattle.plain_machine.specs.Rows.Handlers.{word_in, is_uncatchable, action_in, action_bytes, with_action, sigaction_row, mask_by, with_mask, sigprocmask_row, last_context, returned, sigreturn_row}
-use Rattle.plain_machine.specs.Valid.{IsWord, IsByte, IsRegs, IsThread, IsAction, IsUser}
+use Rattle.plain_process.specs.declared.user_part.UserPart.{UserPart}
+use Rattle.plain_process.specs.declared.user_part.ThreadPart.{ThreadPart}
+use Rattle.plain_process.specs.declared.user_part.SignalAction.{SignalAction}
+use Rattle.plain_process.specs.declared.user_part.Context.{Context}
+use Rattle.plain_process.specs.declared.buffers.Span.{Span}
+use Rattle.plain_process.specs.Memory.{little_endian, low_bytes}
+use Rattle.plain_process.specs.Attempts.{need, found}
+use Rattle.plain_process.specs.Steps.{with_thread}
+use Rattle.plain_process.specs.Buffers.{span, writes_of, written_spans, can_write}
+use Rattle.plain_process.specs.Put.{CanTake}
+use Rattle.plain_process.specs.Deliveries.{action_on}
+use Rattle.plain_process.specs.Rows.Handlers.{word_in, is_uncatchable, action_in, action_bytes, with_action, sigaction_row, mask_by, with_mask, sigprocmask_row, last_context, returned, sigreturn_row}
+use Rattle.plain_process.specs.Valid.{IsWord, IsByte, IsRegs, IsThread, IsAction, IsUser}
 use Rattle.plain_machine.proofs.SignalBounds.{without_small}
-use Rattle.plain_machine.proofs.MemoryBounds.{low_bytes_are}
+use Rattle.plain_process.proofs.MemoryBounds.{low_bytes_are}
 use Rattle.plain_machine.proofs.MemoryPages.{FitsSpans, fits_taken, kept_pages}
 use Rattle.plain_machine.proofs.WordBounds.{either_word}
 use Rattle.plain_machine.proofs.Trying.{Trying, succeeds, after}

@@ -16,13 +16,15 @@ use Rattle.sys_abi.specs.Orders.{slot_cmp}
 use Rattle.sys_abi.specs.Signals.{has_signal, without_signal}
 use Rattle.sys_abi.proofs.OrderLaws.{vpid_total, vpid_exact, slot_total, slot_exact, desc_total, desc_exact}
 use Rattle.plain_machine.specs.declared.kernel.PlainKernel.{PlainKernel}
-use Rattle.plain_machine.specs.declared.process.Process.{Process}
+use Rattle.plain_tables.specs.declared.process.Process.{Process}
 use Rattle.sys_abi.specs.declared.life.Life.{Life}
 use Rattle.sys_abi.specs.declared.life.Life.TheVariants.{Live, Zombie}
-use Rattle.plain_machine.specs.declared.description.Descriptor.{Descriptor}
-use Rattle.plain_machine.specs.Kernel.{is_live, is_live_process, is_held, refers_to, is_slot_of, after_end, signals_of, with_signals, taken_from, raised_at, at_process, after_take, after_raise, thread_count_in, thread_count, has_thread_in, has_thread, without_thread, with_thread, with_next_thread}
+use Rattle.plain_tables.specs.declared.description.Descriptor.{Descriptor}
+use Rattle.plain_machine.specs.Kernel.{is_live, after_end, at_process, after_take, after_raise, thread_count, has_thread, with_next_thread}
+use Rattle.plain_tables.specs.Tables.{is_live_process, is_held, refers_to, is_slot_of, signals_of, with_signals, taken_from, raised_at, thread_count_in, has_thread_in, without_thread, with_thread}
 use Rattle.plain_machine.specs.Start.{FIRST_PID}
-use Rattle.plain_machine.specs.Valid.{IsSignalSet, IsGivenOut, FitsLife, IsProcess, IsKernel, Each}
+use Rattle.plain_machine.specs.Valid.{IsSignalSet, IsGivenOut, FitsLife, IsProcess, IsKernel}
+use Rattle.plain_process.specs.Valid.{Each}
 use Rattle.plain_machine.proofs.Entries.{each_with, len_without}
 use Rattle.plain_machine.proofs.ChangedProcesses.{each_changed, changed_test, changed_len}
 use Rattle.plain_machine.proofs.SignalBounds.{set_without, set_with, none_without}

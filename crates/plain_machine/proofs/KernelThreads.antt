@@ -12,10 +12,12 @@ use Rattle.sys_abi.specs.Signals.{bit_of, has_signal, without_signal}
 use Rattle.sys_abi.proofs.OrderLaws.{vpid_total, vpid_exact}
 use Rattle.plain_machine.specs.declared.plain.Plain.{Plain}
 use Rattle.plain_machine.specs.declared.kernel.PlainKernel.{PlainKernel}
-use Rattle.plain_machine.specs.declared.process.Process.{Process}
-use Rattle.plain_machine.specs.declared.user_part.UserPart.{UserPart}
-use Rattle.plain_machine.specs.Kernel.{is_live_process, is_live, after_end, signals_of, with_signals, taken_from, at_process, after_take, has_thread_in, has_thread}
-use Rattle.plain_machine.specs.Valid.{IsKernel, IsUser, IsValid, Each}
+use Rattle.plain_tables.specs.declared.process.Process.{Process}
+use Rattle.plain_process.specs.declared.user_part.UserPart.{UserPart}
+use Rattle.plain_tables.specs.Tables.{is_live_process, signals_of, with_signals, taken_from, has_thread_in}
+use Rattle.plain_machine.specs.Kernel.{is_live, after_end, at_process, after_take, has_thread}
+use Rattle.plain_machine.specs.Valid.{IsKernel, IsValid}
+use Rattle.plain_process.specs.Valid.{IsUser, Each}
 use Rattle.plain_machine.proofs.ThreadKeys.{same_there}
 use Rattle.plain_machine.proofs.ChangedProcesses.{changed_test}
 use Rattle.sys_abi.specs.Lives.{lives}

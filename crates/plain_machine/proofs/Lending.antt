@@ -6,14 +6,14 @@ use Rattle.std.specs.Option.{option_map}
 use Rattle.std.specs.List.{list_all}
 use Rattle.std.proofs.lemmas.List.Elements.{All-nil, All-cons}
 use Rattle.sys_abi.specs.declared.request.Request.{Request}
-use Rattle.plain_machine.specs.declared.memory.Right.TheVariants.{Read as ToRead}
-use Rattle.plain_machine.specs.declared.buffers.Source.{Source}
-use Rattle.plain_machine.specs.declared.buffers.Source.TheVariants.{Nothing, Bytes, Text}
-use Rattle.plain_machine.specs.Memory.{Memory, byte_at}
-use Rattle.plain_machine.specs.Buffers.{reads_of, bytes_of, given_of, text_from, text_at, PATH_LIMIT, if_writable, can_write, written_spans, lent}
-use Rattle.plain_machine.specs.Valid.{IsByte, IsFrame, Each}
-use Rattle.plain_machine.proofs.Giving.{Giving, gives, nothing, where_, either, then_, mapped}
-use Rattle.plain_machine.proofs.MemoryBounds.{byte_read, bytes_read}
+use Rattle.plain_process.specs.declared.memory.Right.TheVariants.{Read as ToRead}
+use Rattle.plain_process.specs.declared.buffers.Source.{Source}
+use Rattle.plain_process.specs.declared.buffers.Source.TheVariants.{Nothing, Bytes, Text}
+use Rattle.plain_process.specs.Memory.{Memory, byte_at}
+use Rattle.plain_process.specs.Buffers.{reads_of, bytes_of, given_of, text_from, text_at, PATH_LIMIT, if_writable, can_write, written_spans, lent}
+use Rattle.plain_process.specs.Valid.{IsByte, IsFrame, Each}
+use Rattle.plain_process.proofs.Giving.{Giving, gives, nothing, where_, either, then_, mapped}
+use Rattle.plain_process.proofs.MemoryBounds.{byte_read, bytes_read}
 
 pub record Lent (memory : Memory) (q : Request) (given : List ℕ) : Type 0 where
   pub bytes : All IsByte given

@@ -4,12 +4,12 @@ use Rattle.std.proofs.Common.{◌≡◌, ℕ, Bool, true, false, cond, List, [],
 use Rattle.std.specs.Prelude.{Option, Some, None, All}
 use Rattle.std.proofs.lemmas.List.Elements.{All-nil}
 use Rattle.sys_abi.specs.declared.request.Request.{Request}
-use Rattle.plain_machine.specs.declared.user_part.UserPart.{UserPart}
-use Rattle.plain_machine.specs.Attempts.{Try, Gives, need, found}
-use Rattle.plain_machine.specs.Buffers.{written_spans}
-use Rattle.plain_machine.specs.Put.{CanTake}
-use Rattle.plain_machine.specs.Rows.Locals.{Local, Replies, Stays}
-use Rattle.plain_machine.specs.Valid.{IsWord, IsByte}
+use Rattle.plain_process.specs.declared.user_part.UserPart.{UserPart}
+use Rattle.plain_process.specs.Attempts.{Try, Gives, need, found}
+use Rattle.plain_process.specs.Buffers.{written_spans}
+use Rattle.plain_process.specs.Put.{CanTake}
+use Rattle.plain_process.specs.Rows.Locals.{Local, Replies, Stays}
+use Rattle.plain_process.specs.Valid.{IsWord, IsByte}
 use Rattle.plain_machine.proofs.MemoryPages.{no_bytes_taken}
 use Rattle.plain_machine.proofs.Trying.{Trying}
 use Rattle.plain_machine.proofs.UserParts.{Follows}

@@ -14,17 +14,17 @@ use Rattle.sys_abi.specs.Signals.{has_signal}
 use Rattle.sys_abi.proofs.OrderLaws.{vpid_total, vpid_exact}
 use Rattle.views.proofs.MapLaws.{get_insert_other, get-retain}
 use Rattle.plain_machine.specs.declared.plain.Plain.{Plain}
-use Rattle.plain_machine.specs.declared.channel.Direction.{Direction}
+use Rattle.plain_tables.specs.declared.channel.Direction.{Direction}
 use Rattle.plain_machine.specs.declared.kernel.PlainKernel.{PlainKernel}
-use Rattle.plain_machine.specs.declared.user_part.UserPart.{UserPart}
-use Rattle.plain_machine.specs.declared.user_part.ThreadPart.{ThreadPart}
+use Rattle.plain_process.specs.declared.user_part.UserPart.{UserPart}
+use Rattle.plain_process.specs.declared.user_part.ThreadPart.{ThreadPart}
 use Rattle.plain_machine.specs.Attempts.{Served}
 use Rattle.plain_machine.specs.Kernel.{is_live, after_end, after_take}
-use Rattle.plain_machine.specs.Put.{put}
-use Rattle.plain_machine.specs.Deliveries.{Delivery, Enters, Ignores, Kills, traps_with}
-use Rattle.plain_machine.proofs.Giving.{Giving, gives, nothing, where_, either, then_, mapped}
-use Rattle.plain_machine.specs.Steps.{UserStep, Stepped, Asks, Trapped, Waits, NoThread, user_step, user_steps}
-use Rattle.plain_machine.specs.Buffers.{lent}
+use Rattle.plain_process.specs.Put.{put}
+use Rattle.plain_process.specs.Deliveries.{Delivery, Enters, Ignores, Kills, traps_with}
+use Rattle.plain_process.proofs.Giving.{Giving, gives, nothing, where_, either, then_, mapped}
+use Rattle.plain_process.specs.Steps.{UserStep, Stepped, Asks, Trapped, Waits, NoThread, user_step, user_steps}
+use Rattle.plain_process.specs.Buffers.{lent}
 use Rattle.plain_machine.specs.Serve.{serve}
 use Rattle.plain_machine.specs.Records.{Outcome, outcome, QUANTUM, living, with_user, quiet, delivered, deliverable, user_ends, if_ends, outcome_of_user, outcome_of_call, outcome_of_ask, outcome_of_lent, outcome_of_serve, outcome_of_pending, outcome_of_signal, outcome_of_arrival}
 use Rattle.plain_machine.specs.Laws.{subject, RecordIsLocal}

@@ -10,16 +10,16 @@ use Rattle.sys_abi.specs.declared.request.Request.TheVariants.{Exit, Clone}
 use Rattle.sys_abi.specs.declared.reply.Reply.{Reply}
 use Rattle.sys_abi.specs.Clones.{clone_form}
 use Rattle.sys_abi.specs.declared.cloning.CloneForm.{CloneForm}
-use Rattle.plain_machine.specs.declared.user_part.UserPart.{UserPart}
-use Rattle.plain_machine.specs.declared.user_part.ThreadPart.{ThreadPart}
-use Rattle.plain_machine.specs.Memory.{Memory}
-use Rattle.plain_machine.specs.Steps.{with_thread}
-use Rattle.plain_machine.specs.declared.buffers.Span.{Span}
-use Rattle.plain_machine.specs.Buffers.{reads_of, given_of, writes_of, written_spans, lent}
-use Rattle.plain_machine.specs.Put.{word_of, after_call, with_spans, added_by, added_thread, with_added, after_threads, put_by, put, put_fault, error, CanTake}
-use Rattle.plain_machine.specs.Valid.{IsWord, IsByte, IsUser, IsRequest, CanAddAs, CanAdd}
+use Rattle.plain_process.specs.declared.user_part.UserPart.{UserPart}
+use Rattle.plain_process.specs.declared.user_part.ThreadPart.{ThreadPart}
+use Rattle.plain_process.specs.Memory.{Memory}
+use Rattle.plain_process.specs.Steps.{with_thread}
+use Rattle.plain_process.specs.declared.buffers.Span.{Span}
+use Rattle.plain_process.specs.Buffers.{reads_of, given_of, writes_of, written_spans, lent}
+use Rattle.plain_process.specs.Put.{word_of, after_call, with_spans, added_by, added_thread, with_added, after_threads, put_by, put, put_fault, error, CanTake}
+use Rattle.plain_process.specs.Valid.{IsWord, IsByte, IsUser, IsRequest, CanAddAs, CanAdd}
 use Rattle.plain_machine.specs.Laws.{PutKeepsUser, FaultKeepsUser}
-use Rattle.plain_machine.proofs.MemoryBounds.{IsMemory, kept_by_bytes}
+use Rattle.plain_process.proofs.MemoryBounds.{IsMemory, kept_by_bytes}
 use Rattle.plain_machine.proofs.MemoryPages.{KeepsPages, spans_keep_pages, no_bytes_taken}
 use Rattle.plain_machine.proofs.ThreadKeys.{with_one, there_after, same_len}
 use Rattle.plain_machine.proofs.UserParts.{Follows, memory_of, thread_follows}

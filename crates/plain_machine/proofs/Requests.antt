@@ -9,11 +9,11 @@ use Rattle.std.proofs.lemmas.List.Elements.{All-from_recursion}
 use Rattle.sys_abi.specs.declared.request.Request.{Request}
 use Rattle.sys_abi.specs.Requests.{request_by, request_of}
 use Rattle.sys_abi.specs.declared.calls.TheConstants.{EVENTFD2, DUP, DUP3, FCNTL, UNLINKAT, OPENAT, CLOSE, PIPE2, LSEEK, READ, WRITE, EXIT, EXIT_GROUP, SET_TID_ADDRESS, FUTEX, SCHED_YIELD, KILL, TGKILL, RT_SIGACTION, RT_SIGPROCMASK, RT_SIGRETURN, GETPID, GETPPID, GETTID, SOCKET, SOCKETPAIR, BIND, LISTEN, ACCEPT, CONNECT, GETSOCKNAME, GETPEERNAME, SETSOCKOPT, SHUTDOWN, BRK, MUNMAP, CLONE, MMAP, WAIT4}
-use Rattle.plain_machine.specs.declared.user_part.UserPart.{UserPart}
-use Rattle.plain_machine.specs.declared.user_part.ThreadPart.{ThreadPart}
-use Rattle.plain_machine.specs.Instructions.{Effect, Next, Calls, Traps}
-use Rattle.plain_machine.specs.Steps.{effect_at, UserStep, Asks, Waits, waits, step_by, step_of, user_step}
-use Rattle.plain_machine.specs.Valid.{IsWord, IsUser, IsRequest}
+use Rattle.plain_process.specs.declared.user_part.UserPart.{UserPart}
+use Rattle.plain_process.specs.declared.user_part.ThreadPart.{ThreadPart}
+use Rattle.plain_process.specs.Instructions.{Effect, Next, Calls, Traps}
+use Rattle.plain_process.specs.Steps.{effect_at, UserStep, Asks, Waits, waits, step_by, step_of, user_step}
+use Rattle.plain_process.specs.Valid.{IsWord, IsUser, IsRequest}
 use Rattle.plain_machine.specs.Laws.{AskedIsRequest}
 
 -- the word at any place of a list of words, 0 past its end

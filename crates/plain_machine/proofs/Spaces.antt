@@ -12,16 +12,16 @@ use Rattle.std.proofs.lemmas.List.Filters.{length-filter_both}
 use Rattle.views.specs.Maps.{retain}
 use Rattle.views.proofs.MapLaws.{get_insert_same, get_insert_other, get-retain}
 use Rattle.views.proofs.MapValues.{entries-retain, retain-keys}
-use Rattle.plain_machine.specs.declared.memory.Frame.{Frame}
-use Rattle.plain_machine.specs.declared.user_part.UserPart.{UserPart}
-use Rattle.plain_machine.specs.Memory.{Memory}
-use Rattle.plain_machine.specs.Start.{page_of, with_pages, RETURN_PAGE}
-use Rattle.plain_machine.specs.Pages.{PAGE_LIMIT, pages_of, is_among, without_pages, is_free, free_run}
-use Rattle.plain_machine.specs.Rows.Mappings.{with_memory, heap_to, with_break, room_for}
-use Rattle.plain_machine.specs.Valid.{IsByte, IsUser}
-use Rattle.plain_machine.proofs.Giving.{Giving, gives, nothing, where_, either}
-use Rattle.plain_machine.proofs.MemoryBounds.{IsMemory}
-use Rattle.plain_machine.proofs.StartPages.{with_pages_are}
+use Rattle.plain_process.specs.declared.memory.Frame.{Frame}
+use Rattle.plain_process.specs.declared.user_part.UserPart.{UserPart}
+use Rattle.plain_process.specs.Memory.{Memory}
+use Rattle.plain_process.specs.Start.{page_of, with_pages, RETURN_PAGE}
+use Rattle.plain_process.specs.Pages.{PAGE_LIMIT, pages_of, is_among, without_pages, is_free, free_run}
+use Rattle.plain_process.specs.Rows.Mappings.{with_memory, heap_to, with_break, room_for}
+use Rattle.plain_process.specs.Valid.{IsByte, IsUser}
+use Rattle.plain_process.proofs.Giving.{Giving, gives, nothing, where_, either}
+use Rattle.plain_process.proofs.MemoryBounds.{IsMemory}
+use Rattle.plain_process.proofs.StartPages.{with_pages_are}
 use Rattle.plain_machine.proofs.UserParts.{IsSpace, Follows, user_from, space_of, threads_of, actions_of, waiters_of}
 
 -- pages that are added

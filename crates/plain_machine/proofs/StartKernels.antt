@@ -13,16 +13,19 @@ use Rattle.sys_abi.specs.declared.identity.DescId.{DescId}
 use Rattle.sys_abi.specs.Orders.{vpid_cmp, slot_cmp}
 use Rattle.sys_abi.proofs.OrderLaws.{vpid_total, vpid_exact, slot_total, slot_exact, desc_total, desc_exact, dir_total, dir_exact}
 use Rattle.plain_machine.specs.declared.kernel.PlainKernel.{PlainKernel}
-use Rattle.plain_machine.specs.declared.process.Process.{Process}
-use Rattle.plain_machine.specs.declared.user_part.UserPart.{UserPart}
-use Rattle.plain_machine.specs.declared.description.Descriptor.{Descriptor}
-use Rattle.plain_machine.specs.Kernel.{pid, slot, is_live, is_live_process, is_held, refers_to}
-use Rattle.plain_machine.specs.Start.{Launched, NamedFile, FIRST_PID, console_of, console_description, console_descriptor, start_process, start_user, with_process, with_processes, with_file, with_files, with_users, empty_kernel, start_kernel, start}
-use Rattle.plain_machine.specs.Valid.{IsKernel, IsProcess, IsDescriptor, IsGivenOut, IsSignalSet, IsUser, IsValid, SameThreads, Each}
-use Rattle.plain_machine.specs.Launches.{IsLaunched}
+use Rattle.plain_tables.specs.declared.process.Process.{Process}
+use Rattle.plain_process.specs.declared.user_part.UserPart.{UserPart}
+use Rattle.plain_tables.specs.declared.description.Descriptor.{Descriptor}
+use Rattle.plain_tables.specs.Tables.{pid, slot, is_live_process, is_held, refers_to}
+use Rattle.plain_machine.specs.Kernel.{is_live}
+use Rattle.plain_process.specs.Start.{Launched, start_user}
+use Rattle.plain_machine.specs.Start.{NamedFile, FIRST_PID, console_of, console_description, console_descriptor, start_process, with_process, with_processes, with_file, with_files, with_users, empty_kernel, start_kernel, start}
+use Rattle.plain_machine.specs.Valid.{IsKernel, IsProcess, IsDescriptor, IsGivenOut, IsSignalSet, IsValid, SameThreads}
+use Rattle.plain_process.specs.Valid.{IsUser, Each}
+use Rattle.plain_process.specs.Launches.{IsLaunched}
 use Rattle.plain_machine.specs.Laws.{StartIsValid}
 use Rattle.plain_machine.proofs.Entries.{each_with, there_with, no_entry, len_with}
-use Rattle.plain_machine.proofs.StartPages.{all_tail}
+use Rattle.plain_process.proofs.StartPages.{all_tail}
 use Rattle.plain_machine.proofs.StartUsers.{one_entry, start_user_is}
 
 -- descriptions that were held still are, where the new descriptors stand in new slots

@@ -15,12 +15,12 @@ use Rattle.elf32.specs.Programs.{IsWellPlaced}
 use Rattle.elf32.specs.Fields.{word_at}
 use Rattle.elf32.specs.FileHeader.{e_phnum}
 use Rattle.elf32.specs.ProgramHeaders.{segments_before, segments_of, segment_of, program_header, describes_memory}
-use Rattle.plain_machine.specs.declared.user_part.SignalAction.{SignalAction}
-use Rattle.plain_machine.specs.Start.{break_of, start_sp, start_regs, start_thread, start_user, default_action}
-use Rattle.plain_machine.specs.Valid.{IsWord, IsByte, IsRegs, IsThread, IsAction}
+use Rattle.plain_process.specs.declared.user_part.SignalAction.{SignalAction}
+use Rattle.plain_process.specs.Start.{break_of, start_sp, start_regs, start_thread, start_user, default_action}
+use Rattle.plain_process.specs.Valid.{IsWord, IsByte, IsRegs, IsThread, IsAction}
 use Rattle.plain_machine.specs.Laws.{StartIsUser, ReadIsLaunched}
-use Rattle.plain_machine.proofs.MemoryBounds.{byte_of}
-use Rattle.plain_machine.proofs.StartPages.{all_tail, start_memory_is}
+use Rattle.plain_process.proofs.MemoryBounds.{byte_of}
+use Rattle.plain_process.proofs.StartPages.{all_tail, start_memory_is}
 use Rattle.plain_machine.proofs.StartHeaps.{start_heap, start_return}
 
 highest_from : (segments : List Segment) (highest : ℕ) → All IsWellPlaced segments → highest ≤ 0x40000000 → fold (λ h segment. max h (segment.vaddr + segment.memsz)) highest segments ≤ 0x40000000

@@ -15,20 +15,21 @@ use Rattle.sys_abi.specs.Signals.{has_signal}
 use Rattle.sys_abi.proofs.OrderLaws.{vpid_total, vpid_exact, dir_total, dir_exact}
 use Rattle.plain_machine.specs.declared.plain.Plain.{Plain}
 use Rattle.plain_machine.specs.declared.kernel.PlainKernel.{PlainKernel}
-use Rattle.plain_machine.specs.declared.channel.Direction.{Direction}
-use Rattle.plain_machine.specs.declared.user_part.UserPart.{UserPart}
-use Rattle.plain_machine.specs.declared.user_part.ThreadPart.{ThreadPart}
+use Rattle.plain_tables.specs.declared.channel.Direction.{Direction}
+use Rattle.plain_process.specs.declared.user_part.UserPart.{UserPart}
+use Rattle.plain_process.specs.declared.user_part.ThreadPart.{ThreadPart}
 use Rattle.plain_machine.specs.Attempts.{Served}
 use Rattle.plain_machine.specs.Kernel.{is_live, has_thread, after_end, after_take}
-use Rattle.plain_machine.specs.Steps.{UserStep, Stepped, Asks, Trapped, Waits, NoThread, user_step, user_steps}
-use Rattle.plain_machine.specs.Buffers.{lent}
-use Rattle.plain_machine.specs.Put.{put}
-use Rattle.plain_machine.specs.Deliveries.{Delivery, Enters, Ignores, Kills, traps_with}
+use Rattle.plain_process.specs.Steps.{UserStep, Stepped, Asks, Trapped, Waits, NoThread, user_step, user_steps}
+use Rattle.plain_process.specs.Buffers.{lent}
+use Rattle.plain_process.specs.Put.{put}
+use Rattle.plain_process.specs.Deliveries.{Delivery, Enters, Ignores, Kills, traps_with}
 use Rattle.plain_machine.specs.Serve.{serve}
 use Rattle.plain_machine.specs.Records.{Outcome, outcome, QUANTUM, quiet, with_user, living, user_ends, if_ends, is_unready, ended_by_signal, delivered, deliverable, with_arrived, outcome_of_user, outcome_of_call, outcome_of_ask, outcome_of_lent, outcome_of_serve, outcome_of_pending, outcome_of_signal, outcome_of_arrival}
-use Rattle.plain_machine.specs.Valid.{IsKernel, IsDirection, IsUser, IsValid, Each}
+use Rattle.plain_machine.specs.Valid.{IsKernel, IsDirection, IsValid}
+use Rattle.plain_process.specs.Valid.{IsUser, Each}
 use Rattle.plain_machine.specs.Laws.{StepKeepsValid}
-use Rattle.plain_machine.proofs.Giving.{Giving, gives, nothing, where_, either, then_, mapped}
+use Rattle.plain_process.proofs.Giving.{Giving, gives, nothing, where_, either, then_, mapped}
 use Rattle.plain_machine.proofs.Requests.{asked_is_request}
 use Rattle.plain_machine.proofs.ThreadKeys.{there_after}
 use Rattle.plain_machine.proofs.UserParts.{Follows}

@@ -17,19 +17,21 @@ use Rattle.sys_abi.specs.declared.cloning.CloneForm.TheVariants.{Fork, Thread}
 use Rattle.sys_abi.specs.Clones.{clone_form}
 use Rattle.sys_abi.proofs.OrderLaws.{vpid_total, vpid_exact}
 use Rattle.plain_machine.specs.declared.kernel.PlainKernel.{PlainKernel}
-use Rattle.plain_machine.specs.declared.process.Process.{Process}
-use Rattle.plain_machine.specs.declared.description.Object.{Object}
-use Rattle.plain_machine.specs.declared.description.Object.TheVariants.{Console}
-use Rattle.plain_machine.specs.Attempts.{Try, Fails, NotReady, Gives, Served, need, found, refused, settled}
-use Rattle.plain_machine.specs.Kernel.{pid, is_live_process, is_live, description_at, may_write, after_end, raised_at, at_process, after_raise, is_neighbour, thread_count, has_thread_in, has_thread, without_thread, with_thread, after_thread_end, with_next_thread}
-use Rattle.plain_machine.specs.Put.{added_by, added_thread, error}
+use Rattle.plain_tables.specs.declared.process.Process.{Process}
+use Rattle.plain_tables.specs.declared.description.Object.{Object}
+use Rattle.plain_tables.specs.declared.description.Object.TheVariants.{Console}
+use Rattle.plain_process.specs.Attempts.{Try, Fails, NotReady, Gives, need, found}
+use Rattle.plain_machine.specs.Attempts.{Served, refused, settled}
+use Rattle.plain_tables.specs.Tables.{pid, is_live_process, may_write, raised_at, has_thread_in, without_thread, with_thread}
+use Rattle.plain_machine.specs.Kernel.{is_live, description_at, after_end, at_process, after_raise, is_neighbour, thread_count, has_thread, after_thread_end, with_next_thread}
+use Rattle.plain_process.specs.Put.{added_by, added_thread, error}
 use Rattle.plain_machine.specs.Rows.Write.{write_object, write_row}
 use Rattle.plain_machine.specs.Rows.End.{exit_group_row, exit_row}
 use Rattle.plain_machine.specs.Rows.Send.{is_above_zero, may_be_sent, tgkill_row}
 use Rattle.plain_machine.specs.Rows.Clone.{THREAD_LIMIT, LAST_ID, cloned, clone_thread, clone_by, clone_row}
 use Rattle.plain_machine.specs.Serve.{row, serve}
 use Rattle.plain_machine.specs.Valid.{IsKernel}
-use Rattle.plain_machine.proofs.Giving.{Giving, gives, nothing}
+use Rattle.plain_process.proofs.Giving.{Giving, gives, nothing}
 use Rattle.plain_machine.proofs.Trying.{Trying, succeeds, fails, after}
 use Rattle.plain_machine.proofs.LocalReplies.{needed}
 use Rattle.plain_machine.proofs.ThreadKeys.{with_one, there_after, there_without, there_with}

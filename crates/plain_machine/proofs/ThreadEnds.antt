@@ -10,17 +10,17 @@ use Rattle.std.proofs.lemmas.List.Elements.{All-nil}
 use Rattle.std.proofs.lemmas.List.Filters.{length-filter_both}
 use Rattle.views.proofs.MapLaws.{remove_absent}
 use Rattle.sys_abi.specs.declared.flags.TheConstants.{CLONE_CHILD_CLEARTID, CLONE_SETTLS}
-use Rattle.plain_machine.specs.declared.regs.Regs.{Regs}
-use Rattle.plain_machine.specs.declared.user_part.UserPart.{UserPart}
-use Rattle.plain_machine.specs.declared.user_part.ThreadPart.{ThreadPart}
-use Rattle.plain_machine.specs.declared.user_part.Waiter.{Waiter}
-use Rattle.plain_machine.specs.Memory.{Memory, store}
-use Rattle.plain_machine.specs.Registers.{A0, SP, TP}
-use Rattle.plain_machine.specs.Steps.{with_regs}
-use Rattle.plain_machine.specs.Threads.{after_call, with_waiters, without_waiter, awake_by, awake, first_waiter, Woken, woken_by, wake_one, wake, without_thread, with_cleared, after_clearing, thread_end_by, after_thread_end, with_reg_if, new_regs, new_thread, with_new_thread_by, with_new_thread}
-use Rattle.plain_machine.specs.Valid.{IsWord, IsRegs, IsThread, IsUser}
-use Rattle.plain_machine.proofs.Giving.{Giving}
-use Rattle.plain_machine.proofs.MemoryBounds.{IsMemory, kept_by_store}
+use Rattle.plain_process.specs.declared.regs.Regs.{Regs}
+use Rattle.plain_process.specs.declared.user_part.UserPart.{UserPart}
+use Rattle.plain_process.specs.declared.user_part.ThreadPart.{ThreadPart}
+use Rattle.plain_process.specs.declared.user_part.Waiter.{Waiter}
+use Rattle.plain_process.specs.Memory.{Memory, store}
+use Rattle.plain_process.specs.Registers.{A0, SP, TP}
+use Rattle.plain_process.specs.Steps.{with_regs}
+use Rattle.plain_process.specs.Threads.{after_call, with_waiters, without_waiter, awake_by, awake, first_waiter, Woken, woken_by, wake_one, wake, without_thread, with_cleared, after_clearing, thread_end_by, after_thread_end, with_reg_if, new_regs, new_thread, with_new_thread_by, with_new_thread}
+use Rattle.plain_process.specs.Valid.{IsWord, IsRegs, IsThread, IsUser}
+use Rattle.plain_process.proofs.Giving.{Giving}
+use Rattle.plain_process.proofs.MemoryBounds.{IsMemory, kept_by_store}
 use Rattle.plain_machine.proofs.MemoryPages.{KeepsPages, kept_pages, store_keeps}
 use Rattle.plain_machine.proofs.WordBounds.{either_word}
 use Rattle.plain_machine.proofs.EffectBounds.{regs_at, regs_with, next_word}

@@ -13,7 +13,7 @@ use Rattle.views.proofs.MapValues.{get-map_values, entries-map_values}
 use Rattle.sys_abi.specs.declared.request.Request.{Request}
 use Rattle.sys_abi.specs.declared.request.Request.TheVariants.{Exit}
 use Rattle.sys_abi.specs.declared.reply.Reply.{Reply}
-use Rattle.plain_machine.specs.Put.{added_thread}
+use Rattle.plain_process.specs.Put.{added_thread}
 
 abbrev pub without_one : ℕ → ℕ → Bool → Bool
 without_one t u was = cond (eq_by_cmp nat_cmp u t) false was

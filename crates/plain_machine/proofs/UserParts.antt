@@ -13,16 +13,16 @@ use Rattle.std.proofs.lemmas.List.Elements.{All-nil, All-cons, All-append, All-f
 use Rattle.std.proofs.lemmas.List.Kept.{AllPairs-filter}
 use Rattle.std.proofs.lemmas.List.Quantifiers.{all_pairs_push}
 use Rattle.views.proofs.MapLaws.{get_insert_same, get_insert_other, get_remove_same, get_remove_other, same_or_other}
-use Rattle.plain_machine.specs.declared.user_part.UserPart.{UserPart}
-use Rattle.plain_machine.specs.declared.user_part.ThreadPart.{ThreadPart}
-use Rattle.plain_machine.specs.declared.user_part.SignalAction.{SignalAction}
-use Rattle.plain_machine.specs.declared.user_part.Waiter.{Waiter}
-use Rattle.plain_machine.specs.Memory.{Memory}
-use Rattle.plain_machine.specs.Threads.{with_waiters, without_waiter, without_thread}
-use Rattle.plain_machine.specs.Steps.{with_thread}
-use Rattle.plain_machine.specs.Start.{RETURN_PAGE, return_frame}
-use Rattle.plain_machine.specs.Valid.{IsWord, IsThread, IsAction, IsWaiter, IsHeap, IsUser, Each}
-use Rattle.plain_machine.proofs.MemoryBounds.{IsMemory}
+use Rattle.plain_process.specs.declared.user_part.UserPart.{UserPart}
+use Rattle.plain_process.specs.declared.user_part.ThreadPart.{ThreadPart}
+use Rattle.plain_process.specs.declared.user_part.SignalAction.{SignalAction}
+use Rattle.plain_process.specs.declared.user_part.Waiter.{Waiter}
+use Rattle.plain_process.specs.Memory.{Memory}
+use Rattle.plain_process.specs.Threads.{with_waiters, without_waiter, without_thread}
+use Rattle.plain_process.specs.Steps.{with_thread}
+use Rattle.plain_process.specs.Start.{RETURN_PAGE, return_frame}
+use Rattle.plain_process.specs.Valid.{IsWord, IsThread, IsAction, IsWaiter, IsHeap, IsUser, Each}
+use Rattle.plain_process.proofs.MemoryBounds.{IsMemory}
 use Rattle.plain_machine.proofs.MemoryPages.{KeepsPages, same_pages}
 use Rattle.plain_machine.proofs.ThreadKeys.{with_one, there_with, same_there}
 

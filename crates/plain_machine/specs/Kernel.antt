@@ -1,30 +1,12 @@
 -- Words on a kernel part: look-ups, and changes, each of which a call's row names.
 -- Source: `man 2 open` (descriptors and open descriptions), `man 2 credentials` (processes), `man 7 signal` (pending signals).
-use Rattle.std.specs.Prelude.{◌==◌, ℕ, ◌+◌, Bool, false, not, ◌&&◌, ◌||◌, ◌%◌, nat_le, bit_or, Option, Some, None, is_some, unwrap_or, option_and_then, if◌then◌else◌}
-use Rattle.std.specs.List.{list_any}
-use Rattle.std.specs.Ordering.{eq_by_cmp}
+use Rattle.std.specs.Prelude.{ℕ, ◌+◌, Bool, not, ◌&&◌, nat_le, Option, option_and_then, if◌then◌else◌}
 use Rattle.std.specs.FinMap as map
 use Rattle.sys_abi.specs.declared.identity.VPid.{VPid}
-use Rattle.sys_abi.specs.declared.identity.DescId.{DescId}
-use Rattle.sys_abi.specs.declared.identity.Slot.{Slot}
-use Rattle.sys_abi.specs.Orders.{vpid_cmp, desc_cmp, slot_cmp}
-use Rattle.sys_abi.specs.Signals.{has_signal, with_signal, without_signal}
 use Rattle.plain_machine.specs.declared.kernel.PlainKernel.{PlainKernel}
-use Rattle.plain_machine.specs.declared.process.Process.{Process}
-use Rattle.plain_machine.specs.declared.process.Maker.{Maker}
-use Rattle.plain_machine.specs.declared.description.Description.{Description}
-use Rattle.plain_machine.specs.declared.description.Descriptor.{Descriptor}
-use Rattle.sys_abi.specs.Lives.{lives}
-
-abbrev pub pid : ℕ → VPid
-pid number = record { 0 = number }
-
-abbrev pub slot : VPid → ℕ → Slot
-slot p fd = record { pid = p; fd = fd }
-
-abbrev pub is_live_process : Option Process → Bool
-is_live_process None = false
-is_live_process (Some process) = lives process.life
+use Rattle.plain_tables.specs.declared.process.Process.{Process}
+use Rattle.plain_tables.specs.declared.description.Description.{Description}
+use Rattle.plain_tables.specs.Tables.{pid, slot, is_live_process, is_held, is_slot_of, pending_in, taken_from, raised_at, changed_at, thread_count_in, has_thread_in, without_thread, with_thread, same_host}
 
 -- the process is there and has not ended
 unfoldable pub is_live : PlainKernel → VPid → Bool
@@ -33,20 +15,6 @@ is_live k p = is_live_process (map.get k.processes p)
 -- the description to which a descriptor of a process refers
 unfoldable pub description_at : PlainKernel → VPid → ℕ → Option Description
 description_at k p fd = option_and_then (λ descriptor. map.get k.descriptions descriptor.desc) (map.get k.descriptors (slot p fd))
-
--- access modes: 0 reads, 1 writes, 2 both
-abbrev pub may_write : ℕ → Bool
-may_write flags = (flags % 4 == 1) || (flags % 4 == 2)
-
-abbrev pub refers_to : DescId → Descriptor → Bool
-refers_to d descriptor = eq_by_cmp desc_cmp d descriptor.desc
-
--- some descriptor refers to the description
-unfoldable pub is_held : map.FinMap slot_cmp Descriptor → DescId → Bool
-is_held descriptors d = list_any (refers_to d) (map.values descriptors)
-
-abbrev pub is_slot_of : VPid → Slot → Bool
-is_slot_of p at = at.pid.0 == p.0
 
 -- the descriptors of a process are gone
 abbrev pub without_descriptors_of : VPid → PlainKernel → PlainKernel
@@ -63,40 +31,9 @@ without_process p k = record k { processes = map.remove k.processes p; makers = 
 unfoldable pub after_end : PlainKernel → VPid → PlainKernel
 after_end k p = without_process p (without_unheld (without_descriptors_of p k))
 
--- pending signals: those of a thread are taken before those of its process
-
-abbrev pub signals_of : ℕ → Process → ℕ
-signals_of t process = unwrap_or (map.get process.threads t) 0
-
-abbrev pub pending_in : ℕ → Option Process → ℕ
-pending_in t None = 0
-pending_in t (Some process) = bit_or (signals_of t process) process.pending
-
 -- the signals that are pending for the thread or its process
 unfoldable pub pending : PlainKernel → VPid → ℕ → ℕ
 pending k p t = pending_in t (map.get k.processes p)
-
-abbrev pub with_signals : Process → ℕ → ℕ → Process
-with_signals process t signals = record process { threads = map.insert process.threads t signals }
-
-abbrev pub taken_from : ℕ → ℕ → Process → Process
-taken_from t s process =
-    if has_signal (signals_of t process) s then with_signals process t (without_signal (signals_of t process) s) else
-    record process { pending = without_signal process.pending s }
-
-abbrev pub raised_at : ℕ → ℕ → Process → Process
-raised_at t s process = with_signals process t (with_signal (signals_of t process) s)
-
-abbrev pub Processes : Type 0
-Processes = map.FinMap vpid_cmp Process
-
-abbrev pub changed_by : Processes → VPid → (Process → Process) → Option Process → Processes
-changed_by processes p change None = processes
-changed_by processes p change (Some process) = map.insert processes p (change process)
-
--- the processes with a change of one of them, if it is there
-abbrev pub changed_at : Processes → VPid → (Process → Process) → Processes
-changed_at processes p change = changed_by processes p change (map.get processes p)
 
 abbrev pub at_process : PlainKernel → VPid → (Process → Process) → PlainKernel
 at_process k p change = record k { processes = changed_at k.processes p change }
@@ -107,27 +44,11 @@ after_take k p t s = at_process k p (taken_from t s)
 unfoldable pub after_raise : PlainKernel → VPid → ℕ → ℕ → PlainKernel
 after_raise k p t s = at_process k p (raised_at t s)
 
--- threads
-
-abbrev pub thread_count_in : Option Process → ℕ
-thread_count_in None = 0
-thread_count_in (Some process) = map.len process.threads
-
 abbrev pub thread_count : PlainKernel → VPid → ℕ
 thread_count k p = thread_count_in (map.get k.processes p)
 
-abbrev pub has_thread_in : ℕ → Option Process → Bool
-has_thread_in t None = false
-has_thread_in t (Some process) = is_some (map.get process.threads t)
-
 abbrev pub has_thread : PlainKernel → VPid → ℕ → Bool
 has_thread k p t = has_thread_in t (map.get k.processes p)
-
-abbrev pub without_thread : ℕ → Process → Process
-without_thread t process = record process { threads = map.remove process.threads t }
-
-abbrev pub with_thread : ℕ → Process → Process
-with_thread t process = with_signals process t 0
 
 -- the process's last thread takes the process with it
 unfoldable pub after_thread_end : PlainKernel → VPid → ℕ → PlainKernel
@@ -140,9 +61,5 @@ with_next_thread k p =
     record (at_process k p (with_thread k.next_id)) { next_id = k.next_id + 1 }
 
 -- a live process of the caller's host (`man 2 kill`)
-abbrev pub same_host : Option Maker → Option Maker → Bool
-same_host (Some a) (Some b) = a.host == b.host
-same_host _ _ = false
-
 unfoldable pub is_neighbour : PlainKernel → VPid → ℕ → Bool
 is_neighbour k p number = is_live k (pid number) && same_host (map.get k.makers p) (map.get k.makers (pid number))

@@ -8,22 +8,25 @@ use Rattle.sys_abi.specs.declared.record.Record.{Record}
 use Rattle.sys_abi.specs.declared.record.Record.TheVariants.{User, Call, Deliver}
 use Rattle.plain_machine.specs.declared.plain.Plain.{Plain}
 use Rattle.plain_machine.specs.declared.kernel.PlainKernel.{PlainKernel}
-use Rattle.plain_machine.specs.declared.user_part.UserPart.{UserPart}
-use Rattle.plain_machine.specs.Kernel.{is_live, pid}
+use Rattle.plain_process.specs.declared.user_part.UserPart.{UserPart}
+use Rattle.plain_machine.specs.Kernel.{is_live}
+use Rattle.plain_tables.specs.Tables.{pid}
 use Rattle.plain_machine.specs.Attempts.{Served}
-use Rattle.plain_machine.specs.Steps.{Asks, user_step, user_steps}
-use Rattle.plain_machine.specs.Deliveries.{Enters, deliver}
-use Rattle.plain_machine.specs.Buffers.{lent, written_spans}
-use Rattle.plain_machine.specs.Put.{word_of, put, put_fault, CanTake}
-use Rattle.plain_machine.specs.Local.{local_row}
+use Rattle.plain_process.specs.Steps.{Asks, user_step, user_steps}
+use Rattle.plain_process.specs.Deliveries.{Enters, deliver}
+use Rattle.plain_process.specs.Buffers.{lent, written_spans}
+use Rattle.plain_process.specs.Put.{word_of, put, put_fault, CanTake}
+use Rattle.plain_process.specs.Local.{local_row}
 use Rattle.plain_machine.specs.Serve.{serve}
 use Rattle.plain_machine.specs.Records.{Outcome, outcome, step}
 use Rattle.plain_machine.specs.Runs.{run, console}
 use Rattle.elf32.specs.Pages.{page_count}
 use Rattle.elf32.specs.Programs.{program_of, IsWellPlaced}
-use Rattle.plain_machine.specs.Start.{Launched, NamedFile, start, start_user, PROGRAM_LIMIT}
-use Rattle.plain_machine.specs.Valid.{IsWord, IsByte, IsKernel, IsUser, IsValid, IsRequest, CanAdd}
-use Rattle.plain_machine.specs.Launches.{IsLaunched}
+use Rattle.plain_process.specs.Start.{Launched, start_user}
+use Rattle.plain_machine.specs.Start.{NamedFile, start, PROGRAM_LIMIT}
+use Rattle.plain_process.specs.Valid.{IsWord, IsByte, IsUser, IsRequest, CanAdd}
+use Rattle.plain_machine.specs.Valid.{IsKernel, IsValid}
+use Rattle.plain_process.specs.Launches.{IsLaunched}
 
 -- the process that a record is of
 abbrev pub subject : Record → Option VPid

@@ -11,17 +11,17 @@ use Rattle.sys_abi.specs.declared.request.Request.{Request}
 use Rattle.sys_abi.specs.Requests.{is_local}
 use Rattle.sys_abi.specs.Signals.{has_signal, without_signals}
 use Rattle.plain_machine.specs.declared.plain.Plain.{Plain}
-use Rattle.plain_machine.specs.declared.channel.Direction.{Direction}
+use Rattle.plain_tables.specs.declared.channel.Direction.{Direction}
 use Rattle.plain_machine.specs.declared.kernel.PlainKernel.{PlainKernel}
-use Rattle.plain_machine.specs.declared.user_part.UserPart.{UserPart}
-use Rattle.plain_machine.specs.declared.user_part.ThreadPart.{ThreadPart}
+use Rattle.plain_process.specs.declared.user_part.UserPart.{UserPart}
+use Rattle.plain_process.specs.declared.user_part.ThreadPart.{ThreadPart}
 use Rattle.plain_machine.specs.Attempts.{Served}
 use Rattle.plain_machine.specs.Kernel.{is_live, after_end, pending, after_take}
-use Rattle.plain_machine.specs.Steps.{UserStep, Asks, Trapped, Waits, user_step, user_steps}
-use Rattle.plain_machine.specs.Buffers.{lent}
-use Rattle.plain_machine.specs.Put.{put, put_fault}
-use Rattle.plain_machine.specs.Local.{local_row}
-use Rattle.plain_machine.specs.Deliveries.{Delivery, Enters, Ignores, Kills, deliver, traps_with}
+use Rattle.plain_process.specs.Steps.{UserStep, Asks, Trapped, Waits, user_step, user_steps}
+use Rattle.plain_process.specs.Buffers.{lent}
+use Rattle.plain_process.specs.Put.{put, put_fault}
+use Rattle.plain_process.specs.Local.{local_row}
+use Rattle.plain_process.specs.Deliveries.{Delivery, Enters, Ignores, Kills, deliver, traps_with}
 use Rattle.plain_machine.specs.Serve.{serve}
 
 -- how many instructions a thread runs at most in one record

@@ -7,7 +7,8 @@ use Rattle.sys_abi.specs.declared.errors.TheConstants.{ENOSYS}
 use Rattle.sys_abi.specs.declared.request.Request.{Request}
 use Rattle.sys_abi.specs.declared.request.Request.TheVariants.{Write, Exit, ExitGroup, Tgkill, Clone}
 use Rattle.plain_machine.specs.declared.kernel.PlainKernel.{PlainKernel}
-use Rattle.plain_machine.specs.Attempts.{Try, Fails, Served, settled}
+use Rattle.plain_process.specs.Attempts.{Try, Fails}
+use Rattle.plain_machine.specs.Attempts.{Served, settled}
 use Rattle.plain_machine.specs.Rows.Write.{write_row}
 use Rattle.plain_machine.specs.Rows.End.{exit_group_row, exit_row}
 use Rattle.plain_machine.specs.Rows.Send.{tgkill_row}

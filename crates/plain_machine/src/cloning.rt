@@ -4,12 +4,12 @@ ghost use Rattle.plain_machine.specs.Rows.Clone as cloning;
 ghost use Rattle.plain_machine.specs.Answers.{row_told};
 
 use crate::kernel::PlainKernel;
-use crate::process::Process;
 use crate::serve::Answer;
+use plain_tables::threads::insert_thread;
 use std::alloc::{AllocError, Global};
 use sys_abi::errors::{EAGAIN, EINVAL, ENOSYS};
 use sys_abi::flags::{CLONE_CHILD_SETTID, CLONE_PARENT_SETTID};
-use sys_abi::{ByPid, CloneForm, Errno, Reply, VPid, clone_form};
+use sys_abi::{CloneForm, Errno, Reply, VPid, clone_form};
 use views::list_of::ListOf;
 
 /// How many threads a process has at most.
@@ -39,7 +39,7 @@ impl PlainKernel {
         }
     }
 
-    #[tactic(auto, unfolding(crate::specs::Rows::Clone::clone_thread, crate::specs::Attempts::and_then, crate::specs::Attempts::need))]
+    #[tactic(auto, unfolding(crate::specs::Rows::Clone::clone_thread, plain_process::specs::Attempts::and_then, plain_process::specs::Attempts::need))]
     fn clone_thread(
         &mut self,
         alloc: Global,
@@ -72,27 +72,6 @@ impl PlainKernel {
     {
         insert_thread(&mut self.processes, p, self.next_id)?;
         self.next_id += 1;
-        Ok(())
-    }
-}
-
-fn insert_thread(processes: &mut ByPid<Process>, p: VPid, t: u32) -> Result<(), AllocError>
-    ensures ok { OnOk result (processes.new ≡ words.changed_at processes.old p (words.with_thread t)) }
-    ensures err { OnErr result (processes.new ≡ processes.old) }
-{
-    match processes.get_mut(p) {
-        None => Ok(()),
-        Some(process) => process.add_thread(t),
-    }
-}
-
-impl Process {
-    /// A thread more, for which no signal is pending.
-    fn add_thread(&mut self, t: u32) -> Result<(), AllocError>
-        ensures ok { OnOk result (self.new ≡ words.with_thread t self.old) }
-        ensures err { OnErr result (self.new ≡ self.old) }
-    {
-        self.threads.insert(t, 0)?;
         Ok(())
     }
 }

@@ -2,9 +2,9 @@ ghost use Rattle.std.specs.Prelude.{◌≡◌};
 ghost use Rattle.plain_machine.specs.Kernel as words;
 
 use crate::kernel::PlainKernel;
-use crate::look_ups::is_held;
-use crate::process::Process;
-use sys_abi::{ByPid, Tid, VPid};
+use plain_tables::description::is_held;
+use plain_tables::threads::remove_thread;
+use sys_abi::{Tid, VPid};
 
 impl PlainKernel {
     /// Ends a process that nobody waits for: its descriptors close, the descriptions that no other descriptor refers to
@@ -31,13 +31,5 @@ impl PlainKernel {
         } else {
             remove_thread(&mut self.processes, p, t.0);
         }
-    }
-}
-
-fn remove_thread(processes: &mut ByPid<Process>, p: VPid, t: u32)
-    ensures { processes.new ≡ words.changed_at processes.old p (words.without_thread t) }
-{
-    if let Some(process) = processes.get_mut(p) {
-        process.threads.remove(t);
     }
 }

@@ -1,6 +1,8 @@
-use crate::channel::{Channel, Direction, Listening};
-use crate::description::{Description, Descriptor};
-use crate::process::{Maker, Process};
+ghost use Rattle.std.specs.Prelude.{◌≡◌, IfOk};
+
+use plain_tables::channel::{Channel, Direction, Listening};
+use plain_tables::description::{Description, Descriptor};
+use plain_tables::process::{Maker, Process};
 use std::alloc::{AllocError, Global};
 use sys_abi::{ByAddress, ByConn, ByDesc, ByDir, ByName, ByPid, BySlot};
 use views::duplicate::Duplicate;
@@ -31,19 +33,74 @@ pub struct PlainKernel {
 
 impl Duplicate for PlainKernel {
     fn duplicate(&self, alloc: Global) -> Result<Self, AllocError> {
+        let (processes, makers, descriptors, descriptions) = self.held(alloc)?;
+        let (names, files) = self.stored(alloc)?;
+        let (channels, directions, listeners, inboxes) = self.connected(alloc)?;
         Ok(PlainKernel {
-            processes: self.processes.duplicate(alloc)?,
-            makers: self.makers.duplicate(alloc)?,
-            descriptors: self.descriptors.duplicate(alloc)?,
-            descriptions: self.descriptions.duplicate(alloc)?,
-            names: self.names.duplicate(alloc)?,
-            files: self.files.duplicate(alloc)?,
+            processes,
+            makers,
+            descriptors,
+            descriptions,
+            names,
+            files,
             next_file: self.next_file,
-            channels: self.channels.duplicate(alloc)?,
-            directions: self.directions.duplicate(alloc)?,
-            listeners: self.listeners.duplicate(alloc)?,
-            inboxes: self.inboxes.duplicate(alloc)?,
+            channels,
+            directions,
+            listeners,
+            inboxes,
             next_id: self.next_id,
         })
     }
 }
+
+impl PlainKernel {
+    /// Copies of the processes, their makers, their descriptors and the descriptions.
+    fn held(&self, alloc: Global) -> Result<Held, AllocError>
+        ensures { IfOk result (λ copy. copy ≡ (self.now.processes, self.now.makers, self.now.descriptors, self.now.descriptions)) }
+    {
+        Ok((
+            self.processes.duplicate(alloc)?,
+            self.makers.duplicate(alloc)?,
+            self.descriptors.duplicate(alloc)?,
+            self.descriptions.duplicate(alloc)?,
+        ))
+    }
+
+    /// Copies of the names and the files.
+    fn stored(&self, alloc: Global) -> Result<Stored, AllocError>
+        ensures { IfOk result (λ copy. copy ≡ (self.now.names, self.now.files)) }
+    {
+        Ok((self.names.duplicate(alloc)?, self.files.duplicate(alloc)?))
+    }
+
+    /// Copies of the channels, their directions, the listeners and the inboxes.
+    fn connected(&self, alloc: Global) -> Result<Connected, AllocError>
+        ensures { IfOk result (λ copy. copy ≡ (self.now.channels, self.now.directions, self.now.listeners, self.now.inboxes)) }
+    {
+        Ok((
+            self.channels.duplicate(alloc)?,
+            self.directions.duplicate(alloc)?,
+            self.listeners.duplicate(alloc)?,
+            self.inboxes.duplicate(alloc)?,
+        ))
+    }
+}
+
+/// What processes hold.
+type Held = (
+    ByPid<Process>,
+    ByPid<Maker>,
+    BySlot<Descriptor>,
+    ByDesc<Description>,
+);
+
+/// What is stored under names.
+type Stored = (ByName<u32>, NumberMap<ListOf<u8>>);
+
+/// What connects processes.
+type Connected = (
+    ByConn<Channel>,
+    ByDir<Direction>,
+    ByAddress<Listening>,
+    ByDesc<ListOf<ListOf<u8>>>,
+);

@@ -1,5 +1,4 @@
 ghost use Rattle.plain_machine.specs.Laws.{RecordIsLocal, StartIsValid, StepKeepsValid, RunOfOneMore, ConsoleOfOneMore, ReadIsLaunched, StartIsUser, UserStepsKeepUser, PutKeepsUser, FaultKeepsUser, LocalKeepsUser, DeliveryKeepsUser, AskedIsRequest, WaitersAreFew, ServeAnswers, ServeAdds};
-ghost use Rattle.plain_machine.specs.Examples.{AreDecoded, AreQuotients, AreProducts, IsStarted, AreAnswers};
 
 /// The laws of runs, for proofs about traces. It does nothing.
 pub fn run_laws()
@@ -21,14 +20,4 @@ pub fn run_laws()
     ensures waiters { WaitersAreFew }
     ensures answers { ServeAnswers }
     ensures adds { ServeAdds }
-{}
-
-/// Worked examples of decoding, multiplication and division, the start of the stack and the word of a reply, so that a
-/// change of one of these definitions shows. It does nothing.
-pub fn worked_examples()
-    ensures decoded { AreDecoded }
-    ensures quotients { AreQuotients }
-    ensures products { AreProducts }
-    ensures start { IsStarted }
-    ensures answers { AreAnswers }
 {}

@@ -1,12 +1,10 @@
 ghost use Rattle.std.specs.Prelude.{◌≡◌};
-ghost use Rattle.std.specs.FinMap as map;
-ghost use Rattle.sys_abi.specs.Orders.{slot_cmp};
 ghost use Rattle.plain_machine.specs.Kernel as words;
 ghost use Rattle.plain_machine.specs.Tests as tests;
 
-use crate::description::{Description, Descriptor};
 use crate::kernel::PlainKernel;
-use sys_abi::{BySlot, DescId, Slot, VPid};
+use plain_tables::Description;
+use sys_abi::{Slot, VPid};
 
 impl PlainKernel {
     /// Whether the process is there and has not ended.
@@ -75,23 +73,4 @@ impl PlainKernel {
         let descriptor = self.descriptors.get(Slot { pid: p, fd })?;
         self.descriptions.get(descriptor.desc).copied()
     }
-}
-
-impl Description {
-    /// Whether its access mode lets it be written to (`man 2 open`).
-    pub fn may_write(&self) -> bool
-        ensures { result ≡ words.may_write self.now.flags }
-    {
-        self.flags % 4 == 1 || self.flags % 4 == 2
-    }
-}
-
-/// Whether some descriptor refers to the description.
-#[tactic(auto, unfolding(crate::specs::Kernel::is_held))]
-pub(crate) fn is_held(descriptors: &BySlot<Descriptor>, description: DescId) -> bool
-    ensures { result ≡ words.is_held descriptors.now description }
-{
-    descriptors
-        .values()
-        .any(|descriptor| description.cmp(&descriptor.desc).is_eq())
 }

@@ -1,5 +1,5 @@
 use crate::kernel::PlainKernel;
-use crate::user_part::UserPart;
+use plain_process::user_part::UserPart;
 use std::alloc::{AllocError, Global};
 use sys_abi::ByPid;
 use views::duplicate::Duplicate;

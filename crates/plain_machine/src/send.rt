@@ -10,7 +10,7 @@ use sys_abi::{Errno, Signal, Tid, VPid};
 
 impl PlainKernel {
     /// tgkill (`man 2 tgkill`). Takes no memory, and an error changes nothing.
-    #[tactic(auto, unfolding(crate::specs::Rows::Send::tgkill_row, crate::specs::Attempts::and_then, crate::specs::Attempts::need))]
+    #[tactic(auto, unfolding(crate::specs::Rows::Send::tgkill_row, plain_process::specs::Attempts::and_then, plain_process::specs::Attempts::need))]
     pub(crate) fn tgkill(
         &mut self,
         alloc: Global,

@@ -5,15 +5,15 @@ ghost use Rattle.plain_machine.specs.Rows.Write as write;
 ghost use Rattle.plain_machine.specs.Serve.{serve};
 ghost use Rattle.plain_machine.specs.Answers.{row_told, answer_of, answer_told};
 
-use crate::description::Object;
 use crate::kernel::PlainKernel;
+use plain_tables::description::Object;
 use std::alloc::{AllocError, Global};
 use sys_abi::errors::{EBADF, ENOSYS};
 use sys_abi::{Errno, Reply, Request, Tid, VPid};
 use views::list_of::ListOf;
 
 /// What a call answers, apart from the change of the kernel part.
-#[derive(Debug, Drop)]
+#[derive(Drop)]
 pub struct Answer {
     pub reply: Reply,
     /// The bytes for the guest's memory.
@@ -81,7 +81,7 @@ impl PlainKernel {
     }
 
     /// write (`man 2 write`), of these bytes.
-    #[tactic(auto, unfolding(crate::specs::Rows::Write::write_row, crate::specs::Rows::Write::write_object, crate::specs::Attempts::and_then, crate::specs::Attempts::need, crate::specs::Attempts::found))]
+    #[tactic(auto, unfolding(crate::specs::Rows::Write::write_row, crate::specs::Rows::Write::write_object, plain_process::specs::Attempts::and_then, plain_process::specs::Attempts::need, plain_process::specs::Attempts::found))]
     fn write(&self, alloc: Global, p: VPid, fd: u32, given: &[u8]) -> Result<Answer, Errno>
         requires { length given.now ≤ TRANSFER_LIMIT }
         ensures { write.write_row self.now p fd given.now ≡ row_told self.now given.now result }

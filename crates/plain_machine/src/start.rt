@@ -1,11 +1,11 @@
 ghost use Rattle.std.specs.Prelude.{◌≡◌, ◌+◌, ◌^◌, ◌<◌, IfOk, OnOk, OnErr};
 ghost use Rattle.std.specs.FinMap as map;
-ghost use Rattle.plain_machine.specs.Kernel.{slot};
+ghost use Rattle.plain_tables.specs.Tables.{pid, slot};
 ghost use Rattle.plain_machine.specs.Start as words;
 
-use crate::description::{Description, Descriptor, Object};
 use crate::kernel::PlainKernel;
-use crate::process::{Maker, Process};
+use plain_tables::description::{Description, Descriptor, Object};
+use plain_tables::process::{Maker, Process};
 use std::alloc::{AllocError, Global};
 use sys_abi::flags::O_RDWR;
 use sys_abi::{ByAddress, ByConn, ByDesc, ByDir, ByName, ByPid, BySlot, DescId, Life, Slot, VPid};
@@ -51,14 +51,12 @@ impl PlainKernel {
     {
         let pid = VPid(p);
         let console = DescId { pid, num: 0 };
-        let mut processes = self.processes.duplicate(alloc)?;
-        processes.insert(pid, start_process(alloc, p)?)?;
-        let mut makers = self.makers.duplicate(alloc)?;
-        makers.insert(pid, Maker { host, made: 1 })?;
         let descriptor = Descriptor {
             desc: console,
             cloexec: false,
         };
+        let processes = with_started(alloc, &self.processes, p)?;
+        let makers = with_made(alloc, &self.makers, pid, Maker { host, made: 1 })?;
         let descriptors = with_standard(alloc, &self.descriptors, pid, descriptor)?;
         self.descriptions.insert(console, CONSOLE)?;
         self.processes = processes;
@@ -107,6 +105,33 @@ fn start_process(alloc: Global, p: u32) -> Result<Process, AllocError>
         pending: 0,
         threads,
     })
+}
+
+/// A copy of the processes, with the one that starts under this number.
+fn with_started(
+    alloc: Global,
+    processes: &ByPid<Process>,
+    p: u32,
+) -> Result<ByPid<Process>, AllocError>
+    ensures { IfOk result (λ added. added ≡ map.insert processes.now (pid p) (words.start_process p)) }
+{
+    let mut added = processes.duplicate(alloc)?;
+    added.insert(VPid(p), start_process(alloc, p)?)?;
+    Ok(added)
+}
+
+/// A copy of the makers, with this one.
+fn with_made(
+    alloc: Global,
+    makers: &ByPid<Maker>,
+    pid: VPid,
+    maker: Maker,
+) -> Result<ByPid<Maker>, AllocError>
+    ensures { IfOk result (λ added. added ≡ map.insert makers.now pid maker) }
+{
+    let mut added = makers.duplicate(alloc)?;
+    added.insert(pid, maker)?;
+    Ok(added)
 }
 
 /// A copy of the descriptors, with this one as 0, 1 and 2 of the process.

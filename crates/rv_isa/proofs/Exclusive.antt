@@ -4,9 +4,9 @@ use Rattle.std.specs.List.{list_all}
 use Rattle.std.proofs.lemmas.Bool.{and_parts, eqb-true, eq-eqb, false≢true}
 use Rattle.std.proofs.lemmas.Nat.{and_assoc, and_comm}
 use Rattle.std.proofs.lemmas.Option.{same_Some, none-some}
-use Rattle.plain_machine.specs.declared.instruction.Op.{Op}
-use Rattle.plain_machine.specs.declared.instruction.Op.TheVariants.{Lui}
-use Rattle.plain_machine.specs.Instructions.{encoding, mask_of, match_of, has_match, row_of, rows}
+use Rattle.plain_process.specs.declared.instruction.Op.{Op}
+use Rattle.plain_process.specs.declared.instruction.Op.TheVariants.{Lui}
+use Rattle.plain_process.specs.Instructions.{encoding, mask_of, match_of, has_match, row_of, rows}
 
 -- two rows agree on the bits that both fix
 abbrev overlap : Op → Op → Bool

@@ -5,9 +5,9 @@ use Rattle.std.proofs.Math.Pow.{mod-mod-pow}
 use Rattle.std.proofs.lemmas.Nat.{and_mask, and_block, shr_split, mod_below, field_of, div_below}
 use Rattle.std.proofs.lemmas.Bool.{ne_eqb}
 use Rattle.std.proofs.lemmas.Bool.Decides.{nat_tests}
-use Rattle.plain_machine.specs.declared.instruction.Op.{Op}
-use Rattle.plain_machine.specs.declared.instruction.Op.TheVariants.{Lui}
-use Rattle.plain_machine.specs.Instructions.{Format, R, I, S, B, U, J, Shift, Whole, Encoding, as_encoding, encoding, fixed_bits, mask_of, match_of, has_match, row_of, rows}
+use Rattle.plain_process.specs.declared.instruction.Op.{Op}
+use Rattle.plain_process.specs.declared.instruction.Op.TheVariants.{Lui}
+use Rattle.plain_process.specs.Instructions.{Format, R, I, S, B, U, J, Shift, Whole, Encoding, as_encoding, encoding, fixed_bits, mask_of, match_of, has_match, row_of, rows}
 use Rattle.rv_isa.specs.Fields.{fits_format, fits, row_at}
 
 -- ---- what masks leave

@@ -4,8 +4,8 @@ use Rattle.std.proofs.lemmas.Bool.{and_parts, and_from, eqb-true, eq-eqb}
 use Rattle.std.proofs.lemmas.Bool.Decides.{Decides-int_eq}
 use Rattle.std.specs.Ordering.{int_eq}
 use denote.Enum.Bare.{sameb, same_true, true_same}
-use Rattle.plain_machine.specs.contracts.instruction.Op.{the_type}
-use Rattle.plain_machine.specs.declared.instruction.Insn.{Insn}
+use Rattle.plain_process.specs.contracts.instruction.Op.{the_type}
+use Rattle.plain_process.specs.declared.instruction.Insn.{Insn}
 
 abbrev pub insn_eq : Insn → Insn → Bool
 insn_eq a b = sameb the_type a.op b.op && (eqb a.rd b.rd && (eqb a.rs1 b.rs1 && (eqb a.rs2 b.rs2 && int_eq a.imm b.imm)))

@@ -2,9 +2,9 @@
 use Rattle.std.proofs.Common.{◌≡◌, ℕ, ◌<◌, ◌^◌, IfSome, Bool, true, false, if◌then◌else◌, find, List, [], ◌∷◌, Option, Some, None, sym, refl, ◌∙◌, ap}
 use Rattle.std.proofs.lemmas.Option.{same_Some, none-some}
 use Rattle.std.specs.Option.{option_map}
-use Rattle.plain_machine.specs.declared.instruction.Insn.{Insn}
-use Rattle.plain_machine.specs.declared.instruction.Op.{Op}
-use Rattle.plain_machine.specs.Instructions.{decoded, has_match, row_of, rows}
+use Rattle.plain_process.specs.declared.instruction.Insn.{Insn}
+use Rattle.plain_process.specs.declared.instruction.Op.{Op}
+use Rattle.plain_process.specs.Instructions.{decoded, has_match, row_of, rows}
 use Rattle.rv_isa.specs.Fields.{with_operands}
 use Rattle.rv_isa.specs.Validity.{IsValid}
 

@@ -8,10 +8,10 @@ use Rattle.std.specs.Ordering.{nat_cmp}
 use Rattle.std.specs.FinMap as map
 use Rattle.std.proofs.lemmas.Cmp.{nat_cmp_total}
 use Rattle.views.proofs.MapLaws.{get_insert_same, get_insert_other, insert_insert}
-use Rattle.plain_machine.specs.declared.memory.Right.{Right}
-use Rattle.plain_machine.specs.declared.memory.Right.TheVariants.{Read, Write}
-use Rattle.plain_machine.specs.declared.memory.Frame.{Frame}
-use Rattle.plain_machine.specs.Memory.{Memory, load, store, bytes_at, byte_at, byte_in, followed_by, with_bytes, with_byte, with_byte_in, little_endian, low_bytes}
+use Rattle.plain_process.specs.declared.memory.Right.{Right}
+use Rattle.plain_process.specs.declared.memory.Right.TheVariants.{Read, Write}
+use Rattle.plain_process.specs.declared.memory.Frame.{Frame}
+use Rattle.plain_process.specs.Memory.{Memory, load, store, bytes_at, byte_at, byte_in, followed_by, with_bytes, with_byte, with_byte_in, little_endian, low_bytes}
 
 abbrev pub frame_of : List ℕ → Frame
 frame_of page = record { rights = 6; page = page }

@@ -3,9 +3,9 @@ use Rattle.std.proofs.Common.{◌≡◌, ℕ, ◌+◌, ◌*◌, ◌/◌, ◌%◌
 use Rattle.std.proofs.lemmas.Bool.{and_parts, eqb-true}
 use Rattle.std.proofs.lemmas.Bool.Decides.{nat_tests}
 use Rattle.std.proofs.lemmas.Int.{of_z-to_z}
-use Rattle.plain_machine.specs.declared.instruction.Insn.{Insn}
-use Rattle.plain_machine.specs.declared.instruction.Op.{Op}
-use Rattle.plain_machine.specs.Instructions.{Format, R, I, S, B, U, J, Shift, Whole, Encoding, as_encoding, encoding, sign_extended, bits, immediate, insn_of, has_match, decoded}
+use Rattle.plain_process.specs.declared.instruction.Insn.{Insn}
+use Rattle.plain_process.specs.declared.instruction.Op.{Op}
+use Rattle.plain_process.specs.Instructions.{Format, R, I, S, B, U, J, Shift, Whole, Encoding, as_encoding, encoding, sign_extended, bits, immediate, insn_of, has_match, decoded}
 use Rattle.rv_isa.specs.Fields.{fits_format, with_operands}
 use Rattle.rv_isa.specs.Validity.{IsValid}
 use Rattle.rv_isa.specs.Words.{joined, filled, word_of}

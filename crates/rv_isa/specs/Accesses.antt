@@ -2,7 +2,7 @@
 --     IsLoaded answer value      the answer is the value that stands there, or Fault where there is none
 --     IsStored answer after memory      the answer says whether the store was made, and then memory is what it left
 use Rattle.std.specs.Prelude.{◌≡◌, ◌⊎◌, ℕ, Result, Ok, Err, Option, Some, None}
-use Rattle.plain_machine.specs.Memory.{Memory}
+use Rattle.plain_process.specs.Memory.{Memory}
 use Rattle.rv_isa.specs.declared.guest_memory.AccessFault.{AccessFault}
 use Rattle.rv_isa.specs.declared.guest_memory.AccessFault.TheVariants.{Fault, Memory as NoMemory}
 

@@ -1,9 +1,9 @@
 -- The instruction table by the fields of a word: opcode o, funct3 f and funct7 g (RISC-V unprivileged manual, section 2.2).
 --     row_at o f g w      the instruction whose fixed fields are these, where w is the whole word
 use Rattle.std.specs.Prelude.{◌==◌, ◌&&◌, ◌%◌, ℕ, Bool, find, Option}
-use Rattle.plain_machine.specs.declared.instruction.Insn.{Insn}
-use Rattle.plain_machine.specs.declared.instruction.Op.{Op}
-use Rattle.plain_machine.specs.Instructions.{Format, R, I, S, B, U, J, Shift, Whole, Encoding, encoding, insn_of, rows}
+use Rattle.plain_process.specs.declared.instruction.Insn.{Insn}
+use Rattle.plain_process.specs.declared.instruction.Op.{Op}
+use Rattle.plain_process.specs.Instructions.{Format, R, I, S, B, U, J, Shift, Whole, Encoding, encoding, insn_of, rows}
 
 abbrev pub fits_format : Format → Encoding → ℕ → ℕ → ℕ → ℕ → Bool
 fits_format U row o f g w = o == row.opcode

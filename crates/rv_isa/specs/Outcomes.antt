@@ -2,9 +2,9 @@
 --     IsOutcome outcome effect regs memory      the effect is the one told, with regs and memory after it
 --     KeepsUnlessNext outcome old new      whatever didn't go on has left the value as it was
 use Rattle.std.specs.Prelude.{◌≡◌}
-use Rattle.plain_machine.specs.declared.regs.Regs.{Regs}
-use Rattle.plain_machine.specs.Memory.{Memory}
-use Rattle.plain_machine.specs.Instructions.{Effect, Next, Calls, Traps}
+use Rattle.plain_process.specs.declared.regs.Regs.{Regs}
+use Rattle.plain_process.specs.Memory.{Memory}
+use Rattle.plain_process.specs.Instructions.{Effect, Next, Calls, Traps}
 use Rattle.rv_isa.specs.declared.outcome.Outcome.{Outcome}
 use Rattle.rv_isa.specs.declared.outcome.Outcome.TheVariants.{Next as GoesOn, Call, Trap, Memory as NoMemory}
 

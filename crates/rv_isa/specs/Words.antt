@@ -3,8 +3,8 @@
 --     joined c d f a b g      the word with these fields: opcode, rd, funct3, rs1, rs2 and funct7
 --     word_of insn            the word of an instruction
 use Rattle.std.specs.Prelude.{ℕ, ◌+◌, ◌*◌, ◌%◌, ◌^◌}
-use Rattle.plain_machine.specs.declared.instruction.Insn.{Insn}
-use Rattle.plain_machine.specs.Instructions.{Format, R, I, S, B, U, J, Shift, Whole, Encoding, encoding, bits, word}
+use Rattle.plain_process.specs.declared.instruction.Insn.{Insn}
+use Rattle.plain_process.specs.Instructions.{Format, R, I, S, B, U, J, Shift, Whole, Encoding, encoding, bits, word}
 
 abbrev pub joined : ℕ → ℕ → ℕ → ℕ → ℕ → ℕ → ℕ
 joined c d f a b g = c + 2 ^ 7 * d + 2 ^ 12 * f + 2 ^ 15 * a + 2 ^ 20 * b + 2 ^ 25 * g

@@ -1,13 +1,13 @@
 ghost use Rattle.std.specs.Prelude.{◌≡◌, ℕ, ◌<◌};
-ghost use Rattle.plain_machine.specs.Instructions.{loads, stores, sign_extended, same};
-ghost use Rattle.plain_machine.specs.Memory.{load, store};
+ghost use Rattle.plain_process.specs.Instructions.{loads, stores, sign_extended, same};
+ghost use Rattle.plain_process.specs.Memory.{load, store};
 ghost use Rattle.rv_isa.specs.Accesses.{IsAccessSize};
 ghost use Rattle.rv_isa.specs.Outcomes.{IsOutcome, KeepsUnlessNext};
 
 use crate::guest_memory::{AccessFault, GuestMemory};
 use crate::outcome::Outcome;
 use crate::registers::{pass, set};
-use plain_machine::Regs;
+use plain_process::Regs;
 use sys_abi::Signal;
 
 /// The signal of an access to a page that is missing or lacks the right: SIGSEGV (`man 7 signal`).

@@ -1,5 +1,5 @@
 ghost use Rattle.std.specs.Prelude.{◌≡◌, ℕ, ◌*◌, ◌/◌, ◌%◌, ◌^◌, ◌<◌, ◌-◌, ◌==◌, pos, ◌*ℤ◌, int_lt, int_div, int_rem, if◌then◌else◌};
-ghost use Rattle.plain_machine.specs.Instructions.{signed, word, shifted_down, one_if};
+ghost use Rattle.plain_process.specs.Instructions.{signed, word, shifted_down, one_if};
 
 /// SLT, SLTU: 1 where the condition holds, else 0.
 #[inline]
@@ -19,7 +19,7 @@ pub fn is_below(a: u32, b: u32) -> bool
 
 /// SLL, SLLI: `a` times 2 to the power `amount`, without the bits that don't fit.
 #[inline]
-#[tactic(auto, using(plain_machine::proofs::Shifts::shl_past))]
+#[tactic(auto, using(plain_process::proofs::Shifts::shl_past))]
 pub fn shift_left(a: u32, amount: u32) -> u32
     ensures { result ≡ a * 2 ^ amount % 2 ^ 32 }
 {
@@ -28,7 +28,7 @@ pub fn shift_left(a: u32, amount: u32) -> u32
 
 /// SRL, SRLI: zeros come in.
 #[inline]
-#[tactic(auto, using(plain_machine::proofs::Shifts::shr_past))]
+#[tactic(auto, using(plain_process::proofs::Shifts::shr_past))]
 pub fn shift_right(a: u32, amount: u32) -> u32
     ensures { result ≡ a / 2 ^ amount }
 {

@@ -1,11 +1,11 @@
 ghost use Rattle.std.specs.Prelude.{◌≡◌, ◌≢◌, ℕ, ◌<◌};
-ghost use Rattle.plain_machine.specs.Instructions.{jumps, branches};
-ghost use Rattle.plain_machine.specs.Memory.{Memory};
+ghost use Rattle.plain_process.specs.Instructions.{jumps, branches};
+ghost use Rattle.plain_process.specs.Memory.{Memory};
 ghost use Rattle.rv_isa.specs.Outcomes.{IsOutcome, KeepsUnlessNext};
 
 use crate::outcome::Outcome;
 use crate::registers::{pass, write};
-use plain_machine::Regs;
+use plain_process::Regs;
 use sys_abi::Signal;
 
 /// The signal of a jump to an address that is no multiple of 4: SIGBUS (`man 7 signal`).

@@ -1,5 +1,5 @@
 ghost use Rattle.std.specs.Prelude.{◌≡◌, ◌==◌, ◌%◌, ℕ, ◌<◌, ◌^◌, Some, IfSome, IsTrue, if◌then◌else◌};
-ghost use Rattle.plain_machine.specs.Instructions.{decoded, encoding, has_match, row_of, Format, R, I, S, B, Shift, Whole};
+ghost use Rattle.plain_process.specs.Instructions.{decoded, encoding, has_match, row_of, Format, R, I, S, B, Shift, Whole};
 ghost use Rattle.rv_isa.specs.Fields.{row_at, with_operands};
 ghost use Rattle.rv_isa.specs.Validity.{IsValid};
 ghost use Rattle.std.specs.Option.{option_map};
@@ -7,7 +7,7 @@ ghost use Rattle.std.specs.Option.{option_map};
 use crate::operands::{
     of_branch, of_immediate, of_jump, of_registers, of_shift, of_store, of_upper, without_operands,
 };
-use plain_machine::{Insn, Op};
+use plain_process::{Insn, Op};
 
 /// The instruction of a word, or none where the table has no row for it.
 #[inline(always)]
@@ -51,7 +51,7 @@ fn instruction_at(opcode: u32, funct3: u32, funct7: u32, word: u32) -> Option<In
 }
 
 #[inline]
-#[tactic(auto, unfolding(crate::specs::Fields::row_at, plain_machine::specs::Instructions::encoding))]
+#[tactic(auto, unfolding(crate::specs::Fields::row_at, plain_process::specs::Instructions::encoding))]
 fn jump_row(funct3: u32) -> Option<Op>
     ensures row { (g w : ℕ) → row_at 0x67 funct3 g w ≡ result }
     ensures format { IfSome result (λ op. (encoding op).format ≡ I) }
@@ -63,7 +63,7 @@ fn jump_row(funct3: u32) -> Option<Op>
 }
 
 #[inline]
-#[tactic(auto, unfolding(crate::specs::Fields::row_at, plain_machine::specs::Instructions::encoding))]
+#[tactic(auto, unfolding(crate::specs::Fields::row_at, plain_process::specs::Instructions::encoding))]
 fn branch_row(funct3: u32) -> Option<Op>
     ensures row { (g w : ℕ) → row_at 0x63 funct3 g w ≡ result }
     ensures format { IfSome result (λ op. (encoding op).format ≡ B) }
@@ -80,7 +80,7 @@ fn branch_row(funct3: u32) -> Option<Op>
 }
 
 #[inline]
-#[tactic(auto, unfolding(crate::specs::Fields::row_at, plain_machine::specs::Instructions::encoding))]
+#[tactic(auto, unfolding(crate::specs::Fields::row_at, plain_process::specs::Instructions::encoding))]
 fn load_row(funct3: u32) -> Option<Op>
     ensures row { (g w : ℕ) → row_at 0x03 funct3 g w ≡ result }
     ensures format { IfSome result (λ op. (encoding op).format ≡ I) }
@@ -96,7 +96,7 @@ fn load_row(funct3: u32) -> Option<Op>
 }
 
 #[inline]
-#[tactic(auto, unfolding(crate::specs::Fields::row_at, plain_machine::specs::Instructions::encoding))]
+#[tactic(auto, unfolding(crate::specs::Fields::row_at, plain_process::specs::Instructions::encoding))]
 fn store_row(funct3: u32) -> Option<Op>
     ensures row { (g w : ℕ) → row_at 0x23 funct3 g w ≡ result }
     ensures format { IfSome result (λ op. (encoding op).format ≡ S) }
@@ -110,7 +110,7 @@ fn store_row(funct3: u32) -> Option<Op>
 }
 
 #[inline]
-#[tactic(auto, unfolding(crate::specs::Fields::row_at, plain_machine::specs::Instructions::encoding))]
+#[tactic(auto, unfolding(crate::specs::Fields::row_at, plain_process::specs::Instructions::encoding))]
 fn immediate_row(funct3: u32, funct7: u32) -> Option<Op>
     ensures row { (w : ℕ) → row_at 0x13 funct3 funct7 w ≡ result }
     ensures format { IfSome result (λ op. (encoding op).format ≡ (if funct3 % 4 == 1 then Shift else I)) }
@@ -130,7 +130,7 @@ fn immediate_row(funct3: u32, funct7: u32) -> Option<Op>
 }
 
 #[inline]
-#[tactic(auto, unfolding(crate::specs::Fields::row_at, plain_machine::specs::Instructions::encoding))]
+#[tactic(auto, unfolding(crate::specs::Fields::row_at, plain_process::specs::Instructions::encoding))]
 fn register_row(funct3: u32, funct7: u32) -> Option<Op>
     ensures row { (w : ℕ) → row_at 0x33 funct3 funct7 w ≡ result }
     ensures format { IfSome result (λ op. (encoding op).format ≡ R) }
@@ -159,7 +159,7 @@ fn register_row(funct3: u32, funct7: u32) -> Option<Op>
 }
 
 #[inline]
-#[tactic(auto, unfolding(crate::specs::Fields::row_at, plain_machine::specs::Instructions::encoding))]
+#[tactic(auto, unfolding(crate::specs::Fields::row_at, plain_process::specs::Instructions::encoding))]
 fn fence_row(funct3: u32) -> Option<Op>
     ensures row { (g w : ℕ) → row_at 0x0F funct3 g w ≡ result }
     ensures format { IfSome result (λ op. (encoding op).format ≡ I) }
@@ -171,7 +171,7 @@ fn fence_row(funct3: u32) -> Option<Op>
 }
 
 #[inline]
-#[tactic(auto, unfolding(crate::specs::Fields::row_at, plain_machine::specs::Instructions::encoding))]
+#[tactic(auto, unfolding(crate::specs::Fields::row_at, plain_process::specs::Instructions::encoding))]
 fn system_row(word: u32) -> Option<Op>
     ensures row { (f g : ℕ) → row_at 0x73 f g word ≡ result }
     ensures format { IfSome result (λ op. (encoding op).format ≡ Whole) }

@@ -1,11 +1,11 @@
 ghost use Rattle.std.specs.Prelude.{◌≡◌, ◌↔◌, ℕ, ◌+◌, ◌*◌, ◌%◌, ◌^◌, ◌<◌, Some, IsTrue};
-ghost use Rattle.plain_machine.specs.Instructions.{decoded, as_encoding, word, Format, R, I, S, B, U, J, Shift};
+ghost use Rattle.plain_process.specs.Instructions.{decoded, as_encoding, word, Format, R, I, S, B, U, J, Shift};
 ghost use Rattle.rv_isa.specs.Validity.{IsValid};
 ghost use Rattle.rv_isa.specs.Words.{filled, joined, word_of};
 
 use crate::decoder::decode;
 use crate::immediates::field;
-use plain_machine::{Insn, Op};
+use plain_process::{Insn, Op};
 
 /// A word of these fields.
 #[inline]
@@ -141,7 +141,7 @@ fn shift_word(insn: &Insn, funct3: u32, funct7: u32) -> u32
 }
 
 /// The word that an instruction's operands fill in, each cut to the width of its place.
-#[tactic(auto, unfolding(crate::specs::Words::word_of, plain_machine::specs::Instructions::encoding))]
+#[tactic(auto, unfolding(crate::specs::Words::word_of, plain_process::specs::Instructions::encoding))]
 fn filled_word(insn: &Insn) -> u32
     ensures { result ≡ word_of insn.now }
 {

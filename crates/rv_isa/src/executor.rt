@@ -1,5 +1,5 @@
 ghost use Rattle.std.specs.Prelude.{◌≡◌};
-ghost use Rattle.plain_machine.specs.Instructions.{effect};
+ghost use Rattle.plain_process.specs.Instructions.{effect};
 ghost use Rattle.rv_isa.specs.Outcomes.{IsOutcome, KeepsUnlessNext};
 
 use crate::accesses::{load, load_signed_byte, load_signed_half, store};
@@ -11,7 +11,7 @@ use crate::branches::{branch, jump};
 use crate::guest_memory::GuestMemory;
 use crate::outcome::Outcome;
 use crate::registers::{pass, read, set};
-use plain_machine::{Insn, Op, Regs};
+use plain_process::{Insn, Op, Regs};
 use sys_abi::Signal;
 
 /// The signal of EBREAK: SIGTRAP (`man 7 signal`).
@@ -20,7 +20,7 @@ pub const BREAKPOINT: Signal = Signal(5);
 /// Does one instruction: registers and memory are then those of its effect, and the program counter stands at the next
 /// one. A call, a trap and want of memory leave both as they were. An instruction that has no word is done all the same.
 #[inline]
-#[tactic(auto, unfolding(plain_machine::specs::Instructions::effect, plain_machine::specs::Instructions::effect_by))]
+#[tactic(auto, unfolding(plain_process::specs::Instructions::effect, plain_process::specs::Instructions::effect_by))]
 pub fn exec<M: GuestMemory>(insn: Insn, regs: &mut Regs, memory: &mut M) -> Outcome
     ensures outcome { IsOutcome result (effect insn regs.old (M.memory memory.old)) regs.new (M.memory memory.new) }
     ensures stays { KeepsUnlessNext result regs.old regs.new }

@@ -1,5 +1,5 @@
 ghost use Rattle.std.specs.Prelude.{◌≡◌, ℕ, ◌<◌, ◌*◌, ◌^◌, Err, OnErr, IfOk};
-ghost use Rattle.plain_machine.specs.Memory.{Memory, load, store};
+ghost use Rattle.plain_process.specs.Memory.{Memory, load, store};
 ghost use Rattle.rv_isa.specs.Accesses.{IsAccessSize, IsLoaded, IsStored};
 
 /// Why an access was not made.

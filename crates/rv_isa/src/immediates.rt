@@ -1,6 +1,6 @@
 ghost use Rattle.std.specs.Prelude.{◌≡◌, ℕ, ◌<◌, ◌^◌, ◌*◌, ◌+◌};
 ghost use Rattle.std.specs.Int.{w32, cast_signed};
-ghost use Rattle.plain_machine.specs.Instructions.{Format, I, S, B, U, J, Shift, bits, immediate, sign_extended};
+ghost use Rattle.plain_process.specs.Instructions.{Format, I, S, B, U, J, Shift, bits, immediate, sign_extended};
 
 /// `count` bits of a word, from bit `low` on.
 #[inline]
@@ -42,7 +42,7 @@ pub fn signed_21(value: u32) -> i32
 
 /// The immediate of a word of format I.
 #[inline]
-#[tactic(auto, unfolding(plain_machine::specs::Instructions::immediate))]
+#[tactic(auto, unfolding(plain_process::specs::Instructions::immediate))]
 pub fn immediate_i(word: u32) -> i32
     ensures { result ≡ cast_signed w32 (immediate I word) }
 {
@@ -51,7 +51,7 @@ pub fn immediate_i(word: u32) -> i32
 
 /// The immediate of a word of format S.
 #[inline]
-#[tactic(auto, unfolding(plain_machine::specs::Instructions::immediate))]
+#[tactic(auto, unfolding(plain_process::specs::Instructions::immediate))]
 pub fn immediate_s(word: u32) -> i32
     ensures { result ≡ cast_signed w32 (immediate S word) }
 {
@@ -60,7 +60,7 @@ pub fn immediate_s(word: u32) -> i32
 
 /// The immediate of a word of format B, an even number.
 #[inline]
-#[tactic(auto, unfolding(plain_machine::specs::Instructions::immediate))]
+#[tactic(auto, unfolding(plain_process::specs::Instructions::immediate))]
 pub fn immediate_b(word: u32) -> i32
     ensures { result ≡ cast_signed w32 (immediate B word) }
 {
@@ -70,7 +70,7 @@ pub fn immediate_b(word: u32) -> i32
 
 /// The immediate of a word of format U: its upper 20 bits.
 #[inline]
-#[tactic(auto, unfolding(plain_machine::specs::Instructions::immediate))]
+#[tactic(auto, unfolding(plain_process::specs::Instructions::immediate))]
 pub fn immediate_u(word: u32) -> i32
     ensures { result ≡ cast_signed w32 (immediate U word) }
 {
@@ -79,7 +79,7 @@ pub fn immediate_u(word: u32) -> i32
 
 /// The immediate of a word of format J, an even number.
 #[inline]
-#[tactic(auto, unfolding(plain_machine::specs::Instructions::immediate))]
+#[tactic(auto, unfolding(plain_process::specs::Instructions::immediate))]
 pub fn immediate_j(word: u32) -> i32
     ensures { result ≡ cast_signed w32 (immediate J word) }
 {
@@ -89,7 +89,7 @@ pub fn immediate_j(word: u32) -> i32
 
 /// The amount of a shift by an immediate.
 #[inline]
-#[tactic(auto, unfolding(plain_machine::specs::Instructions::immediate))]
+#[tactic(auto, unfolding(plain_process::specs::Instructions::immediate))]
 pub fn shift_amount(word: u32) -> i32
     ensures { result ≡ cast_signed w32 (immediate Shift word) }
 {

@@ -29,7 +29,7 @@ pub use encoder::{encode, is_valid};
 pub use executor::exec;
 pub use guest_memory::{AccessFault, GuestMemory};
 pub use outcome::Outcome;
-pub use plain_machine::{Insn, Op, Regs};
+pub use plain_process::{Insn, Op, Regs};
 
 #[cfg(test)]
 mod tests;

@@ -1,10 +1,10 @@
 ghost use Rattle.std.specs.Prelude.{◌≡◌, ℕ, ◌<◌};
-ghost use Rattle.plain_machine.specs.Instructions.{Format, R, I, S, B, U, J, Shift, Whole, bits, insn_of};
+ghost use Rattle.plain_process.specs.Instructions.{Format, R, I, S, B, U, J, Shift, Whole, bits, insn_of};
 
 use crate::immediates::{
     field, immediate_b, immediate_i, immediate_j, immediate_s, immediate_u, shift_amount,
 };
-use plain_machine::{Insn, Op};
+use plain_process::{Insn, Op};
 
 #[inline]
 fn rd(word: u32) -> u8
@@ -29,7 +29,7 @@ fn rs2(word: u32) -> u8
 
 /// Format R: two registers and a destination.
 #[inline]
-#[tactic(auto, unfolding(plain_machine::specs::Instructions::insn_of, plain_machine::specs::Instructions::immediate))]
+#[tactic(auto, unfolding(plain_process::specs::Instructions::insn_of, plain_process::specs::Instructions::immediate))]
 pub fn of_registers(op: Op, word: u32) -> Insn
     ensures { result ≡ insn_of op R word }
 {
@@ -44,7 +44,7 @@ pub fn of_registers(op: Op, word: u32) -> Insn
 
 /// Format I: a register, an immediate and a destination.
 #[inline]
-#[tactic(auto, unfolding(plain_machine::specs::Instructions::insn_of))]
+#[tactic(auto, unfolding(plain_process::specs::Instructions::insn_of))]
 pub fn of_immediate(op: Op, word: u32) -> Insn
     ensures { result ≡ insn_of op I word }
 {
@@ -59,7 +59,7 @@ pub fn of_immediate(op: Op, word: u32) -> Insn
 
 /// Format S: two registers and an immediate.
 #[inline]
-#[tactic(auto, unfolding(plain_machine::specs::Instructions::insn_of))]
+#[tactic(auto, unfolding(plain_process::specs::Instructions::insn_of))]
 pub fn of_store(op: Op, word: u32) -> Insn
     ensures { result ≡ insn_of op S word }
 {
@@ -74,7 +74,7 @@ pub fn of_store(op: Op, word: u32) -> Insn
 
 /// Format B: two registers and the distance to the target.
 #[inline]
-#[tactic(auto, unfolding(plain_machine::specs::Instructions::insn_of))]
+#[tactic(auto, unfolding(plain_process::specs::Instructions::insn_of))]
 pub fn of_branch(op: Op, word: u32) -> Insn
     ensures { result ≡ insn_of op B word }
 {
@@ -89,7 +89,7 @@ pub fn of_branch(op: Op, word: u32) -> Insn
 
 /// Format U: a destination and the upper bits of a word.
 #[inline]
-#[tactic(auto, unfolding(plain_machine::specs::Instructions::insn_of))]
+#[tactic(auto, unfolding(plain_process::specs::Instructions::insn_of))]
 pub fn of_upper(op: Op, word: u32) -> Insn
     ensures { result ≡ insn_of op U word }
 {
@@ -104,7 +104,7 @@ pub fn of_upper(op: Op, word: u32) -> Insn
 
 /// Format J: a destination and the distance to the target.
 #[inline]
-#[tactic(auto, unfolding(plain_machine::specs::Instructions::insn_of))]
+#[tactic(auto, unfolding(plain_process::specs::Instructions::insn_of))]
 pub fn of_jump(op: Op, word: u32) -> Insn
     ensures { result ≡ insn_of op J word }
 {
@@ -119,7 +119,7 @@ pub fn of_jump(op: Op, word: u32) -> Insn
 
 /// A shift by an immediate: format I with the amount in the place of rs2.
 #[inline]
-#[tactic(auto, unfolding(plain_machine::specs::Instructions::insn_of))]
+#[tactic(auto, unfolding(plain_process::specs::Instructions::insn_of))]
 pub fn of_shift(op: Op, word: u32) -> Insn
     ensures { result ≡ insn_of op Shift word }
 {
@@ -134,7 +134,7 @@ pub fn of_shift(op: Op, word: u32) -> Insn
 
 /// A whole word: no operands.
 #[inline]
-#[tactic(auto, unfolding(plain_machine::specs::Instructions::insn_of, plain_machine::specs::Instructions::immediate))]
+#[tactic(auto, unfolding(plain_process::specs::Instructions::insn_of, plain_process::specs::Instructions::immediate))]
 pub fn without_operands(op: Op) -> Insn
     ensures { (word : ℕ) → result ≡ insn_of op Whole word }
 {

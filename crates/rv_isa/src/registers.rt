@@ -1,9 +1,9 @@
 ghost use Rattle.std.specs.Prelude.{◌≡◌, ℕ, ◌<◌};
 ghost use Rattle.rv_isa.specs.declared.outcome.Outcome as Outcome;
-ghost use Rattle.plain_machine.specs.Registers.{reg, with_reg, at_pc, next_pc};
+ghost use Rattle.plain_process.specs.Registers.{reg, with_reg, at_pc, next_pc};
 
 use crate::outcome::Outcome;
-use plain_machine::Regs;
+use plain_process::Regs;
 
 /// The value of register `index`. x0 reads 0, as does an index past the last register.
 #[inline]

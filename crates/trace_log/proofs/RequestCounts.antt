@@ -10,7 +10,7 @@ use Rattle.sys_abi.specs.declared.record.Record.TheVariants.{User, Call, Deliver
 use Rattle.sys_abi.specs.declared.identity.VPid.{VPid}
 use Rattle.sys_abi.specs.declared.identity.Dir.{Dir}
 use Rattle.plain_machine.specs.declared.plain.Plain.{Plain}
-use Rattle.plain_machine.specs.declared.channel.Direction.{Direction}
+use Rattle.plain_tables.specs.declared.channel.Direction.{Direction}
 use Rattle.plain_machine.specs.Records.{step}
 use Rattle.plain_machine.specs.Tests.{full_arrive, is_work}
 use Rattle.trace_log.specs.declared.requests.Schedule.{Schedule}

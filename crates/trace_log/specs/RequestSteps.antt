@@ -9,7 +9,7 @@ use Rattle.sys_abi.specs.declared.record.Cause.{Cause}
 use Rattle.sys_abi.specs.declared.record.Cause.TheVariants.{Unsupported, DiskFault, Memory}
 use Rattle.sys_abi.specs.declared.record.Kind.{Kind}
 use Rattle.plain_machine.specs.declared.plain.Plain.{Plain}
-use Rattle.plain_machine.specs.Kernel.{slot}
+use Rattle.plain_tables.specs.Tables.{slot}
 use Rattle.plain_machine.specs.Laws.{subject}
 use Rattle.plain_machine.specs.Records.{step}
 use Rattle.plain_machine.specs.Tests.{ended, full_arrive, unsupported}

@@ -13,8 +13,8 @@ use Rattle.sys_abi.specs.declared.record.Record.{Record}
 use Rattle.sys_abi.specs.declared.record.Record.TheVariants.{User, Call, Deliver, Arrive, Cut, Drained, Refilled, Complete, Refused, Lapsed}
 use Rattle.sys_abi.specs.declared.record.Cause.TheVariants.{Unsupported, DiskFault, Memory}
 use Rattle.plain_machine.specs.declared.plain.Plain.{Plain}
-use Rattle.plain_machine.specs.declared.channel.Direction.{Direction}
-use Rattle.plain_machine.specs.Kernel.{slot}
+use Rattle.plain_tables.specs.declared.channel.Direction.{Direction}
+use Rattle.plain_tables.specs.Tables.{slot}
 use Rattle.plain_machine.specs.Records.{step}
 use Rattle.plain_machine.specs.Runs.{run}
 use Rattle.plain_machine.specs.Tests.{ended, full_arrive, unsupported}

@@ -1,10 +1,9 @@
 use crate::futexes::LOCKED;
 use crate::signals::{HANDLED, INTERRUPTED, TRAPS};
 use dmtcp_top::Status;
-use plain_machine::{
-    FIRST_PID, Frame, Plain, PlainKernel, Regs, ReplayFault, SignalAction, ThreadPart, UserPart,
-    replay,
-};
+use plain_machine::{FIRST_PID, Plain, PlainKernel};
+use plain_process::{Frame, Regs, SignalAction, ThreadPart, UserPart};
+use plain_replay::{ReplayFault, replay};
 use std::alloc::{AllocError, Global};
 use std::process::Abort;
 use std::sync::Wait;

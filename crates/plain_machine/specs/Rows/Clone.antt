@@ -9,8 +9,9 @@ use Rattle.sys_abi.specs.declared.cloning.CloneForm.{CloneForm}
 use Rattle.sys_abi.specs.declared.cloning.CloneForm.TheVariants.{Fork, Thread}
 use Rattle.sys_abi.specs.Clones.{clone_form}
 use Rattle.plain_machine.specs.declared.kernel.PlainKernel.{PlainKernel}
-use Rattle.plain_machine.specs.Memory.{low_bytes}
-use Rattle.plain_machine.specs.Attempts.{Try, Fails, Gives, Served, ◌>>◌, need}
+use Rattle.plain_process.specs.Memory.{low_bytes}
+use Rattle.plain_process.specs.Attempts.{Try, Fails, Gives, need, ◌>>◌}
+use Rattle.plain_machine.specs.Attempts.{Served}
 use Rattle.plain_machine.specs.Kernel.{thread_count, with_next_thread}
 use Rattle.sys_abi.specs.Flags.{has_flag}
 

@@ -3,7 +3,8 @@
 use Rattle.std.specs.Prelude.{ℕ}
 use Rattle.sys_abi.specs.declared.identity.VPid.{VPid}
 use Rattle.plain_machine.specs.declared.kernel.PlainKernel.{PlainKernel}
-use Rattle.plain_machine.specs.Attempts.{Try, Served, replied}
+use Rattle.plain_process.specs.Attempts.{Try}
+use Rattle.plain_machine.specs.Attempts.{Served, replied}
 use Rattle.plain_machine.specs.Kernel.{after_end, after_thread_end}
 
 unfoldable pub exit_group_row : PlainKernel → VPid → Try Served

@@ -4,8 +4,10 @@ use Rattle.std.specs.Prelude.{◌&&◌, ℕ, ◌^◌, not, nat_le, nat_lt, Bool}
 use Rattle.sys_abi.specs.declared.identity.VPid.{VPid}
 use Rattle.sys_abi.specs.declared.errors.TheConstants.{EINVAL, ESRCH}
 use Rattle.plain_machine.specs.declared.kernel.PlainKernel.{PlainKernel}
-use Rattle.plain_machine.specs.Attempts.{Try, Served, ◌>>◌, need, replied}
-use Rattle.plain_machine.specs.Kernel.{pid, is_neighbour, has_thread, after_raise}
+use Rattle.plain_process.specs.Attempts.{Try, need, ◌>>◌}
+use Rattle.plain_machine.specs.Attempts.{Served, replied}
+use Rattle.plain_tables.specs.Tables.{pid}
+use Rattle.plain_machine.specs.Kernel.{is_neighbour, has_thread, after_raise}
 
 -- a signed number above zero
 abbrev pub is_above_zero : ℕ → Bool

@@ -3,10 +3,12 @@ use Rattle.std.specs.Prelude.{ℕ, List, length}
 use Rattle.sys_abi.specs.declared.identity.VPid.{VPid}
 use Rattle.sys_abi.specs.declared.errors.TheConstants.{EBADF, ENOSYS}
 use Rattle.plain_machine.specs.declared.kernel.PlainKernel.{PlainKernel}
-use Rattle.plain_machine.specs.declared.description.Object.{Object}
-use Rattle.plain_machine.specs.declared.description.Object.TheVariants.{Console}
-use Rattle.plain_machine.specs.Attempts.{Try, Fails, Served, ◌>>=◌, ◌>>◌, need, found, replied_on_console}
-use Rattle.plain_machine.specs.Kernel.{description_at, may_write}
+use Rattle.plain_tables.specs.declared.description.Object.{Object}
+use Rattle.plain_tables.specs.declared.description.Object.TheVariants.{Console}
+use Rattle.plain_process.specs.Attempts.{Try, Fails, need, found, ◌>>=◌, ◌>>◌}
+use Rattle.plain_machine.specs.Attempts.{Served, replied_on_console}
+use Rattle.plain_machine.specs.Kernel.{description_at}
+use Rattle.plain_tables.specs.Tables.{may_write}
 
 unfoldable pub write_object : PlainKernel → Object → List ℕ → Try Served
 write_object k Console bytes = replied_on_console k (length bytes) bytes

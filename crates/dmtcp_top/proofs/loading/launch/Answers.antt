@@ -3,7 +3,7 @@ use Rattle.std.specs.Prelude.{ℕ, Option, Some, None, IfSome}
 use Rattle.std.proofs.lemmas.List.Elements.{All-append}
 use Rattle.elf32.specs.declared.program.Program.{Program}
 use Rattle.plain_machine.specs.Start.{start}
-use Rattle.plain_machine.specs.Valid.{IsByte}
+use Rattle.plain_process.specs.Valid.{IsByte}
 use Rattle.set_disk.specs.Files.{Files as Folder}
 use Rattle.image_store.specs.declared.set_info.SetInfo.{SetInfo}
 use Rattle.image_store.specs.Slots.{last}

@@ -1,6 +1,6 @@
 use Rattle.std.proofs.Common.{ℕ, List, subst}
 use Rattle.std.specs.Prelude.{All}
-use Rattle.plain_machine.specs.Valid.{IsByte}
+use Rattle.plain_process.specs.Valid.{IsByte}
 use Rattle.dmtcp_top.proofs.loading.machine_of.Goals as goal
 
 pub restore-requires : goal.restore-requires

@@ -3,7 +3,7 @@ use Rattle.std.specs.Prelude.{All}
 use Rattle.elf32.specs.declared.program.Program.{Program}
 use Rattle.elf32.specs.Pages.{page_count}
 use Rattle.elf32.specs.Programs.{IsWellPlaced}
-use Rattle.plain_machine.specs.Launches.{IsLaunched}
+use Rattle.plain_process.specs.Launches.{IsLaunched}
 use Rattle.plain_machine.proofs.StartUsers.{read_is_launched}
 use Rattle.dmtcp_top.proofs.Loads.{all_bytes}
 use Rattle.dmtcp_top.proofs.loading.program_in.Goals as goal

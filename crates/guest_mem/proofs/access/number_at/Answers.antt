@@ -1,5 +1,5 @@
 use Rattle.std.proofs.Common.{◌≡◌, ◌<◌, ◌^◌, sym, ap, subst, ◌∙◌, arith}
-use Rattle.plain_machine.specs.Memory.{little_endian}
+use Rattle.plain_process.specs.Memory.{little_endian}
 use Rattle.guest_mem.specs.Bytes.{bytes_from}
 use Rattle.guest_mem.proofs.InPage.{number_of-1, number_of-2, number_of-4}
 use Rattle.guest_mem.proofs.access.number_at.Goals as goal

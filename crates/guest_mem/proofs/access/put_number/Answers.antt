@@ -1,7 +1,7 @@
 use Rattle.std.proofs.Common.{◌%◌, ◌<◌, ℕ, suc, List, [], ◌∷◌, length, take, drop, append_assoc, sym, ap, ◌∙◌, arith, add-one}
 use Rattle.std.proofs.lemmas.List.{set_split}
-use Rattle.plain_machine.specs.Memory.{low_bytes}
-use Rattle.plain_machine.specs.declared.memory.Frame.{Frame}
+use Rattle.plain_process.specs.Memory.{low_bytes}
+use Rattle.plain_process.specs.declared.memory.Frame.{Frame}
 use Rattle.guest_mem.specs.Bytes.{with_piece}
 use Rattle.guest_mem.proofs.access.put_number.Goals as goal
 

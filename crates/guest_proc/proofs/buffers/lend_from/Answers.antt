@@ -1,6 +1,6 @@
 use Rattle.std.proofs.Common.{◌≡◌, ◌∙◌, refl, sym}
 use Rattle.std.specs.Prelude.{Some}
-use Rattle.plain_machine.specs.Buffers.{lent}
+use Rattle.plain_process.specs.Buffers.{lent}
 use Rattle.guest_proc.proofs.LendLemmas.{unreadable, unwritable, lent_whole}
 use Rattle.guest_proc.proofs.buffers.lend_from.Goals as goal
 

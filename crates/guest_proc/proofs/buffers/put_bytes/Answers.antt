@@ -1,7 +1,7 @@
 use Rattle.std.proofs.Common.{◌∙◌, ap, sym}
 use Rattle.std.specs.Result.{is_ok}
 use Rattle.std.proofs.lemmas.Bool.{true≢false}
-use Rattle.plain_machine.specs.declared.memory.Right.TheVariants.{Write}
+use Rattle.plain_process.specs.declared.memory.Right.TheVariants.{Write}
 use Rattle.guest_mem.proofs.Checks.{is_ok-checked}
 use Rattle.std.specs.Prelude.{length}
 use Rattle.guest_proc.proofs.buffers.put_bytes.Goals as goal

@@ -1,6 +1,6 @@
 use Rattle.std.proofs.Common.{ap, arith}
 use Rattle.std.specs.Prelude.{is_some}
-use Rattle.plain_machine.specs.Buffers.{bytes_of}
+use Rattle.plain_process.specs.Buffers.{bytes_of}
 use Rattle.guest_proc.proofs.Texts.{nothing}
 use Rattle.guest_proc.proofs.buffers.readable_span.Goals as goal
 

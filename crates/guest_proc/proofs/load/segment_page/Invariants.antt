@@ -1,5 +1,5 @@
 use Rattle.std.proofs.Common.{◌≡◌, ◌*◌}
-use Rattle.plain_machine.specs.Start.{segment_bytes}
+use Rattle.plain_process.specs.Start.{segment_bytes}
 use Rattle.guest_proc.proofs.load.segment_page.Given as goal
 
 abbrev pub invariant-loop-offset : goal.invariant-loop-offset

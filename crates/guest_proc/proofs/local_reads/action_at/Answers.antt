@@ -1,7 +1,7 @@
 use Rattle.std.proofs.Common.{◌≡◌, ◌+◌, refl, sym, subst, arith}
 use Rattle.std.specs.Prelude.{IsSome}
-use Rattle.plain_machine.specs.Memory.{bytes_at}
-use Rattle.plain_machine.specs.declared.memory.Right.TheVariants.{Read}
+use Rattle.plain_process.specs.Memory.{bytes_at}
+use Rattle.plain_process.specs.declared.memory.Right.TheVariants.{Read}
 use Rattle.guest_mem.proofs.Checks.{readable-part}
 use Rattle.guest_proc.proofs.LocalReads.{action_read}
 use Rattle.guest_proc.proofs.local_reads.action_at.Goals as goal

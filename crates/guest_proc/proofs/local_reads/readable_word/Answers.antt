@@ -1,7 +1,7 @@
 use Rattle.std.proofs.Common.{◌∙◌, ap, sym}
 use Rattle.std.specs.Result.{is_ok}
 use Rattle.std.proofs.lemmas.Bool.{true≢false}
-use Rattle.plain_machine.specs.declared.memory.Right.TheVariants.{Read}
+use Rattle.plain_process.specs.declared.memory.Right.TheVariants.{Read}
 use Rattle.guest_mem.proofs.Checks.{is_ok-checked}
 use Rattle.guest_proc.proofs.local_reads.readable_word.Goals as goal
 

@@ -1,6 +1,6 @@
 use Rattle.std.proofs.Common.{get_or, refl, ap, sym, ◌∙◌}
 use Rattle.std.specs.Prelude.{option_and_then}
-use Rattle.plain_machine.specs.Rows.Handlers.{last_context}
+use Rattle.plain_process.specs.Rows.Handlers.{last_context}
 use Rattle.guest_proc.specs.Rows.{part_of}
 use Rattle.guest_proc.specs.Threads.{with_contexts, earlier}
 use Rattle.guest_proc.proofs.RowLaws.{part_at, changed_threads, changed_rising}

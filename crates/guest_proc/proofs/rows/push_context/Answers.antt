@@ -1,6 +1,6 @@
 use Rattle.std.proofs.Common.{◌<◌, ◌++◌, ◌∷◌, [], length, get_or, refl, ap, subst}
 use Rattle.std.specs.Prelude.{IfSome}
-use Rattle.plain_machine.specs.Deliveries.{CONTEXT_LIMIT}
+use Rattle.plain_process.specs.Deliveries.{CONTEXT_LIMIT}
 use Rattle.guest_proc.specs.Rows.{part_of}
 use Rattle.guest_proc.specs.Threads.{with_contexts}
 use Rattle.guest_proc.proofs.RowLaws.{part_at, changed_threads, changed_rising}

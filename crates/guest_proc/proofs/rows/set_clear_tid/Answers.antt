@@ -1,5 +1,5 @@
 use Rattle.std.proofs.Common.{refl}
-use Rattle.plain_machine.specs.Local.{with_clear_tid}
+use Rattle.plain_process.specs.Local.{with_clear_tid}
 use Rattle.guest_proc.proofs.RowLaws.{changed_threads, changed_rising}
 use Rattle.guest_proc.proofs.rows.set_clear_tid.Goals as goal
 

@@ -1,5 +1,5 @@
 use Rattle.std.proofs.Common.{refl}
-use Rattle.plain_machine.specs.Rows.Handlers.{with_mask}
+use Rattle.plain_process.specs.Rows.Handlers.{with_mask}
 use Rattle.guest_proc.proofs.RowLaws.{changed_threads, changed_rising}
 use Rattle.guest_proc.proofs.rows.set_mask.Goals as goal
 

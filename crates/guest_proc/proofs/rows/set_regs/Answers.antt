@@ -1,5 +1,5 @@
 use Rattle.std.proofs.Common.{refl}
-use Rattle.plain_machine.specs.Steps.{with_regs}
+use Rattle.plain_process.specs.Steps.{with_regs}
 use Rattle.guest_proc.proofs.RowLaws.{changed_threads, changed_rising}
 use Rattle.guest_proc.proofs.rows.set_regs.Goals as goal
 

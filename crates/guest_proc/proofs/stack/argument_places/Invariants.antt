@@ -1,6 +1,6 @@
 use Rattle.std.proofs.Common.{◌≡◌, ◌+◌, ◌≤◌, ◌++◌, drop, vec_len}
 use Rattle.std.specs.Prelude.{true}
-use Rattle.plain_machine.specs.Start.{string_places}
+use Rattle.plain_process.specs.Start.{string_places}
 use Rattle.guest_proc.proofs.stack.argument_places.Given as goal
 
 abbrev pub invariant-loop-index : goal.invariant-loop-index

@@ -1,6 +1,6 @@
 use Rattle.std.proofs.Common.{◌≡◌, ◌++◌, take}
 use Rattle.std.specs.List.{flat_map}
-use Rattle.plain_machine.specs.Memory.{low_bytes}
+use Rattle.plain_process.specs.Memory.{low_bytes}
 use Rattle.guest_proc.proofs.stack.put_words.Given as goal
 
 abbrev pub invariant-loop-word : goal.invariant-loop-word

@@ -1,5 +1,5 @@
 use Rattle.std.proofs.Common.{◌∙◌, lit≤}
-use Rattle.plain_machine.specs.Start.{return_code}
+use Rattle.plain_process.specs.Start.{return_code}
 use Rattle.guest_proc.proofs.Breaks.{code_page}
 use Rattle.guest_proc.proofs.start.return_page.Goals as goal
 

@@ -1,5 +1,5 @@
 use Rattle.std.proofs.Common.{◌≡◌, replicate}
-use Rattle.plain_machine.specs.Start.{default_action}
+use Rattle.plain_process.specs.Start.{default_action}
 use Rattle.guest_proc.proofs.start.start_actions.Given as goal
 
 abbrev pub invariant-loop-signal : goal.invariant-loop-signal

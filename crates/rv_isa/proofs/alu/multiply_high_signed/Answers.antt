@@ -1,6 +1,6 @@
 use Rattle.std.proofs.Common.{◌*ℤ◌, ◌∙◌, ap, rules}
-use Rattle.plain_machine.specs.Instructions.{shifted_down, signed}
-use Rattle.plain_machine.proofs.Products.{product-is}
+use Rattle.plain_process.specs.Instructions.{shifted_down, signed}
+use Rattle.plain_process.proofs.Products.{product-is}
 use Rattle.rv_isa.proofs.alu.multiply_high_signed.Goals as goal
 
 pub returns : goal.returns

@@ -1,7 +1,7 @@
 use Rattle.std.proofs.Common.{w32, ◌∙◌, ap, rules}
 use Rattle.std.proofs.lemmas.Int.{to_z-of_z}
-use Rattle.plain_machine.specs.Instructions.{shifted_down, word}
-use Rattle.plain_machine.proofs.Shifts.{shr_signed_min}
+use Rattle.plain_process.specs.Instructions.{shifted_down, word}
+use Rattle.plain_process.proofs.Shifts.{shr_signed_min}
 use Rattle.rv_isa.proofs.alu.shift_right_signed.Goals as goal
 
 pub returns : goal.returns

@@ -1,6 +1,6 @@
 use Rattle.std.proofs.Common.{rules, sym, ◌∙◌, ap}
 use Rattle.std.specs.Option.{option_map}
-use Rattle.plain_machine.specs.Instructions.{decoded}
+use Rattle.plain_process.specs.Instructions.{decoded}
 use Rattle.rv_isa.specs.Fields.{with_operands}
 use Rattle.rv_isa.proofs.Exclusive.{row_of-match}
 use Rattle.rv_isa.proofs.Fields.{row_of-fields}

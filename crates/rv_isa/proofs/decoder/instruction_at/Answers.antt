@@ -1,7 +1,7 @@
 use Rattle.std.proofs.Common.{Some, sym, ap, arith}
 use Rattle.std.specs.Option.{option_map}
-use Rattle.plain_machine.specs.Instructions.{encoding}
-use Rattle.plain_machine.specs.declared.instruction.Insn.{Insn}
+use Rattle.plain_process.specs.Instructions.{encoding}
+use Rattle.plain_process.specs.declared.instruction.Insn.{Insn}
 use Rattle.rv_isa.specs.Fields.{row_at, with_operands}
 use Rattle.rv_isa.proofs.Fields.{no_row}
 use Rattle.rv_isa.proofs.decoder.instruction_at.Goals as goal

@@ -1,7 +1,7 @@
 use Rattle.std.proofs.Common.{Some, sym, ◌∙◌, ap}
 use Rattle.std.proofs.lemmas.Bool.{false≢true}
 use Rattle.std.proofs.lemmas.Option.{same_Some, none-some}
-use Rattle.plain_machine.specs.declared.instruction.Insn.{Insn}
+use Rattle.plain_process.specs.declared.instruction.Insn.{Insn}
 use Rattle.rv_isa.proofs.InsnEquality.{same-insn_eq, insn_eq-same}
 use Rattle.rv_isa.proofs.WordLaws.{decoded-filled}
 use Rattle.rv_isa.proofs.encoder.is_valid.Goals as goal

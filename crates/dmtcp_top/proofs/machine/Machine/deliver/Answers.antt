@@ -1,7 +1,7 @@
 use Rattle.std.proofs.Common.{Bool, None, refl, sym, ap, subst, ◌∙◌}
 use Rattle.guest_proc.specs.Guests.{GuestPart, HasThread, delivered_by, part_after}
 use Rattle.plain_machine.specs.declared.kernel.PlainKernel.{PlainKernel}
-use Rattle.plain_machine.specs.Deliveries as delivering
+use Rattle.plain_process.specs.Deliveries as delivering
 use Rattle.dmtcp_top.specs.Sessions.{sunk}
 use Rattle.dmtcp_top.specs.Machines.{kernel_after}
 use Rattle.dmtcp_top.proofs.Delivered.{kernel_found, due_has_thread, due_is_signal}

@@ -1,10 +1,10 @@
 use Rattle.std.proofs.Common.{◌≡◌, ◌≤◌, [], ◌++◌, length, None, if◌then◌else◌, refl, sym, ap, subst, ◌∙◌, arith}
 use Rattle.guest_proc.specs.Guests.{GuestPart}
 use Rattle.plain_machine.specs.Answers.{answer_told}
-use Rattle.plain_machine.specs.Buffers.{written_spans}
-use Rattle.plain_machine.specs.Put.{CanTake, put}
+use Rattle.plain_process.specs.Buffers.{written_spans}
+use Rattle.plain_process.specs.Put.{CanTake, put}
 use Rattle.plain_machine.specs.Serve.{serve}
-use Rattle.plain_machine.specs.Valid.{CanAdd}
+use Rattle.plain_process.specs.Valid.{CanAdd}
 use Rattle.dmtcp_top.specs.Sessions.{sunk, Took, TookFront}
 use Rattle.dmtcp_top.proofs.LentBytes.{lent_fits}
 use Rattle.dmtcp_top.proofs.ServedCalls.{serve_answers}

@@ -1,8 +1,8 @@
 use Rattle.std.proofs.Common.{◌≤◌, None, refl, sym, ap, subst, ◌∙◌}
 use Rattle.std.specs.Prelude.{IfSome}
-use Rattle.plain_machine.specs.Buffers.{written_spans}
-use Rattle.plain_machine.specs.Put.{CanTake, put, error}
-use Rattle.plain_machine.specs.Valid.{CanAddAs}
+use Rattle.plain_process.specs.Buffers.{written_spans}
+use Rattle.plain_process.specs.Put.{CanTake, put, error}
+use Rattle.plain_process.specs.Valid.{CanAddAs}
 use Rattle.plain_machine.proofs.MemoryPages.{no_bytes_taken}
 use Rattle.plain_machine.proofs.PutBounds.{error_adds_nothing}
 use Rattle.dmtcp_top.specs.Sessions.{sunk}

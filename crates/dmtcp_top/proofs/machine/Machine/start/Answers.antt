@@ -1,7 +1,8 @@
 use Rattle.std.proofs.Common.{◌≡◌, ◌≢◌, sym, ap, subst, ◌∙◌, false}
 use Rattle.guest_proc.specs.Guests.{GuestPart}
 use Rattle.plain_machine.specs.declared.kernel.PlainKernel.{PlainKernel}
-use Rattle.plain_machine.specs.Kernel.{pid, is_live}
+use Rattle.plain_tables.specs.Tables.{pid}
+use Rattle.plain_machine.specs.Kernel.{is_live}
 use Rattle.plain_machine.specs.Start.{with_process, empty_kernel}
 use Rattle.plain_machine.specs.Valid.{IsValid}
 use Rattle.image_codec.specs.KernelImages.{HasImage}

@@ -1,5 +1,5 @@
 use Rattle.std.proofs.Common.{refl, sym, ◌∙◌}
-use Rattle.plain_machine.specs.Steps.{user_step}
+use Rattle.plain_process.specs.Steps.{user_step}
 use Rattle.dmtcp_top.specs.Sessions.{sunk}
 use Rattle.dmtcp_top.specs.Machines.{place_of, placed}
 use Rattle.dmtcp_top.proofs.Ables.{trap_can, trapped_at}

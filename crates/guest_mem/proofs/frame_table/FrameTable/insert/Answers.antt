@@ -1,7 +1,7 @@
 use Rattle.std.proofs.Common.{ℕ, ◌+◌, ◌≤◌, ◌^◌, max, ◌<◌, ◌/◌, length, sym, ap, ◌∙◌, arith}
 use Rattle.std.specs.Prelude.{Some}
 use Rattle.std.specs.FinMap as map
-use Rattle.plain_machine.specs.Memory.{Memory}
+use Rattle.plain_process.specs.Memory.{Memory}
 use Rattle.guest_mem.proofs.FrameTables.{short-set, frames-same, set-in_row, same-in_row, len-inserted, holds_on_err}
 use Rattle.guest_mem.proofs.frame_table.FrameTable.insert.Goals as goal
 

@@ -1,8 +1,8 @@
 use Rattle.std.proofs.Common.{◌≤◌, ◌^◌, length, subst, arith, sym, ap, ◌∙◌}
 use Rattle.std.specs.Ordering.{nat_cmp}
 use Rattle.std.specs.FinMap as map
-use Rattle.plain_machine.specs.declared.memory.Frame.{Frame}
-use Rattle.plain_machine.specs.Memory.{Memory}
+use Rattle.plain_process.specs.declared.memory.Frame.{Frame}
+use Rattle.plain_process.specs.Memory.{Memory}
 use Rattle.guest_mem.specs.FrameTable.{Rows, frames_of}
 use Rattle.guest_mem.proofs.FrameTables.{frames-empty}
 use Rattle.guest_mem.proofs.frame_table.FrameTable.new.Goals as goal

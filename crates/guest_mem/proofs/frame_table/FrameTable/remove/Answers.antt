@@ -3,7 +3,7 @@ use Rattle.std.specs.Prelude.{is_some}
 use Rattle.std.specs.FinMap as map
 use Rattle.std.specs.Cmp.{nat_cmp_total}
 use Rattle.views.proofs.MapLaws.{remove_absent}
-use Rattle.plain_machine.specs.Memory.{Memory}
+use Rattle.plain_process.specs.Memory.{Memory}
 use Rattle.guest_mem.proofs.FrameTables.{short-set, removed-in_row, row-within, len-taken, none_of, some_len}
 use Rattle.guest_mem.proofs.frame_table.FrameTable.remove.Goals as goal
 

@@ -1,8 +1,8 @@
 use Rattle.std.proofs.Common.{◌≡◌, ◌<◌, ◌≤◌, ◌/◌, length, sym, ap, subst, ◌∙◌, arith}
 use Rattle.std.specs.Prelude.{Option, IfSome}
 use Rattle.std.specs.FinMap as map
-use Rattle.plain_machine.specs.declared.memory.Frame.{Frame}
-use Rattle.plain_machine.specs.Memory.{Memory}
+use Rattle.plain_process.specs.declared.memory.Frame.{Frame}
+use Rattle.plain_process.specs.Memory.{Memory}
 use Rattle.guest_mem.specs.Bytes.{with_piece}
 use Rattle.guest_mem.proofs.FrameTables.{short-set, changed-in_row, changed-missing, get-in_row, get-past, len-changed}
 use Rattle.guest_mem.proofs.frame_table.FrameTable.write.Goals as goal

@@ -1,6 +1,6 @@
 use Rattle.std.proofs.Common.{◌≡◌, ◌+◌, ◌%◌, ◌≤◌, ◌<◌, refl, sym, ap, ◌∙◌, arith, cond, ◌&&◌}
 use Rattle.std.specs.Prelude.{Some, None}
-use Rattle.plain_machine.specs.Memory.{Memory, bytes_at}
+use Rattle.plain_process.specs.Memory.{Memory, bytes_at}
 use Rattle.guest_mem.specs.declared.mem_fault.MemFault.TheVariants.{Rights}
 use Rattle.guest_mem.specs.Refusals.{is_mapped, refusal}
 use Rattle.guest_mem.proofs.Checks.{checked_more, refusal-missing, refusal-past, refusal-mapped}

@@ -1,6 +1,6 @@
 use Rattle.std.proofs.Common.{◌≡◌, ◌-◌, ◌≤◌, true}
 use Rattle.std.specs.Prelude.{is_some}
-use Rattle.plain_machine.specs.Memory.{bytes_at}
+use Rattle.plain_process.specs.Memory.{bytes_at}
 use Rattle.guest_mem.specs.Refusals.{is_mapped}
 use Rattle.guest_mem.proofs.space.Space.check.Given as goal
 

@@ -1,5 +1,5 @@
 use Rattle.std.proofs.Common.{◌+◌, ◌≤◌, length, arith, refl}
-use Rattle.plain_machine.specs.Memory.{with_bytes}
+use Rattle.plain_process.specs.Memory.{with_bytes}
 use Rattle.guest_mem.proofs.Copies.{written_more}
 use Rattle.guest_mem.proofs.space.Space.copy_in.Goals as goal
 

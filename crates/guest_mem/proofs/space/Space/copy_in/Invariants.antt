@@ -1,5 +1,5 @@
 use Rattle.std.proofs.Common.{◌≡◌, ◌-◌, ◌≤◌, take, length}
-use Rattle.plain_machine.specs.Memory.{with_bytes}
+use Rattle.plain_process.specs.Memory.{with_bytes}
 use Rattle.guest_mem.proofs.space.Space.copy_in.Given as goal
 
 -- the front of the piece stands in the memory

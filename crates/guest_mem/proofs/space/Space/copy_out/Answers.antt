@@ -1,8 +1,8 @@
 use Rattle.std.proofs.Common.{◌+◌, ap, arith}
 use Rattle.std.proofs.lemmas.List.{append-nil}
 use Rattle.std.specs.Prelude.{Some}
-use Rattle.plain_machine.specs.declared.memory.Right.TheVariants.{Read}
-use Rattle.plain_machine.specs.Memory.{bytes_at}
+use Rattle.plain_process.specs.declared.memory.Right.TheVariants.{Read}
+use Rattle.plain_process.specs.Memory.{bytes_at}
 use Rattle.guest_mem.proofs.Checks.{refusal-none, readable-part}
 use Rattle.guest_mem.proofs.Copies.{length-bytes_at, length-copied, copied_more}
 use Rattle.guest_mem.proofs.space.Space.copy_out.Goals as goal

@@ -1,7 +1,7 @@
 use Rattle.std.proofs.Common.{◌≡◌, ◌-◌, ◌≤◌, ◌++◌}
 use Rattle.std.specs.Prelude.{Some, option_map}
-use Rattle.plain_machine.specs.declared.memory.Right.TheVariants.{Read}
-use Rattle.plain_machine.specs.Memory.{bytes_at}
+use Rattle.plain_process.specs.declared.memory.Right.TheVariants.{Read}
+use Rattle.plain_process.specs.Memory.{bytes_at}
 use Rattle.guest_mem.proofs.space.Space.copy_out.Given as goal
 
 -- the bytes so far stand at the transfer's end

@@ -1,7 +1,7 @@
 use Rattle.std.proofs.Common.{◌<◌, List, ℕ, sym, subst, ◌∙◌}
 use Rattle.std.specs.FinMap as map
-use Rattle.plain_machine.specs.declared.memory.Frame.{Frame}
-use Rattle.plain_machine.specs.Memory.{Memory}
+use Rattle.plain_process.specs.declared.memory.Frame.{Frame}
+use Rattle.plain_process.specs.Memory.{Memory}
 use Rattle.guest_mem.specs.Pages.{IsSpace}
 use Rattle.guest_mem.proofs.Writes.{IsSpace-new_page}
 use Rattle.guest_mem.proofs.space.Space.insert_zeroed.Goals as goal

@@ -1,12 +1,12 @@
 use Rattle.std.proofs.Common.{◌≡◌, ◌+◌, ◌≤◌, ℕ, [], ap, ◌∙◌, arith, refl}
 use Rattle.std.specs.Prelude.{replicate}
 use Rattle.std.specs.FinMap as map
-use Rattle.plain_machine.specs.Memory.{Memory}
-use Rattle.plain_machine.specs.Start.{with_pages}
+use Rattle.plain_process.specs.Memory.{Memory}
+use Rattle.plain_process.specs.Start.{with_pages}
 use Rattle.guest_mem.specs.Pages.{IsFree, without_pages}
 use Rattle.guest_mem.proofs.PageRuns.{len-with_pages, without-with}
 use Rattle.guest_mem.proofs.space.Space.map.Goals as goal
-use Rattle.plain_machine.proofs.PageByPage.{with_more}
+use Rattle.plain_process.proofs.PageByPage.{with_more}
 
 free_front : (m : Memory) (page n count : ℕ) → n ≤ count → IsFree m page count → IsFree m page n
 free_front m page n count within free = λ number from below. free number from (omega arith)

@@ -1,5 +1,5 @@
 use Rattle.std.proofs.Common.{◌≡◌, []}
-use Rattle.plain_machine.specs.Start.{with_pages}
+use Rattle.plain_process.specs.Start.{with_pages}
 use Rattle.guest_mem.proofs.space.Space.map.Given as goal
 
 -- the pages so far are there

@@ -2,7 +2,7 @@ use Rattle.std.proofs.Common.{ap, ◌∙◌}
 use Rattle.std.specs.Prelude.{None, Some, find}
 use Rattle.std.specs.FinMap as map
 use Rattle.views.specs.NumberMap.{is_above}
-use Rattle.plain_machine.specs.Memory.{Memory}
+use Rattle.plain_process.specs.Memory.{Memory}
 use Rattle.guest_mem.proofs.NextPages.{find-next}
 use Rattle.guest_mem.proofs.space.Space.next_page.Goals as goal
 

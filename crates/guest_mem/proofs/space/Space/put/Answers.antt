@@ -1,7 +1,7 @@
 use Rattle.std.proofs.Common.{◌+◌, ◌≤◌, ◌%◌, ◌/◌, ℕ, length, sym, ap, subst, ◌∙◌, arith}
-use Rattle.plain_machine.specs.declared.memory.Frame.{Frame}
-use Rattle.plain_machine.specs.Memory.{Memory, with_bytes}
-use Rattle.plain_machine.specs.Memory.{low_bytes}
+use Rattle.plain_process.specs.declared.memory.Frame.{Frame}
+use Rattle.plain_process.specs.Memory.{Memory, with_bytes}
+use Rattle.plain_process.specs.Memory.{low_bytes}
 use Rattle.guest_mem.proofs.InPage.{length-low_bytes}
 use Rattle.guest_mem.specs.Bytes.{with_piece}
 use Rattle.guest_mem.specs.Pages.{IsSpace}

@@ -2,8 +2,8 @@ use Rattle.std.proofs.Common.{◌≡◌, ◌+◌, ◌%◌, ◌≤◌, ◌<◌, �
 use Rattle.std.specs.Prelude.{OnOk, Result, Ok, Err}
 use Rattle.std.specs.Result.{result_err}
 use Rattle.std.proofs.lemmas.Result.{err_from_is_err_and}
-use Rattle.plain_machine.specs.declared.memory.Right.TheVariants.{Write}
-use Rattle.plain_machine.specs.Memory.{Memory, with_bytes, store_bytes, low_bytes}
+use Rattle.plain_process.specs.declared.memory.Right.TheVariants.{Write}
+use Rattle.plain_process.specs.Memory.{Memory, with_bytes, store_bytes, low_bytes}
 use Rattle.guest_mem.specs.declared.mem_fault.MemFault.{MemFault}
 use Rattle.guest_mem.specs.Refusals.{refusal, stored}
 use Rattle.guest_mem.proofs.InPage.{refusal-in_page, length-low_bytes}

@@ -1,9 +1,9 @@
 use Rattle.std.proofs.Common.{◌+◌, ◌-◌, sym, ap, ◌∙◌, arith}
 use Rattle.std.specs.FinMap as map
-use Rattle.plain_machine.specs.Memory.{Memory}
+use Rattle.plain_process.specs.Memory.{Memory}
 use Rattle.guest_mem.proofs.PageRuns.{without_skip, without_next}
 use Rattle.guest_mem.proofs.space.Space.unmap.Goals as goal
-use Rattle.plain_machine.proofs.PageByPage.{without_none}
+use Rattle.plain_process.proofs.PageByPage.{without_none}
 
 pub loop-next-init : goal.loop-next-init
 loop-next-init c = record { gone = sym (without_none c.args.self.now c.args.page); within = omega arith }

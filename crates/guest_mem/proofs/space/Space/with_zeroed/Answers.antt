@@ -1,11 +1,11 @@
 use Rattle.std.proofs.Common.{◌+◌, ap, ◌∙◌, arith}
 use Rattle.std.specs.Prelude.{replicate}
 use Rattle.std.specs.FinMap as map
-use Rattle.plain_machine.specs.Memory.{Memory}
-use Rattle.plain_machine.specs.Start.{with_pages}
+use Rattle.plain_process.specs.Memory.{Memory}
+use Rattle.plain_process.specs.Start.{with_pages}
 use Rattle.guest_mem.proofs.PageRuns.{insert_one_more}
 use Rattle.guest_mem.proofs.space.Space.with_zeroed.Goals as goal
-use Rattle.plain_machine.proofs.PageByPage.{with_more}
+use Rattle.plain_process.proofs.PageByPage.{with_more}
 
 pub loop-number-init : goal.loop-number-init
 unfolding with_pages

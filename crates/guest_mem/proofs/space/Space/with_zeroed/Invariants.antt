@@ -1,6 +1,6 @@
 use Rattle.std.proofs.Common.{◌≡◌, ◌+◌, ◌≤◌, []}
 use Rattle.std.specs.FinMap as map
-use Rattle.plain_machine.specs.Start.{with_pages}
+use Rattle.plain_process.specs.Start.{with_pages}
 use Rattle.guest_mem.proofs.space.Space.with_zeroed.Given as goal
 
 abbrev pub invariant-loop-number : goal.invariant-loop-number

@@ -1,6 +1,6 @@
 use Rattle.std.proofs.Common.{◌%◌, ◌/◌, sym, ap, subst, ◌∙◌}
-use Rattle.plain_machine.specs.declared.memory.Frame.{Frame}
-use Rattle.plain_machine.specs.Memory.{Memory, with_bytes}
+use Rattle.plain_process.specs.declared.memory.Frame.{Frame}
+use Rattle.plain_process.specs.Memory.{Memory, with_bytes}
 use Rattle.guest_mem.specs.Bytes.{with_piece}
 use Rattle.guest_mem.specs.Pages.{IsSpace}
 use Rattle.guest_mem.proofs.Writes.{with_bytes-changed, IsSpace-changed}

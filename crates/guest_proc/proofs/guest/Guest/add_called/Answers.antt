@@ -1,5 +1,5 @@
 use Rattle.std.proofs.Common.{◌-◌, ap, ◌∙◌}
-use Rattle.plain_machine.specs.declared.user_part.UserPart.{UserPart}
+use Rattle.plain_process.specs.declared.user_part.UserPart.{UserPart}
 use Rattle.guest_proc.proofs.CloneLaws.{called_is}
 use Rattle.guest_proc.proofs.guest.Guest.add_called.Goals as goal
 

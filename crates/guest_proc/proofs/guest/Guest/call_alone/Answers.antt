@@ -1,9 +1,9 @@
 use Rattle.std.proofs.Common.{refl}
 use Rattle.std.specs.Prelude.{Ok}
 use Rattle.sys_abi.specs.declared.request.Request.TheVariants.{SetTidAddress, SchedYield, RtSigaction, RtSigprocmask, RtSigreturn, Gettid, Brk, Munmap, Mmap}
-use Rattle.plain_machine.specs.Buffers.{reads_of, given_of}
-use Rattle.plain_machine.specs.Put.{added_thread}
-use Rattle.plain_machine.specs.Local.{local_by}
+use Rattle.plain_process.specs.Buffers.{reads_of, given_of}
+use Rattle.plain_process.specs.Put.{added_thread}
+use Rattle.plain_process.specs.Local.{local_by}
 use Rattle.guest_proc.proofs.LocalCalls.{value_call, quiet_call, action_call, mask_call, other_call, sigaction_fits, sigprocmask_fits, lent_given}
 use Rattle.guest_proc.proofs.guest.Guest.call_alone.Goals as goal
 

@@ -1,7 +1,7 @@
 use Rattle.std.proofs.Common.{refl, ◌∙◌, subst}
 use Rattle.sys_abi.specs.declared.request.Request.TheVariants.{Futex}
-use Rattle.plain_machine.specs.Put.{added_thread}
-use Rattle.plain_machine.specs.Local.{local_by}
+use Rattle.plain_process.specs.Put.{added_thread}
+use Rattle.plain_process.specs.Local.{local_by}
 use Rattle.guest_proc.specs.Local.{DoesRow, value_told, stays_told}
 use Rattle.guest_proc.proofs.LocalReads.{wait_reads}
 use Rattle.guest_proc.proofs.LocalCalls.{value_call, quiet_call, lent_given, futex_waits, futex_wakes, futex_fails}

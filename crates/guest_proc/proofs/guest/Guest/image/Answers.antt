@@ -1,7 +1,7 @@
 use Rattle.std.proofs.Common.{◌≤◌, refl, sym, ap, subst, ◌∙◌}
 use Rattle.std.specs.FinMap as map
-use Rattle.plain_machine.specs.declared.user_part.UserPart.{UserPart}
-use Rattle.plain_machine.specs.Valid.{IsUser}
+use Rattle.plain_process.specs.declared.user_part.UserPart.{UserPart}
+use Rattle.plain_process.specs.Valid.{IsUser}
 use Rattle.guest_proc.specs.Guests.{GuestPart}
 use Rattle.guest_proc.proofs.Images.{part_of}
 use Rattle.guest_proc.proofs.FittingImages.{image_fits}

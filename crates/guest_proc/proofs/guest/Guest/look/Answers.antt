@@ -1,8 +1,8 @@
 use Rattle.std.proofs.Common.{◌≡◌, ◌∙◌, ap, sym, subst}
 use Rattle.std.specs.Prelude.{Some, option_map}
 use Rattle.std.specs.FinMap as map
-use Rattle.plain_machine.specs.declared.user_part.UserPart.{UserPart}
-use Rattle.plain_machine.specs.Steps.{user_step, waits}
+use Rattle.plain_process.specs.declared.user_part.UserPart.{UserPart}
+use Rattle.plain_process.specs.Steps.{user_step, waits}
 use Rattle.guest_proc.specs.Guests.{GuestPart, ran_at}
 use Rattle.guest_proc.proofs.GuestLemmas.{waits_on}
 use Rattle.guest_proc.proofs.LookLemmas.{looks}

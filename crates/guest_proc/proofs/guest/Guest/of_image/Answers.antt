@@ -1,5 +1,5 @@
 use Rattle.std.proofs.Common.{ap, subst}
-use Rattle.plain_machine.specs.Valid.{IsUser}
+use Rattle.plain_process.specs.Valid.{IsUser}
 use Rattle.guest_proc.specs.Threads.{ThreadTable}
 use Rattle.guest_proc.proofs.Images.{made_of}
 use Rattle.guest_proc.proofs.RebuiltUsers.{rebuilt_user}

@@ -1,6 +1,6 @@
 use Rattle.std.proofs.Common.{◌≡◌, ap, sym, ◌∙◌}
-use Rattle.plain_machine.specs.declared.user_part.UserPart.{UserPart}
-use Rattle.plain_machine.specs.Put.{after_threads, word_of}
+use Rattle.plain_process.specs.declared.user_part.UserPart.{UserPart}
+use Rattle.plain_process.specs.Put.{after_threads, word_of}
 use Rattle.guest_proc.proofs.Putting.{answered, answered_by, has_still, can_still, put_missing, put_there}
 use Rattle.guest_proc.proofs.guest.Guest.put.Goals as goal
 

@@ -1,5 +1,5 @@
 use Rattle.std.proofs.Common.{ap, sym, ◌∙◌}
-use Rattle.plain_machine.specs.Threads.{after_clearing}
+use Rattle.plain_process.specs.Threads.{after_clearing}
 use Rattle.guest_proc.specs.Guests.{GuestPart, with_user}
 use Rattle.guest_proc.proofs.ThreadEnds.{ends_nothing, ends_thread}
 use Rattle.guest_proc.proofs.guest.Guest.remove_thread.Goals as goal

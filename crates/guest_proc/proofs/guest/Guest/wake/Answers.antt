@@ -1,7 +1,7 @@
 use Rattle.std.proofs.Common.{refl, sym, ap, ◌∙◌, arith}
 use Rattle.guest_proc.specs.Guests.{GuestPart}
 use Rattle.guest_proc.proofs.guest.Guest.wake.Goals as goal
-use Rattle.plain_machine.proofs.WakingInRow.{wake_none, wake_more, wake_done}
+use Rattle.plain_process.proofs.WakingInRow.{wake_none, wake_more, wake_done}
 
 pub loop-count-init : goal.loop-count-init
 loop-count-init c = record { user = wake_none c.args.address c.args.self.now.user; pid = refl; spare = refl }

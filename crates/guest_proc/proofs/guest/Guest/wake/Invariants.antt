@@ -1,5 +1,5 @@
 use Rattle.std.proofs.Common.{◌≡◌}
-use Rattle.plain_machine.specs.Threads.{wake}
+use Rattle.plain_process.specs.Threads.{wake}
 use Rattle.guest_proc.proofs.guest.Guest.wake.Given as goal
 
 abbrev pub invariant-loop-count : goal.invariant-loop-count

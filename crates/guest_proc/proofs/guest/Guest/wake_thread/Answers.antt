@@ -1,5 +1,5 @@
 use Rattle.std.proofs.Common.{ap, ◌∙◌}
-use Rattle.plain_machine.specs.Threads.{after_call}
+use Rattle.plain_process.specs.Threads.{after_call}
 use Rattle.guest_proc.specs.Guests.{GuestPart, with_user, with_threads}
 use Rattle.guest_proc.specs.Threads.{changed}
 use Rattle.guest_proc.proofs.Waking.{awake_is}

@@ -1,6 +1,6 @@
 use Rattle.std.proofs.Common.{◌≡◌, ◌∙◌, arith}
 use Rattle.rv_isa.proofs.ShortPage.{memory_of, store-byte, store-half, store-word, store_past}
-use Rattle.plain_machine.specs.Memory.{store}
+use Rattle.plain_process.specs.Memory.{store}
 use Rattle.rv_isa.proofs.tests.four_bytes.FourBytesGuestMemory.store.Goals as goal
 
 pub returns-then-address-ge4096-clause-answer : goal.returns-then-address-ge4096-clause-answer

@@ -1,0 +1,2 @@
+pub mod LocalRows
+pub mod SpelledNumbers

@@ -1,0 +1,16 @@
+//! The calls and signals of a process on plain data.
+//!
+//! Each function computes the definition of its name in `plain_process`, in place where that changes a value.
+//!
+//! Proved: `local_row` is a call that the process answers alone, `put` and `put_fault` what an answer changes, and `deliver`
+//! what a signal comes to; an error and a delivery that enters no handler change nothing.
+#![tactic(auto)]
+
+pub mod delivering;
+pub mod local;
+pub mod local_answer;
+pub mod local_handlers;
+pub mod local_memory;
+pub mod local_threads;
+pub mod putting;
+pub mod waking;

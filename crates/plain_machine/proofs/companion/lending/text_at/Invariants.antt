@@ -1,5 +1,0 @@
-use Rattle.plain_machine.proofs.TextBytes.{Reads}
-use Rattle.plain_machine.proofs.companion.lending.text_at.Given as goal
-
-abbrev pub invariant-loop-i : goal.invariant-loop-i
-invariant-loop-i l = Reads l.memory l.address l.i l.text

@@ -1,6 +1,0 @@
-use Rattle.std.proofs.Common.{◌≡◌}
-use Rattle.plain_machine.specs.Threads.{wake}
-use Rattle.plain_machine.proofs.companion.local_threads.wake.Given as goal
-
-abbrev pub invariant-loop-count : goal.invariant-loop-count
-invariant-loop-count l = wake l.count l.address l.initial.user ≡ record { user = l.user; count = l.count }

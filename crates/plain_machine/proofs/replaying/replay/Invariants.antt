@@ -1,7 +1,0 @@
-use Rattle.std.proofs.Common.{◌≡◌, take}
-use Rattle.std.specs.Prelude.{Some}
-use Rattle.plain_machine.specs.Runs.{run}
-use Rattle.plain_machine.proofs.replaying.replay.Given as goal
-
-abbrev pub invariant-loop-i : goal.invariant-loop-i
-invariant-loop-i l = run l.start (take l.i l.trace) ≡ Some l.g

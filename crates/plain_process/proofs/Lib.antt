@@ -1,0 +1,12 @@
+pub mod MemoryBounds
+pub mod StartPages
+pub mod Giving
+pub mod Examples
+pub mod HandlerWords
+pub mod Shifts
+pub mod Products
+pub mod TextBytes
+pub mod WakingInRow
+pub mod PageByPage
+pub mod Delivering
+pub mod StepsInRow

@@ -1,0 +1,4 @@
+pub mod Futex
+pub mod Handlers
+pub mod Locals
+pub mod Mappings

@@ -1,0 +1,2 @@
+pub mod RunRecords
+pub mod CallRecords

@@ -1,0 +1,91 @@
+-- Words on the tables of a kernel part, and on what stands in them: look-ups, and changes.
+-- Source: `man 2 open` (descriptors and open descriptions), `man 2 credentials` (processes), `man 7 signal` (pending signals).
+use Rattle.std.specs.Prelude.{◌==◌, ℕ, Bool, false, ◌||◌, ◌%◌, bit_or, Option, Some, None, is_some, unwrap_or, if◌then◌else◌}
+use Rattle.std.specs.List.{list_any}
+use Rattle.std.specs.Ordering.{eq_by_cmp}
+use Rattle.std.specs.FinMap as map
+use Rattle.sys_abi.specs.declared.identity.VPid.{VPid}
+use Rattle.sys_abi.specs.declared.identity.DescId.{DescId}
+use Rattle.sys_abi.specs.declared.identity.Slot.{Slot}
+use Rattle.sys_abi.specs.Orders.{vpid_cmp, desc_cmp, slot_cmp}
+use Rattle.sys_abi.specs.Signals.{has_signal, with_signal, without_signal}
+use Rattle.plain_tables.specs.declared.process.Process.{Process}
+use Rattle.plain_tables.specs.declared.process.Maker.{Maker}
+use Rattle.plain_tables.specs.declared.description.Descriptor.{Descriptor}
+use Rattle.sys_abi.specs.Lives.{lives}
+
+abbrev pub pid : ℕ → VPid
+pid number = record { 0 = number }
+
+abbrev pub slot : VPid → ℕ → Slot
+slot p fd = record { pid = p; fd = fd }
+
+abbrev pub is_live_process : Option Process → Bool
+is_live_process None = false
+is_live_process (Some process) = lives process.life
+
+-- access modes: 0 reads, 1 writes, 2 both
+abbrev pub may_write : ℕ → Bool
+may_write flags = (flags % 4 == 1) || (flags % 4 == 2)
+
+abbrev pub refers_to : DescId → Descriptor → Bool
+refers_to d descriptor = eq_by_cmp desc_cmp d descriptor.desc
+
+-- some descriptor refers to the description
+unfoldable pub is_held : map.FinMap slot_cmp Descriptor → DescId → Bool
+is_held descriptors d = list_any (refers_to d) (map.values descriptors)
+
+abbrev pub is_slot_of : VPid → Slot → Bool
+is_slot_of p at = at.pid.0 == p.0
+
+-- pending signals: those of a thread are taken before those of its process
+
+abbrev pub signals_of : ℕ → Process → ℕ
+signals_of t process = unwrap_or (map.get process.threads t) 0
+
+abbrev pub pending_in : ℕ → Option Process → ℕ
+pending_in t None = 0
+pending_in t (Some process) = bit_or (signals_of t process) process.pending
+
+abbrev pub with_signals : Process → ℕ → ℕ → Process
+with_signals process t signals = record process { threads = map.insert process.threads t signals }
+
+abbrev pub taken_from : ℕ → ℕ → Process → Process
+taken_from t s process =
+    if has_signal (signals_of t process) s then with_signals process t (without_signal (signals_of t process) s) else
+    record process { pending = without_signal process.pending s }
+
+abbrev pub raised_at : ℕ → ℕ → Process → Process
+raised_at t s process = with_signals process t (with_signal (signals_of t process) s)
+
+abbrev pub Processes : Type 0
+Processes = map.FinMap vpid_cmp Process
+
+abbrev pub changed_by : Processes → VPid → (Process → Process) → Option Process → Processes
+changed_by processes p change None = processes
+changed_by processes p change (Some process) = map.insert processes p (change process)
+
+-- the processes with a change of one of them, if it is there
+abbrev pub changed_at : Processes → VPid → (Process → Process) → Processes
+changed_at processes p change = changed_by processes p change (map.get processes p)
+
+-- threads
+
+abbrev pub thread_count_in : Option Process → ℕ
+thread_count_in None = 0
+thread_count_in (Some process) = map.len process.threads
+
+abbrev pub has_thread_in : ℕ → Option Process → Bool
+has_thread_in t None = false
+has_thread_in t (Some process) = is_some (map.get process.threads t)
+
+abbrev pub without_thread : ℕ → Process → Process
+without_thread t process = record process { threads = map.remove process.threads t }
+
+abbrev pub with_thread : ℕ → Process → Process
+with_thread t process = with_signals process t 0
+
+-- both are there, and on one host (`man 2 kill`)
+abbrev pub same_host : Option Maker → Option Maker → Bool
+same_host (Some a) (Some b) = a.host == b.host
+same_host _ _ = false

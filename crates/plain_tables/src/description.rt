@@ -1,0 +1,70 @@
+ghost use Rattle.std.specs.Prelude.{◌≡◌};
+ghost use Rattle.plain_tables.specs.Tables as words;
+
+use std::alloc::{AllocError, Global};
+use sys_abi::{BySlot, ConnId, DescId, VirtAddr};
+use views::duplicate::Duplicate;
+
+/// What an open description stands for.
+#[derive(Clone, Copy, Debug, PartialEq, Eq)]
+pub enum Object {
+    Console,
+    /// A file and the place of the next read or write.
+    File { number: u32, offset: u32 },
+    /// An end of a channel. Side 0 writes into a pipe.
+    Stream { conn: ConnId, side: u8 },
+    /// A socket that is not connected, with its address (port 0: unbound).
+    Socket { address: VirtAddr },
+    Listener { address: VirtAddr },
+    /// An end of a datagram pair, with the other end.
+    Datagram { peer: DescId },
+    /// An event counter (`man 2 eventfd`).
+    Counter { value: u64 },
+}
+
+/// An open description (`man 2 open`): its object, access mode and status flags, and the owner set by F_SETOWN (0:
+/// nobody).
+#[derive(Clone, Copy, Debug, PartialEq, Eq)]
+pub struct Description {
+    pub object: Object,
+    pub flags: u32,
+    pub owner: u32,
+}
+
+/// A descriptor: the description that it refers to, and its close-on-exec flag.
+#[derive(Clone, Copy, Debug, PartialEq, Eq)]
+pub struct Descriptor {
+    pub desc: DescId,
+    pub cloexec: bool,
+}
+
+impl Duplicate for Description {
+    fn duplicate(&self, alloc: Global) -> Result<Self, AllocError> {
+        Ok(*self)
+    }
+}
+
+impl Duplicate for Descriptor {
+    fn duplicate(&self, alloc: Global) -> Result<Self, AllocError> {
+        Ok(*self)
+    }
+}
+
+impl Description {
+    /// Whether its access mode lets it be written to (`man 2 open`).
+    pub fn may_write(&self) -> bool
+        ensures { result ≡ words.may_write self.now.flags }
+    {
+        self.flags % 4 == 1 || self.flags % 4 == 2
+    }
+}
+
+/// Whether some descriptor refers to the description.
+#[tactic(auto, unfolding(crate::specs::Tables::is_held))]
+pub fn is_held(descriptors: &BySlot<Descriptor>, description: DescId) -> bool
+    ensures { result ≡ words.is_held descriptors.now description }
+{
+    descriptors
+        .values()
+        .any(|descriptor| description.cmp(&descriptor.desc).is_eq())
+}

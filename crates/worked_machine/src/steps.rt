@@ -1,0 +1,33 @@
+use crate::asserting::{bytes, same};
+use crate::process::{THREAD, regs_of, with_program};
+use plain_memory::memory::bytes_at;
+use plain_process::{Right, UserPart};
+use plain_steps::steps::{UserStep, user_step, user_steps};
+use std::process::Abort;
+use std::test::Fail;
+use sys_abi::{Request, Tid};
+
+/// A thread makes so many steps, or stands where it doesn't go on.
+fn steps(rt: &impl Abort, user: &mut UserPart, n: u32, want: Result<(), UserStep>) {
+    assert_eq!(rt; user_steps(n, user, THREAD), want);
+}
+
+/// The next step of a thread is as wanted.
+fn stands(rt: &impl Abort, user: &mut UserPart, t: Tid, want: UserStep) {
+    assert_eq!(rt; user_step(user, t), want);
+}
+
+#[test]
+fn a_program_runs_to_its_call(rt: HostRuntime) -> Result<(), Fail> {
+    let alloc = rt.alloc();
+    let mut user = Box::new(alloc, with_program(alloc)?)?;
+    steps(&rt, &mut user, 5, Ok(()));
+    let regs = regs_of(&user)?;
+    same(&rt, regs.pc, 0x0001_0014);
+    same(&rt, regs.x[7], 4);
+    let stored = bytes_at(alloc, &user.memory, Right::Read, 0x0001_0044, 1)?.ok_or("no byte")?;
+    bytes(&rt, stored.as_slice(), &[0xFE]);
+    steps(&rt, &mut user, 1, Err(UserStep::Asks(Request::Unknown(0))));
+    stands(&rt, &mut user, Tid(1), UserStep::NoThread);
+    Ok(())
+}
