@@ -5,3 +5,8 @@ use std::process::Abort;
 pub fn same<T: PartialEq + Debug + Drop>(rt: &impl Abort, given: T, want: T) {
     assert_eq!(rt; given, want);
 }
+
+/// It is so.
+pub fn holds(rt: &impl Abort, is_so: bool) {
+    assert!(rt; is_so);
+}

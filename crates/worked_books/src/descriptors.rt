@@ -1,8 +1,7 @@
-use crate::asserting::same;
+use crate::asserting::{holds, same};
 use fd_book::{Book, BookFault, Desc, Object};
-use std::alloc::{AllocError, Global};
+use std::alloc::Global;
 use std::process::Abort;
-use std::test::Fail;
 use sys_abi::{DescId, Fd, RealPid, VPid};
 
 const PARENT: RealPid = RealPid { node: 0, pid: 1000 };
@@ -20,10 +19,6 @@ fn name(num: u32) -> DescId {
         pid: VPid(40000),
         num,
     }
-}
-
-fn empty(alloc: Global) -> Result<Box<Book>, AllocError> {
-    Ok(Box::new(alloc, Book::new(alloc))?)
 }
 
 /// A new description at the lowest free number of the parent; `BadFd` where it is there already.
@@ -59,16 +54,12 @@ fn fork(book: &mut Book) -> Result<(), BookFault> {
     Ok(book.fork_table(PARENT, CHILD)?)
 }
 
-/// These processes hold the description.
-fn are_holders(
-    rt: &(impl Abort + AllocGlobal),
-    book: &Book,
-    id: DescId,
-    want: &[RealPid],
-) -> Result<(), AllocError> {
-    let holders = book.holders(rt.alloc(), id)?;
-    same(rt, holders.as_slice(), want);
-    Ok(())
+/// Whether these processes hold the description.
+fn are_holders(alloc: Global, book: &Book, id: DescId, processes: &[RealPid]) -> bool {
+    match book.holders(alloc, id) {
+        Ok(holders) => holders.as_slice() == processes,
+        Err(_) => false,
+    }
 }
 
 /// The descriptor 0 is doubled until the parent has 256.
@@ -79,8 +70,8 @@ fn fill(rt: &impl Abort, book: &mut Book) {
 }
 
 #[test]
-fn up_to_256_descriptors_at_the_lowest_free_numbers(rt: HostRuntime) -> Result<(), Fail> {
-    let mut book = empty(rt.alloc())?;
+fn up_to_256_descriptors_at_the_lowest_free_numbers(rt: HostRuntime) {
+    let mut book = Book::new(rt.alloc());
     same(&rt, place(&mut book, 0, false), Ok(Fd(0)));
     fill(&rt, &mut book);
     same(&rt, book.free(PARENT), 0);
@@ -96,7 +87,6 @@ fn up_to_256_descriptors_at_the_lowest_free_numbers(rt: HostRuntime) -> Result<(
     );
     same(&rt, book.dup_from(PARENT, Fd(0), 7, true), Ok(Fd(7)));
     same(&rt, book.cloexec(PARENT, Fd(7)), Some(true));
-    Ok(())
 }
 
 /// The parent's first four descriptors, each of its own description.
@@ -107,8 +97,8 @@ fn place_four(rt: &impl Abort, book: &mut Book) {
 }
 
 #[test]
-fn a_descriptor_put_over_an_open_one(rt: HostRuntime) -> Result<(), Fail> {
-    let mut book = empty(rt.alloc())?;
+fn a_descriptor_put_over_an_open_one(rt: HostRuntime) {
+    let mut book = Book::new(rt.alloc());
     place_four(&rt, &mut book);
     same(&rt, dup_to(&mut book, 3, 9), Ok(None));
     same(&rt, place(&mut book, 4, true), Ok(Fd(4)));
@@ -119,29 +109,30 @@ fn a_descriptor_put_over_an_open_one(rt: HostRuntime) -> Result<(), Fail> {
     same(&rt, dup_to(&mut book, 8, 4), Err(BookFault::BadFd));
     same(&rt, book.close(PARENT, Fd(1)), Ok(Some(name(1))));
     same(&rt, place(&mut book, 4, false), Ok(Fd(1)));
-    Ok(())
 }
 
 #[test]
-fn a_description_of_two_processes_closed_by_each(rt: HostRuntime) -> Result<(), Fail> {
-    let mut book = empty(rt.alloc())?;
+fn a_description_of_two_processes_closed_by_each(rt: HostRuntime) {
+    let mut book = Book::new(rt.alloc());
     same(&rt, place(&mut book, 0, false), Ok(Fd(0)));
     same(&rt, place(&mut book, 1, true), Ok(Fd(1)));
     same(&rt, fork(&mut book), Ok(()));
     same(&rt, book.cloexec(CHILD, Fd(1)), Some(true));
-    are_holders(&rt, &book, name(1), &[PARENT, CHILD])?;
+    holds(
+        &rt,
+        are_holders(rt.alloc(), &book, name(1), &[PARENT, CHILD]),
+    );
     same(&rt, book.close(CHILD, Fd(1)), Ok(None));
     same(&rt, book.close(PARENT, Fd(1)), Ok(Some(name(1))));
     same(&rt, book.end_table(PARENT), Some((Fd(0), None)));
     same(&rt, book.end_table(PARENT), None);
     same(&rt, book.end_table(CHILD), Some((Fd(0), Some(name(0)))));
     same(&rt, book.next_desc(None), None);
-    Ok(())
 }
 
 #[test]
-fn descriptors_put_back_at_their_numbers(rt: HostRuntime) -> Result<(), Fail> {
-    let mut book = empty(rt.alloc())?;
+fn descriptors_put_back_at_their_numbers(rt: HostRuntime) {
+    let mut book = Book::new(rt.alloc());
     same(&rt, place_at(&mut book, PARENT, 255, 5), Ok(()));
     same(&rt, place_at(&mut book, PARENT, 2, 5), Ok(()));
     same(&rt, place_at(&mut book, CHILD, 0, 3), Ok(()));
@@ -150,7 +141,6 @@ fn descriptors_put_back_at_their_numbers(rt: HostRuntime) -> Result<(), Fail> {
     same(&rt, book.next_fd(PARENT, Some(Fd(255))), None);
     same(&rt, book.next_desc(None), Some(name(3)));
     same(&rt, book.next_desc(Some(name(3))), Some(name(5)));
-    Ok(())
 }
 
 const CHANGED: Desc = Desc {
@@ -160,8 +150,8 @@ const CHANGED: Desc = Desc {
 };
 
 #[test]
-fn descriptions_and_flags_are_changed(rt: HostRuntime) -> Result<(), Fail> {
-    let mut book = empty(rt.alloc())?;
+fn descriptions_and_flags_are_changed(rt: HostRuntime) {
+    let mut book = Book::new(rt.alloc());
     same(&rt, place(&mut book, 5, false), Ok(Fd(0)));
     book.set_owner(name(5), Some(CHILD));
     book.set_flags(name(5), 0x802);
@@ -170,5 +160,4 @@ fn descriptions_and_flags_are_changed(rt: HostRuntime) -> Result<(), Fail> {
     same(&rt, book.desc(name(5)).copied(), Some(CHANGED));
     same(&rt, book.owner(name(5)), Some(CHILD));
     same(&rt, book.cloexec(PARENT, Fd(0)), Some(true));
-    Ok(())
 }

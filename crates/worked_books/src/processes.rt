@@ -1,6 +1,6 @@
 use crate::asserting::same;
 use proc_book::{ProcFault, Procs};
-use std::alloc::{AllocError, Global};
+use std::alloc::AllocError;
 use std::process::Abort;
 use std::test::Fail;
 use sys_abi::{RealPid, Signal};
@@ -10,10 +10,6 @@ const SIGNAL: Signal = Signal(10);
 const FIRST: RealPid = RealPid { node: 1, pid: 100 };
 
 const CHILD: RealPid = RealPid { node: 1, pid: 102 };
-
-fn book(alloc: Global, nodes: u32, first: u32) -> Result<Box<Procs>, AllocError> {
-    Ok(Box::new(alloc, Procs::new(alloc, nodes, first)?)?)
-}
 
 /// The next number of the node, where it has one.
 fn next_real(procs: &Procs, node: u32) -> Option<u32> {
@@ -42,7 +38,7 @@ fn add_thread(procs: &mut Procs, p: RealPid) -> Result<u32, ProcFault> {
 
 #[test]
 fn numbers_rise_on_each_node(rt: HostRuntime) -> Result<(), Fail> {
-    let mut procs = book(rt.alloc(), 2, 100)?;
+    let mut procs = Procs::new(rt.alloc(), 2, 100)?;
     same(&rt, next_real(&procs, 1), Some(100));
     same(&rt, start(&mut procs, 1, None), Ok(FIRST));
     same(&rt, procs.is_live(FIRST), true);
@@ -64,7 +60,7 @@ const ONLY: RealPid = RealPid { node: 0, pid: 7 };
 
 #[test]
 fn signals_are_raised_and_taken(rt: HostRuntime) -> Result<(), Fail> {
-    let mut procs = book(rt.alloc(), 1, 7)?;
+    let mut procs = Procs::new(rt.alloc(), 1, 7)?;
     same(
         &rt,
         procs.raise(ONLY, None, SIGNAL),
@@ -98,8 +94,8 @@ fn member(pid: u32) -> RealPid {
 }
 
 /// A process 1 with the children 2 and 3, and a child 4 of the process 2.
-fn family(rt: &(impl Abort + AllocGlobal)) -> Result<Box<Procs>, AllocError> {
-    let mut procs = book(rt.alloc(), 1, 1)?;
+fn family(rt: &(impl Abort + AllocGlobal)) -> Result<Procs, AllocError> {
+    let mut procs = Procs::new(rt.alloc(), 1, 1)?;
     same(rt, start(&mut procs, 0, None), Ok(member(1)));
     same(rt, start(&mut procs, 0, Some(member(1))), Ok(member(2)));
     same(rt, start(&mut procs, 0, Some(member(1))), Ok(member(3)));
@@ -159,7 +155,7 @@ fn fill(rt: &impl Abort, procs: &mut Procs) {
 
 #[test]
 fn there_are_128_processes_at_most(rt: HostRuntime) -> Result<(), Fail> {
-    let mut procs = book(rt.alloc(), 1, 1)?;
+    let mut procs = Procs::new(rt.alloc(), 1, 1)?;
     fill(&rt, &mut procs);
     same(&rt, procs.has_real(0), true);
     same(&rt, start(&mut procs, 0, None), Err(ProcFault::Full));
@@ -175,7 +171,7 @@ fn fill_process(rt: &impl Abort, procs: &mut Procs) {
 
 #[test]
 fn a_process_has_64_threads_at_most(rt: HostRuntime) -> Result<(), Fail> {
-    let mut procs = book(rt.alloc(), 1, 1)?;
+    let mut procs = Procs::new(rt.alloc(), 1, 1)?;
     same(&rt, start(&mut procs, 0, None), Ok(member(1)));
     fill_process(&rt, &mut procs);
     same(&rt, procs.has_real(0), true);

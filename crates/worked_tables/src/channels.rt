@@ -1,6 +1,5 @@
 use crate::asserting::{holds, same};
 use conn_table::{Conn, ConnFault, ConnTable, Maker};
-use std::test::Fail;
 use sys_abi::{ConnId, DescId, Fd, Kind, VPid, VirtAddr};
 
 const FIRST: VPid = VPid(40000);
@@ -36,8 +35,8 @@ fn has_ends(table: &ConnTable, id: ConnId, ends: [bool; 2]) -> bool {
 }
 
 #[test]
-fn channels_come_and_go(rt: HostRuntime) -> Result<(), Fail> {
-    let mut table = Box::new(rt.alloc(), ConnTable::new(rt.alloc()))?;
+fn channels_come_and_go(rt: HostRuntime) {
+    let mut table = ConnTable::new(rt.alloc());
     let second = internet(SECOND_CHANNEL);
     same(&rt, table.add(second), Ok(()));
     same(&rt, table.add(second), Err(ConnFault::Taken));
@@ -56,12 +55,11 @@ fn channels_come_and_go(rt: HostRuntime) -> Result<(), Fail> {
     holds(&rt, has_ends(&table, SECOND_CHANNEL, [false, true]));
     table.drop_end(SECOND_CHANNEL, 1);
     same(&rt, table.get(SECOND_CHANNEL).copied(), None);
-    Ok(())
 }
 
 #[test]
-fn a_port_is_used_by_ends_and_names(rt: HostRuntime) -> Result<(), Fail> {
-    let mut table = Box::new(rt.alloc(), ConnTable::new(rt.alloc()))?;
+fn a_port_is_used_by_ends_and_names(rt: HostRuntime) {
+    let mut table = ConnTable::new(rt.alloc());
     let description = DescId { pid: FIRST, num: 0 };
     same(&rt, table.port_used(SERVER), false);
     holds(&rt, table.set_name(description, SERVER).is_ok());
@@ -74,12 +72,11 @@ fn a_port_is_used_by_ends_and_names(rt: HostRuntime) -> Result<(), Fail> {
     table.drop_end(SECOND_CHANNEL, 1);
     same(&rt, table.port_used(SERVER), true);
     same(&rt, table.port_used(OTHER_HOST), false);
-    Ok(())
 }
 
 #[test]
-fn makers_are_set_and_changed(rt: HostRuntime) -> Result<(), Fail> {
-    let mut table = Box::new(rt.alloc(), ConnTable::new(rt.alloc()))?;
+fn makers_are_set_and_changed(rt: HostRuntime) {
+    let mut table = ConnTable::new(rt.alloc());
     let maker = Maker { host: 3, made: 1 };
     same(&rt, table.maker(FIRST), None);
     holds(
@@ -90,7 +87,6 @@ fn makers_are_set_and_changed(rt: HostRuntime) -> Result<(), Fail> {
     same(&rt, table.maker(FIRST), Some(maker));
     table.drop_maker(FIRST);
     same(&rt, table.maker(FIRST), None);
-    Ok(())
 }
 
 const ROWS: [(VPid, Fd, Kind); 4] = [

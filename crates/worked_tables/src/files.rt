@@ -41,21 +41,17 @@ fn reads(rt: &impl Abort, files: &Files, at: u32, count: u32, xfer: &mut Transfe
     holds(rt, xfer.as_slice() == want);
 }
 
-fn no_files(alloc: Global) -> Result<Box<Files>, AllocError> {
-    Ok(Box::new(alloc, Files::new(alloc))?)
-}
-
 /// Files with one of these bytes under the number 1 and the name `a`.
-fn one_file(alloc: Global, bytes: &[u8]) -> Result<Box<Files>, FileFault> {
-    let mut files = no_files(alloc)?;
-    let file = files.open_file(b"a", O_CREAT)?;
-    write(&mut files, file, 0, bytes)?;
-    Ok(files)
+fn one_file(rt: &(impl Abort + AllocGlobal), bytes: &[u8]) -> Files {
+    let mut files = Files::new(rt.alloc());
+    same(rt, files.open_file(b"a", O_CREAT), Ok(1));
+    same(rt, write(&mut files, 1, 0, bytes), Ok(()));
+    files
 }
 
 #[test]
-fn files_are_opened_and_made(rt: HostRuntime) -> Result<(), Fail> {
-    let mut files = no_files(rt.alloc())?;
+fn files_are_opened_and_made(rt: HostRuntime) {
+    let mut files = Files::new(rt.alloc());
     same(&rt, files.open_file(b"a", 0), Err(FileFault::NoEntry));
     same(&rt, files.open_file(b"a", O_EXCL), Err(FileFault::NoEntry));
     same(&rt, files.open_file(b"a", O_CREAT | O_EXCL), Ok(1));
@@ -72,13 +68,12 @@ fn files_are_opened_and_made(rt: HostRuntime) -> Result<(), Fail> {
     holds(&rt, files.name(3).is_none());
     same(&rt, files.next_above(0), Some(1));
     same(&rt, files.next_above(2), None);
-    Ok(())
 }
 
 #[test]
 fn bytes_are_written_and_read(rt: HostRuntime) -> Result<(), Fail> {
-    let mut files = one_file(rt.alloc(), b"hello")?;
-    let mut xfer = Box::new(rt.alloc(), Transfer::new(rt.alloc())?)?;
+    let mut xfer = Transfer::new(rt.alloc())?;
+    let mut files = one_file(&rt, b"hello");
     holds(&rt, has_bytes(&files, 1, b"hello"));
     same(&rt, write(&mut files, 1, 3, b"p me"), Ok(()));
     same(&rt, write(&mut files, 1, 9, b"!"), Ok(()));
@@ -93,20 +88,19 @@ fn bytes_are_written_and_read(rt: HostRuntime) -> Result<(), Fail> {
 }
 
 #[test]
-fn no_byte_past_the_limits(rt: HostRuntime) -> Result<(), Fail> {
-    let mut files = one_file(rt.alloc(), b"x")?;
+fn no_byte_past_the_limits(rt: HostRuntime) {
+    let mut files = one_file(&rt, b"x");
     let end = TOTAL_LIMIT as u32;
     same(&rt, write(&mut files, 1, end, b"y"), Err(FileFault::Space));
     same(&rt, write(&mut files, 1, 0xFFFF_FFFF, b""), Ok(()));
     same(&rt, files.count(), 1);
     same(&rt, files.total(), 1);
     holds(&rt, has_bytes(&files, 1, b"x"));
-    Ok(())
 }
 
 #[test]
-fn a_name_goes_while_its_file_is_open(rt: HostRuntime) -> Result<(), Fail> {
-    let mut files = one_file(rt.alloc(), b"kept")?;
+fn a_name_goes_while_its_file_is_open(rt: HostRuntime) {
+    let mut files = one_file(&rt, b"kept");
     same(&rt, files.unlink(b"b"), Err(FileFault::NoEntry));
     same(&rt, files.unlink(b"a"), Ok(1));
     same(&rt, files.unlink(b"a"), Err(FileFault::NoEntry));
@@ -116,16 +110,15 @@ fn a_name_goes_while_its_file_is_open(rt: HostRuntime) -> Result<(), Fail> {
     files.forget(1);
     holds(&rt, files.bytes(1).is_none());
     same(&rt, files.len(2), Some(0));
-    Ok(())
 }
 
 /// Puts a file back under the number 7, and sets the next number to the last one.
-fn put_back(alloc: Global, name: &[u8]) -> Result<Box<Files>, AllocError> {
+fn put_back(alloc: Global, name: &[u8]) -> Result<Files, AllocError> {
     let mut files = Files::new(alloc);
     files.set_next(8);
     files.restore(7, name, b"siete")?;
     files.set_next(0xFFFF_FFFF);
-    Ok(Box::new(alloc, files)?)
+    Ok(files)
 }
 
 #[test]
@@ -155,8 +148,8 @@ fn fill(rt: &impl Abort, files: &mut Files) {
 }
 
 #[test]
-fn there_are_1024_files_at_most(rt: HostRuntime) -> Result<(), Fail> {
-    let mut files = no_files(rt.alloc())?;
+fn there_are_1024_files_at_most(rt: HostRuntime) {
+    let mut files = Files::new(rt.alloc());
     fill(&rt, &mut files);
     same(
         &rt,
@@ -166,5 +159,4 @@ fn there_are_1024_files_at_most(rt: HostRuntime) -> Result<(), Fail> {
     same(&rt, files.open_file(&[0, 0, 3, 255], O_CREAT), Ok(1024));
     files.forget(1024);
     same(&rt, files.open_file(b"one more", O_CREAT), Ok(1025));
-    Ok(())
 }

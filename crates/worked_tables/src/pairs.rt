@@ -1,5 +1,4 @@
 use crate::asserting::same;
-use std::test::Fail;
 use sys_abi::{RealAddr, RealPid, VirtAddr};
 use virt_ids::{IdFault, Ids};
 
@@ -19,8 +18,8 @@ const PORT: RealAddr = RealAddr {
 };
 
 #[test]
-fn numbers_are_paired_both_ways(rt: HostRuntime) -> Result<(), Fail> {
-    let mut ids = Box::new(rt.alloc(), Ids::new(rt.alloc()))?;
+fn numbers_are_paired_both_ways(rt: HostRuntime) {
+    let mut ids = Ids::new(rt.alloc());
     same(&rt, ids.add_pid(40000, FIRST), Ok(()));
     same(&rt, ids.add_pid(40001, OTHER_NODE), Ok(()));
     same(&rt, ids.add_pid(40000, SECOND), Err(IdFault::Taken));
@@ -32,12 +31,11 @@ fn numbers_are_paired_both_ways(rt: HostRuntime) -> Result<(), Fail> {
     same(&rt, ids.virt_pid(FIRST), Err(IdFault::Unknown));
     same(&rt, ids.add_pid(40002, FIRST), Ok(()));
     same(&rt, ids.virt_pid(FIRST), Ok(40002));
-    Ok(())
 }
 
 #[test]
-fn addresses_are_paired_both_ways(rt: HostRuntime) -> Result<(), Fail> {
-    let mut ids = Box::new(rt.alloc(), Ids::new(rt.alloc()))?;
+fn addresses_are_paired_both_ways(rt: HostRuntime) {
+    let mut ids = Ids::new(rt.alloc());
     same(&rt, ids.add_addr(ADDRESS, PORT), Ok(()));
     same(&rt, ids.add_addr(NEXT_ADDRESS, PORT), Err(IdFault::Taken));
     same(&rt, ids.real_addr(ADDRESS), Ok(PORT));
@@ -47,5 +45,4 @@ fn addresses_are_paired_both_ways(rt: HostRuntime) -> Result<(), Fail> {
     same(&rt, ids.virt_addr(PORT), Err(IdFault::Unknown));
     same(&rt, ids.add_addr(NEXT_ADDRESS, PORT), Ok(()));
     same(&rt, ids.virt_addr(PORT), Ok(NEXT_ADDRESS));
-    Ok(())
 }
