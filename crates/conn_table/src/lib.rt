@@ -21,6 +21,3 @@ pub use conn::Conn;
 pub use conn_fault::ConnFault;
 pub use maker::Maker;
 pub use table::ConnTable;
-
-#[cfg(test)]
-mod tests;

@@ -27,6 +27,3 @@ pub use inputs::{InputFault, Inputs};
 pub use mem_inputs::MemInputs;
 pub use mem_sink::MemSink;
 pub use sink::{Sink, SinkFault};
-
-#[cfg(test)]
-mod tests;

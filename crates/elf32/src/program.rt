@@ -5,7 +5,7 @@ use crate::range::AddressRange;
 use views::list_of::ListOf;
 
 /// What a static executable puts into memory, and where it starts.
-#[derive(Debug, Drop, PartialEq, Eq)]
+#[derive(Drop)]
 pub struct Program {
     /// The address of the first instruction.
     pub entry: u32,
@@ -14,7 +14,7 @@ pub struct Program {
 }
 
 /// A piece of memory that a program header describes.
-#[derive(Debug, Drop, PartialEq, Eq)]
+#[derive(Drop)]
 pub struct Segment {
     /// The address of its first byte.
     pub vaddr: u32,

@@ -67,6 +67,3 @@ fn is_entry(address: u32, segments: &[Segment]) -> bool
     let rights = page_rights(segments, u64::from(address) / PAGE_SIZE);
     address % 4 == 0 && rights & Segment::EXECUTE == Segment::EXECUTE
 }
-
-#[cfg(test)]
-mod tests;

@@ -25,8 +25,6 @@ mod readers;
 pub mod real_slot;
 mod table;
 mod tables;
-#[cfg(test)]
-mod tests;
 
 pub use book::Book;
 pub use book_fault::BookFault;

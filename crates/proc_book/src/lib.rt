@@ -22,6 +22,3 @@ pub use proc_fault::ProcFault;
 pub use process::Process;
 pub use procs::Procs;
 pub use sys_abi::Life;
-
-#[cfg(test)]
-mod tests;

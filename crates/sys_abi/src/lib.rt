@@ -29,8 +29,6 @@ pub mod record;
 pub mod reply;
 pub mod request;
 pub mod signals;
-#[cfg(test)]
-mod tests;
 pub mod transfer;
 
 pub use by_address::ByAddress;

@@ -21,6 +21,3 @@ mod store;
 
 pub use file_fault::FileFault;
 pub use files::Files;
-
-#[cfg(test)]
-mod tests;

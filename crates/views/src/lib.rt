@@ -17,5 +17,3 @@
 pub mod duplicate;
 pub mod list_of;
 pub mod number_map;
-#[cfg(test)]
-mod tests;

@@ -16,8 +16,6 @@ mod by_real_address;
 mod by_real_pid;
 pub mod id_fault;
 pub mod ids;
-#[cfg(test)]
-mod tests;
 
 pub use id_fault::IdFault;
 pub use ids::Ids;

@@ -4,7 +4,7 @@ use Rattle.std.specs.FinMap as map
 use Rattle.sys_abi.specs.Names.{name_cmp}
 use Rattle.vfs_files.specs.FileTable.{FileTable, bytes_of}
 use Rattle.vfs_files.proofs.Sums.{bytes_of-empty}
-use Rattle.vfs_files.proofs.tests.put_back.Goals as goal
+use Rattle.worked_tables.proofs.files.put_back.Goals as goal
 
 pub restore-requires-clause-unused : goal.restore-requires-clause-unused
 restore-requires-clause-unused c =

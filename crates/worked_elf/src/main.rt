@@ -1,0 +1,77 @@
+//! Prints of each case on standard input what its file describes, or the first rule that the file breaks.
+//!
+//! A case is a line `NAME: HOW`, its numbers in hex digits, and HOW is one of these:
+//! - `bytes DIGITS`: the file has these bytes, and the lines below it edit this file;
+//! - `first COUNT`: it has the first bytes of the edited file;
+//! - `turn PLACE BITS`: it is the edited file with these bits of one byte turned;
+//! - `headers ENTRY HEADER..`: it has the edited file's first 52 bytes, with this entry, and program headers
+//!   `KIND:ADDRESS:BYTES:MEMORY:FLAGS`, each of a segment that begins with the file's first byte.
+//!
+//! Its answer is a line with the entry, and of each segment its size, its address, its rights and its bytes.
+#![tactic(auto)]
+
+use elf32::{Program, Segment, read_elf};
+use std::alloc::{AllocError, Global};
+use std::io;
+
+mod editing;
+
+use editing::edited;
+
+fn main(rt: HostRuntime) -> io::Result<()> {
+    let mut base = Vec::new(rt.alloc());
+    for line in rt.lines(rt.alloc()) {
+        let line = line?;
+        let answer = answer(rt.alloc(), line.as_str(), &mut base)?;
+        println!(rt; "{answer}")?;
+    }
+    Ok(())
+}
+
+/// The line's name and what its file describes.
+fn answer(alloc: Global, line: &str, base: &mut Vec<u8>) -> io::Result<String> {
+    let (name, how) = editing::parted(line, ": ")?;
+    let file = edited(alloc, base.as_slice(), how)?;
+    let text = described(alloc, file.as_slice())?;
+    if how.starts_with("bytes") {
+        *base = file;
+    }
+    Ok(format!(in alloc; "{name}: {text}")?)
+}
+
+fn described(alloc: Global, file: &[u8]) -> Result<String, AllocError> {
+    match read_elf(alloc, file) {
+        Ok(program) => shown(alloc, file, &program),
+        Err(fault) => format!(in alloc; "{fault}"),
+    }
+}
+
+fn shown(alloc: Global, file: &[u8], program: &Program) -> Result<String, AllocError> {
+    let mut text = format!(in alloc; "entry {:x}", program.entry)?;
+    for segment in &program.segments {
+        add_segment(alloc, &mut text, file, segment)?;
+    }
+    Ok(text)
+}
+
+fn add_segment(
+    alloc: Global,
+    text: &mut String,
+    file: &[u8],
+    segment: &Segment,
+) -> Result<(), AllocError> {
+    let bytes = segment.bytes.as_slice();
+    let whose = if file.starts_with(bytes) {
+        "first"
+    } else {
+        "other"
+    };
+    let more = format!(in alloc;
+        ", {:x} at {:x} with rights {} and the {whose} {:x} bytes",
+        segment.memsz,
+        segment.vaddr,
+        segment.rights,
+        bytes.len()
+    )?;
+    text.push_str(more.as_str())
+}
