@@ -2,8 +2,8 @@ use Rattle.std.proofs.Common.{◌==◌, sym, ap, lit<}
 use Rattle.sys_abi.specs.declared.identity.VPid.{VPid}
 use Rattle.views.proofs.MapLaws.{true_false}
 use Rattle.barrier_core.specs.declared.members.TheConstants.{MEMBER_LIMIT}
-use Rattle.barrier_core.proofs.FirstMembers.{one_waits, one_alone, one_few}
-use Rattle.barrier_core.proofs.tests.a_child_holds_the_barrier_up.Goals as goal
+use Rattle.worked_stages.proofs.FirstMembers.{one_waits, one_alone, one_few}
+use Rattle.worked_stages.proofs.barriers.with_child.Goals as goal
 
 pub joined-requires-clause-early : goal.joined-requires-clause-early
 joined-requires-clause-early g c = one_waits c.in_ok-barrier.barrier c.ask-asked.new.self (record { 0 = 40000 }) c.in_ok-barrier.ensures c.ask-asked.ensures.after
