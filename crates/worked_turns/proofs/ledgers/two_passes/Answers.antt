@@ -2,7 +2,7 @@ use Rattle.std.proofs.Common.{ap, ◌∙◌, arith}
 use Rattle.turn_cell.specs.Turns.{is_held}
 use Rattle.turn_cell.specs.Views.{held_by}
 use Rattle.turn_cell.proofs.Parts.{held_beside, held_alone}
-use Rattle.turn_cell.proofs.tests.two_passes.Goals as goal
+use Rattle.worked_turns.proofs.ledgers.two_passes.Goals as goal
 
 pub returns-clause-holds : goal.returns-clause-holds
 returns-clause-holds c =

@@ -1,7 +1,7 @@
 use Rattle.std.proofs.Common.{◌≡◌, true}
 use Rattle.turn_cell.specs.Turns.{is_held}
 use Rattle.turn_cell.specs.Views.{cell_of, held_by}
-use Rattle.turn_cell.proofs.tests.add_many.Given as goal
+use Rattle.worked_turns.proofs.ledgers.add_many.Given as goal
 
 -- the pass is of the same cell, and holds the number
 abbrev pub invariant-loop : goal.invariant-loop

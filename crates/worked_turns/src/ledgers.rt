@@ -4,14 +4,12 @@ ghost use Rattle.std.specs.FinMap as map;
 ghost use Rattle.turn_cell.specs.Turns.{is_held};
 ghost use Rattle.turn_cell.specs.Views.{cell_of, held_by};
 
-use crate::cell::TurnCell;
-use crate::pass::Pass;
-use crate::turned::{Act, Turned};
 use std::alloc::{AllocError, Global};
 use std::process::Abort;
 use std::sync::Wait;
 use std::test::Fail;
 use std::thread::{Threads, join};
+use turn_cell::{Act, Pass, TurnCell, Turned};
 use views::list_of::ListOf;
 use views::number_map::NumberMap;
 

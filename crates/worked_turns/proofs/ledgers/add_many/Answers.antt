@@ -3,7 +3,7 @@ use Rattle.std.specs.FinMap as map
 use Rattle.turn_cell.specs.Turns.{is_held}
 use Rattle.turn_cell.specs.Views.{held_by}
 use Rattle.turn_cell.proofs.Parts.{found, still_held}
-use Rattle.turn_cell.proofs.tests.add_many.Goals as goal
+use Rattle.worked_turns.proofs.ledgers.add_many.Goals as goal
 
 pub turn-next-requires-clause-holds : goal.turn-next-requires-clause-holds
 turn-next-requires-clause-holds g c n is = ap (is_held (held_by c.loop.pass.seat)) (eqb-true n c.args.number is) ∙ c.loop.invariant.1

@@ -4,7 +4,7 @@ use Rattle.std.specs.Cmp.{nat_cmp_total}
 use Rattle.std.specs.FinMap as map
 use Rattle.views.proofs.MapLaws.{true_false, same_or_other, get_inserted, get_beside_inserted}
 use Rattle.turn_cell.proofs.Parts.{exact}
-use Rattle.turn_cell.proofs.tests.AddActLedger.act.Goals as goal
+use Rattle.worked_turns.proofs.ledgers.AddActLedger.act.Goals as goal
 
 pub returns-clause-others : goal.returns-clause-others
 returns-clause-others c n x other is =

@@ -3,7 +3,7 @@ use Rattle.std.specs.Prelude.{is_some}
 use Rattle.std.specs.Cmp.{nat_cmp_total}
 use Rattle.views.proofs.MapLaws.{get_inserted, get_beside_inserted}
 use Rattle.turn_cell.proofs.Parts.{exact}
-use Rattle.turn_cell.proofs.tests.empty_ledger.Goals as goal
+use Rattle.worked_turns.proofs.ledgers.empty_ledger.Goals as goal
 
 pub returns : goal.returns
 returns c = (
