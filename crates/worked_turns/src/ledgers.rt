@@ -115,6 +115,16 @@ fn two_passes(alloc: Global) -> Result<TwoPasses, Fail>
     Ok(TwoPasses { cell, seven, nine })
 }
 
+fn entered(rt: &impl Abort, ledger: &Ledger, want: &[u32]) {
+    assert_eq!(rt; ledger.entries.as_slice(), want);
+}
+
+/// How often each of the two numbers was added.
+fn counted(rt: &impl Abort, ledger: &Ledger, sevens: u32, nines: u32) {
+    assert_eq!(rt; ledger.counts.get(7), Some(&sevens));
+    assert_eq!(rt; ledger.counts.get(9), Some(&nines));
+}
+
 #[test]
 fn one_thread_takes_turns_with_two_passes(rt: HostRuntime) -> Result<(), Fail> {
     let TwoPasses { cell, seven, nine } = two_passes(rt.alloc())?;
@@ -124,9 +134,8 @@ fn one_thread_takes_turns_with_two_passes(rt: HostRuntime) -> Result<(), Fail> {
     let pass = cell.join(&rt, seven, nine);
     let ledger = cell.close(&rt, pass);
     assert!(rt; added && also && again);
-    assert_eq!(rt; ledger.entries.as_slice(), [7, 7, 9, 7].as_slice());
-    assert_eq!(rt; ledger.counts.get(7), Some(&3));
-    assert_eq!(rt; ledger.counts.get(9), Some(&1));
+    entered(&rt, &ledger, &[7, 7, 9, 7]);
+    counted(&rt, &ledger, 3, 1);
     Ok(())
 }
 
@@ -163,7 +172,6 @@ fn two_threads_add_to_one_history(rt: HostRuntime) -> Result<(), Fail> {
     let ledger = cell.close(&rt, pass);
     assert!(rt; all);
     assert_eq!(rt; ledger.entries.len(), 200);
-    assert_eq!(rt; ledger.counts.get(7), Some(&100));
-    assert_eq!(rt; ledger.counts.get(9), Some(&100));
+    counted(&rt, &ledger, 100, 100);
     Ok(())
 }
