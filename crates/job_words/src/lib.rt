@@ -12,7 +12,7 @@
 //!
 //! Proved: the job is that of a command which spells these words; the answer is [`WordFault::Usage`] exactly where no
 //! command spells them, so it never gives way to want of memory; and no words are of two commands. Not proved: that
-//! memory is wanted only where there is none (`worked_words` reads words with ample memory). The grammar is this
+//! memory is wanted only where there is none (`worked_jobs` reads words with ample memory). The grammar is this
 //! project's own; a program's argument strings are those of the System V ABI.
 #![tactic(auto)]
 
