@@ -5,4 +5,3 @@ pub mod ReachLaws
 pub mod Keeping
 pub mod Closing
 pub mod Histories
-pub mod FirstMembers

@@ -24,6 +24,3 @@ pub use barrier::Barrier;
 pub use laws::barrier_laws;
 pub use members::MEMBER_LIMIT;
 pub use stage::{Message, Stage};
-
-#[cfg(test)]
-mod tests;

@@ -1,2 +1,1 @@
-mod Rounds
 mod WholeRuns

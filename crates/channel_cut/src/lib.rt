@@ -12,6 +12,3 @@
 mod laws;
 
 pub use laws::cut_laws;
-
-#[cfg(test)]
-mod tests;

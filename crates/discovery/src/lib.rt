@@ -17,8 +17,6 @@
 pub mod directory;
 mod laws;
 pub mod publication;
-#[cfg(test)]
-mod tests;
 
 pub use directory::Directory;
 pub use laws::directory_laws;

@@ -32,6 +32,3 @@ mod stepping;
 pub use drain::Drain;
 pub use laws::drain_laws;
 pub use wire_net::{AgentEnd, CutRoom, DirBytes, DrainedNet, Stepped};
-
-#[cfg(test)]
-mod tests;

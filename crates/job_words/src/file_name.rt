@@ -3,7 +3,7 @@ ghost use Rattle.std.specs.Prelude.{◌≡◌, string_bytes};
 use std::marker::Model;
 
 /// The name of a file. Contracts see the list of its bytes.
-#[derive(Debug, Drop)]
+#[derive(Drop)]
 pub struct FileName {
     text: String,
 }

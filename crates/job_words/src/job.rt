@@ -2,7 +2,7 @@ use crate::file_name::FileName;
 use views::list_of::ListOf;
 
 /// What the words of a command line ask for.
-#[derive(Debug, Drop)]
+#[derive(Drop)]
 pub enum Job {
     /// A launch of programs.
     Launch(LaunchJob),
@@ -15,7 +15,7 @@ pub enum Job {
 }
 
 /// A launch: the options under their names, and the programs in the order of the words.
-#[derive(Debug, Drop)]
+#[derive(Drop)]
 pub struct LaunchJob {
     /// The number of nodes, 1 to 16. Each program's host is below it.
     pub nodes: u32,
@@ -32,7 +32,7 @@ pub struct LaunchJob {
 }
 
 /// A program to start.
-#[derive(Debug, Drop)]
+#[derive(Drop)]
 pub struct NamedProgram {
     /// The number of its host, 0 to 15.
     pub host: u32,
@@ -43,7 +43,7 @@ pub struct NamedProgram {
 }
 
 /// A restart: the options under their names.
-#[derive(Clone, Copy, Debug, PartialEq, Eq)]
+#[derive(Clone, Copy)]
 pub struct RestartJob {
     /// The number of nodes, 1 to 16.
     pub nodes: u32,
@@ -62,7 +62,7 @@ pub struct RestartJob {
 }
 
 /// The worked ring: the number of processes, and the options under their names.
-#[derive(Clone, Copy, Debug, PartialEq, Eq)]
+#[derive(Clone, Copy)]
 pub struct RingJob {
     /// The number of processes in the ring, 2 to 16.
     pub processes: u32,

@@ -12,8 +12,8 @@
 //!
 //! Proved: the job is that of a command which spells these words; the answer is [`WordFault::Usage`] exactly where no
 //! command spells them, so it never gives way to want of memory; and no words are of two commands. Not proved: that
-//! memory is wanted only where there is none (the tests have ample memory). The grammar is this project's own; a
-//! program's argument strings are those of the System V ABI.
+//! memory is wanted only where there is none (`worked_jobs` reads words with ample memory). The grammar is this
+//! project's own; a program's argument strings are those of the System V ABI.
 #![tactic(auto)]
 
 mod file_name;
@@ -31,6 +31,3 @@ pub use file_name::FileName;
 pub use job::{Job, LaunchJob, NamedProgram, RestartJob, RingJob};
 pub use reader::{read_words, word_laws};
 pub use word_fault::WordFault;
-
-#[cfg(test)]
-mod tests;

@@ -3,7 +3,7 @@ ghost use Rattle.job_words.specs.Options.{name_of, least_of, greatest_of, has_op
 ghost use Rattle.job_words.specs.Reading.{place_of};
 
 /// The forms of a command line that have options.
-#[derive(Clone, Copy, Debug, PartialEq, Eq)]
+#[derive(Clone, Copy)]
 pub(crate) enum Form {
     Launch,
     Restart,
@@ -11,7 +11,7 @@ pub(crate) enum Form {
 }
 
 /// The options whose value is a number.
-#[derive(Clone, Copy, Debug, PartialEq, Eq)]
+#[derive(Clone, Copy)]
 pub(crate) enum OptionKey {
     Nodes,
     Workers,

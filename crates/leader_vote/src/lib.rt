@@ -17,8 +17,6 @@
 
 mod election;
 mod laws;
-#[cfg(test)]
-mod tests;
 
 pub use election::{leader, vote};
 pub use laws::leader_laws;

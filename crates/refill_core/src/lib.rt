@@ -29,6 +29,3 @@ mod stepping;
 pub use laws::refill_laws;
 pub use refill::Refill;
 pub use wire_net::{AgentEnd, CutRoom, DirBytes, DrainedNet, Stepped};
-
-#[cfg(test)]
-mod tests;

@@ -24,6 +24,3 @@ pub use cell::TurnCell;
 pub use pass::Pass;
 pub use turned::{Act, Turned};
 pub use view::{Turn, View};
-
-#[cfg(test)]
-mod tests;

@@ -14,6 +14,5 @@ pub mod ListsOn
 pub mod LiveAgents
 pub mod LiveChannels
 pub mod OneCall
-pub mod OneChannel
 pub mod OneDirection
 pub mod Pieces

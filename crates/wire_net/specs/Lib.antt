@@ -1,5 +1,4 @@
 pub mod AgentSteps
-pub mod Alone
 pub mod Changes
 pub mod Channels
 pub mod CutRooms

@@ -43,6 +43,3 @@ pub use net::Net;
 pub use net_fault::NetFault;
 pub use place::Place;
 pub use room::Room;
-
-#[cfg(test)]
-mod tests;

@@ -1,5 +1,0 @@
-use Rattle.drain_core.specs.Drains.{Fits}
-use Rattle.drain_core.proofs.tests.go_on.Given as goal
-
-abbrev pub invariant-loop-round : goal.invariant-loop-round
-invariant-loop-round l = Fits l.net.channels l.drain

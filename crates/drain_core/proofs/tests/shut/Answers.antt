@@ -1,8 +1,0 @@
-use Rattle.std.proofs.Common.{ap}
-use Rattle.wire_net.specs.Directions.{after_end}
-use Rattle.drain_core.specs.declared.tests.TheConstants.{CONN}
-use Rattle.wire_net.proofs.OneChannel.{alone_kept}
-use Rattle.drain_core.proofs.tests.shut.Goals as goal
-
-pub returns : goal.returns
-returns c = alone_kept CONN c.args.net.now.channels c.end.new.self.channels c.args.d after_end (ap (λ t. t.channels) c.end.ensures) c.requires.alone

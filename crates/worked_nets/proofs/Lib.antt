@@ -1,0 +1,2 @@
+mod OneChannel
+mod Rounds
