@@ -5,8 +5,8 @@ use set_disk::MemFolder;
 use std::alloc::{AllocError, Global};
 use worked_guests::fault::CaseFault;
 
-/// What a case is run on: what each call is given, the folder with the calls made there so far, what the last of them
-/// left, and a chain of calls beside the undisturbed one.
+/// What a case is run on: what each call is given, the folder with the calls made there so far,
+/// what the last of them left, and a chain of calls beside the undisturbed one.
 #[derive(Drop)]
 pub struct Bench {
     alloc: Global,

@@ -2,8 +2,8 @@ use crate::outcome::Outcome;
 use std::alloc::{AllocError, Global};
 use sys_abi::Record;
 
-/// What a chain of runs keeps, a launch and restarts behind one another: the records of work up to the last set of each,
-/// and the bytes on the console up to there.
+/// What a chain of runs keeps, a launch and restarts behind one another: the records of work up to
+/// the last set of each, and the bytes on the console up to there.
 #[derive(Drop)]
 pub struct Chain {
     work: Vec<Record>,
@@ -25,7 +25,8 @@ impl Chain {
         }
     }
 
-    /// Takes what a run did up to its last set. Each call behind that is taken to have written one byte.
+    /// Takes what a run did up to its last set. Each call behind that is taken to have written one
+    /// byte.
     pub fn take_part(&mut self, outcome: &Outcome) -> Result<Kept, AllocError> {
         let (kept, lost) = split(outcome.records());
         self.take_work(kept)?;

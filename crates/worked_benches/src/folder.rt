@@ -8,8 +8,8 @@ use worked_guests::numbers::{Numbers, byte, long, unsigned};
 /// How many bytes of a file are printed.
 const MOST_SHOWN: usize = 64;
 
-/// The folder that a crash right after a call of this number may leave, by one of three patterns: 0 without what no sync
-/// has made sure, 1 with all of it, 2 with other bytes in its place.
+/// The folder that a crash right after a call of this number may leave, by one of three patterns: 0
+/// without what no sync has made sure, 1 with all of it, 2 with other bytes in its place.
 pub fn after_crash(
     alloc: Global,
     disk: &MemFolder,
@@ -30,7 +30,8 @@ pub fn copied(alloc: Global, disk: &MemFolder) -> Result<MemFolder, CaseFault> {
     }
 }
 
-/// Does a file harm: cuts it to so many bytes, or writes a byte or a number of four bytes at a place.
+/// Does a file harm: cuts it to so many bytes, or writes a byte or a number of four bytes at a
+/// place.
 pub fn harm(disk: &mut MemFolder, numbers: &Numbers, words: &[String]) -> Result<(), CaseFault> {
     let [slot, index, how, rest @ ..] = words else {
         return Err(CaseFault::Unclear);

@@ -1,8 +1,9 @@
-//! What cases of worked runs are run on: inputs, sinks and a folder in memory, and how what the top call leaves is printed.
+//! What cases of worked runs are run on: inputs, sinks and a folder in memory, and how what the top
+//! call leaves is printed.
 //!
-//! A `Bench` makes calls of the top in its folder, `sweeps` makes many of them, with faults and crashes, `Chain` joins what
-//! a launch and its restarts did, and `printing` prints what a call left. Nothing is proved here but that it is safe and
-//! ends.
+//! A `Bench` makes calls of the top in its folder, `sweeps` makes many of them, with faults and
+//! crashes, `Chain` joins what a launch and its restarts did, and `printing` prints what a call
+//! left. Nothing is proved here but that it is safe and ends.
 #![tactic(auto)]
 
 pub mod bench;

@@ -5,8 +5,8 @@ use std::alloc::{AllocError, Global};
 use std::collections::BTreeMap;
 use worked_guests::fault::CaseFault;
 
-/// What each call of a case is given: the files among its inputs, and which calls of the inputs, the console and the log
-/// are to fail.
+/// What each call of a case is given: the files among its inputs, and which calls of the inputs,
+/// the console and the log are to fail.
 #[derive(Drop)]
 pub struct Setting {
     alloc: Global,

@@ -11,8 +11,8 @@ use worked_guests::fault::CaseFault;
 use worked_guests::numbers::unsigned;
 use worked_guests::words::owned;
 
-/// Makes a call once for each call of the folder that it makes, with that one failing, behind the earlier calls of the
-/// case.
+/// Makes a call once for each call of the folder that it makes, with that one failing, behind the
+/// earlier calls of the case.
 pub fn with_faults(
     alloc: Global,
     bench: &Bench,
@@ -45,7 +45,8 @@ fn failing(
     bench.setting.call(words, &mut disk)
 }
 
-/// Makes a call in each folder that a crash leaves right after a call of the folder, by each pattern.
+/// Makes a call in each folder that a crash leaves right after a call of the folder, by each
+/// pattern.
 pub fn with_crashes(
     alloc: Global,
     bench: &Bench,
@@ -76,8 +77,8 @@ fn with_pattern(
     Ok(())
 }
 
-/// Launches a program that is cut off right after a set, restarts it, and compares both with the undisturbed launch, for
-/// each of these numbers of records of work before the set.
+/// Launches a program that is cut off right after a set, restarts it, and compares both with the
+/// undisturbed launch, for each of these numbers of records of work before the set.
 pub fn in_halves(
     alloc: Global,
     bench: &mut Bench,
@@ -112,7 +113,8 @@ fn in_two(
     Ok(())
 }
 
-/// The words of a launch that ends right after the set which it makes after so many records of work.
+/// The words of a launch that ends right after the set which it makes after so many records of
+/// work.
 fn cut_off(alloc: Global, program: &str, place: &str) -> Result<Vec<String>, CaseFault> {
     let room = unsigned(place)?.saturating_add(2);
     let room = format!(in alloc; "{room}")?;

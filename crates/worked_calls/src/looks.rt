@@ -90,7 +90,8 @@ fn put_same(bench: &Bench, name: &str, other: &str, text: &mut String) -> Result
     Ok(())
 }
 
-/// Replays the last call's trace from the start of a program: the whole, from one record on to another, or without one.
+/// Replays the last call's trace from the start of a program: the whole, from one record on to
+/// another, or without one.
 fn replay_part(
     alloc: Global,
     bench: &Bench,

@@ -12,8 +12,8 @@ use worked_guests::guest::{Guest, Guests};
 use worked_guests::numbers::Numbers;
 use worked_guests::words::words_of;
 
-/// What the lines so far have said: the names of numbers, the guests, the name and the lines of the guest that is being
-/// told, the case that is being played, and what its calls show.
+/// What the lines so far have said: the names of numbers, the guests, the name and the lines of the
+/// guest that is being told, the case that is being played, and what its calls show.
 #[derive(Drop)]
 pub struct Player {
     alloc: Global,

@@ -11,8 +11,8 @@ use views::list_of::ListOf;
 use views::number_map::NumberMap;
 use worked_guests::fault::CaseFault;
 
-/// The end of the stack of a program with the name `hello.elf`: the count of arguments, where the name stands, words of
-/// zeros, and the name.
+/// The end of the stack of a program with the name `hello.elf`: the count of arguments, where the
+/// name stands, words of zeros, and the name.
 const STACK_END: [u8; 48] = [
     1, 0, 0, 0, 0xF6, 0xFF, 0xFF, 0x7F, 0, 0, 0, 0, 0, 0, 0, 0, 0, 0, 0, 0, 0, 0, 0, 0, 0, 0, 0, 0,
     0, 0, 0, 0, 0, 0, 0, 0, 0, 0, b'h', b'e', b'l', b'l', b'o', b'.', b'e', b'l', b'f', 0,
@@ -103,7 +103,8 @@ fn start_of(alloc: Global, file: &[u8]) -> Result<Box<Plain>, AllocError> {
     Ok(plain)
 }
 
-/// Prints what a replay of these records comes to, from the start of a program with the name `hello.elf`.
+/// Prints what a replay of these records comes to, from the start of a program with the name
+/// `hello.elf`.
 pub fn put_replay(
     alloc: Global,
     text: &mut String,

@@ -3,7 +3,8 @@ use crate::mnemonics::{MNEMONICS, Operands, REGISTERS};
 use crate::numbers::Numbers;
 use rv_isa::{Insn, Op, encode, is_valid};
 
-/// The word of the instruction that these words spell: a mnemonic, and operands with or without commas between them.
+/// The word of the instruction that these words spell: a mnemonic, and operands with or without
+/// commas between them.
 pub fn assembled(numbers: &Numbers, words: &[String]) -> Result<u32, CaseFault> {
     let [mnemonic, operands @ ..] = words else {
         return Err(CaseFault::Unclear);

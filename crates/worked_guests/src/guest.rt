@@ -7,7 +7,8 @@ use std::collections::BTreeMap;
 /// The guests by their names.
 pub type Guests = BTreeMap<String, Guest>;
 
-/// The headers of a file that is loaded whole at 0x10000, readable and executable, with its two sizes left out.
+/// The headers of a file that is loaded whole at 0x10000, readable and executable, with its two
+/// sizes left out.
 const HEADERS: [u8; 84] = [
     0x7F, 0x45, 0x4C, 0x46, 1, 1, 1, 0, 0, 0, 0, 0, 0, 0, 0, 0, 2, 0, 0xF3, 0, 1, 0, 0, 0, 0x54, 0,
     1, 0, 0x34, 0, 0, 0, 0, 0, 0, 0, 0, 0, 0, 0, 0x34, 0, 0x20, 0, 1, 0, 0, 0, 0, 0, 0, 0, 1, 0, 0,

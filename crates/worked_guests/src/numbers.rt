@@ -22,8 +22,8 @@ impl Numbers {
         Ok(())
     }
 
-    /// The number that a word stands for, modulo 2^32: digits, hexadecimal ones behind `0x`, with or without a `-`, or a
-    /// name, with or without digits behind a `+`.
+    /// The number that a word stands for, modulo 2^32: digits, hexadecimal ones behind `0x`, with
+    /// or without a `-`, or a name, with or without digits behind a `+`.
     pub fn read(&self, word: &str) -> Result<u32, CaseFault> {
         if let Some(digits) = word.strip_prefix('-') {
             return Ok(0_u32.wrapping_sub(unsigned(digits)?));

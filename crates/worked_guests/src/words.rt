@@ -1,8 +1,9 @@
 use std::alloc::{AllocError, Global};
 use std::mem;
 
-/// The words of a line, without the comment behind a `#`. Quotes keep what is between them together; in them `\n` is a
-/// newline, `\0` a zero byte, and any other character behind a backslash stands for itself.
+/// The words of a line, without the comment behind a `#`. Quotes keep what is between them
+/// together; in them `\n` is a newline, `\0` a zero byte, and any other character behind a
+/// backslash stands for itself.
 pub fn words_of(alloc: Global, line: &str) -> Result<Vec<String>, AllocError> {
     let mut reader = WordReader {
         alloc,
