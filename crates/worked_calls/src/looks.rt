@@ -5,7 +5,7 @@ use std::fmt::Write;
 use sys_abi::Record;
 use worked_benches::bench::Bench;
 use worked_benches::folder::{copied, file_name, harm, put_file, put_sets};
-use worked_benches::printing::{ALL, put_answer, put_outcome};
+use worked_benches::printing::{ALL, put_answer, put_outcome, put_stream};
 use worked_guests::fault::CaseFault;
 use worked_guests::guest::{Guests, guest_of};
 use worked_guests::numbers::{Numbers, unsigned};
@@ -58,7 +58,8 @@ fn put_calls(text: &mut String, bench: &Bench) -> Result<(), CaseFault> {
     Ok(())
 }
 
-/// Prints whether the last call wrote the words that the guest's steps are to note.
+/// Prints whether the last call wrote the words that the guest's steps are to note, and if not what
+/// it wrote.
 fn put_notes(
     bench: &Bench,
     guests: &Guests,
@@ -66,10 +67,15 @@ fn put_notes(
     text: &mut String,
 ) -> Result<(), CaseFault> {
     let notes = guest_of(guests, guest)?.notes.as_slice();
-    let count = notes.len();
-    let holds = are_written(notes, bench.outcome()?.console());
+    let console = bench.outcome()?.console();
+    let holds = are_written(notes, console);
     put_answer(text, "noted as listed", holds)?;
-    writeln!(text, "  words {count}")?;
+    if holds {
+        let count = notes.len();
+        writeln!(text, "  words {count}")?;
+    } else {
+        put_stream(text, "console", console)?;
+    }
     Ok(())
 }
 
