@@ -1,0 +1,67 @@
+use dmtcp_top::{Status, run_words};
+use edge_io::{MemInputs, MemSink};
+use set_disk::MemFolder;
+use std::alloc::Global;
+use sys_abi::Record;
+use trace_log::Trace;
+
+/// The inputs and the sinks of a call.
+#[derive(Drop)]
+pub struct Streams {
+    pub inputs: MemInputs,
+    pub console: MemSink,
+    pub log: MemSink,
+}
+
+/// What a call left.
+#[derive(Drop)]
+pub struct Outcome {
+    pub status: Status,
+    pub trace: Trace,
+    pub streams: Box<Streams>,
+}
+
+impl Outcome {
+    /// The records of the trace.
+    pub fn records(&self) -> &[Record] {
+        self.trace.as_slice()
+    }
+
+    /// What the console took.
+    pub fn console(&self) -> &[u8] {
+        self.streams.console.bytes()
+    }
+
+    /// What the log took.
+    pub fn log(&self) -> &[u8] {
+        self.streams.log.bytes()
+    }
+
+    /// Whether the other call left the same.
+    pub fn is_like(&self, other: &Outcome) -> bool {
+        self.status == other.status
+            && self.console() == other.console()
+            && self.log() == other.log()
+            && self.records() == other.records()
+    }
+}
+
+/// Makes the top call.
+pub fn called(
+    alloc: Global,
+    words: &[String],
+    streams: &mut Streams,
+    disk: &mut MemFolder,
+) -> (Status, Trace) {
+    let mut trace = Trace::new(alloc);
+    let status = run_words(
+        alloc,
+        words,
+        &mut streams.inputs,
+        &mut streams.console,
+        &mut streams.log,
+        disk,
+        &mut trace,
+    );
+    (status, trace)
+}

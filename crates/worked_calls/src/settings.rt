@@ -1,0 +1,108 @@
+//! Directives that prepare a call and show nothing.
+use set_disk::MemFolder;
+use std::alloc::Global;
+use worked_benches::bench::Bench;
+use worked_benches::folder::after_crash;
+use worked_guests::fault::CaseFault;
+use worked_guests::guest::{Guests, guest_of};
+use worked_guests::numbers::{Numbers, byte, long, unsigned};
+use worked_guests::words::duplicate;
+
+/// Carries out a directive that prepares a call, and answers whether it is one.
+pub fn prepare(
+    alloc: Global,
+    bench: &mut Bench,
+    numbers: &Numbers,
+    guests: &Guests,
+    directive: &str,
+    words: &[String],
+) -> Result<bool, CaseFault> {
+    match (directive, words) {
+        ("file", [name, guest]) => put_program(
+            alloc,
+            bench,
+            guests,
+            name.as_str(),
+            guest.as_str(),
+        )?,
+        ("raw", [name, guest]) => put_raw(alloc, bench, guests, name.as_str(), guest.as_str())?,
+        ("poke", [name, place, value]) => {
+            let value = byte(numbers.read(value.as_str())?)?;
+            let place = unsigned(place.as_str())? as usize;
+            bench.setting.poke(name.as_str(), place, value)?;
+        }
+        ("cut", [name, length]) => {
+            let length = unsigned(length.as_str())? as usize;
+            bench.setting.cut(name.as_str(), length)?;
+        }
+        ("append", [name, other, start]) => {
+            append(alloc, bench, name.as_str(), other.as_str(), start.as_str())?;
+        }
+        ("fails", []) => bench.setting.fail_nowhere(),
+        ("fails", [stream, call]) => bench.setting.fail(stream.as_str(), long(call.as_str())?)?,
+        ("folder", fails) => set_folder(alloc, bench, fails)?,
+        ("crash", [back, pattern]) => crash(alloc, bench, back.as_str(), pattern.as_str())?,
+        ("given", call) => bench.run(duplicate(alloc, call)?)?,
+        _ => return Ok(false),
+    }
+    Ok(true)
+}
+
+fn put_program(
+    alloc: Global,
+    bench: &mut Bench,
+    guests: &Guests,
+    name: &str,
+    guest: &str,
+) -> Result<(), CaseFault> {
+    let file = guest_of(guests, guest)?.program(alloc)?;
+    bench.setting.put_file(name, file)?;
+    Ok(())
+}
+
+fn put_raw(
+    alloc: Global,
+    bench: &mut Bench,
+    guests: &Guests,
+    name: &str,
+    guest: &str,
+) -> Result<(), CaseFault> {
+    let file = Vec::from_slice(alloc, guest_of(guests, guest)?.bytes.as_slice())?;
+    bench.setting.put_file(name, file)?;
+    Ok(())
+}
+
+/// Puts what another file has from a place on behind a file.
+fn append(
+    alloc: Global,
+    bench: &mut Bench,
+    name: &str,
+    other: &str,
+    start: &str,
+) -> Result<(), CaseFault> {
+    let start = unsigned(start)? as usize;
+    let Some(rest) = bench.setting.file(other)?.get(start..) else {
+        return Err(CaseFault::Unclear);
+    };
+    let rest = Vec::from_slice(alloc, rest)?;
+    bench.setting.append(name, rest.as_slice())
+}
+
+/// Begins with an empty folder, whose calls of these numbers fail.
+fn set_folder(alloc: Global, bench: &mut Bench, fails: &[String]) -> Result<(), CaseFault> {
+    let mut calls = Vec::new(alloc);
+    for fail in fails {
+        calls.push(long(fail.as_str())?)?;
+    }
+    bench.set_folder(MemFolder::new(alloc, calls.as_slice())?);
+    Ok(())
+}
+
+/// Goes on with what a crash leaves right after the call that is so many before the folder's last.
+fn crash(alloc: Global, bench: &mut Bench, back: &str, pattern: &str) -> Result<(), CaseFault> {
+    let call = bench.disk.calls().saturating_sub(long(back)?);
+    let pattern = byte(unsigned(pattern)?)?;
+    let left = after_crash(alloc, &bench.disk, call, pattern)?;
+    bench.set_folder(left);
+    Ok(())
+}
