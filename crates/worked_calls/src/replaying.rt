@@ -1,8 +1,7 @@
 //! The trace of a call, replayed by the plain machine from a start that is made here by hand.
-use plain_machine::{
-    FIRST_PID, Frame, Plain, PlainKernel, Regs, ReplayFault, SignalAction, ThreadPart, UserPart,
-    replay,
-};
+use plain_machine::{FIRST_PID, Plain, PlainKernel};
+use plain_process::{Frame, Regs, SignalAction, ThreadPart, UserPart};
+use plain_replay::{ReplayFault, replay};
 use std::alloc::{AllocError, Global};
 use std::fmt::Write;
 use sys_abi::page::PAGE_SIZE;
