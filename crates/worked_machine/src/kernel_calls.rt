@@ -27,7 +27,7 @@ struct Said {
     console: ListOf<u8>,
 }
 
-fn said(served: Served) -> Result<Said, Fail> {
+fn shown_by(served: Served) -> Result<Said, Fail> {
     match served {
         Served::Done {
             kernel: _,
@@ -51,7 +51,7 @@ fn write(alloc: Global, fd: u32) -> Result<Said, Fail> {
         buffer: 0,
         count: 6,
     };
-    said(serve_slowly(alloc, &kernel, FIRST, THREAD, &call, b"hello\n")?)
+    shown_by(serve_slowly(alloc, &kernel, FIRST, THREAD, &call, b"hello\n")?)
 }
 
 #[test]
