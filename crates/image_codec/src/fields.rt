@@ -8,7 +8,7 @@ ghost use Rattle.image_codec.specs.Reading.{Gives, read};
 use std::alloc::AllocError;
 
 /// Why a value was not read.
-#[derive(Clone, Copy, Debug, PartialEq, Eq)]
+#[derive(Clone, Copy)]
 pub enum Fault {
     /// A field is not allowed: so many bytes are left from it on, and none where the bytes end too early.
     Left(usize),

@@ -47,10 +47,3 @@ pub use shared::{
 pub use shared_reader::read_shared;
 pub use shared_writer::write_shared;
 pub use thread_image::ThreadImage;
-
-#[cfg(test)]
-mod tests;
-#[cfg(test)]
-mod tests_of_shared;
-#[cfg(test)]
-mod tests_of_threads;

@@ -12,6 +12,3 @@
 pub mod decode;
 
 pub use decode::{Decoded, decode_set};
-
-#[cfg(test)]
-mod tests;

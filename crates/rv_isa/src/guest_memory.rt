@@ -3,7 +3,7 @@ ghost use Rattle.plain_process.specs.Memory.{Memory, load, store};
 ghost use Rattle.rv_isa.specs.Accesses.{IsAccessSize, IsLoaded, IsStored};
 
 /// Why an access was not made.
-#[derive(Clone, Copy, Debug, PartialEq, Eq)]
+#[derive(Clone, Copy)]
 pub enum AccessFault {
     /// A page of it is missing or lacks the right.
     Fault,

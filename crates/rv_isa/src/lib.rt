@@ -30,6 +30,3 @@ pub use executor::exec;
 pub use guest_memory::{AccessFault, GuestMemory};
 pub use outcome::Outcome;
 pub use plain_process::{Insn, Op, Regs};
-
-#[cfg(test)]
-mod tests;

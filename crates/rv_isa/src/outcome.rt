@@ -1,7 +1,7 @@
 use sys_abi::Signal;
 
 /// What one instruction came to.
-#[derive(Clone, Copy, Debug, PartialEq, Eq)]
+#[derive(Clone, Copy)]
 pub enum Outcome {
     /// It is done, and the program counter stands at the next one.
     Next,

@@ -35,6 +35,3 @@ pub use file_name::FileName;
 pub use folder::Folder;
 pub use host_folder::HostFolder;
 pub use mem_folder::MemFolder;
-
-#[cfg(test)]
-mod tests;

@@ -6,7 +6,7 @@ use sys_abi::{Cause, ConnId, Dir, Fd, Kind, Record, Signal, Tid, VPid};
 
 /// The fields of a record in a trace's file, in their order there. Fields that a kind of record
 /// doesn't use are 0.
-#[derive(Clone, Copy, Debug, PartialEq, Eq)]
+#[derive(Clone, Copy, PartialEq, Eq)]
 pub struct Fields {
     pub kind: u8,
     pub x: u8,

@@ -21,6 +21,3 @@ pub mod trace;
 pub use log_lines::{Progress, log_text};
 pub use requests::{Schedule, Tally, request_laws, request_steps};
 pub use trace::{Trace, TraceFault};
-
-#[cfg(test)]
-mod tests;

@@ -1,11 +1,11 @@
 ghost use Rattle.std.specs.Prelude.{⊤};
 ghost use Rattle.std.specs.FinMap as map;
 
-use crate::{AccessFault, GuestMemory};
+use rv_isa::{AccessFault, GuestMemory};
 
-/// The first four bytes of a page that may be read and written. It is short of memory for every access of that page
-/// but those of its first one, two or four bytes, and no other page is there.
-#[derive(Drop)]
+/// The first four bytes of a page that may be read and written. It is short of memory for every access of
+/// that page but those of its first one, two or four bytes, and no other page is there.
+#[derive(Clone, Copy)]
 pub struct FourBytes {
     pub bytes: [u8; 4],
 }

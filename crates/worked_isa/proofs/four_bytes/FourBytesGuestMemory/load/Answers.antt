@@ -1,6 +1,6 @@
 use Rattle.std.proofs.Common.{arith}
-use Rattle.rv_isa.proofs.ShortPage.{load-byte_at, load-half_at, load-word_at, load_past}
-use Rattle.rv_isa.proofs.tests.four_bytes.FourBytesGuestMemory.load.Goals as goal
+use Rattle.worked_isa.proofs.ShortPage.{load-byte_at, load-half_at, load-word_at, load_past}
+use Rattle.worked_isa.proofs.four_bytes.FourBytesGuestMemory.load.Goals as goal
 
 pub returns-then-address-ge4096-clause-answer : goal.returns-then-address-ge4096-clause-answer
 returns-then-address-ge4096-clause-answer c = load_past c.args.self.now.bytes c.args.address c.args.size (omega arith) (omega arith)

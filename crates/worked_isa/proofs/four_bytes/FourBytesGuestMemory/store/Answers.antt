@@ -1,7 +1,7 @@
 use Rattle.std.proofs.Common.{◌≡◌, ◌∙◌, arith}
-use Rattle.rv_isa.proofs.ShortPage.{memory_of, store-byte, store-half, store-word, store_past}
+use Rattle.worked_isa.proofs.ShortPage.{memory_of, store-byte, store-half, store-word, store_past}
 use Rattle.plain_process.specs.Memory.{store}
-use Rattle.rv_isa.proofs.tests.four_bytes.FourBytesGuestMemory.store.Goals as goal
+use Rattle.worked_isa.proofs.four_bytes.FourBytesGuestMemory.store.Goals as goal
 
 pub returns-then-address-ge4096-clause-answer : goal.returns-then-address-ge4096-clause-answer
 returns-then-address-ge4096-clause-answer c = store_past c.args.self.now.bytes c.args.address c.args.size c.args.value (omega arith) (omega arith)

@@ -1,0 +1,48 @@
+//! Reads cases of instructions, one a line, and writes each line with what the processor makes of it.
+//!
+//! `word W` tells the row of a word, its operands and the word of that instruction, `immediate W` its
+//! immediate, `row of W` with four operands the word of that row's instruction, `rows` how many words of
+//! the three opcode fields have a row, and `do W` with a1, a2 and the first bytes of memory what the word
+//! comes to and what it changes. Other lines are remarks.
+//!
+//! The expected output holds tables that were worked out elsewhere: they hold the table of the contracts
+//! to the manual.
+#![tactic(auto)]
+
+mod effects;
+mod four_bytes;
+mod numbers;
+mod words;
+
+use crate::effects::print_effect;
+use crate::words::{print_immediate, print_row_count, print_spelling, print_word};
+use std::io;
+
+fn print_answer(rt: &impl Print, line: &str) -> io::Result<()> {
+    if let Some(word) = line.strip_prefix("word ") {
+        return print_word(rt, word);
+    }
+    if let Some(word) = line.strip_prefix("immediate ") {
+        return print_immediate(rt, word);
+    }
+    if let Some(instruction) = line.strip_prefix("row of ") {
+        return print_spelling(rt, instruction);
+    }
+    if let Some(case) = line.strip_prefix("do ") {
+        return print_effect(rt, case);
+    }
+    if line == "rows" {
+        return print_row_count(rt);
+    }
+    Ok(())
+}
+
+fn main(rt: HostRuntime) -> io::Result<()> {
+    for line in rt.lines(rt.alloc()) {
+        let line = line?;
+        print!(rt; "{line}")?;
+        print_answer(&rt, line.as_str())?;
+        println!(rt)?;
+    }
+    Ok(())
+}
