@@ -26,7 +26,9 @@ mod folder;
 mod host_files;
 mod host_folder;
 mod host_names;
+mod host_syncs;
 mod mem_folder;
+mod owed;
 mod replay;
 mod request;
 
