@@ -176,6 +176,8 @@ off_t lseek(int file, off_t at, int whence)
 
 int statx(int file, const char *path, int flags, unsigned mask, struct statx *told)
 {
+    if (is_in_folder(path) && fails("stat", -1))
+        return failed(EIO);
     return UNLESS_REFUSED("stat", file, EIO, syscall(SYS_statx, file, path, flags, mask, told));
 }
 
@@ -197,6 +199,11 @@ int fsync(int file)
 int fdatasync(int file)
 {
     return UNLESS_REFUSED("sync", file, EIO, syscall(SYS_fdatasync, file));
+}
+
+int flock(int file, int how)
+{
+    return UNLESS_REFUSED("lock", file, ENOLCK, syscall(SYS_flock, file, how));
 }
 
 ssize_t getdents64(int file, void *entries, size_t count)

@@ -31,7 +31,7 @@ from dataclasses import replace
 from refusals import COMPLETE, TRIALS, check, check_restart, check_whole, run_usual, sweep, tell, try_out
 
 REFUSED = re.compile(r"checkpoint (\d+) refused: disk fault")
-KINDS = {"mkdir", "open", "list", "read", "seek", "stat", "write", "cut", "sync", "close"}
+KINDS = {"mkdir", "open", "lock", "list", "read", "seek", "stat", "write", "cut", "sync", "close"}
 NOTHING_NEEDED = {
     "close": "nothing is taken for durable by it: each file is synced later, through a descriptor of that sync's own",
 }

@@ -1,6 +1,7 @@
 pub mod Passing
 pub mod Causes
 pub mod ManifestFronts
+pub mod LongManifests
 pub mod LastSets
 pub mod SlotSteps
 pub mod SlotFiles

@@ -1,7 +1,8 @@
 -- What the front of a manifest tells.
 --     info_open, info_shut, info_short      the set of a slot whose gate is 1, whose gate is another byte, whose manifest is too short
 --     spelled_gate, spelled_generation, spelled_count, spelled_length      the fields of a spelled manifest
-use Rattle.std.proofs.Common.{◌≡◌, ◌≢◌, ℕ, ◌+◌, ◌<◌, ◌≤◌, List, [], ◌∷◌, ◌++◌, length, take, drop, refl, sym, ap, ◌∙◌, arith, append_assoc, length-append, length-take}
+--     spelled_longest          it has no more bytes
+use Rattle.std.proofs.Common.{◌≡◌, ◌≢◌, ℕ, ◌+◌, ◌*◌, ◌<◌, ◌≤◌, List, [], ◌∷◌, ◌++◌, length, take, drop, refl, sym, ap, ◌∙◌, arith, append_assoc, length-append, length-take}
 use Rattle.std.specs.Prelude.{Bool, true, false, ◌&&◌, if◌then◌else◌, ◌==◌, nat_le, Option, Some, None, slice_index}
 use Rattle.std.specs.Int.{w32, w64, from_le_bytes}
 use Rattle.std.specs.List.{flat_map}
@@ -55,6 +56,14 @@ info_front slot manifest =
     let middle : take 8 (drop 8 (take 16 manifest)) ≡ take 8 (drop 8 manifest) = ap (take 8) (drop-take 8 8 manifest) ∙ take-take 8 8 (drop 8 manifest) (omega arith) in
     λ i. info_if slot (long i && (gate i == 1)) (middle i)
 
+lengths_size : (lengths : List ℕ) → length (flat_map (bytes_of n64) lengths) ≡ 8 * length lengths
+unfolding bytes_of
+lengths_size [] = refl
+lengths_size (size ∷ lengths) =
+    let more = lengths_size lengths in
+    let one : length (bytes_of n64 size) ≡ 8 = refl in
+    omega (arith, more, one, length-append (bytes_of n64 size) (flat_map (bytes_of n64) lengths))
+
 module _ (text : List ℕ) (m : Manifest) (spelled : SpellsManifest text m) where
   abbrev front : List ℕ
   front = bytes_of n8 COMPLETE ++ MANIFEST_MAGIC
@@ -89,6 +98,13 @@ module _ (text : List ℕ) (m : Manifest) (spelled : SpellsManifest text m) wher
       let whole = ap length text_parts in
       let a = front_length in let b = generation_length in let c = count_length in
       omega (arith, length-append front (bytes_of n64 m.generation ++ (bytes_of n32 (length m.lengths) ++ rest)), length-append (bytes_of n64 m.generation) (bytes_of n32 (length m.lengths) ++ rest), length-append (bytes_of n32 (length m.lengths)) rest)
+
+  pub spelled_longest : length text ≤ 1052
+  spelled_longest =
+      let whole = ap length text_parts in
+      let a = front_length in let b = generation_length in let c = count_length in let d = lengths_size m.lengths in
+      let most : length m.lengths ≤ 129 = grind (arith, nat_tests, spelled.keeps.count) in
+      omega (arith, most, length-append front (bytes_of n64 m.generation ++ (bytes_of n32 (length m.lengths) ++ rest)), length-append (bytes_of n64 m.generation) (bytes_of n32 (length m.lengths) ++ rest), length-append (bytes_of n32 (length m.lengths)) rest)
 
   behind_front : drop 8 text ≡ bytes_of n64 m.generation ++ (bytes_of n32 (length m.lengths) ++ rest)
   behind_front = ap (drop 8) text_parts ∙ drop_at front _ 8 front_length

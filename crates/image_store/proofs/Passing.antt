@@ -5,7 +5,7 @@
 --     told_then, told_before, told_still          the folder goes on to tell its content
 --     reads_then, reads_ok                        one change of what reads give after another
 --     settled_at, settled_same                    a settled folder
-use Rattle.std.proofs.Common.{◌≡◌, ◌⊎◌, ℕ, inl, inr, refl, sym, ap, subst, ◌∙◌, arith}
+use Rattle.std.proofs.Common.{◌≡◌, ℕ, inl, inr, refl, sym, ap, subst, ◌∙◌, arith}
 use Rattle.std.specs.Prelude.{Option, Some, None, option_map, is_some, IfSome, Result, Ok, Err, OnOk, OnErr}
 use Rattle.set_disk.specs.Files.{Files}
 use Rattle.set_disk.specs.Crash.{AfterStep, IsSettled, Only, Same}

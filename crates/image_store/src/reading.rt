@@ -19,6 +19,9 @@ use set_disk::{FileName, Folder};
 use std::alloc::Global;
 use views::list_of::ListOf;
 
+/// How many bytes the longest manifest has, that of 129 files.
+const LONGEST_MANIFEST: u64 = 1052;
+
 /// Reads so many bytes from the front of a file, or all that it has where it has fewer.
 pub fn read_front<F: Folder>(
     alloc: Global,
@@ -130,7 +133,7 @@ fn read_images<F: Folder>(
     Ok(ListOf::from_vec(images))
 }
 
-/// Reads the manifest of the slot.
+/// Reads the manifest of the slot. Of a file that is longer than any it reads the front.
 fn read_manifest_of<F: Folder>(
     alloc: Global,
     disk: &mut F,
@@ -145,8 +148,7 @@ fn read_manifest_of<F: Folder>(
     ensures cause { HasCause result StoreFault.DiskFault (F.faults disk.old) (F.faults disk.new) }
 {
     let name = FileName { slot, index: 0 };
-    let len = disk.len(name)?.unwrap_or(0);
-    let bytes = read_front(alloc, disk, name, len)?;
+    let bytes = read_front(alloc, disk, name, LONGEST_MANIFEST + 1)?;
     Ok(read_manifest(alloc, &bytes)?)
 }
 

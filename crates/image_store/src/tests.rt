@@ -112,8 +112,8 @@ fn each_call_of_the_folder_fails_once(rt: HostRuntime) -> Result<(), Fail> {
     let mut done = 0;
     let mut folder = MemFolder::new(alloc, &[])?;
     run(&rt, &mut folder, &sets, &mut done)?;
-    assert_eq!(&rt; (done, folder.calls()), (2, 35));
-    for call in 1..36 {
+    assert_eq!(&rt; (done, folder.calls()), (2, 34));
+    for call in 1..35 {
         let mut folder = MemFolder::new(alloc, &[call])?;
         let mut done = 0;
         let refused = run(&rt, &mut folder, &sets, &mut done);

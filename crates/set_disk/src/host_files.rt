@@ -3,11 +3,14 @@ ghost use Rattle.std.specs.Prelude.{◌≡◌, ◌≢◌, ◌≤◌, length, IfO
 ghost use Rattle.std.specs.IoError.{error_kind};
 
 use crate::disk_fault::DiskFault;
-use crate::host_names::is_used;
 use std::fs::{File, OpenFile, OpenOptions};
-use std::io::{ErrorKind, Read, Seek, SeekFrom, Write};
+use std::io::{Error, ErrorKind, Read, Seek, SeekFrom, Write};
+use std::os::unix::fs::OpenOptionsExt;
 use std::rt::Files;
 use std::{fs, io};
+
+/// The rights of a file that is made: its owner reads and writes it, and nobody else.
+const OWNERS_FILE: u32 = 0o600;
 
 /// The fault that an error of the host is.
 pub fn fault_of(error: io::Error) -> DiskFault
@@ -20,22 +23,36 @@ pub fn fault_of(error: io::Error) -> DiskFault
     }
 }
 
-/// The file, opened to be read, if it is there.
-fn open_file<R: Files>(rt: &R, path: &str) -> Result<Option<R::File>, DiskFault> {
-    match File::open(rt, path) {
-        Ok(file) => Ok(Some(file)),
+/// The length in bytes of the file, if it is there. A link, or what else is no file, is refused.
+fn find_file<R: Files>(rt: &R, path: &str) -> io::Result<Option<u64>> {
+    match fs::symlink_metadata(rt, path) {
+        Ok(found) if found.is_file() => Ok(Some(found.len())),
+        Ok(_) => Err(Error::new(ErrorKind::InvalidInput, "not a plain file")),
         Err(error) if error.kind() == ErrorKind::NotFound => Ok(None),
-        Err(error) => Err(fault_of(error)),
+        Err(error) => Err(error),
+    }
+}
+
+/// The file, opened so, if it is there.
+fn open_found<R: Files>(rt: &R, path: &str, options: &OpenOptions) -> io::Result<Option<R::File>> {
+    match find_file(rt, path)? {
+        Some(_) => Ok(Some(options.open(rt, path)?)),
+        None => Ok(None),
+    }
+}
+
+/// The file, opened to be read, if it is there.
+pub fn open_file<R: Files>(rt: &R, path: &str) -> io::Result<Option<R::File>> {
+    match find_file(rt, path)? {
+        Some(_) => Ok(Some(File::open(rt, path)?)),
+        None => Ok(None),
     }
 }
 
 /// The file's length in bytes, if it is there.
 pub fn length_of<R: Files>(rt: &R, path: &str) -> Result<Option<u64>, DiskFault> {
-    let Some(file) = open_file(rt, path)? else {
-        return Ok(None);
-    };
-    match file.metadata() {
-        Ok(metadata) => Ok(Some(metadata.len())),
+    match find_file(rt, path) {
+        Ok(len) => Ok(len),
         Err(error) => Err(fault_of(error)),
     }
 }
@@ -45,12 +62,13 @@ pub fn read_file<R: Files>(rt: &R, path: &str, at: u64, buf: &mut [u8]) -> Resul
     ensures fits { IfOk result (λ n. n ≤ length buf.old) }
     ensures memory { result ≡ Err DiskFault.Memory → buf.new ≡ buf.old }
 {
-    let Some(mut file) = open_file(rt, path)? else {
-        return Ok(0);
-    };
-    match read_from(&mut file, at, buf) {
-        Ok(count) => Ok(count),
-        Err(_) => Err(DiskFault::Failed),
+    match open_file(rt, path) {
+        Ok(Some(mut file)) => match read_from(&mut file, at, buf) {
+            Ok(count) => Ok(count),
+            Err(_) => Err(DiskFault::Failed),
+        },
+        Ok(None) => Ok(0),
+        Err(error) => Err(fault_of(error)),
     }
 }
 
@@ -69,11 +87,25 @@ fn read_from<F: Read + Seek>(file: &mut F, at: u64, buf: &mut [u8]) -> io::Resul
     Ok(count)
 }
 
-/// Writes at an offset, and makes the file if it is not there.
-pub fn write_file<R: Files>(rt: &R, path: &str, at: u64, bytes: &[u8]) -> Result<(), DiskFault> {
-    match OpenOptions::new().write(true).create(true).open(rt, path) {
+/// Writes at an offset, and makes the file if it is not there. Answers whether it was made.
+pub fn write_file<R: Files>(rt: &R, path: &str, at: u64, bytes: &[u8]) -> Result<bool, DiskFault> {
+    match open_found(rt, path, OpenOptions::new().write(true)) {
+        Ok(Some(mut file)) => match write_from(&mut file, at, bytes) {
+            Ok(()) => Ok(false),
+            Err(_) => Err(DiskFault::Failed),
+        },
+        Ok(None) => make_file(rt, path, at, bytes),
+        Err(error) => Err(fault_of(error)),
+    }
+}
+
+/// Makes a file for its owner alone, and writes it.
+fn make_file<R: Files>(rt: &R, path: &str, at: u64, bytes: &[u8]) -> Result<bool, DiskFault> {
+    let mut options = OpenOptions::new();
+    options.write(true).create_new(true).mode(OWNERS_FILE);
+    match options.open(rt, path) {
         Ok(mut file) => match write_from(&mut file, at, bytes) {
-            Ok(()) => Ok(()),
+            Ok(()) => Ok(true),
             Err(_) => Err(DiskFault::Failed),
         },
         Err(error) => Err(fault_of(error)),
@@ -87,12 +119,12 @@ fn write_from<F: Write + Seek>(file: &mut F, at: u64, bytes: &[u8]) -> io::Resul
 
 /// Keeps the first bytes of the file, if it is there.
 pub fn cut_file<R: Files>(rt: &R, path: &str, len: u64) -> Result<(), DiskFault> {
-    match OpenOptions::new().write(true).open(rt, path) {
-        Ok(file) => match shorten(&file, len) {
+    match open_found(rt, path, OpenOptions::new().write(true)) {
+        Ok(Some(file)) => match shorten(&file, len) {
             Ok(()) => Ok(()),
             Err(_) => Err(DiskFault::Failed),
         },
-        Err(error) if error.kind() == ErrorKind::NotFound => Ok(()),
+        Ok(None) => Ok(()),
         Err(error) => Err(fault_of(error)),
     }
 }
@@ -102,27 +134,4 @@ fn shorten<F: OpenFile>(file: &F, len: u64) -> io::Result<()> {
         file.set_len(len)?;
     }
     Ok(())
-}
-
-/// Syncs each file that the folder uses, the folder, and the one that it stands in.
-pub fn sync_folder<R: Files + AllocGlobal + Clone + Drop>(
-    rt: &R,
-    path: &str,
-) -> Result<(), DiskFault> {
-    match sync_all(rt, path) {
-        Ok(()) => Ok(()),
-        Err(error) => Err(fault_of(error)),
-    }
-}
-
-fn sync_all<R: Files + AllocGlobal + Clone + Drop>(rt: &R, path: &str) -> io::Result<()> {
-    for entry in fs::read_dir(rt, path)? {
-        let entry = entry?;
-        if is_used(rt.alloc(), entry.file_name())? {
-            File::open(rt, entry.path())?.sync_all()?;
-        }
-    }
-    File::open(rt, path)?.sync_all()?;
-    let parent = format!(in rt.alloc(); "{path}/..")?;
-    File::open(rt, parent.as_str())?.sync_all()
 }

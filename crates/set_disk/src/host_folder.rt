@@ -1,69 +1,110 @@
-ghost use Rattle.std.specs.Prelude.{◌≡◌, ◌≤◌, false, None, length, IfOk, ⊤, string_bytes};
+ghost use Rattle.std.specs.Prelude.{◌≡◌, ◌≤◌, None, length, IfOk, ⊤, string_bytes};
 ghost use Rattle.set_disk.specs.Faults.{HasCause};
 ghost use Rattle.set_disk.specs.HostNames.{host_path};
 ghost use Rattle.set_disk.specs.Untold.{AnyImage, AnySince, host_faults, one_moment};
+ghost use Rattle.set_disk.specs.declared.owed.Owed.TheVariants.{All};
 
 use crate::disk_fault::DiskFault;
 use crate::file_name::FileName;
 use crate::folder::Folder;
-use crate::host_files::{cut_file, fault_of, length_of, read_file, sync_folder, write_file};
+use crate::host_files::{cut_file, length_of, read_file, write_file};
 use crate::host_names::path_of;
+use crate::host_syncs::{sync_folder, take_folder};
+use crate::owed::Owed;
 use std::alloc::{AllocError, Global};
-use std::fs;
-use std::io::ErrorKind;
+use std::fs::File;
+use std::mem;
 use std::rt::Files;
 
 /// A folder of the host, with a file `s{slot}_{index}.img` for each file name. It tells no content.
 ///
-/// Its first call makes the folder where it is missing. Host files of other names are ignored.
+/// Its first sync or change makes the folder where it is missing, and takes it: as long as this value
+/// is there, a sync or change by another fails. Host files of other names are ignored.
 #[derive(Drop)]
 pub struct HostFolder<R> {
     rt: R,
     path: String,
-    is_made: bool,
+    /// The folder, opened and locked, once it was taken.
+    held: Option<File>,
+    owed: Owed,
     faults: u64,
 }
 
-impl<R: Files + AllocGlobal + Clone + Drop> HostFolder<R> {
+impl<R: Files<File = File> + AllocGlobal + Clone + Drop> HostFolder<R> {
     /// The folder at the path, without faults so far. No call of the host is made.
     pub fn new(rt: R, alloc: Global, path: &str) -> Result<Self, AllocError>
-        ensures rest { IfOk result (λ folder. (folder.rt ≡ rt) × ((folder.is_made ≡ false) × (host_faults folder ≡ 0))) }
+        ensures rest { IfOk result (λ folder. (folder.rt ≡ rt) × ((folder.held ≡ None) × ((folder.owed ≡ All) × (host_faults folder ≡ 0)))) }
         ensures place { IfOk result (λ folder. string_bytes folder.path ≡ path.now) }
     {
         Ok(HostFolder {
             rt,
             path: String::from_str(alloc, path)?,
-            is_made: false,
+            held: None,
+            owed: Owed::All,
             faults: 0,
         })
     }
 
-    /// The path of the file, once the folder is there.
-    fn path_of(&mut self, name: FileName) -> Result<String, DiskFault>
+    /// The path of the file.
+    fn path_of(&self, name: FileName) -> Result<String, DiskFault>
+        ensures { IfOk result (λ path. string_bytes path ≡ host_path (string_bytes self.now.path) name) }
+    {
+        Ok(path_of(self.rt.alloc(), self.path.as_str(), name)?)
+    }
+
+    /// The path of a file that is to be changed, once the folder is there. The next sync owes the file.
+    fn path_to_change(&mut self, name: FileName) -> Result<String, DiskFault>
         ensures path { IfOk result (λ path. string_bytes path ≡ host_path (string_bytes self.old.path) name) }
         ensures place { self.new.path ≡ self.old.path }
         ensures faults { self.new.faults ≡ self.old.faults }
     {
-        let path = path_of(self.rt.alloc(), self.path.as_str(), name)?;
-        self.make()?;
+        let path = self.path_of(name)?;
+        self.owed.add_file(name)?;
+        self.take()?;
         Ok(path)
     }
 
-    /// Makes the folder, at the first call.
-    fn make(&mut self) -> Result<(), DiskFault>
+    /// Makes the folder where it is missing, and takes it, at the first sync or change.
+    fn take(&mut self) -> Result<(), DiskFault>
         ensures place { self.new.path ≡ self.old.path }
         ensures faults { self.new.faults ≡ self.old.faults }
     {
-        if self.is_made {
-            return Ok(());
+        if self.held.is_none() {
+            self.held = Some(take_folder(&self.rt, self.path.as_str())?);
         }
-        match fs::create_dir(&self.rt, self.path.as_str()) {
-            Err(error) if error.kind() != ErrorKind::AlreadyExists => Err(fault_of(error)),
-            _ => {
-                self.is_made = true;
-                Ok(())
+        Ok(())
+    }
+
+    /// Makes durable what is owed. After a failure all is owed.
+    fn sync_owed(&mut self) -> Result<(), DiskFault>
+        ensures place { self.new.path ≡ self.old.path }
+        ensures faults { self.new.faults ≡ self.old.faults }
+    {
+        self.take()?;
+        let owed = mem::replace(&mut self.owed, Owed::All);
+        let Some(folder) = &self.held else {
+            return Err(DiskFault::Failed);
+        };
+        sync_folder(&self.rt, self.path.as_str(), folder, &owed)?;
+        self.owed = Owed::nothing(self.rt.alloc());
+        Ok(())
+    }
+
+    /// Counts the answer of a write, if it is a fault. The next sync owes the names where a file was made,
+    /// and all where the write failed.
+    fn count_write(&mut self, answer: Result<bool, DiskFault>) -> Result<(), DiskFault>
+        ensures place { self.new.path ≡ self.old.path }
+        ensures cause { HasCause result self.old.faults self.new.faults }
+    {
+        match self.count(answer) {
+            Ok(true) => self.owed.add_names(),
+            Ok(false) => {}
+            Err(fault) => {
+                self.owed = Owed::All;
+                return Err(fault);
             }
         }
+        Ok(())
     }
 
     /// Counts the answer, if it is a fault.
@@ -80,7 +121,7 @@ impl<R: Files + AllocGlobal + Clone + Drop> HostFolder<R> {
     }
 }
 
-impl<R: Files + AllocGlobal + Clone + Drop> Folder for HostFolder<R> {
+impl<R: Files<File = File> + AllocGlobal + Clone + Drop> Folder for HostFolder<R> {
     ghost reads = { λ _. None };
 
     ghost may_leave = { AnyImage };
@@ -118,15 +159,15 @@ impl<R: Files + AllocGlobal + Clone + Drop> Folder for HostFolder<R> {
     }
 
     fn write_at(&mut self, name: FileName, at: u64, bytes: &[u8]) -> Result<(), DiskFault> {
-        let answer = match self.path_of(name) {
+        let answer = match self.path_to_change(name) {
             Ok(path) => write_file(&self.rt, path.as_str(), at, bytes),
             Err(fault) => Err(fault),
         };
-        self.count(answer)
+        self.count_write(answer)
     }
 
     fn cut(&mut self, name: FileName, len: u64) -> Result<(), DiskFault> {
-        let answer = match self.path_of(name) {
+        let answer = match self.path_to_change(name) {
             Ok(path) => cut_file(&self.rt, path.as_str(), len),
             Err(fault) => Err(fault),
         };
@@ -134,10 +175,7 @@ impl<R: Files + AllocGlobal + Clone + Drop> Folder for HostFolder<R> {
     }
 
     fn sync(&mut self) -> Result<(), DiskFault> {
-        let answer = match self.make() {
-            Ok(()) => sync_folder(&self.rt, self.path.as_str()),
-            Err(fault) => Err(fault),
-        };
+        let answer = self.sync_owed();
         self.count(answer)
     }
 }

@@ -13,8 +13,8 @@
 //! crash images are among those that a crash may leave, and which path of the host a file's name
 //! has. Not proved: that the host's disk keeps this model. `HostFolder` tells no content, so no
 //! clause speaks of it; and a sync that follows a failed one settles all in the model, which a
-//! kernel does not promise. The calls are those of POSIX: `pread`, `pwrite`, `ftruncate`, `fstat`
-//! and `fsync`.
+//! kernel does not promise. The calls are those of POSIX: `lstat`, `open`, `lseek`, `read`, `write`,
+//! `ftruncate` and `fsync`; and `flock`, which keeps other runs out.
 #![tactic(auto)]
 
 mod call;
@@ -26,7 +26,9 @@ mod folder;
 mod host_files;
 mod host_folder;
 mod host_names;
+mod host_syncs;
 mod mem_folder;
+mod owed;
 mod replay;
 mod request;
 
