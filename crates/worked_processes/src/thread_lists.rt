@@ -6,7 +6,7 @@ use crate::process_texts::{
     RETURN_PAGE, put_default_actions, put_page, put_u32, put_u32s, with_three_threads,
 };
 use image_codec::{ProcImage, ReadFault, ThreadImage, read_process};
-use plain_machine::Waiter;
+use plain_process::Waiter;
 use std::alloc::{AllocError, Global};
 use std::process::Abort;
 use std::test::Fail;
