@@ -26,15 +26,15 @@ count_calls() {
         / p?write(64)?\(/ && path { writes += 1; written += $NF; unsynced[path] += $NF }
         / ftruncate\(/ && path { cuts += 1 }
         / f(data)?sync\(/ { calls += 1; synced += unsynced[path]; unsynced[path] = 0 }
-        / f(data)?sync\(/ && path == "dmtcp_set" { syncs += 1 }
+        / f(data)?sync\(/ && path == "dmtcp_set" { names += 1 }
         / write\(2</ && /"checkpoint [0-9]+ complete/ {
             for (file in unsynced) if (unsynced[file] > 0) fail("set " last + 1 " is complete, and not synced: " file)
-            now = sprintf("%d bytes in %d writes, %d cuts; %d bytes synced in %d syncs, by %d calls of fsync",
-                written, writes, cuts, synced, syncs, calls)
+            now = sprintf("%d bytes in %d writes, %d cuts; %d bytes synced by %d calls of fsync, %d of them of the folder",
+                written, writes, cuts, synced, calls, names)
             if (now != done) { tell(); first = last + 1 }
             done = now
             last += 1
-            written = writes = cuts = synced = syncs = calls = 0
+            written = writes = cuts = synced = names = calls = 0
         }
         END { if (!failed) tell() }
     ' calls

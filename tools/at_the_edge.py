@@ -1,9 +1,12 @@
 #!/usr/bin/env python3
-"""Tries the built program where a folder, a stream or the kernel does what it seldom does, a trial for each:
+"""Tries the built program where a folder, a stream or the kernel does what it seldom does, a trial for
+each:
 
 - a name in the folder of sets that is no text, which the program passes over;
-- the calls of fsync that a set takes: one for each file that was written since the last sync, and the gate once more;
-- a second run in a folder that a run has taken, which ends with `disk fault`, and one after a kill, which does not;
+- the calls of fsync that a set takes: one for each file that was written since the last sync, and the gate
+  once more;
+- a second run in a folder that a run has taken, which ends with `disk fault`, and one after a kill, which
+  does not;
 - a standard output that isn't ready, which is waited for;
 - a current folder that can't be listed, which is no reason to fail;
 - a manifest of 100 GB, of which no more is read than the longest has;
@@ -11,8 +14,9 @@
 
 Usage: tools/at_the_edge.py [DMTCP [TRIAL..]]
 
-DMTCP is a built program, else crates/dmtcp/out/dmtcp, which `cd crates/dmtcp && rt run -- --version` proves and builds.
-With a TRIAL, the name of a function below without its `try_`, only these are made. It wants a Linux, and `strace`.
+DMTCP is a built program, else crates/dmtcp/out/dmtcp, which `cd crates/dmtcp && rt run -- --version` proves
+and builds. With a TRIAL, the name of a function below without its `try_`, only these are made. It wants a
+Linux, and `strace`.
 """
 import contextlib
 import fcntl
@@ -55,12 +59,19 @@ class Folder:
 
     def run(self, words, before=(), **options):
         return subprocess.run(
-            [*before, self.program, *words.split()], cwd=self.path, stdin=subprocess.DEVNULL, capture_output=True, text=True,
-            check=False, timeout=120, **options,
+            [*before, self.program, *words.split()],
+            cwd=self.path,
+            stdin=subprocess.DEVNULL,
+            capture_output=True,
+            text=True,
+            check=False,
+            timeout=120,
+            **options,
         )
 
     def start(self, words, **options):
-        return subprocess.Popen([self.program, *words.split()], cwd=self.path, stdin=subprocess.DEVNULL, **options)
+        command = [self.program, *words.split()]
+        return subprocess.Popen(command, cwd=self.path, stdin=subprocess.DEVNULL, **options)
 
 
 def check_ran(ran, status, last, console=None):
@@ -108,11 +119,13 @@ def try_fsyncs_of_a_set(folder):
     files = len([name for name in os.listdir(folder.at("dmtcp_set")) if name.startswith("s0_")])
     wanted = 1 + files + 1
     check(len(sets) > 5, f"only {len(sets)} sets")
-    check(set(sets[2:]) == {wanted}, f"calls of fsync for each set of {files} files: {sets[2:]}, and not {wanted}")
+    later = sets[2:]
+    check(set(later) == {wanted}, f"calls of fsync for each set of {files} files: {later}, and not {wanted}")
 
 
 def try_a_second_run(folder):
-    first = folder.start("launch --every 1 0:count.elf", stdout=subprocess.DEVNULL, stderr=subprocess.PIPE, text=True)
+    streams = {"stdout": subprocess.DEVNULL, "stderr": subprocess.PIPE, "text": True}
+    first = folder.start("launch --every 1 0:count.elf", **streams)
     try:
         check("complete" in first.stderr.readline(), "the first run makes no set")
         for words in (LAUNCH, "restart --every 1"):
@@ -205,14 +218,16 @@ def try_links_are_not_followed(folder):
 
 
 def trials_named(names):
-    trials = {name.removeprefix("try_"): trial for name, trial in globals().items() if name.startswith("try_")}
+    here = globals()
+    trials = {name.removeprefix("try_"): here[name] for name in here if name.startswith("try_")}
     return {name: trials[name] for name in names or trials}
 
 
 def main():
     program = os.path.abspath(sys.argv[1] if len(sys.argv) > 1 else f"{TOP}/crates/dmtcp/out/dmtcp")
     if not os.access(program, os.X_OK):
-        print(f"no program at {program}: build it by 'cd crates/dmtcp && rt run -- --version'", file=sys.stderr)
+        build = "cd crates/dmtcp && rt run -- --version"
+        print(f"no program at {program}: build it by '{build}'", file=sys.stderr)
         return 2
     signal.signal(signal.SIGPIPE, signal.SIG_DFL)
     failures = 0

@@ -1,21 +1,23 @@
 #!/usr/bin/env python3
-"""Tries what a crash of the machine may leave of the folder of sets: after each call of the system that the built program
-makes there, as `strace` tells of it, images are made of what was not synced then, and the set that counts in each is
-compared with the one that it is to be.
+"""Tries what a crash of the machine may leave of the folder of sets: after each call of the system that the
+built program makes there, as `strace` tells of it, images are made of what was not synced then, and the set
+that counts in each is compared with the one that it is to be.
 
 Usage: tools/crash_images.py [DMTCP [SEED]]
 
-DMTCP is a built program, else crates/dmtcp/out/dmtcp, which `cd crates/dmtcp && rt run -- --version` proves and builds.
-Random images are made from the SEED, 1 where none is given. It wants a Linux, and `strace`.
+DMTCP is a built program, else crates/dmtcp/out/dmtcp, which `cd crates/dmtcp && rt run -- --version` proves
+and builds. Random images are made from the SEED, 1 where none is given. It wants a Linux, and `strace`.
 
-What was not synced may be lost or kept, each write and cut by itself; a write may have its first half, or other bytes in
-its range; a file that was made may be left out until the folder is synced, and the folder until the one above is. Four runs
-are tried: a launch with checkpoints; the same, where a call of fsync fails, each in turn; the same, killed at a call of
-fsync, each in turn, and a restart from what it left unsynced; and a restart from a folder that has sets.
+What was not synced may be lost or kept, each write and cut by itself; a write may have its first half, or
+other bytes in its range; a file that was made may be left out until the folder is synced, and the folder
+until the one above is. Four runs are tried: a launch with checkpoints; the same, where a call of fsync
+fails, each in turn; the same, killed at a call of fsync, each in turn, and a restart from what it left
+unsynced; and a restart from a folder that has sets.
 
-It fails where the set that counts in an image is older than the last that the log called complete, or is not whole, byte
-for byte as it was written; where none counts though one was complete; and where fewer than 1,000 images were made, or no call
-of fsync is missed: each in turn is left out and answered well, and then an image is to be wrong where the call was needed.
+It fails where the set that counts in an image is older than the last that the log called complete, or is
+not whole, byte for byte as it was written; where none counts though one was complete; and where fewer than
+1,000 images were made, or no call of fsync is missed: each in turn is left out and answered well, and then
+an image is to be wrong where the call was needed.
 """
 import os
 import random
@@ -71,7 +73,7 @@ class Disk:
         self.is_there = self.is_durable = False
 
     def image(self, choose):
-        """The files that a crash leaves, where `choose` says of each change and each name what comes of it."""
+        """The files that a crash leaves, where `choose` says what comes of each change and each name."""
         if not self.is_durable and choose("name") == "lost":
             return {}
         left = {}
@@ -241,7 +243,11 @@ class Runs:
         if inject:
             tracer += ["-e", f"inject=fsync,fdatasync:{inject}"]
         ran = subprocess.run(
-            [*tracer, self.program, *words.split()], cwd=self.place, stdin=subprocess.DEVNULL, capture_output=True, check=False
+            [*tracer, self.program, *words.split()],
+            cwd=self.place,
+            stdin=subprocess.DEVNULL,
+            capture_output=True,
+            check=False,
         )
         with open(calls, encoding="ascii") as told:
             text = told.read()
@@ -270,8 +276,8 @@ RESTART = "restart --every 1"
 
 
 def try_runs(runs):
-    """Tries the runs, and returns how many calls of fsync one has, how many images were made, and how many calls are missed
-    where they are left out."""
+    """Tries the runs, and returns how many calls of fsync one has, how many images were made, and how many
+    of the calls are missed where they are left out."""
     watch, status, told = runs.one(LAUNCH)
     if status != 0 or not watch.complete:
         raise Wrong(f"{LAUNCH}: status {status}, generation {watch.complete}")
@@ -288,7 +294,8 @@ def try_runs(runs):
 def main():
     program = os.path.abspath(sys.argv[1] if len(sys.argv) > 1 else f"{TOP}/crates/dmtcp/out/dmtcp")
     if not os.access(program, os.X_OK):
-        print(f"no program at {program}: build it by 'cd crates/dmtcp && rt run -- --version'", file=sys.stderr)
+        build = "cd crates/dmtcp && rt run -- --version"
+        print(f"no program at {program}: build it by '{build}'", file=sys.stderr)
         return 2
     dice = random.Random(int(sys.argv[2]) if len(sys.argv) > 2 else 1)
     with tempfile.TemporaryDirectory() as folder:
@@ -297,8 +304,10 @@ def main():
         except Wrong as wrong:
             print(f"FAILED: {wrong}", file=sys.stderr)
             return 1
-    print(f"{syncs} calls of fsync, each failing, and each the last of a killed run: {images} images, nothing lost; "
-          f"{missed} of the calls are missed where they are left out")
+    print(
+        f"{syncs} calls of fsync, each failing, and each the last of a killed run: {images} images, "
+        f"nothing lost; {missed} of the calls are missed where they are left out"
+    )
     return 0 if images >= 1000 and missed > 0 else 1
 
 

@@ -1,6 +1,4 @@
 //! Taking a folder of the host for one run alone, and making durable what is in it.
-ghost use Rattle.std.specs.Prelude.{◌≡◌};
-
 use crate::disk_fault::DiskFault;
 use crate::file_name::FileName;
 use crate::host_files::{fault_of, open_file};

@@ -1,7 +1,4 @@
 //! What the next sync of a folder of the host has to make durable.
-ghost use Rattle.std.specs.Prelude.{◌≡◌};
-ghost use Rattle.set_disk.specs.declared.owed.Owed.TheVariants.{All};
-
 use crate::file_name::FileName;
 use std::alloc::{AllocError, Global};
 
