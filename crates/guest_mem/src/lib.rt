@@ -18,6 +18,3 @@ pub mod space;
 
 pub use mem_fault::MemFault;
 pub use space::Space;
-
-#[cfg(test)]
-mod tests;

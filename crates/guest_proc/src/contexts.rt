@@ -9,7 +9,7 @@ use std::marker::Model;
 use views::list_of::ListOf;
 
 /// The contexts that the handlers of a thread interrupted, oldest first, with room for 64.
-#[derive(Debug, Drop)]
+#[derive(Drop)]
 pub struct Contexts {
     saved: Vec<Context>,
 }

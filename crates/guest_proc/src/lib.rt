@@ -46,8 +46,3 @@ mod waiting;
 pub use buffers::LendFault;
 pub use guest::Guest;
 pub use ran::Ran;
-
-#[cfg(test)]
-mod local_tests;
-#[cfg(test)]
-mod tests;

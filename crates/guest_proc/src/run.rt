@@ -14,7 +14,7 @@ pub const SIGNAL_ILLEGAL: u32 = 4;
 pub const SIGNAL_FAULT: u32 = 11;
 
 /// Why a run of instructions stopped.
-#[derive(Clone, Copy, Debug, PartialEq, Eq)]
+#[derive(Clone, Copy)]
 pub enum Stop {
     Quantum,
     Call,

@@ -29,6 +29,3 @@ pub use runs::put_all;
 pub use set_info::SetInfo;
 pub use store::Store;
 pub use store_fault::StoreFault;
-
-#[cfg(test)]
-mod tests;

@@ -4,7 +4,7 @@ ghost use Rattle.set_disk.specs.History.{settles};
 use crate::request::Request;
 
 /// A call that was made.
-#[derive(Debug, Drop)]
+#[derive(Drop)]
 pub struct Call {
     pub request: Request,
     /// Whether it was done. Otherwise it failed.

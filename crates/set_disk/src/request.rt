@@ -2,7 +2,7 @@ use crate::file_name::FileName;
 use views::list_of::ListOf;
 
 /// What a call asks of a folder.
-#[derive(Debug, Drop)]
+#[derive(Drop)]
 pub enum Request {
     /// A length or a read, which changes nothing.
     Look,

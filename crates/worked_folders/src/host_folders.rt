@@ -2,7 +2,7 @@
 use crate::asserts::same;
 use crate::folders::{NAME, OTHER, shown};
 use set_disk::{DiskFault, FileName, Folder, HostFolder};
-use std::fs;
+use std::fs::{self, File};
 use std::os::unix::fs::symlink;
 use std::process::Abort;
 use std::rt::Files;
@@ -11,7 +11,7 @@ use std::test::Fail;
 const PLACE: &str = "worked_folders_one";
 
 fn assert_shown(
-    rt: &(impl Files + AllocGlobal + Abort),
+    rt: &(impl Files<File = File> + AllocGlobal + Abort),
     name: FileName,
     want: &str,
 ) -> Result<(), Fail> {
@@ -21,17 +21,23 @@ fn assert_shown(
     Ok(())
 }
 
-#[test]
-fn a_folder_of_the_host(rt: HostRuntime) -> Result<(), Fail> {
-    let mut folder = HostFolder::new(&rt, rt.alloc(), PLACE)?;
-    assert_shown(&rt, NAME, "-")?;
+/// Makes the folder, with two files of its own and one that is not, and lets it go.
+fn fill(rt: &(impl Files<File = File> + AllocGlobal)) -> Result<(), Fail> {
+    let mut folder = HostFolder::new(rt, rt.alloc(), PLACE)?;
     folder.cut(NAME, 0)?;
     folder.write_at(NAME, 0, b"abcdef")?;
     folder.write_at(NAME, 2, b"XY")?;
     folder.cut(NAME, 5)?;
     folder.write_at(OTHER, 0, b"")?;
-    fs::write(&rt, "worked_folders_one/notes.txt", "ignored")?;
+    fs::write(rt, "worked_folders_one/notes.txt", "ignored")?;
     folder.sync()?;
+    Ok(())
+}
+
+#[test]
+fn a_folder_of_the_host(rt: HostRuntime) -> Result<(), Fail> {
+    assert_shown(&rt, NAME, "-")?;
+    fill(&rt)?;
     assert_shown(&rt, NAME, "abXYe")?;
     assert_shown(&rt, OTHER, "")?;
     let text = fs::read_to_string(&rt, "worked_folders_one/s0_1.img")?;
@@ -54,7 +60,7 @@ const GREATEST: FileName = FileName {
 
 /// Asserts that a file of a folder in a folder has this path.
 fn assert_path(
-    rt: &(impl Files + AllocGlobal + Abort),
+    rt: &(impl Files<File = File> + AllocGlobal + Abort),
     name: FileName,
     path: &str,
 ) -> Result<(), Fail> {
@@ -83,7 +89,7 @@ fn paths_of_files_on_the_host(rt: HostRuntime) -> Result<(), Fail> {
 /// What a sync answers beside a link of this name that leads nowhere. It opens the files that are the
 /// folder's own.
 fn sync_beside(
-    rt: &(impl Files + AllocGlobal + Abort),
+    rt: &(impl Files<File = File> + AllocGlobal + Abort),
     name: &str,
 ) -> Result<Result<(), DiskFault>, Fail> {
     let place = format!(in rt.alloc(); "worked_folders_names/{name}")?;
@@ -95,7 +101,7 @@ fn sync_beside(
 }
 
 fn assert_syncs(
-    rt: &(impl Files + AllocGlobal + Abort),
+    rt: &(impl Files<File = File> + AllocGlobal + Abort),
     names: &[&str],
     want: Result<(), DiskFault>,
 ) -> Result<(), Fail> {

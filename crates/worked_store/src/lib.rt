@@ -1,7 +1,14 @@
-//! Worked runs of the store of sets alone: several sets, one after another, into a folder in memory.
+//! Worked calls of the store of sets: which set counts, what crashes and failed calls leave, and runs of
+//! several sets.
 //!
 //! Each test is named by what it shows. Nothing is proved here but that the tests are safe and end.
 #![tactic(auto)]
 
+#[cfg(test)]
+mod asserts;
+#[cfg(test)]
+mod crashes;
+#[cfg(test)]
+mod damaged_sets;
 #[cfg(test)]
 mod runs;

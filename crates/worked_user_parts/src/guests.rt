@@ -3,16 +3,19 @@
 ghost use Rattle.std.specs.Prelude.{◌≡◌, IfOk};
 ghost use Rattle.guest_proc.specs.Guests.{HasThread};
 
-use crate::{Guest, Ran};
+use crate::asserts::same;
 use elf32::read_elf;
-use plain_process::Regs;
+use guest_proc::{Guest, Ran};
+use image_codec::ProcImage;
+use plain_process::ThreadPart;
 use plain_process::threads::added_thread;
 use std::alloc::{AllocError, Global};
+use std::process::Abort;
 use std::test::Fail;
 use sys_abi::{Reply, Request, Tid, VPid};
 
 /// Writes `hello` by two calls, from one segment that is the whole file, at 0x10000.
-pub const HELLO: [u8; 126] = [
+const HELLO: [u8; 126] = [
     0x7F, 0x45, 0x4C, 0x46, 0x01, 0x01, 0x01, 0x00, 0x00, 0x00, 0x00, 0x00, 0x00, 0x00, 0x00, 0x00,
     0x02, 0x00, 0xF3, 0x00, 0x01, 0x00, 0x00, 0x00, 0x54, 0x00, 0x01, 0x00, 0x34, 0x00, 0x00, 0x00,
     0x00, 0x00, 0x00, 0x00, 0x00, 0x00, 0x00, 0x00, 0x34, 0x00, 0x20, 0x00, 0x01, 0x00, 0x00, 0x00,
@@ -27,20 +30,22 @@ const PID: VPid = VPid(40_000);
 
 pub const THREAD: Tid = Tid(40_000);
 
-/// The start of the program of a file.
-#[tactic(auto, using(crate::proofs::GuestLemmas::start_has_thread))]
-pub fn started(alloc: Global, file: &[u8]) -> Result<Guest, Fail>
-    ensures { IfOk result (λ guest. HasThread guest.user 40000) }
+/// The start of that program.
+#[tactic(auto, using(guest_proc::proofs::GuestLemmas::start_has_thread))]
+pub fn started(alloc: Global) -> Result<Box<Guest>, Fail>
+    ensures { IfOk result (λ guest. HasThread guest.value.user 40000) }
 {
-    let program = read_elf(alloc, file)?;
-    Ok(Guest::load(alloc, PID, &program, b"hello\0")?)
+    let program = read_elf(alloc, &HELLO)?;
+    let guest = Guest::load(alloc, PID, &program, b"hello\0")?;
+    Ok(Box::new(alloc, guest)?)
 }
 
-fn copy_of(alloc: Global, guest: &Guest) -> Result<Guest, AllocError>
-    ensures { IfOk result (λ copy. copy.user ≡ guest.now.user) }
+fn copy_of(alloc: Global, guest: &Guest) -> Result<Box<Guest>, AllocError>
+    ensures { IfOk result (λ copy. copy.value.user ≡ guest.now.user) }
 {
     let image = guest.image(alloc)?;
-    Guest::of_image(alloc, image)
+    let copy = Guest::of_image(alloc, image)?;
+    Ok(Box::new(alloc, copy)?)
 }
 
 /// How far a guest runs, and whether it stands at a call then.
@@ -51,15 +56,19 @@ fn run(guest: &mut Guest) -> (u32, bool)
     (count, matches!(ran, Ran::Asks(_)))
 }
 
+/// How many pages it has.
+pub fn pages(alloc: Global, guest: &Guest) -> Result<usize, AllocError> {
+    Ok(guest.image(alloc)?.pages.len())
+}
+
 #[test]
 fn the_guest_of_an_image_runs_on_the_same(rt: HostRuntime) -> Result<(), Fail> {
-    let alloc = rt.alloc();
-    let mut guest = started(alloc, &HELLO)?;
-    let mut copy = copy_of(alloc, &guest)?;
-    assert_eq!(rt; copy.pid(), PID);
-    assert_eq!(rt; copy.image(alloc)?.pages.len(), 66);
-    assert_eq!(rt; run(&mut guest), (5, true));
-    assert_eq!(rt; run(&mut copy), (5, true));
+    let mut guest = started(rt.alloc())?;
+    let mut copy = copy_of(rt.alloc(), &guest)?;
+    same(&rt, copy.pid(), PID);
+    same(&rt, pages(rt.alloc(), &copy)?, 66);
+    same(&rt, run(&mut guest), (5, true));
+    same(&rt, run(&mut copy), (5, true));
     Ok(())
 }
 
@@ -81,7 +90,7 @@ const CLONE: Request = Request::Clone {
 };
 
 /// Adds a thread by a clone of the first one's.
-#[tactic(auto, using(crate::proofs::Putting::is_free))]
+#[tactic(auto, using(guest_proc::proofs::Putting::is_free))]
 fn add_thread(alloc: Global, guest: &mut Guest) -> Result<(), Fail> {
     guest.reserve_thread(alloc)?;
     if !guest.has_thread(THREAD) || guest.has_thread(NEW) {
@@ -97,26 +106,37 @@ fn add_thread(alloc: Global, guest: &mut Guest) -> Result<(), Fail> {
     Ok(())
 }
 
-fn regs(guest: &Guest, t: Tid) -> Result<Regs, Fail> {
-    match guest.threads.regs(t.0) {
-        Some(regs) => Ok(regs),
-        None => Err(Fail::from("no thread")),
+fn image_of(alloc: Global, guest: &Guest) -> Result<Box<ProcImage>, AllocError> {
+    Ok(Box::new(alloc, guest.image(alloc)?)?)
+}
+
+fn thread_of(image: &ProcImage, t: Tid) -> Result<&ThreadPart, Fail> {
+    for thread in &image.threads {
+        if thread.tid == t.0 {
+            return Ok(&thread.part);
+        }
     }
+    Err(Fail::from("no thread"))
+}
+
+/// Asserts where a thread stands that was made by the clone.
+fn assert_made(rt: &impl Abort, caller: &ThreadPart, new: &ThreadPart) {
+    same(rt, caller.regs.x[2], STACK);
+    same(rt, new.regs.x[2], 0x7FFF_8000);
+    same(rt, new.regs.x[4], 0x1234);
+    same(rt, new.regs.x[10], 0);
+    same(rt, new.regs.pc, caller.regs.pc.wrapping_add(4));
+    same(rt, new.clear_tid, WORD);
 }
 
 #[test]
 fn a_clone_makes_a_thread(rt: HostRuntime) -> Result<(), Fail> {
-    let alloc = rt.alloc();
-    let mut guest = started(alloc, &HELLO)?;
-    add_thread(alloc, &mut guest)?;
-    let caller = regs(&guest, THREAD)?;
-    let new = regs(&guest, NEW)?;
-    assert_eq!(rt; caller.x[2], STACK);
-    assert_eq!(rt; new.x[2], 0x7FFF_8000);
-    assert_eq!(rt; new.x[4], 0x1234);
-    assert_eq!(rt; new.x[10], 0);
-    assert_eq!(rt; new.pc, caller.pc.wrapping_add(4));
-    assert_eq!(rt; guest.threads.clear_tid(NEW.0), Some(WORD));
-    assert_eq!(rt; guest.next_thread(40_000), Some(NEW));
+    let mut guest = started(rt.alloc())?;
+    add_thread(rt.alloc(), &mut guest)?;
+    let image = image_of(rt.alloc(), &guest)?;
+    let caller = thread_of(&image, THREAD)?;
+    let new = thread_of(&image, NEW)?;
+    assert_made(&rt, caller, new);
+    same(&rt, guest.next_thread(40_000), Some(NEW));
     Ok(())
 }

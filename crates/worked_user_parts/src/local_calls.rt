@@ -1,6 +1,7 @@
 // Calls that a process answers alone, with memory to spare: pages and waiters at values worked out by hand.
-use crate::Guest;
-use crate::tests::{HELLO, THREAD, started};
+use crate::asserts::same;
+use crate::guests::{THREAD, pages, started};
+use guest_proc::Guest;
 use std::alloc::{AllocError, Global};
 use std::test::Fail;
 use sys_abi::Request;
@@ -8,7 +9,7 @@ use sys_abi::Request;
 /// How many pages the process has after a call that it answers alone.
 fn pages_after(alloc: Global, guest: &mut Guest, call: &Request) -> Result<usize, AllocError> {
     guest.local(alloc, THREAD, call)?;
-    Ok(guest.image(alloc)?.pages.len())
+    pages(alloc, guest)
 }
 
 /// How many threads wait after it.
@@ -16,6 +17,10 @@ fn waiters_after(alloc: Global, guest: &mut Guest, call: &Request) -> Result<usi
     guest.local(alloc, THREAD, call)?;
     Ok(guest.image(alloc)?.waiters.len())
 }
+
+const MORE: Request = Request::Brk { address: 0x12001 };
+
+const LESS: Request = Request::Brk { address: 0x11000 };
 
 /// Two pages at the first place for mappings, to read and to write.
 const MAP: Request = Request::Mmap {
@@ -51,21 +56,19 @@ const WAKE: Request = Request::Futex {
 #[test]
 fn the_heap_and_mappings_come_and_go(rt: HostRuntime) -> Result<(), Fail> {
     let alloc = rt.alloc();
-    let mut guest = started(alloc, &HELLO)?;
-    let more = Request::Brk { address: 0x12001 };
-    assert_eq!(rt; pages_after(alloc, &mut guest, &more)?, 68);
-    assert_eq!(rt; pages_after(alloc, &mut guest, &MAP)?, 70);
-    assert_eq!(rt; pages_after(alloc, &mut guest, &UNMAP)?, 69);
-    let less = Request::Brk { address: 0x11000 };
-    assert_eq!(rt; pages_after(alloc, &mut guest, &less)?, 67);
+    let mut guest = started(alloc)?;
+    same(&rt, pages_after(alloc, &mut guest, &MORE)?, 68);
+    same(&rt, pages_after(alloc, &mut guest, &MAP)?, 70);
+    same(&rt, pages_after(alloc, &mut guest, &UNMAP)?, 69);
+    same(&rt, pages_after(alloc, &mut guest, &LESS)?, 67);
     Ok(())
 }
 
 #[test]
 fn a_thread_waits_and_is_woken(rt: HostRuntime) -> Result<(), Fail> {
     let alloc = rt.alloc();
-    let mut guest = started(alloc, &HELLO)?;
-    assert_eq!(rt; waiters_after(alloc, &mut guest, &WAIT)?, 1);
-    assert_eq!(rt; waiters_after(alloc, &mut guest, &WAKE)?, 0);
+    let mut guest = started(alloc)?;
+    same(&rt, waiters_after(alloc, &mut guest, &WAIT)?, 1);
+    same(&rt, waiters_after(alloc, &mut guest, &WAKE)?, 0);
     Ok(())
 }

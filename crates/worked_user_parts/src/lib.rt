@@ -1,0 +1,13 @@
+//! Worked calls on what a guest is made of: its memory, and its own part with its threads.
+//!
+//! Each test is named by what it shows. Nothing is proved here but that the tests are safe and end.
+#![tactic(auto)]
+
+#[cfg(test)]
+mod asserts;
+#[cfg(test)]
+mod guests;
+#[cfg(test)]
+mod local_calls;
+#[cfg(test)]
+mod spaces;
