@@ -7,4 +7,5 @@ pub mod RequestMarks
 pub mod RequestCounts
 pub mod RequestCuts
 pub mod RequestPhases
+pub mod RequestOutcomes
 pub mod RequestSteps

@@ -130,7 +130,7 @@ pub record CutHere (g : Plain) (tally : Tally) (generation : ℕ) : Type 0 where
 no_cut_between : (generation : ℕ) (mark : Record) → is_between mark ≡ true → Cut generation ≡ mark → ⊥
 no_cut_between generation mark between same = true≢false (sym between ∙ sym (ap is_between same))
 
-cut_in : (phase : Phase) (g : Plain) (tally : Tally) (generation : ℕ) → IsSound phase → MayStandIn phase g tally (Cut generation) → CutHere g tally generation
+pub cut_in : (phase : Phase) (g : Plain) (tally : Tally) (generation : ℕ) → IsSound phase → MayStandIn phase g tally (Cut generation) → CutHere g tally generation
 cut_in NoRequest g tally generation sound may = absurd (true≢false may)
 cut_in (Requested since) g tally generation sound may = record { held = may.0; arrived = may.1; next = may.2 }
 cut_in (AfterCut []) g tally generation sound may = absurd may

@@ -1,18 +1,19 @@
 -- Laws of requests and marks, each of which the contract of `request_laws` promises.
 use Rattle.std.specs.Prelude.{◌≡◌, ◌⊎◌, ◌&&◌, ℕ, ◌+◌, ◌-◌, ◌^◌, ◌<◌, ◌≤◌, Bool, true, false, nat_lt, if◌then◌else◌, List, [], ◌∷◌, ◌++◌, Some, None, All}
-use Rattle.std.specs.List.{count_by}
+use Rattle.std.specs.List.{count_by, list_any}
 use Rattle.std.specs.FinMap as map
 use Rattle.sys_abi.specs.declared.record.Record.{Record}
-use Rattle.sys_abi.specs.declared.record.Record.TheVariants.{Cut, Complete, Refused}
-use Rattle.sys_abi.specs.declared.record.Cause.TheVariants.{DiskFault, Memory}
+use Rattle.sys_abi.specs.declared.record.Record.TheVariants.{Cut, Complete, Refused, Lapsed}
+use Rattle.sys_abi.specs.declared.record.Cause.TheVariants.{Unsupported, DiskFault, Memory}
 use Rattle.sys_abi.specs.declared.identity.VPid.{VPid}
 use Rattle.plain_machine.specs.declared.plain.Plain.{Plain}
 use Rattle.plain_machine.specs.Records.{step}
 use Rattle.plain_machine.specs.Runs.{run}
-use Rattle.plain_machine.specs.Tests.{full_arrive, is_work}
+use Rattle.plain_machine.specs.Kernel.{slot}
+use Rattle.plain_machine.specs.Tests.{ended, full_arrive, is_work, unsupported}
 use Rattle.trace_log.specs.declared.requests.Schedule.{Schedule}
 use Rattle.trace_log.specs.LogText.{at_start as log_start, after_all, line_of, log_text}
-use Rattle.trace_log.specs.Requests.{Requests, NoRequest, Requested, Reaches, LeadsTo, MayStand, CanBeHeld, CutAt, IsAnswered, at_start, is_mark, is_multiple_of, made_by, next_requests, cut_marks}
+use Rattle.trace_log.specs.Requests.{Requests, NoRequest, Requested, Reaches, LeadsTo, MayStand, CanBeHeld, CutAt, IsAnswered, at_start, is_mark, is_outcome, is_multiple_of, made_by, next_requests, cut_marks}
 
 abbrev pub is_cut : Record → Bool
 is_cut (Cut generation) = true
@@ -128,6 +129,47 @@ CutStays = (start g : Plain) (trace more : List Record) (generation : ℕ) → C
 
 abbrev pub CutIsMade : Type 0
 CutIsMade = (start g : Plain) (trace : List Record) (generation : ℕ) → run start trace ≡ Some g → CutAt start (trace ++ Cut generation ∷ []) generation g
+
+-- the record stands in the trace, and this is the state there
+pub record StandsAt (start : Plain) (trace : List Record) (r : Record) (g : Plain) : Type 0 where
+  pub front : List Record
+  pub rest : List Record
+  pub whole : trace ≡ front ++ r ∷ rest
+  pub there : run start front ≡ Some g
+
+-- a request lapses where nobody lives, and is refused for what no image holds, or else, also after its cut, where an image would hold all that there is
+abbrev pub FitsOutcome : Plain → Record → Type 0
+FitsOutcome g Lapsed = ended g ≡ true
+FitsOutcome g (Refused (Unsupported p fd kind)) = (ended g ≡ false) × (unsupported g ≡ Some (record { slot = slot p fd.0; kind = kind }))
+FitsOutcome g (Refused DiskFault) = CanBeHeld g
+FitsOutcome g (Refused Memory) = CanBeHeld g
+FitsOutcome g _ = Unit {0}
+
+abbrev pub OutcomesFit : Type 0
+OutcomesFit =
+    (schedule : Schedule) (start last g : Plain) (later : Requests) (trace : List Record) (r : Record) →
+    Reaches schedule start trace last later → StandsAt start trace r g → FitsOutcome g r
+
+-- the record that follows on these makes a request
+pub record MakesRequest (schedule : Schedule) (start : Plain) (front : List Record) (r : Record) : Type 0 where
+  pub state : Plain
+  pub requests : Requests
+  pub reaches : Reaches schedule start front state requests
+  pub answered : IsAnswered requests
+  pub made : (next_requests schedule state requests r).phase ≡ Requested []
+
+-- between two requests the first has its outcome, so that only the last of a trace can be open
+abbrev pub OnlyLastIsOpen : Type 0
+OnlyLastIsOpen =
+    (schedule : Schedule) (start last : Plain) (later : Requests) (front mid rest : List Record) (r s : Record) →
+    Reaches schedule start (front ++ r ∷ (mid ++ s ∷ rest)) last later → MakesRequest schedule start front r → MakesRequest schedule start (front ++ r ∷ mid) s → list_any is_outcome mid ≡ true
+
+-- a trace without a mark has an open request once it has as many work records as the schedule says, where there is a generation left
+abbrev pub StaysOpen : Type 0
+StaysOpen =
+    (schedule : Schedule) (start last : Plain) (later : Requests) (trace : List Record) (every : ℕ) →
+    Reaches schedule start trace last later → schedule.every ≡ Some every → 0 < every → schedule.opening < 2 ^ 64 - 2 → every ≤ count_by is_work trace → All (λ r. is_mark r ≡ false) trace →
+    IsAnswered later → ⊥
 
 -- where there are no channels, nothing is on the way and a cut has no marks
 abbrev pub NoChannels : Type 0

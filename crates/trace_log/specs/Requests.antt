@@ -29,6 +29,13 @@ is_mark (Deliver p t s) = false
 is_mark (Arrive dir n) = false
 is_mark _ = true
 
+-- a mark with which a request ends
+abbrev pub is_outcome : Record → Bool
+is_outcome (Complete generation) = true
+is_outcome (Refused cause) = true
+is_outcome Lapsed = true
+is_outcome _ = false
+
 -- before the first record
 abbrev pub first_tally : Schedule → Tally
 first_tally schedule = record { work = 0; greatest = schedule.opening; is_unfinished = false }

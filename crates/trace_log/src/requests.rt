@@ -1,6 +1,6 @@
 ghost use Rattle.std.specs.Prelude.{◌≡◌, ◌+◌, ◌^◌, ◌<◌, ◌≤◌, IfSome};
 ghost use Rattle.trace_log.specs.Requests.{first_tally, tally_after, asks};
-ghost use Rattle.trace_log.specs.RequestLaws.{Begins, GoesOn, GoesOnByOne, HasFronts, IsARun, HasNoMarks, IsEachWithoutMarks, CountsWork, CountsCuts, RequestsAtMultiples, AtMostTwo, MarksFollowCuts, CutsAreCuts, CutsDiffer, CutStays, CutIsMade, NoChannels, LogGrows};
+ghost use Rattle.trace_log.specs.RequestLaws.{Begins, GoesOn, GoesOnByOne, HasFronts, IsARun, HasNoMarks, IsEachWithoutMarks, CountsWork, CountsCuts, RequestsAtMultiples, AtMostTwo, MarksFollowCuts, CutsAreCuts, CutsDiffer, CutStays, CutIsMade, OutcomesFit, OnlyLastIsOpen, StaysOpen, NoChannels, LogGrows};
 ghost use Rattle.trace_log.specs.RequestSteps.{MarkStays, StandsAlone, Arrives, ArrivesMeanwhile, WorksMeanwhile, Lapses, IsRefusedForKind, IsRefused, IsCutNow, PassesDrained, PassesRefilled, Completes, FailsAfterCut};
 
 use sys_abi::Record;
@@ -88,6 +88,9 @@ pub fn request_laws()
     ensures differ { CutsDiffer }
     ensures stays { CutStays }
     ensures made { CutIsMade }
+    ensures outcomes { OutcomesFit }
+    ensures last_open { OnlyLastIsOpen }
+    ensures stays_open { StaysOpen }
     ensures no_channels { NoChannels }
     ensures log { LogGrows }
 {}

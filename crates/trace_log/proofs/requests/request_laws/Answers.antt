@@ -3,6 +3,7 @@ use Rattle.trace_log.proofs.RequestMarks.{has_no_marks, is_each_without_marks}
 use Rattle.trace_log.proofs.RequestCounts.{counts_work, counts_cuts}
 use Rattle.trace_log.proofs.RequestCuts.{cuts_are_cuts, cuts_differ, no_channels}
 use Rattle.trace_log.proofs.RequestPhases.{begins, requests_at_multiples, at_most_two, marks_follow_cuts}
+use Rattle.trace_log.proofs.RequestOutcomes.{outcomes_fit, only_last_is_open, stays_open}
 use Rattle.trace_log.proofs.LogLines.{log_grows}
 use Rattle.trace_log.proofs.requests.request_laws.Goals as goal
 
@@ -53,3 +54,12 @@ returns-clause-two c = at_most_two
 
 pub returns-clause-marks : goal.returns-clause-marks
 returns-clause-marks c = marks_follow_cuts
+
+pub returns-clause-outcomes : goal.returns-clause-outcomes
+returns-clause-outcomes c = outcomes_fit
+
+pub returns-clause-last_open : goal.returns-clause-last_open
+returns-clause-last_open c = only_last_is_open
+
+pub returns-clause-stays_open : goal.returns-clause-stays_open
+returns-clause-stays_open c = stays_open
