@@ -9,7 +9,7 @@ use Rattle.sys_abi.specs.declared.identity.VPid.{VPid}
 use Rattle.plain_machine.specs.declared.plain.Plain.{Plain}
 use Rattle.plain_machine.specs.Records.{step}
 use Rattle.plain_machine.specs.Runs.{run}
-use Rattle.plain_machine.specs.Kernel.{slot}
+use Rattle.plain_tables.specs.Tables.{slot}
 use Rattle.plain_machine.specs.Tests.{ended, full_arrive, is_work, unsupported}
 use Rattle.trace_log.specs.declared.requests.Schedule.{Schedule}
 use Rattle.trace_log.specs.LogText.{at_start as log_start, after_all, line_of, log_text}
