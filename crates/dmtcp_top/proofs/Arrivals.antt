@@ -3,11 +3,13 @@
 --     memory_arrives            no run was begun for want of memory
 --     launch_refused, restart_refused      no run was begun
 --     run_arrives               a run was begun, and came to its end
-use Rattle.std.proofs.Common.{◌≡◌, ℕ, zero, List, [], Option, Some, None, inl, inr, refl, sym, ap, subst}
+use Rattle.std.proofs.Common.{◌≡◌, ℕ, List, [], Option, Some, None, inl, inr, refl, sym, ap, subst, ◌∙◌}
 use Rattle.sys_abi.specs.declared.record.Record.{Record}
 use Rattle.edge_io.specs.Inputs.{Files}
 use Rattle.set_disk.specs.Files.{Files as Folder}
 use Rattle.plain_machine.specs.declared.plain.Plain.{Plain}
+use Rattle.plain_machine.specs.Valid.{IsValid}
+use Rattle.trace_log.specs.declared.requests.Schedule.{Schedule}
 use Rattle.trace_log.specs.LogText.{log_text}
 use Rattle.dmtcp_top.specs.declared.ending.Ending.{Ending}
 use Rattle.dmtcp_top.specs.declared.ending.Ending.TheVariants.{Done, Usage, InputFault, Missing, BadElf, SinkFault, DiskFault, NoSet, Damaged, Budget, Stuck, Memory}
@@ -17,8 +19,8 @@ use Rattle.dmtcp_top.specs.declared.settings.Settings.{Settings}
 use Rattle.dmtcp_top.specs.declared.start.Start.{Start}
 use Rattle.dmtcp_top.specs.Words.{IsLaunch, IsRestart, AskNothing}
 use Rattle.dmtcp_top.specs.Log.{input_fault_line, missing_line, bad_program_line, budget_line}
-use Rattle.dmtcp_top.specs.Sessions.{Sunk, Session, session, Took}
-use Rattle.dmtcp_top.specs.Launches.{Begun, origin, settings_in, schedule_in, schedule_of}
+use Rattle.dmtcp_top.specs.Sessions.{Sunk, Beginning, Given, Session, given, session, Took}
+use Rattle.dmtcp_top.specs.Launches.{Begun, origin, settings_in, schedule_in, beginning, schedule_of}
 use Rattle.dmtcp_top.specs.Launches.Begun.{ByLaunch, ByRestart}
 use Rattle.dmtcp_top.specs.RunEnds.{EndsRun}
 use Rattle.dmtcp_top.specs.Ends.{NotBegun}
@@ -40,7 +42,7 @@ silent_log trace log none took = subst (λ records. Took log (log_text records))
 
 module _ (words : List (List ℕ)) (files : Option Files) (folder : Option Folder) (trace : List Record) (console log : Sunk) (none : trace ≡ []) (quiet : Took console []) (unlogged : Took log []) where
   abbrev unbegun_call : Session
-  unbegun_call = session words files folder None trace console
+  unbegun_call = session (given words files folder) None trace console
 
   unbegun : NotBegun unbegun_call
   unbegun = record { start = refl; trace = none; console = quiet }
@@ -52,10 +54,10 @@ module _ (words : List (List ℕ)) (files : Option Files) (folder : Option Folde
   usage_arrives nothing = ((unbegun, nothing, refl), lines)
 
   pub launch_memory_arrives : (name : List ℕ) (settings : Settings) → IsLaunch words name settings → Arrives Memory unbegun_call log
-  launch_memory_arrives name settings launch = ((inl (unbegun, inl (record { name = name; settings = settings; words = launch })), refl), (zero, unlogged))
+  launch_memory_arrives name settings launch = ((inl (unbegun, inl (record { name = name; settings = settings; words = launch })), refl), (log_text trace, (inl refl, lines)))
 
   pub restart_memory_arrives : (settings : Settings) → IsRestart words settings → Arrives Memory unbegun_call log
-  restart_memory_arrives settings restart = ((inl (unbegun, inr (record { settings = settings; words = restart })), refl), (zero, unlogged))
+  restart_memory_arrives settings restart = ((inl (unbegun, inr (record { settings = settings; words = restart })), refl), (log_text trace, (inl refl, lines)))
 
   pub launch_refused : (ending : Ending) (name : List ℕ) (settings : Settings) → IsLaunch words name settings → RefusesLaunch ending files name settings → Arrives ending unbegun_call log
   launch_refused (InputFault who) name settings launch why = (record { nothing = unbegun; asked = record { name = name; settings = settings; words = launch }; line = ap input_fault_line why }, lines)
@@ -105,49 +107,63 @@ module _ (words : List (List ℕ)) (files : Option Files) (folder : Option Folde
   restart_refused (Budget number) settings restart why = absurd why
   restart_refused Stuck settings restart why = absurd why
 
-module _ (words : List (List ℕ)) (files : Option Files) (folder : Option Folder) (trace : List Record) (console log : Sunk) (g : Plain) where
-  abbrev begun_call : Session
-  begun_call = session words files folder (Some g) trace console
+-- how a machine began
+abbrev pub beginning_of : Start → Beginning
+beginning_of start = record { state = plain_of start.machine; schedule = start.keeper.schedule }
 
-  -- a run that began so comes to its end so
-  arrives_by : (end : RunEnd) (begun : Begun begun_call) (records : ℕ) → g ≡ origin begun → (settings_in begun).records ≡ records → EndsRun end (schedule_in begun) (origin begun) (settings_in begun).records trace console log → Arrives (ending_by end records) begun_call log
-  arrives_by RunDone begun records from same ends = ((record { begun = begun; start = ap (λ state. Some state) from; run = ends.0 }, refl), ends.1)
-  arrives_by RunBudget begun records from same ends = (record { begun = begun; start = ap (λ state. Some state) from; run = ends.0; line = ap budget_line (sym same) }, ends.1)
-  arrives_by RunStuck begun records from same ends = ((record { begun = begun; start = ap (λ state. Some state) from; run = ends.0 }, refl), ends.1)
-  arrives_by RunSinkFault begun records from same ends = record { run = record { begun = begun; start = ap (λ state. Some state) from; run = ends.0 }; took = ends.1 }
-  arrives_by RunMemory begun records from same ends = ((inr (record { begun = begun; start = ap (λ state. Some state) from; run = ends.0 }), refl), ends.1)
+-- a run that began so comes to its end so
+module _ (words : List (List ℕ)) (files : Option Files) (folder : Option Folder) (trace : List Record) (console log : Sunk) (at : Beginning) where
+  abbrev begun_call : Session
+  begun_call = session (given words files folder) (Some at) trace console
+
+  arrives_by : (end : RunEnd) (begun : Begun (given words files folder)) (records : ℕ) → at ≡ beginning begun → (settings_in begun).records ≡ records → EndsRun end (schedule_in begun) (origin begun) (settings_in begun).records trace console log → Arrives (ending_by end records) begun_call log
+  arrives_by RunDone begun records from same ends = ((record { begun = begun; start = ap (λ is. Some is) from; run = ends.0 }, refl), ends.1)
+  arrives_by RunBudget begun records from same ends = (record { begun = begun; start = ap (λ is. Some is) from; run = ends.0; line = ap budget_line (sym same) }, ends.1)
+  arrives_by RunStuck begun records from same ends = ((record { begun = begun; start = ap (λ is. Some is) from; run = ends.0 }, refl), ends.1)
+  arrives_by RunSinkFault begun records from same ends = record { begun = begun; start = ap (λ is. Some is) from; run = ends }
+  arrives_by RunMemory begun records from same ends = ((inr (record { begun = begun; start = ap (λ is. Some is) from; run = ends.0 }), refl), ends.1)
+
+  ends_at : (end : RunEnd) (begun : Begun (given words files folder)) (room : ℕ) → at ≡ beginning begun → room ≡ (settings_in begun).records → EndsRun end at.schedule at.state room trace console log
+      → EndsRun end (schedule_in begun) (origin begun) (settings_in begun).records trace console log
+  ends_at end begun room from full ends =
+      subst (λ (b : Beginning). EndsRun end b.schedule b.state (settings_in begun).records trace console log) from (subst (λ n. EndsRun end at.schedule at.state n trace console log) full ends)
+
+abbrev same_beginning : Plain → Schedule → Beginning
+same_beginning state schedule = record { state = state; schedule = schedule }
+
+begins_so : (state other : Plain) (schedule same : Schedule) → state ≡ other → schedule ≡ same → same_beginning state schedule ≡ same_beginning other same
+begins_so state other schedule same states schedules = ap (λ g. same_beginning g schedule) states ∙ ap (same_beginning other) schedules
 
 pub launch_arrives : (words : List (List ℕ)) (files : Option Files) (folder : Option Folder) (trace : List Record) (console log : Sunk) (end : RunEnd) (start : Start) (name : List ℕ) (settings : Settings) (room : ℕ)
     → IsLaunch words name settings → (launched : IsLaunched files folder name settings start) → room ≡ settings.records
     → EndsRun end start.keeper.schedule (plain_of start.machine) room trace console log
-    → Arrives (ending_by end settings.records) (session words files folder (Some (plain_of start.machine)) trace console) log
+    → Arrives (ending_by end settings.records) (session (given words files folder) (Some (beginning_of start)) trace console) log
 launch_arrives words files folder trace console log end start name settings room launch launched full ends =
-    let begun : Begun (session words files folder (Some (plain_of start.machine)) trace console) = ByLaunch (record {
+    let begun : Begun (given words files folder) = ByLaunch (record {
       asked = record { name = name; settings = settings; words = launch };
       file = launched.file;
       input = launched.input;
       grammar = launched.grammar;
+      valid = subst IsValid launched.state launched.ready.valid;
       opening = launched.opening;
       opened = launched.opened;
     }) in
-    let scheduled = subst (λ schedule. EndsRun end schedule (plain_of start.machine) room trace console log) launched.keeper.schedule ends in
-    let roomy = subst (λ n. EndsRun end (schedule_of settings launched.opening) (plain_of start.machine) n trace console log) full scheduled in
-    arrives_by words files folder trace console log (plain_of start.machine) end begun settings.records launched.state refl
-    (subst (λ (g : Plain). EndsRun end (schedule_of settings launched.opening) g settings.records trace console log) launched.state roomy)
+    let from = begins_so (plain_of start.machine) (origin begun) start.keeper.schedule (schedule_of settings launched.opening) launched.state launched.keeper.schedule in
+    arrives_by words files folder trace console log (beginning_of start) end begun settings.records from refl (ends_at words files folder trace console log (beginning_of start) end begun room from full ends)
 
 pub restart_arrives : (words : List (List ℕ)) (files : Option Files) (folder : Option Folder) (trace : List Record) (console log : Sunk) (end : RunEnd) (start : Start) (settings : Settings) (room : ℕ)
     → IsRestart words settings → (restarted : IsRestarted folder settings start) → room ≡ settings.records
     → EndsRun end start.keeper.schedule (plain_of start.machine) room trace console log
-    → Arrives (ending_by end settings.records) (session words files folder (Some (plain_of start.machine)) trace console) log
+    → Arrives (ending_by end settings.records) (session (given words files folder) (Some (beginning_of start)) trace console) log
 restart_arrives words files folder trace console log end start settings room restart restarted full ends =
-    let begun : Begun (session words files folder (Some (plain_of start.machine)) trace console) = ByRestart (record {
+    let begun : Begun (given words files folder) = ByRestart (record {
       asked = record { settings = settings; words = restart };
       generation = restarted.generation;
       state = plain_of start.machine;
+      valid = restarted.ready.valid;
       images = restarted.images;
       spelled = restarted.spelled;
       counted = restarted.counted;
     }) in
-    let scheduled = subst (λ schedule. EndsRun end schedule (plain_of start.machine) room trace console log) restarted.keeper.schedule ends in
-    let roomy = subst (λ n. EndsRun end (schedule_of settings restarted.generation) (plain_of start.machine) n trace console log) full scheduled in
-    arrives_by words files folder trace console log (plain_of start.machine) end begun settings.records refl refl roomy
+    let from = begins_so (plain_of start.machine) (plain_of start.machine) start.keeper.schedule (schedule_of settings restarted.generation) refl restarted.keeper.schedule in
+    arrives_by words files folder trace console log (beginning_of start) end begun settings.records from refl (ends_at words files folder trace console log (beginning_of start) end begun room from full ends)

@@ -32,7 +32,7 @@ dead_part g p valid over (Some user) is =
     let alive : is_live g.kernel p ≡ true = sym (valid.alive p) ∙ ap is_some is in
     true_false (sym over ∙ ap not (somebody_lives g.kernel p alive))
 
-nobody_there : (g : Plain) (p : VPid) → IsValid g → ended g ≡ true → map.get g.users p ≡ None
+pub nobody_there : (g : Plain) (p : VPid) → IsValid g → ended g ≡ true → map.get g.users p ≡ None
 nobody_there g p valid over = dead_part g p valid over (map.get g.users p) refl
 
 no_outcome : {A : Type 0} (o : Outcome) → None ≡ Some o → A

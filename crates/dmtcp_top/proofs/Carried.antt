@@ -23,9 +23,9 @@ use Rattle.dmtcp_top.specs.Jobs.{IsAsked, settings_of}
 use Rattle.dmtcp_top.specs.Loads.{Begins}
 use Rattle.dmtcp_top.specs.Machines.{plain_of}
 use Rattle.dmtcp_top.specs.RunEnds.{EndsRun}
-use Rattle.dmtcp_top.specs.Sessions.{Sunk, session, Took}
+use Rattle.dmtcp_top.specs.Sessions.{Sunk, given, session, Took}
 use Rattle.dmtcp_top.specs.Words.{AreOptions, IsCount, count_of, defaults, with_setting}
-use Rattle.dmtcp_top.proofs.Arrivals.{ending_by, launch_arrives, launch_memory_arrives, launch_refused, restart_arrives, restart_memory_arrives, restart_refused}
+use Rattle.dmtcp_top.proofs.Arrivals.{beginning_of, ending_by, launch_arrives, launch_memory_arrives, launch_refused, restart_arrives, restart_memory_arrives, restart_refused}
 
 pub from_ok : {A E P : Type 0} (r : Result A E) → is_ok r ≡ true → OnOk r P → P
 from_ok (Ok a) ok p = p
@@ -36,23 +36,23 @@ from_err (Ok a) err p = absurd (cc)
 from_err (Err e) err p = p
 
 module _ (words : List (List ℕ)) (files : Option Files) (folder : Option Folder) (trace : List Record) (console log : Sunk) where
-  pub refused_memory : (job : Job) → IsAsked words job → trace ≡ [] → Took console [] → Took log [] → Arrives Memory (session words files folder None trace console) log
+  pub refused_memory : (job : Job) → IsAsked words job → trace ≡ [] → Took console [] → Took log [] → Arrives Memory (session (given words files folder) None trace console) log
   refused_memory (Launch name settings) asked none quiet unlogged = launch_memory_arrives words files folder trace console log none quiet unlogged name.now settings asked
   refused_memory (Restart settings) asked none quiet unlogged = restart_memory_arrives words files folder trace console log none quiet unlogged settings asked
 
-  pub begun_refused : (job : Job) (ending : Ending) → IsAsked words job → Begins (Err ending) job files folder → trace ≡ [] → Took console [] → Took log [] → Arrives ending (session words files folder None trace console) log
+  pub begun_refused : (job : Job) (ending : Ending) → IsAsked words job → Begins (Err ending) job files folder → trace ≡ [] → Took console [] → Took log [] → Arrives ending (session (given words files folder) None trace console) log
   begun_refused (Launch name settings) ending asked refuses none quiet unlogged = launch_refused words files folder trace console log none quiet unlogged ending name.now settings asked refuses
   begun_refused (Restart settings) ending asked refuses none quiet unlogged = restart_refused words files folder trace console log none quiet unlogged ending settings asked refuses
 
   by_job : (end : RunEnd) (start : Start) (job : Job) (room : ℕ) → IsAsked words job → Begins (Ok start) job files folder → room ≡ (settings_of job).records
-      → EndsRun end start.keeper.schedule (plain_of start.machine) room trace console log → Arrives (ending_by end (settings_of job).records) (session words files folder (Some (plain_of start.machine)) trace console) log
+      → EndsRun end start.keeper.schedule (plain_of start.machine) room trace console log → Arrives (ending_by end (settings_of job).records) (session (given words files folder) (Some (beginning_of start)) trace console) log
   by_job end start (Launch name settings) room asked begins full ends = launch_arrives words files folder trace console log end start name.now settings room asked begins full ends
   by_job end start (Restart settings) room asked begins full ends = restart_arrives words files folder trace console log end start settings room asked begins full ends
 
   pub begun_arrives : (end result : RunEnd) (start : Start) (job : Job) (room records : ℕ) → IsAsked words job → Begins (Ok start) job files folder → room ≡ records → records ≡ (settings_of job).records → result ≡ end
-      → EndsRun result start.keeper.schedule (plain_of start.machine) room trace console log → Arrives (ending_by end records) (session words files folder (Some (plain_of start.machine)) trace console) log
+      → EndsRun result start.keeper.schedule (plain_of start.machine) room trace console log → Arrives (ending_by end records) (session (given words files folder) (Some (beginning_of start)) trace console) log
   begun_arrives end result start job room records asked begins full same is ends =
-      subst (λ n. Arrives (ending_by end n) (session words files folder (Some (plain_of start.machine)) trace console) log) (sym same)
+      subst (λ n. Arrives (ending_by end n) (session (given words files folder) (Some (beginning_of start)) trace console) log) (sym same)
       (by_job end start job room asked begins (full ∙ same) (subst (λ (e : RunEnd). EndsRun e start.keeper.schedule (plain_of start.machine) room trace console log) is ends))
 
 -- options
@@ -62,7 +62,7 @@ fold_every (Every k ∷ given) settings some counts =
     fold_every given (with_setting settings (Every k)) (let count = counts 0 (Every k) (omega arith) in let least = count.0 in omega arith) (λ i d inside. counts (suc i) d (omega (arith, inside)))
 fold_every (Records m ∷ given) settings some counts = fold_every given (with_setting settings (Records m)) some (λ i d inside. counts (suc i) d (omega (arith, inside)))
 
-options_every : (words : List (List ℕ)) (settings : Settings) → AreOptions words settings → IfSome settings.every (λ every. 0 < every)
+pub options_every : (words : List (List ℕ)) (settings : Settings) → AreOptions words settings → IfSome settings.every (λ every. 0 < every)
 options_every words settings options = subst (λ (s : Settings). IfSome s.every (λ every. 0 < every)) (sym options.set) (fold_every options.given defaults tt options.counts)
 
 scheduled : (schedule : Schedule) (every : Option ℕ) → schedule.every ≡ every → IfSome every (λ n. 0 < n) → IfSome schedule.every (λ n. 0 < n)

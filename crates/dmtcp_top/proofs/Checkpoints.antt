@@ -12,15 +12,14 @@ use Rattle.plain_machine.specs.Tests.{ended, full_arrive}
 use Rattle.trace_log.specs.declared.requests.Schedule.{Schedule}
 use Rattle.trace_log.specs.declared.requests.Tally.{Tally}
 use Rattle.trace_log.specs.Trace.{TraceState}
-use Rattle.trace_log.specs.Requests.{Requests, Phase, NoRequest, Requested, AfterCut, MayStand, MayStandIn, CanBeHeld, is_mark, is_multiple_of, asks, cut_marks, tally_after, next_requests, phase_after}
+use Rattle.trace_log.specs.Requests.{Requests, Phase, NoRequest, Requested, AfterCut, MayStand, MayStandIn, CanBeHeld, is_mark, is_outcome, is_multiple_of, asks, cut_marks, tally_after, next_requests, phase_after}
 use Rattle.trace_log.specs.LogText.{line_of, after}
-use Rattle.dmtcp_top.specs.declared.machine.Machine.{Machine}
 use Rattle.dmtcp_top.specs.declared.keeper.Keeper.{Keeper}
 use Rattle.dmtcp_top.specs.Sessions.{Sunk, sunk, Took, TookFront}
-use Rattle.dmtcp_top.specs.Machines.{plain_of, with_record}
+use Rattle.dmtcp_top.specs.Machines.{with_record}
 use Rattle.dmtcp_top.specs.Running.{IsNoted}
 use Rattle.dmtcp_top.specs.Keeping.{IsSafe}
-use Rattle.dmtcp_top.specs.Rounds.{Place}
+use Rattle.dmtcp_top.specs.Rounds.{Due}
 use Rattle.dmtcp_top.specs.UnderWay.{IsUnderWay, IsBrokenOff}
 use Rattle.dmtcp_top.proofs.Running.{running_mark, noted_mark, part_noted}
 
@@ -72,40 +71,45 @@ unfolding MayStand
 late_refusal_stands g requests cause cut (inl is) = subst (λ phase. MayStandIn phase g requests.tally (Refused cause)) (sym cut) (subst (λ c. MayStandIn (AfterCut []) g requests.tally (Refused c)) (sym is) tt)
 late_refusal_stands g requests cause cut (inr is) = subst (λ phase. MayStandIn phase g requests.tally (Refused cause)) (sym cut) (subst (λ c. MayStandIn (AfterCut []) g requests.tally (Refused c)) (sym is) tt)
 
--- an outcome ends the request
-IsOutcome : Record → Type 0
-IsOutcome (Complete generation) = Unit {0}
-IsOutcome (Refused cause) = Unit {0}
-IsOutcome Lapsed = Unit {0}
-IsOutcome _ = ⊥
+outcome_is_mark : (r : Record) → is_outcome r ≡ true → is_mark r ≡ true
+outcome_is_mark (Complete generation) outcome = refl
+outcome_is_mark (Refused cause) outcome = refl
+outcome_is_mark Lapsed outcome = refl
+outcome_is_mark (User p t n) outcome = outcome
+outcome_is_mark (Call p t) outcome = outcome
+outcome_is_mark (Deliver p t s) outcome = outcome
+outcome_is_mark (Arrive dir n) outcome = outcome
+outcome_is_mark (Cut generation) outcome = refl
+outcome_is_mark (Drained dir n) outcome = refl
+outcome_is_mark (Refilled dir n) outcome = refl
 
-phase_ends : (phase : Phase) (asked : Bool) (g : Plain) (r : Record) → IsOutcome r → (phase ≡ Requested []) ⊎ (phase ≡ AfterCut []) → phase_after phase asked g r ≡ NoRequest
-unfolding IsOutcome
+-- an outcome ends the request
+phase_ends : (phase : Phase) (asked : Bool) (g : Plain) (r : Record) → is_outcome r ≡ true → (phase ≡ Requested []) ⊎ (phase ≡ AfterCut []) → phase_after phase asked g r ≡ NoRequest
 phase_ends phase asked g (Complete generation) outcome (inl waits) = ap (λ p. phase_after p asked g (Complete generation)) waits
 phase_ends phase asked g (Complete generation) outcome (inr cut) = ap (λ p. phase_after p asked g (Complete generation)) cut
 phase_ends phase asked g (Refused cause) outcome (inl waits) = ap (λ p. phase_after p asked g (Refused cause)) waits
 phase_ends phase asked g (Refused cause) outcome (inr cut) = ap (λ p. phase_after p asked g (Refused cause)) cut
 phase_ends phase asked g Lapsed outcome (inl waits) = ap (λ p. phase_after p asked g Lapsed) waits
 phase_ends phase asked g Lapsed outcome (inr cut) = ap (λ p. phase_after p asked g Lapsed) cut
-phase_ends phase asked g (User p t n) outcome either = absurd outcome
-phase_ends phase asked g (Call p t) outcome either = absurd outcome
-phase_ends phase asked g (Deliver p t s) outcome either = absurd outcome
-phase_ends phase asked g (Arrive dir n) outcome either = absurd outcome
-phase_ends phase asked g (Cut generation) outcome either = absurd outcome
-phase_ends phase asked g (Drained dir n) outcome either = absurd outcome
-phase_ends phase asked g (Refilled dir n) outcome either = absurd outcome
+phase_ends phase asked g (User p t n) outcome either = true_false (sym outcome)
+phase_ends phase asked g (Call p t) outcome either = true_false (sym outcome)
+phase_ends phase asked g (Deliver p t s) outcome either = true_false (sym outcome)
+phase_ends phase asked g (Arrive dir n) outcome either = true_false (sym outcome)
+phase_ends phase asked g (Cut generation) outcome either = true_false (sym outcome)
+phase_ends phase asked g (Drained dir n) outcome either = true_false (sym outcome)
+phase_ends phase asked g (Refilled dir n) outcome either = true_false (sym outcome)
 
 pub complete_ends : (schedule : Schedule) (g : Plain) (requests : Requests) (generation : ℕ) → requests.phase ≡ AfterCut [] → (next_requests schedule g requests (Complete generation)).phase ≡ NoRequest
-unfolding next_requests IsOutcome
-complete_ends schedule g requests generation cut = phase_ends requests.phase (asks schedule (tally_after requests.tally (Complete generation))) g (Complete generation) tt (inr cut)
+unfolding next_requests
+complete_ends schedule g requests generation cut = phase_ends requests.phase (asks schedule (tally_after requests.tally (Complete generation))) g (Complete generation) refl (inr cut)
 
 pub refusal_ends : (schedule : Schedule) (g : Plain) (requests : Requests) (cause : Cause) → (requests.phase ≡ Requested []) ⊎ (requests.phase ≡ AfterCut []) → (next_requests schedule g requests (Refused cause)).phase ≡ NoRequest
-unfolding next_requests IsOutcome
-refusal_ends schedule g requests cause either = phase_ends requests.phase (asks schedule (tally_after requests.tally (Refused cause))) g (Refused cause) tt either
+unfolding next_requests
+refusal_ends schedule g requests cause either = phase_ends requests.phase (asks schedule (tally_after requests.tally (Refused cause))) g (Refused cause) refl either
 
 pub lapse_ends : (schedule : Schedule) (g : Plain) (requests : Requests) → requests.phase ≡ Requested [] → (next_requests schedule g requests Lapsed).phase ≡ NoRequest
-unfolding next_requests IsOutcome
-lapse_ends schedule g requests waits = phase_ends requests.phase (asks schedule (tally_after requests.tally Lapsed)) g Lapsed tt (inl waits)
+unfolding next_requests
+lapse_ends schedule g requests waits = phase_ends requests.phase (asks schedule (tally_after requests.tally Lapsed)) g Lapsed refl (inl waits)
 
 -- the tally after a mark
 pub cut_tally : (tally : Tally) (generation : ℕ) → (tally_after tally (Cut generation)).greatest ≡ generation
@@ -127,31 +131,34 @@ outcome_tally tally (Arrive dir n) marks other = absurd (cc)
 
 module _ {D : Type 0} {reads : D → Option Folder} {moment : D → ℕ} {may_leave : D → Folder → Type 0} {left_since : D → ℕ → Folder → Type 0} {faults : D → ℕ} where
   -- one more mark, whose line the log took
-  pub marked : (schedule : Schedule) (g : Plain) (m : Machine) (place : Option Place) (keeper later : Keeper) (from to : TraceState) (sink : Sunk) (had mid has : Option (List ℕ)) (r : Record) (first disk next : D)
-      → (before : IsUnderWay reads moment may_leave left_since faults schedule g m place keeper from sink (sunk had mid) first disk) → is_mark r ≡ true → MayStand (plain_of m) before.running.requests r → to ≡ with_record from r
+  pub marked : (schedule : Schedule) (g : Plain) (h : Plain) (due : Option Due) (keeper later : Keeper) (from to : TraceState) (sink : Sunk) (had mid has : Option (List ℕ)) (r : Record) (first disk next : D)
+      → (before : IsUnderWay reads moment may_leave left_since faults schedule g h due keeper from sink (sunk had mid) first disk) → is_mark r ≡ true → MayStand h before.running.requests r → to ≡ with_record from r
       → later.schedule ≡ keeper.schedule → later.lines ≡ after keeper.lines r → later.tally ≡ tally_after keeper.tally r → Took (sunk mid has) (line_of keeper.lines r)
       → later.lines.request ≤ suc keeper.lines.request → later.lines.drained ≡ 0 → IsSafe reads moment may_leave left_since faults g (from.records ++ r ∷ []) first next
-      → (after : IsUnderWay reads moment may_leave left_since faults schedule g m place later to sink (sunk had has) first next) × (after.running.requests ≡ next_requests schedule (plain_of m) before.running.requests r)
-  marked schedule g m place keeper later from to sink had mid has r first disk next before marks may traced scheduled lined tallied took few dry safe =
-      let running = running_mark schedule g m place from.records sink r before.running marks may in
-      let noted = noted_mark schedule (plain_of m) r before.running.requests keeper later from.records had mid has before.noted scheduled lined tallied took few dry in
-      let whole : IsUnderWay reads moment may_leave left_since faults schedule g m place later (with_record from r) sink (sunk had has) first next = record {
+      → (after : IsUnderWay reads moment may_leave left_since faults schedule g h due later to sink (sunk had has) first next) × (after.running.requests ≡ next_requests schedule h before.running.requests r)
+  marked schedule g h due keeper later from to sink had mid has r first disk next before marks may traced scheduled lined tallied took few dry safe =
+      let running = running_mark schedule g h due from.records sink r before.running marks may in
+      let noted = noted_mark schedule h r before.running.requests keeper later from.records had mid has before.noted scheduled lined tallied took few dry in
+      let whole : IsUnderWay reads moment may_leave left_since faults schedule g h due later (with_record from r) sink (sunk had has) first next = record {
         running = running.0;
         noted = subst (λ (q : Requests). IsNoted schedule q later (from.records ++ r ∷ []) (sunk had has)) (sym running.1) noted;
         safe = safe;
       } in
-      subst (λ (t : TraceState). (after : IsUnderWay reads moment may_leave left_since faults schedule g m place later t sink (sunk had has) first next) × (after.running.requests ≡ next_requests schedule (plain_of m) before.running.requests r)) (sym traced) (whole, running.1)
+      subst (λ (t : TraceState). (after : IsUnderWay reads moment may_leave left_since faults schedule g h due later t sink (sunk had has) first next) × (after.running.requests ≡ next_requests schedule h before.running.requests r)) (sym traced) (whole, running.1)
 
-  -- one more mark, of whose line the log took a first part
-  pub broken : (schedule : Schedule) (g : Plain) (m : Machine) (place : Option Place) (keeper : Keeper) (from to : TraceState) (sink : Sunk) (had mid has : Option (List ℕ)) (r : Record) (first disk next : D)
-      → (before : IsUnderWay reads moment may_leave left_since faults schedule g m place keeper from sink (sunk had mid) first disk) → is_mark r ≡ true → MayStand (plain_of m) before.running.requests r → to ≡ with_record from r
+  -- one more outcome, of whose line the log took a first part
+  pub broken : (schedule : Schedule) (g : Plain) (h : Plain) (due : Option Due) (keeper : Keeper) (from to : TraceState) (sink : Sunk) (had mid has : Option (List ℕ)) (r : Record) (first disk next : D)
+      → (before : IsUnderWay reads moment may_leave left_since faults schedule g h due keeper from sink (sunk had mid) first disk) → is_outcome r ≡ true → MayStand h before.running.requests r → to ≡ with_record from r
       → TookFront (sunk mid has) (line_of keeper.lines r) → IsSafe reads moment may_leave left_since faults g (from.records ++ r ∷ []) first next
-      → IsBrokenOff reads moment may_leave left_since faults schedule g m place to sink (sunk had has) first next
-  broken schedule g m place keeper from to sink had mid has r first disk next before marks may traced front safe =
-      let running = running_mark schedule g m place from.records sink r before.running marks may in
-      let whole : IsBrokenOff reads moment may_leave left_since faults schedule g m place (with_record from r) sink (sunk had has) first next = record {
+      → IsBrokenOff reads moment may_leave left_since faults schedule g h due to sink (sunk had has) first next
+  broken schedule g h due keeper from to sink had mid has r first disk next before outcome may traced front safe =
+      let running = running_mark schedule g h due from.records sink r before.running (outcome_is_mark r outcome) may in
+      let part = part_noted before.running.requests keeper schedule r from.records had mid has before.noted outcome front in
+      let whole : IsBrokenOff reads moment may_leave left_since faults schedule g h due (with_record from r) sink (sunk had has) first next = record {
         running = running.0;
-        logged = part_noted before.running.requests keeper schedule r from.records had mid has before.noted front;
+        lines = part.0;
+        cut = part.1.0;
+        logged = part.1.1;
         safe = safe;
       } in
-      subst (λ (t : TraceState). IsBrokenOff reads moment may_leave left_since faults schedule g m place t sink (sunk had has) first next) (sym traced) whole
+      subst (λ (t : TraceState). IsBrokenOff reads moment may_leave left_since faults schedule g h due t sink (sunk had has) first next) (sym traced) whole

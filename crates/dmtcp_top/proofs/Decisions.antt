@@ -14,7 +14,7 @@ use Rattle.dmtcp_top.specs.declared.status.Status.TheVariants.{Done, Usage, Inpu
 use Rattle.dmtcp_top.specs.declared.settings.Settings.{Settings}
 use Rattle.dmtcp_top.specs.Words.{IsLaunch, IsRestart, AskNothing, program_word}
 use Rattle.dmtcp_top.specs.Sets.{SpellsSet, SpoilsSet}
-use Rattle.dmtcp_top.specs.Sessions.{Sunk, Session, session, IsInput}
+use Rattle.dmtcp_top.specs.Sessions.{Sunk, Session, IsInput}
 use Rattle.dmtcp_top.specs.Launches.{LaunchAsked, RestartAsked, Begun}
 use Rattle.dmtcp_top.specs.Launches.Begun.{ByLaunch, ByRestart}
 use Rattle.dmtcp_top.specs.Ends.{Ends, FileDecides, IsAsked, IsDecided, Reaches, RunsOn, NeedsStore}
@@ -58,31 +58,31 @@ told : {A : Type 0} (P : A → Type 0) (o : Option A) (a : A) → o ≡ Some a �
 told P o a is holds = subst (λ (p : Option _). IfSome p P) is holds
 
 module _ (called : Session) (line : List ℕ) where
-  against_both : {P : Type 0} → LaunchAsked called → RestartAsked called → P
-  against_both launch restart = absurd (not_both called.words launch.name launch.settings restart.settings launch.words restart.words)
+  against_both : {P : Type 0} → LaunchAsked called.given → RestartAsked called.given → P
+  against_both launch restart = absurd (not_both called.given.words launch.name launch.settings restart.settings launch.words restart.words)
 
-  none_launched : {P : Type 0} → LaunchAsked called → AskNothing called.words → P
+  none_launched : {P : Type 0} → LaunchAsked called.given → AskNothing called.given.words → P
   none_launched asked nothing = absurd (nothing.launch asked.name asked.settings asked.words)
 
-  none_restarted : {P : Type 0} → RestartAsked called → AskNothing called.words → P
+  none_restarted : {P : Type 0} → RestartAsked called.given → AskNothing called.given.words → P
   none_restarted asked nothing = absurd (nothing.restart asked.settings asked.words)
 
-  none_asked : {P : Type 0} → IsAsked called → AskNothing called.words → P
+  none_asked : {P : Type 0} → IsAsked called.given → AskNothing called.given.words → P
   none_asked (inl launch) nothing = none_launched launch nothing
   none_asked (inr restart) nothing = none_restarted restart nothing
 
-  none_needed : {P : Type 0} → NeedsStore called → AskNothing called.words → P
+  none_needed : {P : Type 0} → NeedsStore called.given → AskNothing called.given.words → P
   none_needed (ToLaunch asked file every input fine) nothing = none_launched asked nothing
   none_needed (ToRestart asked) nothing = none_restarted asked nothing
 
-  none_begun : {P : Type 0} → Begun called → AskNothing called.words → P
+  none_begun : {P : Type 0} → Begun called.given → AskNothing called.given.words → P
   none_begun (ByLaunch launched) nothing = none_launched launched.asked nothing
   none_begun (ByRestart restarted) nothing = none_restarted restarted.asked nothing
 
-  usage_decided : (status : Status) → Reaches status called line → (status ≡ Usage) ↔ AskNothing called.words
+  usage_decided : (status : Status) → Reaches status called line → (status ≡ Usage) ↔ AskNothing called.given.words
   usage_decided status reached = (to status reached, from status reached)
     where
-      to : (s : Status) → Reaches s called line → s ≡ Usage → AskNothing called.words
+      to : (s : Status) → Reaches s called line → s ≡ Usage → AskNothing called.given.words
       to Usage r is = r.1
       to Done r is = absurd (cc)
       to InputFault r is = absurd (cc)
@@ -96,7 +96,7 @@ module _ (called : Session) (line : List ℕ) where
       to Stuck r is = absurd (cc)
       to Memory r is = absurd (cc)
 
-      from : (s : Status) → Reaches s called line → AskNothing called.words → s ≡ Usage
+      from : (s : Status) → Reaches s called line → AskNothing called.given.words → s ≡ Usage
       from Usage r nothing = refl
       from Done r nothing = none_begun r.0.begun nothing
       from InputFault r nothing = none_launched r.asked nothing
@@ -112,24 +112,24 @@ module _ (called : Session) (line : List ℕ) where
       from Memory (inr cut, is) nothing = none_begun cut.begun nothing
 
   -- the file of the other name is the same
-  module _ (held : Files) (asked : LaunchAsked called) (holds : called.files ≡ Some held) where
-    same_input : (other : LaunchAsked called) (content : Option (List ℕ)) → IsInput called.files other.name content → map.get held asked.name ≡ content
+  module _ (held : Files) (asked : LaunchAsked called.given) (holds : called.given.files ≡ Some held) where
+    same_input : (other : LaunchAsked called.given) (content : Option (List ℕ)) → IsInput called.given.files other.name content → map.get held asked.name ≡ content
     same_input other content input =
-        ap (map.get held) (one_name called.words asked.name other.name asked.settings other.settings asked.words other.words) ∙ input held holds
+        ap (map.get held) (one_name called.given.words asked.name other.name asked.settings other.settings asked.words other.words) ∙ input held holds
 
     -- a run began with a file that is a program
-    begun_file : {P : Type 0} → Begun called → ((file : List ℕ) → map.get held asked.name ≡ Some file → first_fault file ≡ None → P) → P
+    begun_file : {P : Type 0} → Begun called.given → ((file : List ℕ) → map.get held asked.name ≡ Some file → first_fault file ≡ None → P) → P
     begun_file (ByLaunch launched) next = next launched.file (same_input launched.asked (Some launched.file) launched.input) launched.grammar
     begun_file (ByRestart restarted) next = against_both asked restarted.asked
 
-    no_file : {P : Type 0} → Begun called → map.get held asked.name ≡ None → P
+    no_file : {P : Type 0} → Begun called.given → map.get held asked.name ≡ None → P
     no_file begun none = begun_file begun (λ file is fine. none_some file (sym none ∙ is))
 
-    bad_file : {P : Type 0} (content : List ℕ) → Begun called → map.get held asked.name ≡ Some content → first_fault content ≢ None → P
+    bad_file : {P : Type 0} (content : List ℕ) → Begun called.given → map.get held asked.name ≡ Some content → first_fault content ≢ None → P
     bad_file content begun is breaks = begun_file begun (λ file there fine. absurd (breaks (ap first_fault (inner content file (sym is ∙ there)) ∙ fine)))
 
     -- the folder is needed for a file that is a program
-    needed_file : {P : Type 0} → NeedsStore called → ((file : List ℕ) → map.get held asked.name ≡ Some file → first_fault file ≡ None → P) → P
+    needed_file : {P : Type 0} → NeedsStore called.given → ((file : List ℕ) → map.get held asked.name ≡ Some file → first_fault file ≡ None → P) → P
     needed_file (ToLaunch other file every input fine) next = next file (same_input other (Some file) input) fine
     needed_file (ToRestart restart) next = against_both asked restart
 
@@ -177,13 +177,13 @@ module _ (called : Session) (line : List ℕ) where
       launch_decided Stuck r fault disk fine = inr (inr (inl refl))
       launch_decided Memory r fault disk fine = inr (inr (inr refl))
 
-  module _ (files : Folder) (asked : RestartAsked called) (reads : called.folder ≡ Some files) where
+  module _ (files : Folder) (asked : RestartAsked called.given) (reads : called.given.folder ≡ Some files) where
     -- a run began with the state that the folder's set spells
-    begun_set : {P : Type 0} → Begun called → ((generation : ℕ) (g : Plain) → SpellsSet files generation g → P) → P
+    begun_set : {P : Type 0} → Begun called.given → ((generation : ℕ) (g : Plain) → SpellsSet files generation g → P) → P
     begun_set (ByLaunch launched) next = against_both launched.asked asked
-    begun_set (ByRestart restarted) next = next restarted.generation restarted.state (told (λ there. SpellsSet there restarted.generation restarted.state) called.folder files reads restarted.counted)
+    begun_set (ByRestart restarted) next = next restarted.generation restarted.state (told (λ there. SpellsSet there restarted.generation restarted.state) called.given.folder files reads restarted.counted)
 
-    no_set : {P : Type 0} → Begun called → set_that_counts files ≡ None → P
+    no_set : {P : Type 0} → Begun called.given → set_that_counts files ≡ None → P
     no_set begun none = begun_set begun (λ generation g spells. absurd (none_spelled files generation g none spells))
 
     setless_decided : (status : Status) → Reaches status called line → status ≢ DiskFault → status ≢ Memory → (status ≡ NoSet) ↔ (set_that_counts files ≡ None)
@@ -194,9 +194,9 @@ module _ (called : Session) (line : List ℕ) where
     setless_decided BadElf r disk memory = (λ is. absurd (cc), λ none. against_both r.asked asked)
     setless_decided SinkFault r disk memory = absurd r
     setless_decided DiskFault r disk memory = absurd (disk refl)
-    setless_decided NoSet r disk memory = (λ is. told (λ there. set_that_counts there ≡ None) called.folder files reads r.none, λ none. refl)
+    setless_decided NoSet r disk memory = (λ is. told (λ there. set_that_counts there ≡ None) called.given.folder files reads r.none, λ none. refl)
     setless_decided Damaged r disk memory =
-        (λ is. absurd (cc), λ none. absurd (none_spoilt files r.slot r.damage none (told (λ there. SpoilsSet there r.slot r.damage) called.folder files reads r.spoilt)))
+        (λ is. absurd (cc), λ none. absurd (none_spoilt files r.slot r.damage none (told (λ there. SpoilsSet there r.slot r.damage) called.given.folder files reads r.spoilt)))
     setless_decided Budget r disk memory = (λ is. absurd (cc), λ none. no_set r.begun none)
     setless_decided Stuck r disk memory = (λ is. absurd (cc), λ none. no_set r.0.begun none)
     setless_decided Memory r disk memory = absurd (memory refl)
@@ -211,14 +211,14 @@ module _ (called : Session) (line : List ℕ) where
       spoiled slot damage spoils SinkFault r disk memory = absurd r
       spoiled slot damage spoils DiskFault r disk memory = absurd (disk refl)
       spoiled slot damage spoils NoSet r disk memory =
-          absurd (none_spoilt files slot damage (told (λ there. set_that_counts there ≡ None) called.folder files reads r.none) spoils)
+          absurd (none_spoilt files slot damage (told (λ there. set_that_counts there ≡ None) called.given.folder files reads r.none) spoils)
       spoiled slot damage spoils Damaged r disk memory = refl
       spoiled slot damage spoils Budget r disk memory = begun_set r.begun (λ generation g spells. absurd (spelled_or_spoilt laws files generation g slot damage spells spoils))
       spoiled slot damage spoils Stuck r disk memory = begun_set r.0.begun (λ generation g spells. absurd (spelled_or_spoilt laws files generation g slot damage spells spoils))
       spoiled slot damage spoils Memory r disk memory = absurd (memory refl)
 
       spoilt_in : (status : Status) → Reaches status called line → status ≡ Damaged → (slot : ℕ) × ((damage : Damage) × SpoilsSet files slot damage)
-      spoilt_in Damaged r is = (r.slot, (r.damage, told (λ there. SpoilsSet there r.slot r.damage) called.folder files reads r.spoilt))
+      spoilt_in Damaged r is = (r.slot, (r.damage, told (λ there. SpoilsSet there r.slot r.damage) called.given.folder files reads r.spoilt))
       spoilt_in Done r is = absurd (cc)
       spoilt_in Usage r is = absurd (cc)
       spoilt_in InputFault r is = absurd (cc)
@@ -243,9 +243,9 @@ module _ (called : Session) (line : List ℕ) where
       restart_decided generation g spells SinkFault r disk = absurd r
       restart_decided generation g spells DiskFault r disk = absurd (disk refl)
       restart_decided generation g spells NoSet r disk =
-          absurd (none_spelled files generation g (told (λ there. set_that_counts there ≡ None) called.folder files reads r.none) spells)
+          absurd (none_spelled files generation g (told (λ there. set_that_counts there ≡ None) called.given.folder files reads r.none) spells)
       restart_decided generation g spells Damaged r disk =
-          absurd (spelled_or_spoilt laws files generation g r.slot r.damage spells (told (λ there. SpoilsSet there r.slot r.damage) called.folder files reads r.spoilt))
+          absurd (spelled_or_spoilt laws files generation g r.slot r.damage spells (told (λ there. SpoilsSet there r.slot r.damage) called.given.folder files reads r.spoilt))
       restart_decided generation g spells Budget r disk = inr (inl refl)
       restart_decided generation g spells Stuck r disk = inr (inr (inl refl))
       restart_decided generation g spells Memory r disk = inr (inr (inr refl))
@@ -265,10 +265,10 @@ reached_of Budget called log ends sink = (ends.last, ends.reached)
 reached_of Stuck called log ends sink = (ends.last, ends.reached)
 reached_of Memory called log ends sink = (ends.last, ends.reached)
 
-pub words_decide : (status : Status) (called : Session) (log : Sunk) → Ends status called log → status ≢ SinkFault → (status ≡ Usage) ↔ AskNothing called.words
+pub words_decide : (status : Status) (called : Session) (log : Sunk) → Ends status called log → status ≢ SinkFault → (status ≡ Usage) ↔ AskNothing called.given.words
 words_decide status called log ends sink = let there = reached_of status called log ends sink in usage_decided called there.0 status there.1
 
-pub file_decides : (status : Status) (called : Session) (log : Sunk) → Ends status called log → status ≢ InputFault → status ≢ SinkFault → FileDecides status called
+pub file_decides : (status : Status) (called : Session) (log : Sunk) → Ends status called log → status ≢ InputFault → status ≢ SinkFault → FileDecides status called.given
 file_decides status called log ends fault sink =
     let there = reached_of status called log ends sink in
     record {
@@ -276,7 +276,7 @@ file_decides status called log ends fault sink =
       bad = λ held asked file holds is memory. bad_decided called there.0 held asked holds file is status there.1 fault memory;
     }
 
-pub decided : SetLaws → (status : Status) (called : Session) (log : Sunk) → Ends status called log → status ≢ InputFault → status ≢ SinkFault → status ≢ DiskFault → IsDecided status called
+pub decided : SetLaws → (status : Status) (called : Session) (log : Sunk) → Ends status called log → status ≢ InputFault → status ≢ SinkFault → status ≢ DiskFault → IsDecided status called.given
 decided laws status called log ends fault sink disk =
     let there = reached_of status called log ends sink in
     record {
@@ -285,24 +285,3 @@ decided laws status called log ends fault sink disk =
       spoilt = λ files asked reads memory. spoilt_decided called there.0 files asked reads laws status there.1 disk memory;
       restarts = λ files generation g asked reads spells. restart_decided called there.0 files asked reads laws generation g spells status there.1 disk;
     }
-
--- with whatever state a run began
-module _ (words : List (List ℕ)) (files : Option Files) (folder : Option Folder) (start other : Option Plain) (trace : List Record) (console : Sunk) where
-  launch_asked : LaunchAsked (session words files folder other trace console) → LaunchAsked (session words files folder start trace console)
-  launch_asked asked = record { name = asked.name; settings = asked.settings; words = asked.words }
-
-  restart_asked : RestartAsked (session words files folder other trace console) → RestartAsked (session words files folder start trace console)
-  restart_asked asked = record { settings = asked.settings; words = asked.words }
-
-  pub file_decides_anyhow : (status : Status) → FileDecides status (session words files folder start trace console) → FileDecides status (session words files folder other trace console)
-  unfolding launch_asked
-  file_decides_anyhow status is = record { missing = λ held asked. is.missing held (launch_asked asked); bad = λ held asked. is.bad held (launch_asked asked) }
-
-  pub decided_anyhow : (status : Status) → IsDecided status (session words files folder start trace console) → IsDecided status (session words files folder other trace console)
-  unfolding launch_asked
-  decided_anyhow status is = record {
-    launches = λ held asked. is.launches held (launch_asked asked);
-    setless = λ there asked. is.setless there (restart_asked asked);
-    spoilt = λ there asked. is.spoilt there (restart_asked asked);
-    restarts = λ there generation g asked. is.restarts there generation g (restart_asked asked);
-  }

@@ -1,4 +1,4 @@
--- At a place in the rounds one record of work is due that is a step.
+-- At each place in the rounds one record is due that is a step.
 --     one_record      two that are due and are steps are the same
 --     has_asked       a call that is served is that of a thread which stands at one
 use Rattle.std.proofs.Common.{◌≡◌, ℕ, zero, ◌<◌, ◌≤◌, Bool, true, false, not, Option, Some, None, inl, inr, refl, sym, ap, subst, ◌∙◌, arith, tests}
@@ -8,6 +8,7 @@ use Rattle.std.specs.FinMap as map
 use Rattle.views.proofs.MapLaws.{true_false}
 use Rattle.sys_abi.specs.declared.identity.VPid.{VPid}
 use Rattle.sys_abi.specs.declared.identity.Tid.{Tid}
+use Rattle.sys_abi.specs.declared.identity.Dir.{Dir}
 use Rattle.sys_abi.specs.declared.identity.Signal.{Signal}
 use Rattle.sys_abi.specs.declared.record.Record.{Record}
 use Rattle.sys_abi.specs.declared.record.Record.TheVariants.{User, Call, Deliver, Arrive, Cut, Drained, Refilled, Complete, Refused, Lapsed}
@@ -19,7 +20,7 @@ use Rattle.plain_machine.specs.Records.{Outcome, QUANTUM, outcome, outcome_of_us
 use Rattle.plain_process.specs.Steps.{UserStep, Stepped, Asks, Trapped, Waits, NoThread, stepped, user_step, user_steps}
 use Rattle.plain_process.proofs.Giving.{Giving, gives, nothing, where_, then_}
 use Rattle.plain_process.proofs.StepsInRow.{steps_stopped}
-use Rattle.dmtcp_top.specs.Rounds.{Place, is_turn_of, traps_in, is_due_signal, is_due_in, is_due_at}
+use Rattle.dmtcp_top.specs.Rounds.{Place, Due, Arrival, InTurn, is_turn_of, traps_in, is_due_signal, is_due_in, is_due_at, is_arrival, is_same, is_whole, missing_in}
 use Rattle.dmtcp_top.proofs.Walks.{left_true, right_true}
 
 -- the record is of the thread whose turn it is: it runs, its call is served, or this signal is delivered to it
@@ -234,6 +235,32 @@ module _ (g : Plain) (here : Place) where
   one_turn x y (Takes s is due) (Takes u other again) first second =
       is ∙ ap (λ n. Deliver here.p (turn_thread here) (signal n)) (one_signal g here s.0 u.0 here.signal due again) ∙ sym other
 
-pub one_record : (g : Plain) (place : Option Place) (x y : Record) (o other : Outcome) → is_due_at g place x ≡ true → is_due_at g place y ≡ true → outcome g x ≡ Some o → outcome g y ≡ Some other → x ≡ y
+-- an arrival that is due
+same_dir : (a b : Dir) → is_same a b ≡ true → a ≡ b
+same_dir a b same =
+    let pid = same_number a.conn.pid.0 b.conn.pid.0 (left_true (a.conn.pid.0 == b.conn.pid.0) (a.conn.num == b.conn.num) (left_true ((a.conn.pid.0 == b.conn.pid.0) && (a.conn.num == b.conn.num)) (a.side == b.side) same)) in
+    let num = same_number a.conn.num b.conn.num (right_true (a.conn.pid.0 == b.conn.pid.0) (a.conn.num == b.conn.num) (left_true ((a.conn.pid.0 == b.conn.pid.0) && (a.conn.num == b.conn.num)) (a.side == b.side) same)) in
+    let side = same_number a.side b.side (right_true ((a.conn.pid.0 == b.conn.pid.0) && (a.conn.num == b.conn.num)) (a.side == b.side) same) in
+    ap (λ n. dir n a.conn.num a.side) pid ∙ ap (λ n. dir b.conn.pid.0 n a.side) num ∙ ap (dir b.conn.pid.0 b.conn.num) side
+  where
+    dir : ℕ → ℕ → ℕ → Dir
+    dir pid num side = record { conn = record { pid = record { 0 = pid }; num = num }; side = side }
+
+arrives : (g : Plain) (dir : Dir) (r : Record) → is_arrival g dir r ≡ true → r ≡ Arrive dir (missing_in (map.get g.kernel.directions dir))
+arrives g dir (Arrive other n) due =
+    ap (λ d. Arrive d n) (same_dir other dir (left_true (is_same other dir) (is_whole g dir n) due))
+    ∙ ap (Arrive dir) (same_number n (missing_in (map.get g.kernel.directions dir)) (right_true (is_same other dir) (is_whole g dir n) due))
+arrives g dir (User p t n) due = true_false (sym due)
+arrives g dir (Call p t) due = true_false (sym due)
+arrives g dir (Deliver p t s) due = true_false (sym due)
+arrives g dir (Cut generation) due = true_false (sym due)
+arrives g dir (Drained other n) due = true_false (sym due)
+arrives g dir (Refilled other n) due = true_false (sym due)
+arrives g dir (Complete generation) due = true_false (sym due)
+arrives g dir (Refused cause) due = true_false (sym due)
+arrives g dir Lapsed due = true_false (sym due)
+
+pub one_record : (g : Plain) (due : Option Due) (x y : Record) (o other : Outcome) → is_due_at g due x ≡ true → is_due_at g due y ≡ true → outcome g x ≡ Some o → outcome g y ≡ Some other → x ≡ y
 one_record g None x y o other due also goes goes_too = true_false (sym due)
-one_record g (Some here) x y o other due also goes goes_too = one_turn g here x y (is_turn g here x due) (is_turn g here y also) (o, goes) (other, goes_too)
+one_record g (Some (Arrival dir dirs)) x y o other due also goes goes_too = arrives g dir x due ∙ sym (arrives g dir y also)
+one_record g (Some (InTurn here)) x y o other due also goes goes_too = one_turn g here x y (is_turn g here x due) (is_turn g here y also) (o, goes) (other, goes_too)

@@ -14,7 +14,7 @@ use Rattle.dmtcp_top.specs.declared.machine.Machine.{Machine}
 use Rattle.dmtcp_top.specs.Machines.{plain_of, lives, IsSingle}
 use Rattle.sys_abi.specs.Lives.{lives as is_life}
 
-nobody_lives : (k : PlainKernel) → ((q : VPid) → is_live k q ≡ false) → has_life k ≡ false
+pub nobody_lives : (k : PlainKernel) → ((q : VPid) → is_live k q ≡ false) → has_life k ≡ false
 unfolding has_life is_live
 nobody_lives k dead = none_among-values vpid_total vpid_exact (λ process. is_life process.life) k.processes (λ q process is. sym (ap is_live_process is) ∙ dead q)
 

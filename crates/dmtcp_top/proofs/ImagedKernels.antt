@@ -68,7 +68,7 @@ pub supported : (g : Plain) → HasImage g.kernel → unsupported g ≡ None
 unfolding unsupported
 supported g image = ap first_of (nothing_left (unsupported_entry g.kernel) (map.entries g.kernel.descriptors) (λ entry. none_by entry.0 (map.get g.kernel.descriptions entry.1.desc) (descriptions_are_consoles g.kernel entry.1.desc image)))
 
-no_directions : (k : PlainKernel) → HasImage k → map.entries k.directions ≡ []
+pub no_directions : (k : PlainKernel) → HasImage k → map.entries k.directions ≡ []
 unfolding kernel_of
 no_directions k (s, image) =
     ap (λ (q : PlainKernel). map.entries q.directions) (sym image.kernel)

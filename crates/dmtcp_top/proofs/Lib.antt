@@ -24,6 +24,7 @@ pub mod DueRecords
 pub mod Quanta
 pub mod Determined
 pub mod AtRest
+pub mod Arriving
 pub mod OneOrder
 pub mod Standstill
 pub mod Starts
@@ -44,3 +45,4 @@ pub mod Carried
 pub mod RoundTrips
 pub mod Restored
 pub mod OneRestart
+pub mod MissedRequests

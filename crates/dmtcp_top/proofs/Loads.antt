@@ -14,6 +14,7 @@ use Rattle.set_disk.specs.Files.{Files as Folder}
 use Rattle.set_disk.specs.Crash.{Same}
 use Rattle.set_disk.proofs.Stretches.{joins, weakens, told_then}
 use Rattle.plain_machine.specs.declared.plain.Plain.{Plain}
+use Rattle.dmtcp_top.specs.Sessions.{Beginning}
 use Rattle.trace_log.specs.Requests.{first_tally}
 use Rattle.image_store.specs.declared.set_info.SetInfo.{SetInfo}
 use Rattle.image_store.specs.Slots.{last}
@@ -89,18 +90,18 @@ module _ {D : Type 0} {reads : D → Option Folder} {moment : D → ℕ} {may_le
     counted = inl (let later = looks.counts.later in omega arith);
   })
 
-  pub whole_begun : (g : Plain) (trace : List Record) (old mid new : D) → OnlyLooks reads moment may_leave left_since faults old mid → IsSafe reads moment may_leave left_since faults g trace mid new → StaysWhole reads moment may_leave left_since faults (Some g) trace old new
-  whole_begun g trace old mid new looks safe = record {
-    crash = λ files is. joins old mid new (λ image. IsOpening (may_leave old) image ⊎ SpellsCutOf (Some g) trace image)
-        (weakens old mid (may_leave old) (λ image. IsOpening (may_leave old) image ⊎ SpellsCutOf (Some g) trace image) looks.crash (λ image left. inl (record { old = image; could = left; same = refl })))
-        (weakens mid new (λ image. IsOpening (may_leave mid) image ⊎ SpellsCut g trace image) (λ image. IsOpening (may_leave old) image ⊎ SpellsCutOf (Some g) trace image) (safe.crash files (looks.nothing.same ∙ is)) good);
+  pub whole_begun : (begun : Beginning) (trace : List Record) (old mid new : D) → OnlyLooks reads moment may_leave left_since faults old mid → IsSafe reads moment may_leave left_since faults begun.state trace mid new → StaysWhole reads moment may_leave left_since faults (Some begun) trace old new
+  whole_begun begun trace old mid new looks safe = record {
+    crash = λ files is. joins old mid new (λ image. IsOpening (may_leave old) image ⊎ SpellsCutOf (Some begun) trace image)
+        (weakens old mid (may_leave old) (λ image. IsOpening (may_leave old) image ⊎ SpellsCutOf (Some begun) trace image) looks.crash (λ image left. inl (record { old = image; could = left; same = refl })))
+        (weakens mid new (λ image. IsOpening (may_leave mid) image ⊎ SpellsCut begun.state trace image) (λ image. IsOpening (may_leave old) image ⊎ SpellsCutOf (Some begun) trace image) (safe.crash files (looks.nothing.same ∙ is)) good);
     complete = λ files is. safe.complete files (looks.nothing.same ∙ is);
     counted = counted safe.counted;
   }
     where
-      good : (image : Folder) → IsOpening (may_leave mid) image ⊎ SpellsCut g trace image → IsOpening (may_leave old) image ⊎ SpellsCutOf (Some g) trace image
+      good : (image : Folder) → IsOpening (may_leave mid) image ⊎ SpellsCut begun.state trace image → IsOpening (may_leave old) image ⊎ SpellsCutOf (Some begun) trace image
       good image (inl opening) = inl (opening_before old mid image looks.nothing opening)
-      good image (inr cut) = inr (record { g = g; began = refl; cut = cut })
+      good image (inr cut) = inr (record { begun = begun; began = refl; cut = cut })
 
       counted : CountsFaults trace (faults mid) (faults new) → CountsFaults trace (faults old) (faults new)
       counted (inl counts) = inl (let later = looks.counts.later in omega arith)

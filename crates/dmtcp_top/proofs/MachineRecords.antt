@@ -33,7 +33,7 @@ state_is : (n : Machine) (k : PlainKernel) (p : VPid) (user : UserPart) → n.ke
 state_is n k p user kernel pid part =
     ap (λ (x : PlainKernel). single x n.guest.pid n.guest.user) kernel ∙ ap (λ (x : VPid). single k x n.guest.user) pid ∙ ap (single k p) part
 
-quiet_takes : (m n : Machine) (from to : TraceState) (taken : Option (List ℕ)) (r : Record) (next : Plain) → outcome (plain_of m) r ≡ Some (quiet next) → plain_of n ≡ next → to ≡ with_record from r → Takes m n r from to (sunk taken taken)
+quiet_takes : (m n : Machine) (from to : TraceState) (taken : Option (List ℕ)) (r : Record) (next : Plain) → outcome (plain_of m) r ≡ Some (quiet next) → plain_of n ≡ next → to ≡ with_record from r → Takes (plain_of m) (plain_of n) r from to (sunk taken taken)
 quiet_takes m n from to taken r next goes is noted = record {
   bytes = [];
   outcome = goes ∙ ap (λ g. Some (quiet g)) (sym is);
@@ -54,7 +54,7 @@ after_delivery n k p user (Kills status) kernel pid part = state_is n _ p user k
 pub deliver_takes : (m n : Machine) (from to : TraceState) (taken : Option (List ℕ)) (p : VPid) (t : Tid) (s : Signal) → p ≡ m.guest.pid → lives m ≡ true → CanDeliver (plain_of m) m.guest.pid t s
     → n.kernel ≡ kernel_after (kernel_found m.kernel m.guest.pid t.0 s.0 m.guest.user) m.guest.pid (delivered_by (deliver m.guest.user t.0 s.0 (waits m.guest.user t.0)))
     → n.guest.pid ≡ m.guest.pid → n.guest.user ≡ part_after m.guest.user (deliver m.guest.user t.0 s.0 (waits m.guest.user t.0))
-    → to ≡ with_record from (Deliver p t s) → Takes m n (Deliver m.guest.pid t s) from to (sunk taken taken)
+    → to ≡ with_record from (Deliver p t s) → Takes (plain_of m) (plain_of n) (Deliver m.guest.pid t s) from to (sunk taken taken)
 deliver_takes m n from to taken p t s is alive due kernel pid part noted =
     let d = deliver m.guest.user t.0 s.0 (waits m.guest.user t.0) in
     quiet_takes m n from to taken (Deliver m.guest.pid t s) _ (deliver_goes m.kernel m.guest.pid t s m.guest.user alive due)
@@ -63,14 +63,14 @@ deliver_takes m n from to taken p t s is alive due kernel pid part noted =
 
 -- an answer without the kernel: a fault, or a row of the process's own
 pub fault_takes : (m n : Machine) (from to : TraceState) (taken : Option (List ℕ)) (p : VPid) (t : Tid) (q : Request) → p ≡ m.guest.pid → lives m ≡ true → user_step m.guest.user t.0 ≡ Asks q → lent m.guest.user.memory q ≡ None
-    → n.kernel ≡ m.kernel → n.guest.pid ≡ m.guest.pid → n.guest.user ≡ put_fault m.guest.user t.0 q → to ≡ with_record from (Call p t) → Takes m n (Call m.guest.pid t) from to (sunk taken taken)
+    → n.kernel ≡ m.kernel → n.guest.pid ≡ m.guest.pid → n.guest.user ≡ put_fault m.guest.user t.0 q → to ≡ with_record from (Call p t) → Takes (plain_of m) (plain_of n) (Call m.guest.pid t) from to (sunk taken taken)
 fault_takes m n from to taken p t q is alive asks faults kernel pid part noted =
     quiet_takes m n from to taken (Call m.guest.pid t) _ (fault_goes m.kernel m.guest.pid t m.guest.user q alive asks faults)
     (state_is n m.kernel m.guest.pid (put_fault m.guest.user t.0 q) kernel pid part) (call_noted m from to p t is noted)
 
 pub local_takes : (m n : Machine) (from to : TraceState) (taken : Option (List ℕ)) (p : VPid) (t : Tid) (q : Request) (given : List ℕ) → p ≡ m.guest.pid → lives m ≡ true → user_step m.guest.user t.0 ≡ Asks q
     → lent m.guest.user.memory q ≡ Some given → is_local q ≡ true → n.kernel ≡ m.kernel → n.guest.pid ≡ m.guest.pid → n.guest.user ≡ local_row m.guest.user t.0 q → to ≡ with_record from (Call p t)
-    → Takes m n (Call m.guest.pid t) from to (sunk taken taken)
+    → Takes (plain_of m) (plain_of n) (Call m.guest.pid t) from to (sunk taken taken)
 local_takes m n from to taken p t q given is alive asks reads local kernel pid part noted =
     quiet_takes m n from to taken (Call m.guest.pid t) _ (local_goes m.kernel m.guest.pid t m.guest.user q given alive asks reads local)
     (state_is n m.kernel m.guest.pid (local_row m.guest.user t.0 q) kernel pid part) (call_noted m from to p t is noted)
@@ -84,7 +84,7 @@ module _ (m : Machine) (k : PlainKernel) (from to : TraceState) (console : Sunk)
   goes : outcome (plain_of m) (Call m.guest.pid t) ≡ Some (record { state = single k m.guest.pid (put m.guest.user t.0 q answer.reply answer.bytes); console = console_of answer given })
   goes = serve_goes m.kernel m.guest.pid t m.guest.user q given (served_by k given answer) alive asks reads kernels serves
 
-  pub kernel_takes : (n : Machine) → n.kernel ≡ k → n.guest.pid ≡ m.guest.pid → n.guest.user ≡ put m.guest.user t.0 q answer.reply answer.bytes → Took console (console_of answer given) → Takes m n (Call m.guest.pid t) from to console
+  pub kernel_takes : (n : Machine) → n.kernel ≡ k → n.guest.pid ≡ m.guest.pid → n.guest.user ≡ put m.guest.user t.0 q answer.reply answer.bytes → Took console (console_of answer given) → Takes (plain_of m) (plain_of n) (Call m.guest.pid t) from to console
   kernel_takes n kernel pid part shown = record {
     bytes = console_of answer given;
     outcome = goes ∙ ap (λ (g : Plain). Some (record { state = g; console = console_of answer given })) (sym (state_is n k m.guest.pid (put m.guest.user t.0 q answer.reply answer.bytes) kernel pid part));
@@ -92,7 +92,7 @@ module _ (m : Machine) (k : PlainKernel) (from to : TraceState) (console : Sunk)
     shown = shown;
   }
 
-  pub kernel_breaks : TookFront console (console_of answer given) → Breaks m (Call m.guest.pid t) from to console
+  pub kernel_breaks : TookFront console (console_of answer given) → Breaks (plain_of m) (Call m.guest.pid t) from to console
   kernel_breaks shown = record {
     bytes = console_of answer given;
     state = single k m.guest.pid (put m.guest.user t.0 q answer.reply answer.bytes);
@@ -112,8 +112,8 @@ module _ (m before : Machine) (from to : TraceState) (console : Sunk) (t : Tid) 
   same_outcome : outcome (plain_of m) (Call m.guest.pid t) ≡ outcome (plain_of before) (Call before.guest.pid t)
   same_outcome = ap (λ (g : Plain). outcome g (Call m.guest.pid t)) (sym same_state) ∙ ap (λ (q : VPid). outcome (plain_of before) (Call q t)) (sym same_pid)
 
-  pub takes_from : (n : Machine) → Takes before n (Call before.guest.pid t) from to console → Takes m n (Call m.guest.pid t) from to console
+  pub takes_from : (n : Machine) → Takes (plain_of before) (plain_of n) (Call before.guest.pid t) from to console → Takes (plain_of m) (plain_of n) (Call m.guest.pid t) from to console
   takes_from n takes = record { bytes = takes.bytes; outcome = same_outcome ∙ takes.outcome; trace = call_noted m from to before.guest.pid t same_pid takes.trace; shown = takes.shown }
 
-  pub breaks_from : Breaks before (Call before.guest.pid t) from to console → Breaks m (Call m.guest.pid t) from to console
+  pub breaks_from : Breaks (plain_of before) (Call before.guest.pid t) from to console → Breaks (plain_of m) (Call m.guest.pid t) from to console
   breaks_from breaks = record { bytes = breaks.bytes; state = breaks.state; outcome = same_outcome ∙ breaks.outcome; trace = call_noted m from to before.guest.pid t same_pid breaks.trace; shown = breaks.shown }

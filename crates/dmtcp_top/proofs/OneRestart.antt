@@ -7,6 +7,7 @@ use Rattle.std.specs.Str.Parse.{digits_value}
 use Rattle.std.proofs.lemmas.Fmt.{decimal_is_IsNumeral}
 use Rattle.std.proofs.lemmas.List.Elements.{All-head, All-tail}
 use Rattle.plain_machine.specs.declared.plain.Plain.{Plain}
+use Rattle.plain_machine.specs.Valid.{IsValid}
 use Rattle.set_disk.specs.Files.{Files as Folder}
 use Rattle.dmtcp_top.specs.declared.run_end.RunEnd.{RunEnd}
 use Rattle.dmtcp_top.specs.declared.run_end.RunEnd.TheVariants.{Done as RunDone, Budget as RunBudget, Stuck as RunStuck, Memory as RunMemory}
@@ -21,10 +22,10 @@ use Rattle.dmtcp_top.specs.Sets.{SpellsSet}
 use Rattle.dmtcp_top.specs.Launches.{Begun, origin, settings_in, opening_in, schedule_of}
 use Rattle.dmtcp_top.specs.Launches.Begun.{ByLaunch, ByRestart}
 use Rattle.dmtcp_top.specs.Ends.{Ends}
-use Rattle.dmtcp_top.specs.OneOrder.{Answers, OneRestart}
+use Rattle.dmtcp_top.specs.OneOrder.{Answers, GoesOnInRounds, OneRestart}
 use Rattle.dmtcp_top.proofs.Decisions.{not_both}
 use Rattle.dmtcp_top.proofs.RoundTrips.{one_state}
-use Rattle.dmtcp_top.proofs.OneOrder.{EndedRun, one_ended}
+use Rattle.dmtcp_top.proofs.OneOrder.{EndedRun, one_ended, order_of, valid_origin}
 
 -- the words of a restart have one setting
 one_number : (k n : ℕ) → IsCount k → IsCount n → decimal k ≡ decimal n → k ≡ n
@@ -80,33 +81,34 @@ end_of Budget = RunBudget
 end_of Stuck = RunStuck
 end_of _ = RunMemory
 
-module _ (files : Folder) (generation : ℕ) (g : Plain) (settings : Settings) (spells : SpellsSet files generation g) (session : Session) (asks : IsRestart session.words settings) (folder : session.folder ≡ Some files) where
-  begins : (begun : Begun session) → (origin begun ≡ g) × (settings_in begun ≡ settings)
-  begins (ByLaunch launched) = absurd (not_both session.words launched.asked.name launched.asked.settings settings launched.asked.words asks)
+module _ (files : Folder) (generation : ℕ) (g : Plain) (settings : Settings) (spells : SpellsSet files generation g) (session : Session) (asks : IsRestart session.given.words settings) (folder : session.given.folder ≡ Some files) where
+  begins : (begun : Begun session.given) → (origin begun ≡ g) × (settings_in begun ≡ settings)
+  begins (ByLaunch launched) = absurd (not_both session.given.words launched.asked.name launched.asked.settings settings launched.asked.words asks)
   begins (ByRestart restarted) = (
-    (one_state files restarted.generation generation restarted.state g (told (λ f. SpellsSet f restarted.generation restarted.state) session.folder files folder restarted.counted) spells).1,
-    one_settings session.words restarted.asked.settings settings restarted.asked.words asks,
+    (one_state files restarted.generation generation restarted.state g (told (λ f. SpellsSet f restarted.generation restarted.state) session.given.folder files folder restarted.counted) spells).1,
+    one_settings session.given.words restarted.asked.settings settings restarted.asked.words asks,
   )
 
   abbrev EndsAs : RunEnd → Type 0
-  EndsAs end = (opening : ℕ) × EndedRun end (schedule_of settings opening) g settings.records session.trace
+  EndsAs end = (opening : ℕ) × EndedRun end (schedule_of settings opening) g settings.records session.left.trace × IsValid g
 
-  begun_here : (end : RunEnd) (begun : Begun session) → EndedRun end (schedule_of (settings_in begun) (opening_in begun)) (origin begun) (settings_in begun).records session.trace → EndsAs end
+  begun_here : (end : RunEnd) (begun : Begun session.given) → EndedRun end (schedule_of (settings_in begun) (opening_in begun)) (origin begun) (settings_in begun).records session.left.trace → EndsAs end
   begun_here end begun is =
       let at = begins begun in (
         opening_in begun,
-        subst (λ h. EndedRun end (schedule_of settings (opening_in begun)) h settings.records session.trace) at.0
-            (subst (λ (s : Settings). EndedRun end (schedule_of s (opening_in begun)) (origin begun) s.records session.trace) at.1 is),
+        subst (λ h. EndedRun end (schedule_of settings (opening_in begun)) h settings.records session.left.trace) at.0
+            (subst (λ (s : Settings). EndedRun end (schedule_of s (opening_in begun)) (origin begun) s.records session.left.trace) at.1 is),
+        subst IsValid at.0 (valid_origin session.given begun),
       )
 
-  restart_run : (status : Status) (log : Sunk) → Answers status → Ends status session log → EndsAs (end_of status)
-  restart_run Done log answers ends =
-      let is = ends.reached.0 in begun_here RunDone is.begun (record { last = is.run.shown.state; is = is.run.shown.run; there = is.run.nobody })
-  restart_run Budget log answers ends =
-      let is = ends.reached in begun_here RunBudget is.begun (record { last = is.run.shown.state; is = is.run.shown.run; there = (is.run.somebody, is.run.full) })
-  restart_run Stuck log answers ends =
-      let is = ends.reached.0 in begun_here RunStuck is.begun (record { last = is.run.shown.state; is = is.run.shown.run; there = (is.run.stuck, is.run.roomy) })
-  restart_run _ log answers ends = absurd answers
+  restart_run : (status : Status) (log : Sunk) → Answers status → Ends status session log → GoesOnInRounds session → EndsAs (end_of status)
+  restart_run Done log answers ends order =
+      let is = ends.reached.0 in begun_here RunDone is.begun (record { last = is.run.shown.state; is = is.run.shown.run; order = order_of session is.begun is.start order; there = is.run.nobody })
+  restart_run Budget log answers ends order =
+      let is = ends.reached in begun_here RunBudget is.begun (record { last = is.run.shown.state; is = is.run.shown.run; order = order_of session is.begun is.start order; there = (is.run.somebody, is.run.full) })
+  restart_run Stuck log answers ends order =
+      let is = ends.reached.0 in begun_here RunStuck is.begun (record { last = is.run.shown.state; is = is.run.shown.run; order = order_of session is.begun is.start order; there = (is.run.stuck, is.run.arrived, is.run.roomy) })
+  restart_run _ log answers ends order = absurd answers
 
 one_status : (first second : Status) → Answers first → Answers second → end_of first ≡ end_of second → first ≡ second
 one_status Done Done answers too is = refl
@@ -124,8 +126,8 @@ one_status Stuck _ answers too is = absurd too
 one_status _ second answers too is = absurd answers
 
 pub one_restart : OneRestart
-one_restart files generation g settings a b first second log other valid spells none asks asks_too folder folder_too answers answers_too ends ends_too =
-    let one = restart_run files generation g settings spells a asks folder first log answers ends in
-    let two = restart_run files generation g settings spells b asks_too folder_too second other answers_too ends_too in
-    let same = one_ended (schedule_of settings one.0) (schedule_of settings two.0) g settings.records a.trace b.trace (end_of first) (end_of second) valid none none one.1 two.1 in
+one_restart files generation g settings a b first second log other spells none asks asks_too folder folder_too answers answers_too ends ends_too order order_too =
+    let one = restart_run files generation g settings spells a asks folder first log answers ends order in
+    let two = restart_run files generation g settings spells b asks_too folder_too second other answers_too ends_too order_too in
+    let same = one_ended (schedule_of settings one.0) (schedule_of settings two.0) g settings.records a.left.trace b.left.trace (end_of first) (end_of second) one.2 none none one.1 two.1 in
     (one_status first second answers answers_too same.0, same.1)

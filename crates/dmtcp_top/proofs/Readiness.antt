@@ -87,7 +87,7 @@ module _ (g : Plain) (p : VPid) (is : IsKernel g.kernel) (alive : is_live g.kern
   outcome_keeps (Deliver q t s) own = let here : p ≡ q = cc in subst (λ x. Giving (outcome_of_signal g x t.0 s.0 (map.get g.users x)) (λ o. IsKept g.kernel o.state.kernel p)) here (kept_signal t.0 s.0 (map.get g.users p))
   outcome_keeps _ own = absurd (cc)
 
-pub ready_after : (m n : Machine) (r : Record) (from to : TraceState) (console : Sunk) → subject r ≡ Some m.guest.pid → IsReady m → lives m ≡ true → IsSame m n → Takes m n r from to console → IsReady n
+pub ready_after : (m n : Machine) (r : Record) (from to : TraceState) (console : Sunk) → subject r ≡ Some m.guest.pid → IsReady m → lives m ≡ true → IsSame m n → Takes (plain_of m) (plain_of n) r from to console → IsReady n
 ready_after m n r from to console own ready alive same takes =
     let kept = (outcome_keeps (plain_of m) m.guest.pid ready.valid.kernel alive r own).each _ takes.outcome in
     let valid : IsValid (plain_of n) = step_keeps_valid (plain_of m) (plain_of n) r ready.valid (ap (option_map (λ (o : Outcome). o.state)) takes.outcome) in

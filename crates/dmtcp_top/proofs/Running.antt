@@ -1,5 +1,5 @@
 -- A run on its way: one more record of the machine, and one more mark.
-use Rattle.std.proofs.Common.{◌≡◌, ℕ, suc, ◌+◌, ◌-◌, ◌<◌, ◌≤◌, true, false, List, [], ◌∷◌, ◌++◌, length, Option, Some, inl, inr, refl, sym, ap, subst, ◌∙◌, arith, append-nil}
+use Rattle.std.proofs.Common.{◌≡◌, ℕ, suc, ◌+◌, ◌-◌, ◌<◌, ◌≤◌, true, false, List, [], ◌∷◌, ◌++◌, length, take, Option, Some, inl, inr, refl, sym, ap, subst, ◌∙◌, arith, append-nil}
 use Rattle.std.specs.Prelude.{◌⊎◌}
 use Rattle.std.specs.Option.{option_map}
 use Rattle.std.proofs.lemmas.List.{length-append}
@@ -10,25 +10,24 @@ use Rattle.trace_log.specs.declared.requests.Schedule.{Schedule}
 use Rattle.trace_log.specs.declared.requests.Tally.{Tally}
 use Rattle.trace_log.specs.declared.log_lines.Progress.{Progress}
 use Rattle.trace_log.specs.Trace.{TraceState}
-use Rattle.trace_log.specs.Requests.{Requests, Reaches, LeadsTo, MayStand, MayStandIn, NoRequest, is_mark, at_start, next_requests, tally_after, one_more_work}
+use Rattle.trace_log.specs.Requests.{Requests, Reaches, LeadsTo, MayStand, MayStandIn, NoRequest, is_mark, is_outcome, at_start, next_requests, tally_after, one_more_work}
 use Rattle.trace_log.specs.LogText.{at_start as log_start, after, after_all, line_of, log_text}
 use Rattle.trace_log.proofs.RequestFronts.{goes_on_by_one, runs}
 use Rattle.trace_log.proofs.LogLines.{log_grows}
 use Rattle.views.proofs.MapLaws.{true_false}
 use Rattle.plain_machine.specs.declared.plain.Plain.{Plain}
 use Rattle.plain_machine.specs.Records.{Outcome, outcome, step, quiet}
-use Rattle.plain_machine.specs.Runs.{run, console}
-use Rattle.plain_machine.specs.Tests.{ended, is_work, IsStuck}
+use Rattle.plain_machine.specs.Runs.{run, console, console_from}
+use Rattle.plain_machine.specs.Tests.{ended, full_arrive, is_work, IsStuck}
 use Rattle.plain_machine.proofs.RunLaws.{console_of_one_more}
-use Rattle.dmtcp_top.specs.declared.machine.Machine.{Machine}
 use Rattle.dmtcp_top.specs.declared.keeper.Keeper.{Keeper}
-use Rattle.dmtcp_top.specs.Sessions.{Sunk, sunk, Took, TookFront}
-use Rattle.dmtcp_top.specs.Machines.{plain_of, Notes, Spoils}
-use Rattle.dmtcp_top.specs.Rounds.{Place, Standing, new_round, first_standing, in_rounds}
+use Rattle.dmtcp_top.specs.Sessions.{Sunk, sunk, Took, TookFront, TookThen}
+use Rattle.dmtcp_top.specs.Machines.{Notes, Spoils}
+use Rattle.dmtcp_top.specs.Rounds.{Place, Due, InTurn, Upcoming, NewRound, After, Standing, due_at, new_round, first_standing, in_rounds, GoesInRounds}
 use Rattle.dmtcp_top.specs.Running.{walk, IsRunning, IsNoted}
-use Rattle.dmtcp_top.specs.RunEnds.{IsRun, Shown, CutShort, RanOut, FilledUp, GotStuck}
-use Rattle.dmtcp_top.proofs.Sinks.{took_nothing, took_both, took_more, took_front}
-use Rattle.dmtcp_top.proofs.Walks.{pushed, work_is_due, mark_is_due, mark_stays}
+use Rattle.dmtcp_top.specs.RunEnds.{IsRun, Shown, CutShort, CutLines, RanOut, FilledUp, GotStuck}
+use Rattle.dmtcp_top.proofs.Sinks.{took_nothing, took_both, took_then}
+use Rattle.dmtcp_top.proofs.Walks.{pushed, work_is_due, work_moves, mark_is_due, mark_stays}
 
 pub work_no_mark : (r : Record) → is_work r ≡ true → is_mark r ≡ false
 work_no_mark (User p t n) work = refl
@@ -104,63 +103,75 @@ mark_is_quiet g (Complete generation) marks = refl
 mark_is_quiet g (Refused cause) marks = refl
 mark_is_quiet g Lapsed marks = refl
 
-abbrev standing_of : Option Place → Requests → Standing
-standing_of place requests = record { place = place; requests = requests }
+abbrev standing_of : Upcoming → Requests → Standing
+standing_of upcoming requests = record { upcoming = upcoming; requests = requests }
 
-unfoldable pub running_start : (schedule : Schedule) (m : Machine) (taken : Option (List ℕ)) → IsRunning schedule (plain_of m) m (new_round (plain_of m)) [] (sunk taken taken)
+unfoldable pub running_start : (schedule : Schedule) (h : Plain) (taken : Option (List ℕ)) → IsRunning schedule h h (new_round h) [] (sunk taken taken)
 unfolding console in_rounds walk LeadsTo
-running_start schedule m taken = record {
+running_start schedule h taken = record {
   requests = at_start schedule;
   reaches = (refl, refl);
   order = refl;
+  upcoming = NewRound;
   walked = refl;
+  due = refl;
   shown = took_nothing taken;
 }
 
-pub steps_of : (schedule : Schedule) (g : Plain) (m : Machine) (place : Option Place) (records : List Record) (sink : Sunk) (running : IsRunning schedule g m place records sink) → run g records ≡ Some (plain_of m)
-steps_of schedule g m place records sink running = runs schedule g (plain_of m) (at_start schedule) running.requests records running.reaches
+-- what one record writes
+console_of_one : (h : Plain) (r : Record) (o : Outcome) → outcome h r ≡ Some o → console h (r ∷ []) ≡ o.console
+unfolding console
+console_of_one h r o goes = ap (console_from (λ next. [])) goes ∙ append-nil o.console
+
+pub steps_of : (schedule : Schedule) (g : Plain) (h : Plain) (due : Option Due) (records : List Record) (sink : Sunk) (running : IsRunning schedule g h due records sink) → run g records ≡ Some h
+steps_of schedule g h due records sink running = runs schedule g h (at_start schedule) running.requests records running.reaches
 
 -- one more record that leads to a state, due where it comes
-one_more : (schedule : Schedule) (g next : Plain) (m : Machine) (place : Option Place) (records : List Record) (sink : Sunk) (r : Record) (running : IsRunning schedule g m place records sink) → MayStand (plain_of m) running.requests r → step (plain_of m) r ≡ Some next → Reaches schedule g (records ++ r ∷ []) next (next_requests schedule (plain_of m) running.requests r)
-one_more schedule g next m place records sink r running may goes = goes_on_by_one schedule g (plain_of m) next running.requests records r running.reaches may goes
+one_more : (schedule : Schedule) (g next : Plain) (h : Plain) (due : Option Due) (records : List Record) (sink : Sunk) (r : Record) (running : IsRunning schedule g h due records sink) → MayStand h running.requests r → step h r ≡ Some next → Reaches schedule g (records ++ r ∷ []) next (next_requests schedule h running.requests r)
+one_more schedule g next h due records sink r running may goes = goes_on_by_one schedule g h next running.requests records r running.reaches may goes
 
-pub running_notes : (schedule : Schedule) (g : Plain) (m n : Machine) (here : Place) (next : Option Place) (from to : TraceState) (had mid has : Option (List ℕ)) (running : IsRunning schedule g m (Some here) from.records (sunk had mid)) → running.requests.phase ≡ NoRequest → (notes : Notes m n here next from to (sunk mid has))
-    → (after : IsRunning schedule g n next to.records (sunk had has)) × (after.requests ≡ next_requests schedule (plain_of m) running.requests notes.noted)
-running_notes schedule g m n here next from to had mid has running free notes =
+pub running_notes : (schedule : Schedule) (g : Plain) (h k : Plain) (here : Place) (next : Option Due) (from to : TraceState) (had mid has : Option (List ℕ)) (running : IsRunning schedule g h (Some (InTurn here)) from.records (sunk had mid)) → running.requests.phase ≡ NoRequest → (notes : Notes h k here next from to (sunk mid has))
+    → (after : IsRunning schedule g k next to.records (sunk had has)) × (after.requests ≡ next_requests schedule h running.requests notes.noted)
+running_notes schedule g h k here next from to had mid has running free notes =
     let r = notes.noted in
-    let o : Outcome = record { state = plain_of n; console = notes.took.bytes } in
-    let goes : step (plain_of m) r ≡ Some (plain_of n) = ap (option_map (λ x. x.state)) notes.took.outcome in
+    let o : Outcome = record { state = k; console = notes.took.bytes } in
+    let goes : step h r ≡ Some k = ap (option_map (λ x. x.state)) notes.took.outcome in
     let marks = work_no_mark r notes.own.work in
-    let at : Standing = record { place = Some here; requests = running.requests } in
-    let steps = steps_of schedule g m (Some here) from.records (sunk had mid) running in
-    let pushed_one = pushed schedule g (plain_of m) (plain_of n) (first_standing schedule g) at from.records r steps running.walked running.order (work_is_due (plain_of m) at r free notes.own.due) goes in
+    let at : Standing = standing_of running.upcoming running.requests in
+    let there : due_at h running.upcoming ≡ Some (InTurn here) = sym running.due in
+    let steps = steps_of schedule g h (Some (InTurn here)) from.records (sunk had mid) running in
+    let pushed_one = pushed schedule g h k (first_standing schedule) at from.records r steps running.walked running.order (work_is_due h at here r free there notes.own.due) goes in
     let shows : Took (sunk had has) (console g (from.records ++ r ∷ [])) =
-    took_both had mid has (console g from.records) notes.took.bytes running.shown notes.took.shown ∙ ap (appended had) (sym (console_of_one_more g (plain_of m) from.records r o steps notes.took.outcome)) in
-    let requests = next_requests schedule (plain_of m) running.requests r in
-    let whole : IsRunning schedule g n next (from.records ++ r ∷ []) (sunk had has) = record {
+    took_both had mid has (console g from.records) notes.took.bytes running.shown notes.took.shown ∙ ap (appended had) (sym (console_of_one_more g h from.records r o steps notes.took.outcome)) in
+    let requests = next_requests schedule h running.requests r in
+    let whole : IsRunning schedule g k next (from.records ++ r ∷ []) (sunk had has) = record {
       requests = requests;
-      reaches = one_more schedule g (plain_of n) m (Some here) from.records (sunk had mid) r running (free_stands (plain_of m) running.requests r free marks) goes;
+      reaches = one_more schedule g k h (Some (InTurn here)) from.records (sunk had mid) r running (free_stands h running.requests r free marks) goes;
       order = pushed_one.order;
-      walked = pushed_one.ends ∙ ap (λ (place : Option Place). Some (standing_of place requests)) (sym notes.moves);
+      upcoming = After (InTurn here) r;
+      walked = pushed_one.ends ∙ ap (λ (upcoming : Upcoming). Some (standing_of upcoming requests)) (work_moves h at here r free there marks);
+      due = notes.moves;
       shown = shows;
     } in
-    subst (λ (t : TraceState). (after : IsRunning schedule g n next t.records (sunk had has)) × (after.requests ≡ next_requests schedule (plain_of m) running.requests r)) (sym notes.took.trace) (whole, refl)
+    subst (λ (t : TraceState). (after : IsRunning schedule g k next t.records (sunk had has)) × (after.requests ≡ next_requests schedule h running.requests r)) (sym notes.took.trace) (whole, refl)
 
-pub running_mark : (schedule : Schedule) (g : Plain) (m : Machine) (place : Option Place) (records : List Record) (sink : Sunk) (r : Record) (running : IsRunning schedule g m place records sink) → is_mark r ≡ true → MayStand (plain_of m) running.requests r
-    → (after : IsRunning schedule g m place (records ++ r ∷ []) sink) × (after.requests ≡ next_requests schedule (plain_of m) running.requests r)
-running_mark schedule g m place records sink r running marks may =
-    let is_quiet = mark_is_quiet (plain_of m) r marks in
-    let goes : step (plain_of m) r ≡ Some (plain_of m) = ap (option_map (λ x. x.state)) is_quiet in
-    let here : Standing = record { place = place; requests = running.requests } in
-    let steps = steps_of schedule g m place records sink running in
-    let pushed_one = pushed schedule g (plain_of m) (plain_of m) (first_standing schedule g) here records r steps running.walked running.order (mark_is_due (plain_of m) here r marks) goes in
-    let next = next_requests schedule (plain_of m) running.requests r in
-    let whole : IsRunning schedule g m place (records ++ r ∷ []) sink = record {
+pub running_mark : (schedule : Schedule) (g : Plain) (h : Plain) (due : Option Due) (records : List Record) (sink : Sunk) (r : Record) (running : IsRunning schedule g h due records sink) → is_mark r ≡ true → MayStand h running.requests r
+    → (after : IsRunning schedule g h due (records ++ r ∷ []) sink) × (after.requests ≡ next_requests schedule h running.requests r)
+running_mark schedule g h due records sink r running marks may =
+    let is_quiet = mark_is_quiet h r marks in
+    let goes : step h r ≡ Some h = ap (option_map (λ x. x.state)) is_quiet in
+    let here : Standing = standing_of running.upcoming running.requests in
+    let steps = steps_of schedule g h due records sink running in
+    let pushed_one = pushed schedule g h h (first_standing schedule) here records r steps running.walked running.order (mark_is_due h here r marks) goes in
+    let next = next_requests schedule h running.requests r in
+    let whole : IsRunning schedule g h due (records ++ r ∷ []) sink = record {
       requests = next;
-      reaches = one_more schedule g (plain_of m) m place records sink r running may goes;
+      reaches = one_more schedule g h h due records sink r running may goes;
       order = pushed_one.order;
-      walked = pushed_one.ends ∙ ap (λ (place : Option Place). Some (standing_of place next)) (mark_stays (plain_of m) place r marks);
-      shown = running.shown ∙ ap (appended sink.before) (sym (console_of_one_more g (plain_of m) records r (quiet (plain_of m)) steps is_quiet ∙ append-nil (console g records)));
+      upcoming = running.upcoming;
+      walked = pushed_one.ends ∙ ap (λ (upcoming : Upcoming). Some (standing_of upcoming next)) (mark_stays h here r marks);
+      due = running.due;
+      shown = running.shown ∙ ap (appended sink.before) (sym (console_of_one_more g h records r (quiet h) steps is_quiet ∙ append-nil (console g records)));
     } in
     (whole, refl)
 
@@ -188,72 +199,85 @@ noted_mark schedule g r requests keeper later records had mid has noted schedule
   dry = dry;
 }
 
--- a mark with a first part of its line
-pub part_noted : (requests : Requests) (keeper : Keeper) (schedule : Schedule) (r : Record) (records : List Record) (had mid has : Option (List ℕ)) → IsNoted schedule requests keeper records (sunk had mid) → TookFront (sunk mid has) (line_of keeper.lines r) → TookFront (sunk had has) (log_text (records ++ r ∷ []))
-part_noted requests keeper schedule r records had mid has noted front =
-    subst (TookFront (sunk had has)) (ap (λ (l : Progress). log_text records ++ line_of l r) noted.lined ∙ sym (log_grows records r))
-    (took_more had mid has (log_text records) (line_of keeper.lines r) noted.logged front)
+-- an outcome with a first part of its line
+pub part_noted : (requests : Requests) (keeper : Keeper) (schedule : Schedule) (r : Record) (records : List Record) (had mid has : Option (List ℕ)) → IsNoted schedule requests keeper records (sunk had mid) → is_outcome r ≡ true → TookFront (sunk mid has) (line_of keeper.lines r)
+    → (lines : List ℕ) × (CutLines (records ++ r ∷ []) lines × Took (sunk had has) lines)
+part_noted requests keeper schedule r records had mid has noted outcome front =
+    let line = line_of (after_all log_start records) r in
+    let same : line_of keeper.lines r ≡ line = ap (λ (l : Progress). line_of l r) noted.lined in (
+      log_text records ++ take front.0 line,
+      (
+        record { front = records; last = r; whole = refl; outcome = outcome; count = front.0; text = refl },
+        took_both had mid has (log_text records) (take front.0 line) noted.logged (front.1 ∙ ap (λ l. appended mid (take front.0 l)) same),
+      ),
+    )
 
-pub is_run : (schedule : Schedule) (g : Plain) (m : Machine) (place : Option Place) (records : List Record) (sink : Sunk) (room : ℕ) → (running : IsRunning schedule g m place records sink) → length records ≤ room → IsRun schedule g room records (plain_of m)
-is_run schedule g m place records sink room running fits = record {
-  steps = steps_of schedule g m place records sink running;
-  order = running.order;
+pub is_run : (schedule : Schedule) (g : Plain) (h : Plain) (due : Option Due) (records : List Record) (sink : Sunk) (room : ℕ) → (running : IsRunning schedule g h due records sink) → length records ≤ room → IsRun schedule g room records h
+is_run schedule g h due records sink room running fits = record {
+  steps = steps_of schedule g h due records sink running;
   requests = running.requests;
   reaches = running.reaches;
   fits = fits;
 }
 
-pub running_shown : (schedule : Schedule) (g : Plain) (m : Machine) (place : Option Place) (records : List Record) (sink : Sunk) (room : ℕ) → IsRunning schedule g m place records sink → length records ≤ room → Shown schedule g room records sink
-running_shown schedule g m place records sink room running fits = record { state = plain_of m; run = is_run schedule g m place records sink room running fits; console = running.shown }
+pub running_shown : (schedule : Schedule) (g : Plain) (h : Plain) (due : Option Due) (records : List Record) (sink : Sunk) (room : ℕ) → IsRunning schedule g h due records sink → length records ≤ room → Shown schedule g room records sink
+running_shown schedule g h due records sink room running fits = record { state = h; run = is_run schedule g h due records sink room running fits; console = running.shown }
 
-pub running_cut : (schedule : Schedule) (g : Plain) (m : Machine) (place : Option Place) (records : List Record) (sink : Sunk) (room : ℕ) → IsRunning schedule g m place records sink → length records ≤ room → CutShort schedule g room records sink
-running_cut schedule g m place records sink room running fits = record { state = plain_of m; run = is_run schedule g m place records sink room running fits; console = took_front sink (console g records) running.shown }
-
-pub running_spoils : (schedule : Schedule) (g : Plain) (m : Machine) (here : Place) (from to : TraceState) (room : ℕ) (had mid has : Option (List ℕ)) (running : IsRunning schedule g m (Some here) from.records (sunk had mid)) → running.requests.phase ≡ NoRequest → (spoils : Spoils m here from to (sunk mid has)) → length from.records + 1 ≤ room → CutShort schedule g room to.records (sunk had has)
-running_spoils schedule g m here from to room had mid has running free spoils fits =
+-- one more record, of whose bytes the console took a first part
+pub running_spoils : (schedule : Schedule) (g : Plain) (h : Plain) (here : Place) (from to : TraceState) (room : ℕ) (had mid has : Option (List ℕ)) (running : IsRunning schedule g h (Some (InTurn here)) from.records (sunk had mid)) → running.requests.phase ≡ NoRequest → (spoils : Spoils h here from to (sunk mid has)) → length from.records + 1 ≤ room
+    → CutShort schedule g room to.records (sunk had has) × GoesInRounds schedule g to.records
+running_spoils schedule g h here from to room had mid has running free spoils fits =
     let r = spoils.noted in
     let broke = spoils.broke in
     let o : Outcome = record { state = broke.state; console = broke.bytes } in
-    let goes : step (plain_of m) r ≡ Some broke.state = ap (option_map (λ x. x.state)) broke.outcome in
+    let goes : step h r ≡ Some broke.state = ap (option_map (λ x. x.state)) broke.outcome in
     let marks = work_no_mark r spoils.own.work in
-    let at : Standing = record { place = Some here; requests = running.requests } in
-    let steps = steps_of schedule g m (Some here) from.records (sunk had mid) running in
-    let pushed_one = pushed schedule g (plain_of m) broke.state (first_standing schedule g) at from.records r steps running.walked running.order (work_is_due (plain_of m) at r free spoils.own.due) goes in
-    let reached = one_more schedule g broke.state m (Some here) from.records (sunk had mid) r running (free_stands (plain_of m) running.requests r free marks) goes in
+    let at : Standing = standing_of running.upcoming running.requests in
+    let there : due_at h running.upcoming ≡ Some (InTurn here) = sym running.due in
+    let steps = steps_of schedule g h (Some (InTurn here)) from.records (sunk had mid) running in
+    let pushed_one = pushed schedule g h broke.state (first_standing schedule) at from.records r steps running.walked running.order (work_is_due h at here r free there spoils.own.due) goes in
+    let reached = one_more schedule g broke.state h (Some (InTurn here)) from.records (sunk had mid) r running (free_stands h running.requests r free marks) goes in
     let enough : length (from.records ++ r ∷ []) ≤ room = omega (arith, length-append from.records (r ∷ [])) in
+    let shows : TookThen (sunk had has) (console g from.records) (console h (r ∷ [])) =
+    subst (TookThen (sunk had has) (console g from.records)) (sym (console_of_one h r o broke.outcome)) (took_then had mid has (console g from.records) broke.bytes running.shown broke.shown) in
     let whole : CutShort schedule g room (from.records ++ r ∷ []) (sunk had has) = record {
+      front = from.records;
+      last = r;
+      whole = refl;
+      work = spoils.own.work;
+      before = h;
+      there = steps;
       state = broke.state;
       run = record {
-        steps = runs schedule g broke.state (at_start schedule) (next_requests schedule (plain_of m) running.requests r) (from.records ++ r ∷ []) reached;
-        order = pushed_one.order;
-        requests = next_requests schedule (plain_of m) running.requests r;
+        steps = runs schedule g broke.state (at_start schedule) (next_requests schedule h running.requests r) (from.records ++ r ∷ []) reached;
+        requests = next_requests schedule h running.requests r;
         reaches = reached;
         fits = enough;
       };
-      console = subst (TookFront (sunk had has)) (sym (console_of_one_more g (plain_of m) from.records r o steps broke.outcome)) (took_more had mid has (console g from.records) broke.bytes running.shown broke.shown);
+      console = shows;
     } in
-    subst (λ (t : TraceState). CutShort schedule g room t.records (sunk had has)) (sym broke.trace) whole
+    subst (λ (t : TraceState). CutShort schedule g room t.records (sunk had has) × GoesInRounds schedule g t.records) (sym broke.trace) (whole, pushed_one.order)
 
 -- the log of a work record that was cut off
-pub spoils_log : (schedule : Schedule) (requests : Requests) (keeper : Keeper) (m : Machine) (here : Place) (from to : TraceState) (sink log : Sunk) → IsNoted schedule requests keeper from.records log → (spoils : Spoils m here from to sink) → TookFront log (log_text to.records)
-spoils_log schedule requests keeper m here from to sink log noted spoils =
+pub spoils_log : (schedule : Schedule) (requests : Requests) (keeper : Keeper) (h : Plain) (here : Place) (from to : TraceState) (sink log : Sunk) → IsNoted schedule requests keeper from.records log → (spoils : Spoils h here from to sink) → Took log (log_text to.records)
+spoils_log schedule requests keeper h here from to sink log noted spoils =
     let r = spoils.noted in
     let same : log_text (from.records ++ r ∷ []) ≡ log_text from.records = log_grows from.records r ∙ ap (λ line. log_text from.records ++ line) (no_line (after_all log_start from.records) r (work_no_mark r spoils.own.work)) ∙ append-nil (log_text from.records) in
-    subst (λ (t : TraceState). TookFront log (log_text t.records)) (sym spoils.broke.trace) (took_front log (log_text (from.records ++ r ∷ [])) (noted.logged ∙ ap (appended log.before) (sym same)))
+    subst (λ (t : TraceState). Took log (log_text t.records)) (sym spoils.broke.trace) (noted.logged ∙ ap (appended log.before) (sym same))
 
 -- one more record takes one from the room
-pub notes_size : (m n : Machine) (here : Place) (next : Option Place) (from to : TraceState) (sink : Sunk) (total : ℕ) → Notes m n here next from to sink → 0 < from.room → length from.records + from.room ≡ total → length to.records + to.room ≡ total
-notes_size m n here next from to sink total notes some size =
+pub notes_size : (h k : Plain) (here : Place) (next : Option Due) (from to : TraceState) (sink : Sunk) (total : ℕ) → Notes h k here next from to sink → 0 < from.room → length from.records + from.room ≡ total → length to.records + to.room ≡ total
+notes_size h k here next from to sink total notes some size =
     subst (λ (t : TraceState). length t.records + t.room ≡ total) (sym notes.took.trace) (omega (arith, length-append from.records (notes.noted ∷ [])))
 
-pub notes_room : (m n : Machine) (here : Place) (next : Option Place) (from to : TraceState) (sink : Sunk) → Notes m n here next from to sink → to.room ≡ from.room - 1
-notes_room m n here next from to sink notes = ap (λ (t : TraceState). t.room) notes.took.trace
+pub notes_room : (h k : Plain) (here : Place) (next : Option Due) (from to : TraceState) (sink : Sunk) → Notes h k here next from to sink → to.room ≡ from.room - 1
+notes_room h k here next from to sink notes = ap (λ (t : TraceState). t.room) notes.took.trace
 
 -- how a run ends whose console took all that it writes
-pub ran_out : (schedule : Schedule) (g : Plain) (m : Machine) (place : Option Place) (trace : TraceState) (sink log : Sunk) (total : ℕ) (running : IsRunning schedule g m place trace.records sink) → (running.requests.phase ≡ NoRequest) ⊎ (trace.room ≡ 0) → length trace.records + trace.room ≡ total → ended (plain_of m) ≡ true → RanOut schedule g total trace.records sink
+pub ran_out : (schedule : Schedule) (g : Plain) (h : Plain) (due : Option Due) (trace : TraceState) (sink log : Sunk) (total : ℕ) (running : IsRunning schedule g h due trace.records sink) → (running.requests.phase ≡ NoRequest) ⊎ (trace.room ≡ 0) → length trace.records + trace.room ≡ total → ended h ≡ true → RanOut schedule g total trace.records sink
 unfolding running_shown is_run
-ran_out schedule g m place trace sink log total running settled size over = record {
-  shown = running_shown schedule g m place trace.records sink total running (omega arith);
+ran_out schedule g h due trace sink log total running settled size over = record {
+  shown = running_shown schedule g h due trace.records sink total running (omega arith);
   nobody = over;
   answered = by settled;
 }
@@ -262,15 +286,16 @@ ran_out schedule g m place trace sink log total running settled size over = reco
     by (inl free) = inl free
     by (inr none) = inr (omega arith)
 
-pub filled_up : (schedule : Schedule) (g : Plain) (m : Machine) (place : Option Place) (trace : TraceState) (sink : Sunk) (total : ℕ) → IsRunning schedule g m place trace.records sink → trace.room ≡ 0 → length trace.records + trace.room ≡ total → ended (plain_of m) ≡ false → FilledUp schedule g total trace.records sink
+pub filled_up : (schedule : Schedule) (g : Plain) (h : Plain) (due : Option Due) (trace : TraceState) (sink : Sunk) (total : ℕ) → IsRunning schedule g h due trace.records sink → trace.room ≡ 0 → length trace.records + trace.room ≡ total → ended h ≡ false → FilledUp schedule g total trace.records sink
 unfolding running_shown
-filled_up schedule g m place trace sink total running none size on = record { shown = running_shown schedule g m place trace.records sink total running (omega arith); somebody = on; full = omega arith }
+filled_up schedule g h due trace sink total running none size on = record { shown = running_shown schedule g h due trace.records sink total running (omega arith); somebody = on; full = omega arith }
 
-pub got_stuck : (schedule : Schedule) (g : Plain) (m : Machine) (place : Option Place) (trace : TraceState) (sink : Sunk) (total : ℕ) (running : IsRunning schedule g m place trace.records sink) → running.requests.phase ≡ NoRequest → 0 < trace.room → length trace.records + trace.room ≡ total → IsStuck (plain_of m) → GotStuck schedule g total trace.records sink
+pub got_stuck : (schedule : Schedule) (g : Plain) (h : Plain) (due : Option Due) (trace : TraceState) (sink : Sunk) (total : ℕ) (running : IsRunning schedule g h due trace.records sink) → running.requests.phase ≡ NoRequest → 0 < trace.room → length trace.records + trace.room ≡ total → IsStuck h → full_arrive h ≡ h → GotStuck schedule g total trace.records sink
 unfolding running_shown is_run
-got_stuck schedule g m place trace sink total running free some size stuck = record {
-  shown = running_shown schedule g m place trace.records sink total running (omega arith);
+got_stuck schedule g h due trace sink total running free some size stuck arrived = record {
+  shown = running_shown schedule g h due trace.records sink total running (omega arith);
   stuck = stuck;
+  arrived = arrived;
   answered = free;
   roomy = omega arith;
 }

@@ -12,12 +12,12 @@ use Rattle.edge_io.specs.Sink.{appended}
 use Rattle.set_disk.specs.Files.{Files as Folder}
 use Rattle.set_disk.specs.Moments.{LeavesOnly}
 use Rattle.plain_machine.specs.declared.plain.Plain.{Plain}
-use Rattle.plain_machine.specs.Tests.{ended}
+use Rattle.plain_machine.specs.Tests.{ended, full_arrive}
 use Rattle.trace_log.specs.declared.requests.Schedule.{Schedule}
 use Rattle.trace_log.specs.declared.requests.Tally.{Tally}
 use Rattle.trace_log.specs.declared.log_lines.Progress.{Progress}
 use Rattle.trace_log.specs.Trace.{TraceState}
-use Rattle.trace_log.specs.Requests.{Requests, Requested, AfterCut, CanBeHeld, CutAt, tally_after, next_requests}
+use Rattle.trace_log.specs.Requests.{Requests, Requested, AfterCut, CanBeHeld, CutAt, cut_marks, tally_after, next_requests}
 use Rattle.trace_log.specs.LogText.{line_of, after}
 use Rattle.image_store.specs.declared.set_info.SetInfo.{SetInfo}
 use Rattle.image_store.specs.Slots.{last}
@@ -29,11 +29,11 @@ use Rattle.dmtcp_top.specs.declared.keeper.Keeper.{Keeper}
 use Rattle.dmtcp_top.specs.Sessions.{Sunk, sunk, Took, TookFront}
 use Rattle.dmtcp_top.specs.Machines.{plain_of, lives, with_record, IsReady}
 use Rattle.dmtcp_top.specs.Keeping.{IsKept, IsPut, IsSafe, Counts, CountsFaults, IsOutside}
-use Rattle.dmtcp_top.specs.Rounds.{Place}
+use Rattle.dmtcp_top.specs.Rounds.{Due}
 use Rattle.dmtcp_top.specs.UnderWay.{IsUnderWay, IsBrokenOff, IsSettled}
 use Rattle.dmtcp_top.proofs.Sinks.{took_nothing}
 use Rattle.dmtcp_top.proofs.Endings.{goes_on_while_live}
-use Rattle.dmtcp_top.proofs.ImagedKernels.{supported, nothing_on_the_way}
+use Rattle.dmtcp_top.proofs.ImagedKernels.{supported}
 use Rattle.dmtcp_top.proofs.Running.{steps_of}
 use Rattle.dmtcp_top.proofs.Safety.{some_there, new_below, same_below, counts_fault, safe_quiet, safe_looked, safe_put, safe_complete, safe_refused}
 use Rattle.dmtcp_top.proofs.Checkpoints.{lapse_stands, refusal_stands, cut_stands, after_cut, complete_stands, late_refusal_stands, complete_ends, refusal_ends, lapse_ends, cut_tally, marked, broken}
@@ -139,11 +139,11 @@ outside Memory kind = inr refl
 outside (Unsupported p fd k) kind = absurd kind
 
 -- at the cut of a generation
-pub record AtCut {D : Type 0} (reads : D → Option Folder) (moment : D → ℕ) (may_leave : D → Folder → Type 0) (left_since : D → ℕ → Folder → Type 0) (faults : D → ℕ) (schedule : Schedule) (g : Plain) (m : Machine) (place : Option Place) (keeper : Keeper) (trace : TraceState) (sink log : Sunk) (first disk : D) (generation : ℕ) : Type 0 where
-  pub now : IsUnderWay reads moment may_leave left_since faults schedule g m place keeper trace sink log first disk
+pub record AtCut {D : Type 0} (reads : D → Option Folder) (moment : D → ℕ) (may_leave : D → Folder → Type 0) (left_since : D → ℕ → Folder → Type 0) (faults : D → ℕ) (schedule : Schedule) (g : Plain) (h : Plain) (due : Option Due) (keeper : Keeper) (trace : TraceState) (sink log : Sunk) (first disk : D) (generation : ℕ) : Type 0 where
+  pub now : IsUnderWay reads moment may_leave left_since faults schedule g h due keeper trace sink log first disk
   pub cut : now.running.requests.phase ≡ AfterCut []
   pub greatest : now.running.requests.tally.greatest ≡ generation
-  pub at : CutAt g trace.records generation (plain_of m)
+  pub at : CutAt g trace.records generation h
 
 module _ {D : Type 0} {reads : D → Option Folder} {moment : D → ℕ} {may_leave : D → Folder → Type 0} {left_since : D → ℕ → Folder → Type 0} {faults : D → ℕ} where
   refusal_safe : (g : Plain) (records : List Record) (cause : Cause) (first mid next : D) → IsOutside cause → IsSafe reads moment may_leave left_since faults g records first next → CountsFaults records (faults first) (faults mid) → Counts (faults mid) (faults next) → (cause ≡ DiskFault → Rose (faults mid) (faults next)) → IsSafe reads moment may_leave left_since faults g (records ++ Refused cause ∷ []) first next
@@ -152,100 +152,98 @@ module _ {D : Type 0} {reads : D → Option Folder} {moment : D → ℕ} {may_le
   refusal_safe g records (Unsupported p fd k) first mid next kind safe counted counts rose = absurd kind
 
   -- a request that is refused while it waits
-  pub refused_ok : (schedule : Schedule) (g : Plain) (m : Machine) (place : Option Place) (keeper later : Keeper) (from to : TraceState) (sink : Sunk) (had mid has : Option (List ℕ)) (cause : Cause) (first disk next : D)
-      → (before : IsUnderWay reads moment may_leave left_since faults schedule g m place keeper from sink (sunk had mid) first disk) → before.running.requests.phase ≡ Requested [] → CanBeHeld (plain_of m) → IsOutside cause
+  pub refused_ok : (schedule : Schedule) (g : Plain) (h : Plain) (due : Option Due) (keeper later : Keeper) (from to : TraceState) (sink : Sunk) (had mid has : Option (List ℕ)) (cause : Cause) (first disk next : D)
+      → (before : IsUnderWay reads moment may_leave left_since faults schedule g h due keeper from sink (sunk had mid) first disk) → before.running.requests.phase ≡ Requested [] → CanBeHeld h → IsOutside cause
       → to ≡ with_record from (Refused cause) → later.schedule ≡ keeper.schedule → later.lines ≡ after keeper.lines (Refused cause) → later.tally ≡ tally_after keeper.tally (Refused cause) → Took (sunk mid has) (line_of keeper.lines (Refused cause))
       → IsSafe reads moment may_leave left_since faults g (from.records ++ Refused cause ∷ []) first next
-      → (after : IsUnderWay reads moment may_leave left_since faults schedule g m place later to sink (sunk had has) first next) × IsSettled after.running.requests to
-  refused_ok schedule g m place keeper later from to sink had mid has cause first disk next before waits held kind traced scheduled lined tallied took safe =
+      → (after : IsUnderWay reads moment may_leave left_since faults schedule g h due later to sink (sunk had has) first next) × IsSettled after.running.requests to
+  refused_ok schedule g h due keeper later from to sink had mid has cause first disk next before waits held kind traced scheduled lined tallied took safe =
       let bounds = refused_lines keeper.lines cause in
-      let done = marked schedule g m place keeper later from to sink had mid has (Refused cause) first disk next before refl (refusal_stands (plain_of m) before.running.requests cause waits held (outside cause kind)) traced scheduled lined tallied took
+      let done = marked schedule g h due keeper later from to sink had mid has (Refused cause) first disk next before refl (refusal_stands h before.running.requests cause waits held (outside cause kind)) traced scheduled lined tallied took
       (subst (λ (l : Progress). l.request ≤ suc keeper.lines.request) (sym lined) bounds.0) (ap (λ (l : Progress). l.drained) lined ∙ bounds.1) safe in
-      (done.0, inl (ap (λ (q : Requests). q.phase) done.1 ∙ refusal_ends schedule (plain_of m) before.running.requests cause (inl waits)))
+      (done.0, inl (ap (λ (q : Requests). q.phase) done.1 ∙ refusal_ends schedule h before.running.requests cause (inl waits)))
 
-  pub refused_broken : (schedule : Schedule) (g : Plain) (m : Machine) (place : Option Place) (keeper : Keeper) (from to : TraceState) (sink : Sunk) (had mid has : Option (List ℕ)) (cause : Cause) (first disk next : D)
-      → (before : IsUnderWay reads moment may_leave left_since faults schedule g m place keeper from sink (sunk had mid) first disk) → before.running.requests.phase ≡ Requested [] → CanBeHeld (plain_of m) → IsOutside cause
+  pub refused_broken : (schedule : Schedule) (g : Plain) (h : Plain) (due : Option Due) (keeper : Keeper) (from to : TraceState) (sink : Sunk) (had mid has : Option (List ℕ)) (cause : Cause) (first disk next : D)
+      → (before : IsUnderWay reads moment may_leave left_since faults schedule g h due keeper from sink (sunk had mid) first disk) → before.running.requests.phase ≡ Requested [] → CanBeHeld h → IsOutside cause
       → to ≡ with_record from (Refused cause) → TookFront (sunk mid has) (line_of keeper.lines (Refused cause)) → IsSafe reads moment may_leave left_since faults g (from.records ++ Refused cause ∷ []) first next
-      → IsBrokenOff reads moment may_leave left_since faults schedule g m place to sink (sunk had has) first next
-  refused_broken schedule g m place keeper from to sink had mid has cause first disk next before waits held kind traced front safe =
-      broken schedule g m place keeper from to sink had mid has (Refused cause) first disk next before refl (refusal_stands (plain_of m) before.running.requests cause waits held (outside cause kind)) traced front safe
+      → IsBrokenOff reads moment may_leave left_since faults schedule g h due to sink (sunk had has) first next
+  refused_broken schedule g h due keeper from to sink had mid has cause first disk next before waits held kind traced front safe =
+      broken schedule g h due keeper from to sink had mid has (Refused cause) first disk next before refl (refusal_stands h before.running.requests cause waits held (outside cause kind)) traced front safe
 
-  pub lapsed_ok : (schedule : Schedule) (g : Plain) (m : Machine) (place : Option Place) (keeper later : Keeper) (from to : TraceState) (sink : Sunk) (had mid has : Option (List ℕ)) (first disk : D)
-      → (before : IsUnderWay reads moment may_leave left_since faults schedule g m place keeper from sink (sunk had mid) first disk) → before.running.requests.phase ≡ Requested [] → ended (plain_of m) ≡ true
+  pub lapsed_ok : (schedule : Schedule) (g : Plain) (h : Plain) (due : Option Due) (keeper later : Keeper) (from to : TraceState) (sink : Sunk) (had mid has : Option (List ℕ)) (first disk : D)
+      → (before : IsUnderWay reads moment may_leave left_since faults schedule g h due keeper from sink (sunk had mid) first disk) → before.running.requests.phase ≡ Requested [] → ended h ≡ true
       → to ≡ with_record from Lapsed → later.schedule ≡ keeper.schedule → later.lines ≡ after keeper.lines Lapsed → later.tally ≡ tally_after keeper.tally Lapsed → Took (sunk mid has) (line_of keeper.lines Lapsed)
-      → (after : IsUnderWay reads moment may_leave left_since faults schedule g m place later to sink (sunk had has) first disk) × IsSettled after.running.requests to
-  lapsed_ok schedule g m place keeper later from to sink had mid has first disk before waits over traced scheduled lined tallied took =
+      → (after : IsUnderWay reads moment may_leave left_since faults schedule g h due later to sink (sunk had has) first disk) × IsSettled after.running.requests to
+  lapsed_ok schedule g h due keeper later from to sink had mid has first disk before waits over traced scheduled lined tallied took =
       let bounds = lapsed_lines keeper.lines in
-      let done = marked schedule g m place keeper later from to sink had mid has Lapsed first disk disk before refl (lapse_stands (plain_of m) before.running.requests waits over) traced scheduled lined tallied took
+      let done = marked schedule g h due keeper later from to sink had mid has Lapsed first disk disk before refl (lapse_stands h before.running.requests waits over) traced scheduled lined tallied took
       (subst (λ (l : Progress). l.request ≤ suc keeper.lines.request) (sym lined) bounds.0) (ap (λ (l : Progress). l.drained) lined ∙ bounds.1)
       (safe_quiet g from.records Lapsed first disk (not_complete Lapsed (λ generation is. cc)) refl before.safe) in
-      (done.0, inl (ap (λ (q : Requests). q.phase) done.1 ∙ lapse_ends schedule (plain_of m) before.running.requests waits))
+      (done.0, inl (ap (λ (q : Requests). q.phase) done.1 ∙ lapse_ends schedule h before.running.requests waits))
 
-  pub lapsed_broken : (schedule : Schedule) (g : Plain) (m : Machine) (place : Option Place) (keeper : Keeper) (from to : TraceState) (sink : Sunk) (had mid has : Option (List ℕ)) (first disk : D)
-      → (before : IsUnderWay reads moment may_leave left_since faults schedule g m place keeper from sink (sunk had mid) first disk) → before.running.requests.phase ≡ Requested [] → ended (plain_of m) ≡ true
-      → to ≡ with_record from Lapsed → TookFront (sunk mid has) (line_of keeper.lines Lapsed) → IsBrokenOff reads moment may_leave left_since faults schedule g m place to sink (sunk had has) first disk
-  lapsed_broken schedule g m place keeper from to sink had mid has first disk before waits over traced front =
-      broken schedule g m place keeper from to sink had mid has Lapsed first disk disk before refl (lapse_stands (plain_of m) before.running.requests waits over) traced front
+  pub lapsed_broken : (schedule : Schedule) (g : Plain) (h : Plain) (due : Option Due) (keeper : Keeper) (from to : TraceState) (sink : Sunk) (had mid has : Option (List ℕ)) (first disk : D)
+      → (before : IsUnderWay reads moment may_leave left_since faults schedule g h due keeper from sink (sunk had mid) first disk) → before.running.requests.phase ≡ Requested [] → ended h ≡ true
+      → to ≡ with_record from Lapsed → TookFront (sunk mid has) (line_of keeper.lines Lapsed) → IsBrokenOff reads moment may_leave left_since faults schedule g h due to sink (sunk had has) first disk
+  lapsed_broken schedule g h due keeper from to sink had mid has first disk before waits over traced front =
+      broken schedule g h due keeper from to sink had mid has Lapsed first disk disk before refl (lapse_stands h before.running.requests waits over) traced front
       (safe_quiet g from.records Lapsed first disk (not_complete Lapsed (λ generation is. cc)) refl before.safe)
 
   -- the cut
-  pub cut_made : (schedule : Schedule) (g : Plain) (m : Machine) (place : Option Place) (keeper later : Keeper) (from to : TraceState) (sink : Sunk) (had mid : Option (List ℕ)) (generation : ℕ) (first disk next : D)
+  pub cut_made : (schedule : Schedule) (g : Plain) (h : Plain) (due : Option Due) (keeper later : Keeper) (from to : TraceState) (sink : Sunk) (had mid : Option (List ℕ)) (generation : ℕ) (first disk next : D)
       → ((d : D) (t : ℕ) (image : Folder) → t ≤ moment d → may_leave d image → left_since d t image)
-      → (before : IsUnderWay reads moment may_leave left_since faults schedule g m place keeper from sink (sunk had mid) first disk) → before.running.requests.phase ≡ Requested [] → IsReady m → lives m ≡ true
+      → (before : IsUnderWay reads moment may_leave left_since faults schedule g h due keeper from sink (sunk had mid) first disk) → before.running.requests.phase ≡ Requested [] → CanBeHeld h → full_arrive h ≡ h → cut_marks h ≡ []
       → generation ≡ suc keeper.tally.greatest → to ≡ with_record from (Cut generation) → later.schedule ≡ keeper.schedule → later.lines ≡ keeper.lines → later.tally ≡ tally_after keeper.tally (Cut generation)
       → ChangesNothing reads moment may_leave left_since disk next → LeavesOnly moment left_since disk next (may_leave disk) → Counts (faults disk) (faults next)
-      → AtCut reads moment may_leave left_since faults schedule g m place later to sink (sunk had mid) first next generation
-  cut_made schedule g m place keeper later from to sink had mid generation first disk next counts_now before waits ready alive is traced scheduled lined tallied nothing leaves counts =
-      let held = can_be_held m ready alive in
-      let way = nothing_on_the_way (plain_of m) (ready.imaged alive) in
+      → AtCut reads moment may_leave left_since faults schedule g h due later to sink (sunk had mid) first next generation
+  cut_made schedule g h due keeper later from to sink had mid generation first disk next counts_now before waits held arrived none is traced scheduled lined tallied nothing leaves counts =
       let numbered : generation ≡ before.running.requests.tally.greatest + 1 = let same = ap (λ (t : Tally). t.greatest) before.noted.tallied in omega arith in
       let looked = safe_looked g from.records first disk next counts_now before.safe nothing leaves counts.later counts.small in
       let safe = safe_quiet g from.records (Cut generation) first next (not_complete (Cut generation) (λ n e. cc)) refl looked in
       let silent : Took (sunk mid mid) (line_of keeper.lines (Cut generation)) = took_nothing mid ∙ ap (appended mid) (sym (no_cut_line keeper.lines generation)) in
-      let done = marked schedule g m place keeper later from to sink had mid mid (Cut generation) first disk next before refl (cut_stands (plain_of m) before.running.requests generation waits held way.0 numbered) traced
+      let done = marked schedule g h due keeper later from to sink had mid mid (Cut generation) first disk next before refl (cut_stands h before.running.requests generation waits held arrived numbered) traced
       scheduled (lined ∙ sym (cut_lines keeper.lines generation)) tallied silent (let same = ap (λ (l : Progress). l.request) lined in omega arith) (ap (λ (l : Progress). l.drained) lined ∙ before.noted.dry) safe in
       record {
         now = done.0;
-        cut = ap (λ (q : Requests). q.phase) done.1 ∙ after_cut schedule (plain_of m) before.running.requests generation way.1;
-        greatest = ap (λ (q : Requests). q.tally.greatest) done.1 ∙ next_greatest schedule (plain_of m) before.running.requests generation;
-        at = subst (λ (t : TraceState). CutAt g t.records generation (plain_of m)) (sym traced) (record { front = from.records; rest = []; whole = refl; there = steps_of schedule g m place from.records sink before.running });
+        cut = ap (λ (q : Requests). q.phase) done.1 ∙ after_cut schedule h before.running.requests generation none;
+        greatest = ap (λ (q : Requests). q.tally.greatest) done.1 ∙ next_greatest schedule h before.running.requests generation;
+        at = subst (λ (t : TraceState). CutAt g t.records generation h) (sym traced) (record { front = from.records; rest = []; whole = refl; there = steps_of schedule g h due from.records sink before.running });
       }
 
   -- the set is complete
-  pub completed_ok : (schedule : Schedule) (g : Plain) (m : Machine) (place : Option Place) (keeper later : Keeper) (from to : TraceState) (sink : Sunk) (had mid has : Option (List ℕ)) (generation : ℕ) (first disk next : D)
-      → (before : AtCut reads moment may_leave left_since faults schedule g m place keeper from sink (sunk had mid) first disk generation) → to ≡ with_record from (Complete generation) → later.schedule ≡ keeper.schedule → later.lines ≡ after keeper.lines (Complete generation)
+  pub completed_ok : (schedule : Schedule) (g : Plain) (h : Plain) (due : Option Due) (keeper later : Keeper) (from to : TraceState) (sink : Sunk) (had mid has : Option (List ℕ)) (generation : ℕ) (first disk next : D)
+      → (before : AtCut reads moment may_leave left_since faults schedule g h due keeper from sink (sunk had mid) first disk generation) → to ≡ with_record from (Complete generation) → later.schedule ≡ keeper.schedule → later.lines ≡ after keeper.lines (Complete generation)
       → later.tally ≡ tally_after keeper.tally (Complete generation) → Took (sunk mid has) (line_of keeper.lines (Complete generation)) → IsSafe reads moment may_leave left_since faults g (from.records ++ Complete generation ∷ []) first next
-      → (after : IsUnderWay reads moment may_leave left_since faults schedule g m place later to sink (sunk had has) first next) × IsSettled after.running.requests to
-  completed_ok schedule g m place keeper later from to sink had mid has generation first disk next before traced scheduled lined tallied took safe =
+      → (after : IsUnderWay reads moment may_leave left_since faults schedule g h due later to sink (sunk had has) first next) × IsSettled after.running.requests to
+  completed_ok schedule g h due keeper later from to sink had mid has generation first disk next before traced scheduled lined tallied took safe =
       let bounds = complete_lines keeper.lines generation in
       let requests = before.now.running.requests in
-      let done = marked schedule g m place keeper later from to sink had mid has (Complete generation) first disk next before.now refl (complete_stands (plain_of m) requests generation before.cut (sym before.greatest)) traced scheduled lined tallied took
+      let done = marked schedule g h due keeper later from to sink had mid has (Complete generation) first disk next before.now refl (complete_stands h requests generation before.cut (sym before.greatest)) traced scheduled lined tallied took
       (subst (λ (l : Progress). l.request ≤ suc keeper.lines.request) (sym lined) bounds.0) (ap (λ (l : Progress). l.drained) lined ∙ bounds.1) safe in
-      (done.0, inl (ap (λ (q : Requests). q.phase) done.1 ∙ complete_ends schedule (plain_of m) requests generation before.cut))
+      (done.0, inl (ap (λ (q : Requests). q.phase) done.1 ∙ complete_ends schedule h requests generation before.cut))
 
-  pub completed_broken : (schedule : Schedule) (g : Plain) (m : Machine) (place : Option Place) (keeper : Keeper) (from to : TraceState) (sink : Sunk) (had mid has : Option (List ℕ)) (generation : ℕ) (first disk next : D)
-      → (before : AtCut reads moment may_leave left_since faults schedule g m place keeper from sink (sunk had mid) first disk generation) → to ≡ with_record from (Complete generation) → TookFront (sunk mid has) (line_of keeper.lines (Complete generation))
-      → IsSafe reads moment may_leave left_since faults g (from.records ++ Complete generation ∷ []) first next → IsBrokenOff reads moment may_leave left_since faults schedule g m place to sink (sunk had has) first next
-  completed_broken schedule g m place keeper from to sink had mid has generation first disk next before traced front safe =
-      broken schedule g m place keeper from to sink had mid has (Complete generation) first disk next before.now refl (complete_stands (plain_of m) before.now.running.requests generation before.cut (sym before.greatest)) traced front safe
+  pub completed_broken : (schedule : Schedule) (g : Plain) (h : Plain) (due : Option Due) (keeper : Keeper) (from to : TraceState) (sink : Sunk) (had mid has : Option (List ℕ)) (generation : ℕ) (first disk next : D)
+      → (before : AtCut reads moment may_leave left_since faults schedule g h due keeper from sink (sunk had mid) first disk generation) → to ≡ with_record from (Complete generation) → TookFront (sunk mid has) (line_of keeper.lines (Complete generation))
+      → IsSafe reads moment may_leave left_since faults g (from.records ++ Complete generation ∷ []) first next → IsBrokenOff reads moment may_leave left_since faults schedule g h due to sink (sunk had has) first next
+  completed_broken schedule g h due keeper from to sink had mid has generation first disk next before traced front safe =
+      broken schedule g h due keeper from to sink had mid has (Complete generation) first disk next before.now refl (complete_stands h before.now.running.requests generation before.cut (sym before.greatest)) traced front safe
 
   -- the set is refused after the cut
-  pub late_ok : (schedule : Schedule) (g : Plain) (m : Machine) (place : Option Place) (keeper later : Keeper) (from to : TraceState) (sink : Sunk) (had mid has : Option (List ℕ)) (generation : ℕ) (cause : Cause) (first disk next : D)
-      → (before : AtCut reads moment may_leave left_since faults schedule g m place keeper from sink (sunk had mid) first disk generation) → IsOutside cause → to ≡ with_record from (Refused cause) → later.schedule ≡ keeper.schedule → later.lines ≡ after keeper.lines (Refused cause)
+  pub late_ok : (schedule : Schedule) (g : Plain) (h : Plain) (due : Option Due) (keeper later : Keeper) (from to : TraceState) (sink : Sunk) (had mid has : Option (List ℕ)) (generation : ℕ) (cause : Cause) (first disk next : D)
+      → (before : AtCut reads moment may_leave left_since faults schedule g h due keeper from sink (sunk had mid) first disk generation) → IsOutside cause → to ≡ with_record from (Refused cause) → later.schedule ≡ keeper.schedule → later.lines ≡ after keeper.lines (Refused cause)
       → later.tally ≡ tally_after keeper.tally (Refused cause) → Took (sunk mid has) (line_of keeper.lines (Refused cause)) → IsSafe reads moment may_leave left_since faults g (from.records ++ Refused cause ∷ []) first next
-      → (after : IsUnderWay reads moment may_leave left_since faults schedule g m place later to sink (sunk had has) first next) × IsSettled after.running.requests to
-  late_ok schedule g m place keeper later from to sink had mid has generation cause first disk next before kind traced scheduled lined tallied took safe =
+      → (after : IsUnderWay reads moment may_leave left_since faults schedule g h due later to sink (sunk had has) first next) × IsSettled after.running.requests to
+  late_ok schedule g h due keeper later from to sink had mid has generation cause first disk next before kind traced scheduled lined tallied took safe =
       let bounds = refused_lines keeper.lines cause in
       let requests = before.now.running.requests in
-      let done = marked schedule g m place keeper later from to sink had mid has (Refused cause) first disk next before.now refl (late_refusal_stands (plain_of m) requests cause before.cut (outside cause kind)) traced scheduled lined tallied took
+      let done = marked schedule g h due keeper later from to sink had mid has (Refused cause) first disk next before.now refl (late_refusal_stands h requests cause before.cut (outside cause kind)) traced scheduled lined tallied took
       (subst (λ (l : Progress). l.request ≤ suc keeper.lines.request) (sym lined) bounds.0) (ap (λ (l : Progress). l.drained) lined ∙ bounds.1) safe in
-      (done.0, inl (ap (λ (q : Requests). q.phase) done.1 ∙ refusal_ends schedule (plain_of m) requests cause (inr before.cut)))
+      (done.0, inl (ap (λ (q : Requests). q.phase) done.1 ∙ refusal_ends schedule h requests cause (inr before.cut)))
 
-  pub late_broken : (schedule : Schedule) (g : Plain) (m : Machine) (place : Option Place) (keeper : Keeper) (from to : TraceState) (sink : Sunk) (had mid has : Option (List ℕ)) (generation : ℕ) (cause : Cause) (first disk next : D)
-      → (before : AtCut reads moment may_leave left_since faults schedule g m place keeper from sink (sunk had mid) first disk generation) → IsOutside cause → to ≡ with_record from (Refused cause) → TookFront (sunk mid has) (line_of keeper.lines (Refused cause))
-      → IsSafe reads moment may_leave left_since faults g (from.records ++ Refused cause ∷ []) first next → IsBrokenOff reads moment may_leave left_since faults schedule g m place to sink (sunk had has) first next
-  late_broken schedule g m place keeper from to sink had mid has generation cause first disk next before kind traced front safe =
-      broken schedule g m place keeper from to sink had mid has (Refused cause) first disk next before.now refl (late_refusal_stands (plain_of m) before.now.running.requests cause before.cut (outside cause kind)) traced front safe
+  pub late_broken : (schedule : Schedule) (g : Plain) (h : Plain) (due : Option Due) (keeper : Keeper) (from to : TraceState) (sink : Sunk) (had mid has : Option (List ℕ)) (generation : ℕ) (cause : Cause) (first disk next : D)
+      → (before : AtCut reads moment may_leave left_since faults schedule g h due keeper from sink (sunk had mid) first disk generation) → IsOutside cause → to ≡ with_record from (Refused cause) → TookFront (sunk mid has) (line_of keeper.lines (Refused cause))
+      → IsSafe reads moment may_leave left_since faults g (from.records ++ Refused cause ∷ []) first next → IsBrokenOff reads moment may_leave left_since faults schedule g h due to sink (sunk had has) first next
+  late_broken schedule g h due keeper from to sink had mid has generation cause first disk next before kind traced front safe =
+      broken schedule g h due keeper from to sink had mid has (Refused cause) first disk next before.now refl (late_refusal_stands h before.now.running.requests cause before.cut (outside cause kind)) traced front safe
 
   -- what a crash leaves, by how the request ended
   pub safe_open_refused : (g : Plain) (records : List Record) (cause : Cause) (first disk next : D) → ((d : D) (t : ℕ) (image : Folder) → t ≤ moment d → may_leave d image → left_since d t image)

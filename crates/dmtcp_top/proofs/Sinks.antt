@@ -4,7 +4,7 @@ use Rattle.std.specs.Prelude.{min}
 use Rattle.std.proofs.Math.Seq.{take-append-add, take-length}
 use Rattle.std.proofs.lemmas.List.{take-append-le, take_min}
 use Rattle.edge_io.specs.Sink.{appended}
-use Rattle.dmtcp_top.specs.Sessions.{Sunk, sunk, Took, TookFront}
+use Rattle.dmtcp_top.specs.Sessions.{Sunk, sunk, Took, TookFront, TookThen}
 
 pub took_nothing : (taken : Option (List ℕ)) → Took (sunk taken taken) []
 took_nothing None = refl
@@ -21,6 +21,9 @@ took_both had mid has xs ys first second = second ∙ ap (λ taken. appended tak
 pub took_more : (had mid has : Option (List ℕ)) (xs ys : List ℕ) → Took (sunk had mid) xs → TookFront (sunk mid has) ys → TookFront (sunk had has) (xs ++ ys)
 took_more had mid has xs ys first second =
     (length xs + second.0, took_both had mid has xs (take second.0 ys) first second.1 ∙ ap (appended had) (sym (take-append-add xs ys second.0)))
+
+pub took_then : (had mid has : Option (List ℕ)) (xs ys : List ℕ) → Took (sunk had mid) xs → TookFront (sunk mid has) ys → TookThen (sunk had has) xs ys
+took_then had mid has xs ys first second = (second.0, took_both had mid has xs (take second.0 ys) first second.1)
 
 pub took_front : (sink : Sunk) (bytes : List ℕ) → Took sink bytes → TookFront sink bytes
 took_front sink bytes took = (length bytes, took ∙ ap (appended sink.before) (sym (take-length bytes)))

@@ -1,9 +1,8 @@
 -- The place in the rounds after a trace, and one more record that is due there.
-use Rattle.std.proofs.Common.{◌≡◌, Bool, true, false, List, [], ◌∷◌, ◌++◌, Option, Some, None, refl, sym, ap, ◌∙◌}
-use Rattle.std.specs.Prelude.{◌&&◌, ◌||◌, not, option_and_then}
+use Rattle.std.proofs.Common.{◌≡◌, Bool, true, false, cond, List, [], ◌∷◌, ◌++◌, Option, Some, None, refl, sym, ap, ◌∙◌}
+use Rattle.std.specs.Prelude.{◌&&◌, ◌||◌, option_and_then}
 use Rattle.std.specs.FinMap as map
 use Rattle.sys_abi.specs.declared.record.Record.{Record}
-use Rattle.sys_abi.specs.declared.record.Record.TheVariants.{User, Call, Deliver, Arrive, Cut, Drained, Refilled, Complete, Refused, Lapsed}
 use Rattle.sys_abi.proofs.OrderLaws.{vpid_total, vpid_exact}
 use Rattle.sys_abi.specs.Orders.{vpid_cmp}
 use Rattle.views.proofs.MapLaws.{get_insert_same, true_false}
@@ -15,13 +14,13 @@ use Rattle.trace_log.specs.declared.requests.Schedule.{Schedule}
 use Rattle.trace_log.specs.Requests.{NoRequest, is_mark}
 use Rattle.dmtcp_top.specs.declared.machine.Machine.{Machine}
 use Rattle.dmtcp_top.specs.Machines.{plain_of, lives}
-use Rattle.dmtcp_top.specs.Rounds.{Place, Standing, is_due_at, is_due, waits, moved, then_so, standing_after, in_rounds}
+use Rattle.dmtcp_top.specs.Rounds.{Place, InTurn, After, Standing, coming, due_at, is_first_arrival, is_due_in, is_due_at, is_due, waits, moved, moved_by, then_so, standing_after, in_rounds}
 use Rattle.dmtcp_top.specs.Running.{walk}
 use Rattle.dmtcp_top.proofs.Outcomes.{users_while_live, users_once_ended}
 
-pub record Pushed (schedule : Schedule) (g h next : Plain) (at here : Standing) (records : List Record) (r : Record) : Type 0 where
+pub record Pushed (schedule : Schedule) (g h : Plain) (at here : Standing) (records : List Record) (r : Record) : Type 0 where
   pub order : in_rounds schedule g at (records ++ r ∷ []) ≡ true
-  pub ends : walk schedule g at (records ++ r ∷ []) ≡ Some (standing_after schedule h next here r)
+  pub ends : walk schedule g at (records ++ r ∷ []) ≡ Some (standing_after schedule h here r)
 
 pub left_true : (a b : Bool) → (a && b) ≡ true → a ≡ true
 left_true true b both = refl
@@ -35,7 +34,7 @@ both_true : (a b : Bool) → a ≡ true → b ≡ true → (a && b) ≡ true
 both_true true b first second = second
 both_true false b first second = first
 
-pub pushed : (schedule : Schedule) (g h next : Plain) (at here : Standing) (records : List Record) (r : Record) → run g records ≡ Some h → walk schedule g at records ≡ Some here → in_rounds schedule g at records ≡ true → is_due h here r ≡ true → step h r ≡ Some next → Pushed schedule g h next at here records r
+pub pushed : (schedule : Schedule) (g h next : Plain) (at here : Standing) (records : List Record) (r : Record) → run g records ≡ Some h → walk schedule g at records ≡ Some here → in_rounds schedule g at records ≡ true → is_due h here r ≡ true → step h r ≡ Some next → Pushed schedule g h at here records r
 unfolding run walk in_rounds
 pushed schedule g h next at here [] r runs walks order due goes =
     let same : g ≡ h = cc in
@@ -44,16 +43,16 @@ pushed schedule g h next at here [] r runs walks order due goes =
     let due_there : is_due g at r ≡ true = ap (λ (a : Standing). is_due g a r) there ∙ ap (λ k. is_due k here r) same ∙ due in
     record {
       order = both_true (is_due g at r) _ due_there (ap (λ o. then_so o (λ k. true)) goes_g);
-      ends = ap (λ o. option_and_then (λ k. Some (standing_after schedule g k at r)) o) goes_g ∙ ap (λ (a : Standing). Some (standing_after schedule g next a r)) there ∙ ap (λ k. Some (standing_after schedule k next here r)) same;
+      ends = ap (λ o. option_and_then (λ k. Some (standing_after schedule g at r)) o) goes_g ∙ ap (λ (a : Standing). Some (standing_after schedule g a r)) there ∙ ap (λ k. Some (standing_after schedule k here r)) same;
     }
 pushed schedule g h next at here (x ∷ rest) r runs walks order due goes = let both = elim (step g x) as (λ o.
-    option_and_then (λ k. run k rest) o ≡ Some h → option_and_then (λ k. walk schedule k (standing_after schedule g k at x) rest) o ≡ Some here
-    → (is_due g at x && then_so o (λ k. in_rounds schedule k (standing_after schedule g k at x) rest)) ≡ true
-    → ((is_due g at x && then_so o (λ k. in_rounds schedule k (standing_after schedule g k at x) (rest ++ r ∷ []))) ≡ true)
-    × (option_and_then (λ k. walk schedule k (standing_after schedule g k at x) (rest ++ r ∷ [])) o ≡ Some (standing_after schedule h next here r))) [
+    option_and_then (λ k. run k rest) o ≡ Some h → option_and_then (λ k. walk schedule k (standing_after schedule g at x) rest) o ≡ Some here
+    → (is_due g at x && then_so o (λ k. in_rounds schedule k (standing_after schedule g at x) rest)) ≡ true
+    → ((is_due g at x && then_so o (λ k. in_rounds schedule k (standing_after schedule g at x) (rest ++ r ∷ []))) ≡ true)
+    × (option_and_then (λ k. walk schedule k (standing_after schedule g at x) (rest ++ r ∷ [])) o ≡ Some (standing_after schedule h here r))) [
       | None ↦ λ e f d. absurd (cc)
       | Some k ↦ λ e f d.
-          let later = pushed schedule k h next (standing_after schedule g k at x) here rest r e f (right_true (is_due g at x) _ d) due goes in
+          let later = pushed schedule k h next (standing_after schedule g at x) here rest r e f (right_true (is_due g at x) _ d) due goes in
           (both_true (is_due g at x) _ (left_true (is_due g at x) _ d) later.order, later.ends)
     ] runs walks order in
     record { order = both.0; ends = both.1 }
@@ -66,28 +65,23 @@ pub part_once_ended : (m : Machine) → lives m ≡ false → map.get (plain_of 
 part_once_ended m dead =
     ap (λ users. map.get users m.guest.pid) (users_once_ended m.kernel m.guest.pid m.guest.user dead) ∙ map.get-empty {X = UserPart} vpid_cmp m.guest.pid
 
--- a record of work that is due at the place is due where no request waits, and a mark always is
-pub work_is_due : (g : Plain) (at : Standing) (r : Record) → at.requests.phase ≡ NoRequest → is_due_at g at.place r ≡ true → is_due g at r ≡ true
-work_is_due g at r free due =
-    by (is_mark r)
+-- a record of the thread whose turn it is is due where no request waits, and a mark always is
+pub work_is_due : (g : Plain) (at : Standing) (here : Place) (r : Record) → at.requests.phase ≡ NoRequest → due_at g at.upcoming ≡ Some (InTurn here) → is_due_in g here r ≡ true → is_due g at r ≡ true
+work_is_due g at here r free there due = by (is_mark r)
   where
-    by : (b : Bool) → (b || (not (waits at.requests.phase) && is_due_at g at.place r)) ≡ true
+    by : (b : Bool) → (b || cond (waits at.requests.phase) (is_first_arrival g (coming g) r) (is_due_at g (due_at g at.upcoming) r)) ≡ true
     by true = refl
-    by false = both_true (not (waits at.requests.phase)) (is_due_at g at.place r) (ap (λ phase. not (waits phase)) free) due
+    by false = ap (λ phase. cond (waits phase) (is_first_arrival g (coming g) r) (is_due_at g (due_at g at.upcoming) r)) free ∙ ap (λ d. is_due_at g d r) there ∙ due
+
+pub work_moves : (g : Plain) (at : Standing) (here : Place) (r : Record) → at.requests.phase ≡ NoRequest → due_at g at.upcoming ≡ Some (InTurn here) → is_mark r ≡ false → moved g at r ≡ After (InTurn here) r
+work_moves g at here r free there plain =
+    ap (λ b. cond (b || waits at.requests.phase) at.upcoming (moved_by (due_at g at.upcoming) at.upcoming r)) plain
+    ∙ ap (λ phase. cond (waits phase) at.upcoming (moved_by (due_at g at.upcoming) at.upcoming r)) free
+    ∙ ap (λ d. moved_by d at.upcoming r) there
 
 pub mark_is_due : (g : Plain) (at : Standing) (r : Record) → is_mark r ≡ true → is_due g at r ≡ true
-mark_is_due g at r marks = ap (λ b. b || (not (waits at.requests.phase) && is_due_at g at.place r)) marks
+mark_is_due g at r marks = ap (λ b. b || cond (waits at.requests.phase) (is_first_arrival g (coming g) r) (is_due_at g (due_at g at.upcoming) r)) marks
 
 -- a mark moves nobody
-pub mark_stays : (g : Plain) (place : Option Place) (r : Record) → is_mark r ≡ true → moved g place r ≡ place
-mark_stays g None r marks = refl
-mark_stays g (Some here) (User p t n) marks = true_false (sym marks)
-mark_stays g (Some here) (Call p t) marks = true_false (sym marks)
-mark_stays g (Some here) (Deliver p t s) marks = true_false (sym marks)
-mark_stays g (Some here) (Arrive dir n) marks = true_false (sym marks)
-mark_stays g (Some here) (Cut generation) marks = refl
-mark_stays g (Some here) (Drained dir n) marks = refl
-mark_stays g (Some here) (Refilled dir n) marks = refl
-mark_stays g (Some here) (Complete generation) marks = refl
-mark_stays g (Some here) (Refused cause) marks = refl
-mark_stays g (Some here) Lapsed marks = refl
+pub mark_stays : (g : Plain) (at : Standing) (r : Record) → is_mark r ≡ true → moved g at r ≡ at.upcoming
+mark_stays g at r marks = ap (λ b. cond (b || waits at.requests.phase) at.upcoming (moved_by (due_at g at.upcoming) at.upcoming r)) marks

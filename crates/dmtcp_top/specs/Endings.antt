@@ -10,6 +10,7 @@ use Rattle.dmtcp_top.specs.declared.ending.Ending.{Ending}
 use Rattle.dmtcp_top.specs.declared.ending.Ending.TheVariants.{Done, Usage, InputFault, Missing, BadElf, SinkFault, DiskFault, NoSet, Damaged, Budget, Stuck, Memory}
 use Rattle.dmtcp_top.specs.Log.{done_line, usage_line, input_fault_line, missing_line, bad_program_line, disk_fault_line, no_set_line, damaged_line, budget_line, stuck_line, memory_line}
 use Rattle.dmtcp_top.specs.Sessions.{Sunk, Session, Took, TookFront}
+use Rattle.dmtcp_top.specs.RunEnds.{LinesOf}
 use Rattle.dmtcp_top.specs.Ends.{Reaches, SinkFailed}
 
 abbrev pub status_of : Ending → Status
@@ -42,8 +43,8 @@ line_of Memory = memory_line
 
 abbrev pub Arrives : Ending → Session → Sunk → Type 0
 Arrives SinkFault session log = SinkFailed session log
-Arrives Memory session log = Reaches IsMemory session memory_line × TookFront log (log_text session.trace)
-Arrives ending session log = Reaches (status_of ending) session (line_of ending) × Took log (log_text session.trace)
+Arrives Memory session log = Reaches IsMemory session memory_line × ((lines : List ℕ) × (LinesOf session.left.trace lines × Took log lines))
+Arrives ending session log = Reaches (status_of ending) session (line_of ending) × Took log (log_text session.left.trace)
 
 abbrev pub Concludes : Ending → Status → Sunk → Type 0
 Concludes ending status log = ((status ≡ status_of ending) × Took log (line_of ending)) ⊎ ((status ≡ IsSinkFault) × TookFront log (line_of ending))

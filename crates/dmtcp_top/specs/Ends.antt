@@ -1,10 +1,12 @@
 -- How a call ends: for each status what holds of the trace, the console and the log, in one line.
 --     Reaches status session last     the call came to this status, with which this last line belongs on the log
 --     Ends status session log         the same with what the log took
---     FileDecides status session      what the program's file decides, where no input and no sink failed
---     IsDecided status session        which status comes where nothing outside failed
-use Rattle.std.specs.Prelude.{◌≡◌, ◌≢◌, ℕ, ◌⊎◌, ◌↔◌, List, [], ◌++◌, take, Some, None, IfSome}
+--     IsInRounds start trace          the trace goes in the order of the rounds
+--     FileDecides status given        what the program's file decides, where no input and no sink failed
+--     IsDecided status given          which status comes where nothing outside failed
+use Rattle.std.specs.Prelude.{◌≡◌, ◌≢◌, ℕ, ◌⊎◌, ◌↔◌, List, [], ◌++◌, Option, Some, None, IfSome}
 use Rattle.std.specs.FinMap as map
+use Rattle.sys_abi.specs.declared.record.Record.{Record}
 use Rattle.elf32.specs.declared.fault.ElfFault.{ElfFault}
 use Rattle.elf32.specs.Rules.{first_fault}
 use Rattle.edge_io.specs.Inputs.{Files}
@@ -17,99 +19,100 @@ use Rattle.dmtcp_top.specs.declared.status.Status.{Status}
 use Rattle.dmtcp_top.specs.declared.status.Status.TheVariants.{Done, Usage, InputFault, Missing, BadElf, SinkFault, DiskFault, NoSet, Damaged, Budget, Stuck, Memory}
 use Rattle.dmtcp_top.specs.Words.{AskNothing}
 use Rattle.dmtcp_top.specs.Log.{done_line, usage_line, input_fault_line, missing_line, bad_program_line, disk_fault_line, no_set_line, damaged_line, budget_line, stuck_line, memory_line}
-use Rattle.dmtcp_top.specs.Sessions.{Sunk, Session, Took, TookFront, IsInput}
+use Rattle.dmtcp_top.specs.Sessions.{Sunk, Given, Beginning, Session, Took, TookThen, IsInput}
 use Rattle.dmtcp_top.specs.Sets.{SpellsSet, SpoilsSet}
-use Rattle.dmtcp_top.specs.Launches.{LaunchAsked, RestartAsked, Begun, origin, settings_in, schedule_in}
-use Rattle.dmtcp_top.specs.RunEnds.{RanOut, FilledUp, GotStuck, CutShort}
+use Rattle.dmtcp_top.specs.Launches.{LaunchAsked, RestartAsked, Begun, origin, settings_in, schedule_in, beginning}
+use Rattle.dmtcp_top.specs.Rounds.{GoesInRounds}
+use Rattle.dmtcp_top.specs.RunEnds.{RanOut, FilledUp, GotStuck, Shown, SinkFails, CutLines, LinesOf}
 
 -- nobody lives at the end of the run that the trace is, and the console took what the run writes
 pub record Finished (session : Session) : Type 0 where
-  pub begun : Begun session
-  pub start : session.start ≡ Some (origin begun)
-  pub run : RanOut (schedule_in begun) (origin begun) (settings_in begun).records session.trace session.console
+  pub begun : Begun session.given
+  pub start : session.left.start ≡ Some (beginning begun)
+  pub run : RanOut (schedule_in begun) (origin begun) (settings_in begun).records session.left.trace session.left.console
 
 -- the trace is full, somebody lives, and the console took what the run writes
 pub record Spent (session : Session) (last : List ℕ) : Type 0 where
-  pub begun : Begun session
-  pub start : session.start ≡ Some (origin begun)
-  pub run : FilledUp (schedule_in begun) (origin begun) (settings_in begun).records session.trace session.console
+  pub begun : Begun session.given
+  pub start : session.left.start ≡ Some (beginning begun)
+  pub run : FilledUp (schedule_in begun) (origin begun) (settings_in begun).records session.left.trace session.left.console
   pub line : last ≡ budget_line (settings_in begun).records
 
 -- somebody lives, nobody can go on, and the console took what the run writes
 pub record Halted (session : Session) : Type 0 where
-  pub begun : Begun session
-  pub start : session.start ≡ Some (origin begun)
-  pub run : GotStuck (schedule_in begun) (origin begun) (settings_in begun).records session.trace session.console
+  pub begun : Begun session.given
+  pub start : session.left.start ≡ Some (beginning begun)
+  pub run : GotStuck (schedule_in begun) (origin begun) (settings_in begun).records session.left.trace session.left.console
 
--- the run was cut off, and the console took a first part of what it writes
-pub record CutOff (session : Session) : Type 0 where
-  pub begun : Begun session
-  pub start : session.start ≡ Some (origin begun)
-  pub run : CutShort (schedule_in begun) (origin begun) (settings_in begun).records session.trace session.console
+-- memory was wanted in the run, and the console took what the run writes
+pub record Starved (session : Session) : Type 0 where
+  pub begun : Begun session.given
+  pub start : session.left.start ≡ Some (beginning begun)
+  pub run : Shown (schedule_in begun) (origin begun) (settings_in begun).records session.left.trace session.left.console
 
 -- no run was begun: the trace is empty, and the console took nothing
 pub record NotBegun (session : Session) : Type 0 where
-  pub start : session.start ≡ None
-  pub trace : session.trace ≡ []
-  pub console : Took session.console []
+  pub start : session.left.start ≡ None
+  pub trace : session.left.trace ≡ []
+  pub console : Took session.left.console []
 
 -- the file that the words name could not be read
 pub record Unread (session : Session) (last : List ℕ) : Type 0 where
   pub nothing : NotBegun session
-  pub asked : LaunchAsked session
+  pub asked : LaunchAsked session.given
   pub line : last ≡ input_fault_line asked.name
 
 -- there is no file of the name
 pub record Absent (session : Session) (last : List ℕ) : Type 0 where
   pub nothing : NotBegun session
-  pub asked : LaunchAsked session
-  pub input : IsInput session.files asked.name None
+  pub asked : LaunchAsked session.given
+  pub input : IsInput session.given.files asked.name None
   pub line : last ≡ missing_line asked.name
 
 -- the fault is that of the first rule that the file breaks
 pub record Rejected (session : Session) (last : List ℕ) : Type 0 where
   pub nothing : NotBegun session
-  pub asked : LaunchAsked session
+  pub asked : LaunchAsked session.given
   pub file : List ℕ
-  pub input : IsInput session.files asked.name (Some file)
+  pub input : IsInput session.given.files asked.name (Some file)
   pub fault : ElfFault
   pub rule : first_fault file ≡ Some fault
   pub line : last ≡ bad_program_line asked.name fault
 
 -- the words ask for a restart, or for a launch with checkpoints whose file is a program
-pub data NeedsStore (session : Session) : Type 0 where
-  ToLaunch : (asked : LaunchAsked session) (file : List ℕ) → asked.settings.every ≢ None → IsInput session.files asked.name (Some file) → first_fault file ≡ None → NeedsStore session
-  ToRestart : RestartAsked session → NeedsStore session
+pub data NeedsStore (given : Given) : Type 0 where
+  ToLaunch : (asked : LaunchAsked given) (file : List ℕ) → asked.settings.every ≢ None → IsInput given.files asked.name (Some file) → first_fault file ≡ None → NeedsStore given
+  ToRestart : RestartAsked given → NeedsStore given
 
 -- the folder of sets failed before the run
 pub record Unopened (session : Session) (last : List ℕ) : Type 0 where
   pub nothing : NotBegun session
-  pub needs : NeedsStore session
+  pub needs : NeedsStore session.given
   pub line : last ≡ disk_fault_line
 
 -- a restart, and no set counts
 pub record Setless (session : Session) (last : List ℕ) : Type 0 where
   pub nothing : NotBegun session
-  pub asked : RestartAsked session
-  pub none : IfSome session.folder (λ files. set_that_counts files ≡ None)
+  pub asked : RestartAsked session.given
+  pub none : IfSome session.given.folder (λ files. set_that_counts files ≡ None)
   pub line : last ≡ no_set_line
 
 -- a restart, and the set that counts spells no state
 pub record Spoilt (session : Session) (last : List ℕ) : Type 0 where
   pub nothing : NotBegun session
-  pub asked : RestartAsked session
+  pub asked : RestartAsked session.given
   pub slot : ℕ
   pub damage : Damage
-  pub spoilt : IfSome session.folder (λ files. SpoilsSet files slot damage)
+  pub spoilt : IfSome session.given.folder (λ files. SpoilsSet files slot damage)
   pub line : last ≡ damaged_line slot damage
 
 -- the words ask for something
-abbrev pub IsAsked : Session → Type 0
-IsAsked session = LaunchAsked session ⊎ RestartAsked session
+abbrev pub IsAsked : Given → Type 0
+IsAsked given = LaunchAsked given ⊎ RestartAsked given
 
 abbrev pub Reaches : Status → Session → List ℕ → Type 0
 Reaches Done session last = Finished session × (last ≡ done_line)
-Reaches Usage session last = NotBegun session × AskNothing session.words × (last ≡ usage_line)
+Reaches Usage session last = NotBegun session × AskNothing session.given.words × (last ≡ usage_line)
 Reaches InputFault session last = Unread session last
 Reaches Missing session last = Absent session last
 Reaches BadElf session last = Rejected session last
@@ -119,20 +122,21 @@ Reaches NoSet session last = Setless session last
 Reaches Damaged session last = Spoilt session last
 Reaches Budget session last = Spent session last
 Reaches Stuck session last = Halted session × (last ≡ stuck_line)
-Reaches Memory session last = ((NotBegun session × IsAsked session) ⊎ CutOff session) × (last ≡ memory_line)
+Reaches Memory session last = ((NotBegun session × IsAsked session.given) ⊎ Starved session) × (last ≡ memory_line)
 
 -- the log took the lines of the checkpoints, and the last line
 pub record Logged (status : Status) (session : Session) (log : Sunk) : Type 0 where
   pub last : List ℕ
   pub reached : Reaches status session last
-  pub took : Took log (log_text session.trace ++ last)
+  pub took : Took log (log_text session.left.trace ++ last)
 
--- where memory was wanted the log took a first part of the lines of the checkpoints, and the last line
+-- where memory was wanted the log took the lines of the checkpoints, all but for a part of the last one, and the last line
 pub record LoggedPart (status : Status) (session : Session) (log : Sunk) : Type 0 where
   pub last : List ℕ
   pub reached : Reaches status session last
-  pub count : ℕ
-  pub took : Took log (take count (log_text session.trace) ++ last)
+  pub text : List ℕ
+  pub lines : LinesOf session.left.trace text
+  pub took : Took log (text ++ last)
 
 -- the log failed at the last line, whatever the status was to be
 pub record LogFailed (session : Session) (log : Sunk) : Type 0 where
@@ -140,31 +144,36 @@ pub record LogFailed (session : Session) (log : Sunk) : Type 0 where
   pub last : List ℕ
   pub reached : Reaches status session last
   pub text : List ℕ
-  pub lines : text ≡ log_text session.trace ⊎ (status ≡ Memory) × ((count : ℕ) × (text ≡ take count (log_text session.trace)))
-  pub took : TookFront log (text ++ last)
+  pub lines : text ≡ log_text session.left.trace ⊎ (status ≡ Memory) × CutLines session.left.trace text
+  pub took : TookThen log text last
 
 -- the console or the log failed in the run
 pub record SinkFailed (session : Session) (log : Sunk) : Type 0 where
-  pub run : CutOff session
-  pub took : TookFront log (log_text session.trace)
+  pub begun : Begun session.given
+  pub start : session.left.start ≡ Some (beginning begun)
+  pub run : SinkFails (schedule_in begun) (origin begun) (settings_in begun).records session.left.trace session.left.console log
 
 abbrev pub Ends : Status → Session → Sunk → Type 0
 Ends SinkFault session log = SinkFailed session log ⊎ LogFailed session log
 Ends Memory session log = LoggedPart Memory session log
 Ends status session log = Logged status session log
 
+-- where a run was begun its records come in the order of the rounds
+abbrev pub IsInRounds : Option Beginning → List Record → Type 0
+IsInRounds start trace = IfSome start (λ begun. GoesInRounds begun.schedule begun.state trace)
+
 abbrev pub RunsOn : Status → Type 0
 RunsOn status = (status ≡ Done) ⊎ (status ≡ Budget) ⊎ (status ≡ Stuck) ⊎ (status ≡ Memory)
 
 -- where no input and no sink failed, whether the program's file is there and keeps the rules decides between two answers, but for want of memory
-pub record FileDecides (status : Status) (session : Session) : Type 0 where
-  pub missing : (held : Files) (asked : LaunchAsked session) → session.files ≡ Some held → status ≢ Memory → (status ≡ Missing) ↔ (map.get held asked.name ≡ None)
-  pub bad : (held : Files) (asked : LaunchAsked session) (file : List ℕ) → session.files ≡ Some held → map.get held asked.name ≡ Some file → status ≢ Memory
+pub record FileDecides (status : Status) (given : Given) : Type 0 where
+  pub missing : (held : Files) (asked : LaunchAsked given) → given.files ≡ Some held → status ≢ Memory → (status ≡ Missing) ↔ (map.get held asked.name ≡ None)
+  pub bad : (held : Files) (asked : LaunchAsked given) (file : List ℕ) → given.files ≡ Some held → map.get held asked.name ≡ Some file → status ≢ Memory
       → (status ≡ BadElf) ↔ (first_fault file ≢ None)
 
 -- where no input, no sink and not the folder failed, the program's file and the files of the folder decide which status comes, but for want of memory
-pub record IsDecided (status : Status) (session : Session) : Type 0 where
-  pub launches : (held : Files) (asked : LaunchAsked session) (file : List ℕ) → session.files ≡ Some held → map.get held asked.name ≡ Some file → first_fault file ≡ None → RunsOn status
-  pub setless : (files : Folder) → RestartAsked session → session.folder ≡ Some files → status ≢ Memory → (status ≡ NoSet) ↔ (set_that_counts files ≡ None)
-  pub spoilt : (files : Folder) → RestartAsked session → session.folder ≡ Some files → status ≢ Memory → (status ≡ Damaged) ↔ ((slot : ℕ) × ((damage : Damage) × SpoilsSet files slot damage))
-  pub restarts : (files : Folder) (generation : ℕ) (g : Plain) → RestartAsked session → session.folder ≡ Some files → SpellsSet files generation g → RunsOn status
+pub record IsDecided (status : Status) (given : Given) : Type 0 where
+  pub launches : (held : Files) (asked : LaunchAsked given) (file : List ℕ) → given.files ≡ Some held → map.get held asked.name ≡ Some file → first_fault file ≡ None → RunsOn status
+  pub setless : (files : Folder) → RestartAsked given → given.folder ≡ Some files → status ≢ Memory → (status ≡ NoSet) ↔ (set_that_counts files ≡ None)
+  pub spoilt : (files : Folder) → RestartAsked given → given.folder ≡ Some files → status ≢ Memory → (status ≡ Damaged) ↔ ((slot : ℕ) × ((damage : Damage) × SpoilsSet files slot damage))
+  pub restarts : (files : Folder) (generation : ℕ) (g : Plain) → RestartAsked given → given.folder ≡ Some files → SpellsSet files generation g → RunsOn status

@@ -1,7 +1,7 @@
 -- One process, run by one thread of the host, and what one record of it does.
 --     plain_of m        the plain state for which the machine stands
 --     IsSingle m        nobody else lives
---     placed m turn     the place in the rounds of a thread's turn
+--     placed m turn     what is due in the rounds, where it is a thread's turn
 --     IsReady m         it can be checkpointed
 --     Takes, Breaks     a record on the trace, with its bytes on the console, or a first part of them
 --     Notes, Spoils     the same of one that is due
@@ -26,7 +26,7 @@ use Rattle.plain_machine.specs.Records.{outcome, living}
 use Rattle.plain_machine.specs.Tests.{is_work}
 use Rattle.dmtcp_top.specs.declared.machine.Machine.{Machine}
 use Rattle.dmtcp_top.specs.declared.turn.Turn.{Turn}
-use Rattle.dmtcp_top.specs.Rounds.{Place, is_due_in, place_after}
+use Rattle.dmtcp_top.specs.Rounds.{Place, Due, InTurn, is_due_in, after_turn}
 use Rattle.dmtcp_top.specs.Sessions.{Sunk, Took, TookFront}
 
 abbrev pub only : VPid → UserPart → map.FinMap vpid_cmp UserPart
@@ -66,8 +66,8 @@ place_of m turn = record {
   processes = [];
 }
 
-abbrev pub placed : Machine → Option Turn → Option Place
-placed m turn = option_map (place_of m) turn
+abbrev pub placed : Machine → Option Turn → Option Due
+placed m turn = option_map (λ t. InTurn (place_of m t)) turn
 
 abbrev pub with_record : TraceState → Record → TraceState
 with_record trace r = record { records = trace.records ++ r ∷ []; room = trace.room - 1 }
@@ -82,34 +82,34 @@ kernel_after k p (Kills status) = after_end k p
 kernel_after k p _ = k
 
 -- this record was made, and the console took its bytes
-pub record Takes (before after : Machine) (r : Record) (from to : TraceState) (console : Sunk) : Type 0 where
+pub record Takes (before after : Plain) (r : Record) (from to : TraceState) (console : Sunk) : Type 0 where
   pub bytes : List ℕ
-  pub outcome : outcome (plain_of before) r ≡ Some (record { state = plain_of after; console = bytes })
+  pub outcome : outcome before r ≡ Some (record { state = after; console = bytes })
   pub trace : to ≡ with_record from r
   pub shown : Took console bytes
 
 -- this record was made, and the console took a first part of its bytes
-pub record Breaks (before : Machine) (r : Record) (from to : TraceState) (console : Sunk) : Type 0 where
+pub record Breaks (before : Plain) (r : Record) (from to : TraceState) (console : Sunk) : Type 0 where
   pub bytes : List ℕ
   pub state : Plain
-  pub outcome : outcome (plain_of before) r ≡ Some (record { state = state; console = bytes })
+  pub outcome : outcome before r ≡ Some (record { state = state; console = bytes })
   pub trace : to ≡ with_record from r
   pub shown : TookFront console bytes
 
 -- a record of work that is due at the place
-pub record IsDueWork (m : Machine) (here : Place) (r : Record) : Type 0 where
+pub record IsDueWork (now : Plain) (here : Place) (r : Record) : Type 0 where
   pub work : is_work r ≡ true
-  pub due : is_due_in (plain_of m) here r ≡ true
+  pub due : is_due_in now here r ≡ true
 
 -- one more record, which is due at the place and leads to the next one
-pub record Notes (before after : Machine) (here : Place) (next : Option Place) (from to : TraceState) (console : Sunk) : Type 0 where
+pub record Notes (before after : Plain) (here : Place) (next : Option Due) (from to : TraceState) (console : Sunk) : Type 0 where
   pub noted : Record
   pub own : IsDueWork before here noted
   pub took : Takes before after noted from to console
-  pub moves : next ≡ place_after (plain_of after) here noted
+  pub moves : next ≡ after_turn after here noted
 
 -- one more record that is due, which broke off
-pub record Spoils (before : Machine) (here : Place) (from to : TraceState) (console : Sunk) : Type 0 where
+pub record Spoils (before : Plain) (here : Place) (from to : TraceState) (console : Sunk) : Type 0 where
   pub noted : Record
   pub own : IsDueWork before here noted
   pub broke : Breaks before noted from to console

@@ -1,18 +1,23 @@
--- The rounds leave no choice: from one state they make one run, whenever checkpoints are asked for on the way and whatever comes of them.
+-- The rounds leave no choice where no checkpoints are made: from one state they make one run.
 --     work_in records      the records of work among these, in their order
---     OneOrder             of two traces from one state the work of the shorter begins that of the longer
---     OneTrace             and where none asks for checkpoints the shorter trace begins the longer one
---     EndsThere            once nobody lives or can go on no more work is done
+--     steps_in records     all of them but the marks
+--     OneOrder             of two traces from one state the steps of the shorter begin those of the longer
+--     OneTrace             and the shorter run's trace begins the longer one's
+--     StandsStill          where nothing is due in a new round, though somebody lives, nobody can go on
+--     EndsThere            once nobody lives or can go on no more work is done, and nothing at all where all bytes have arrived
 --     OneEnd               so two runs to such an end are one
---     OneEnding            and where none asks for checkpoints two runs with as much room end alike, with one trace
---     OneRestart           so restarts from one set, without checkpoints, answer one and leave one trace
+--     OneEnding            and two runs with as much room end alike, with one trace
+--     EndsSo               so a run does what a trace in rounds to its end says, where there is room for that, or wants memory
+--     OneRestart           so restarts from one set answer one and leave one trace
 --     SetIsValid           whose state is valid, as that of a launch is
 --     OneAnswer            and two calls that begin with one state, launch or restart, show the same where both end as done
-use Rattle.std.specs.Prelude.{◌≡◌, ◌⊎◌, ℕ, ◌≤◌, true, List, [], ◌∷◌, ◌++◌, filter, length, take, Some, None, All}
+--     LacksNoRequest       where checkpoints are to be made a run that ends as done has a mark
+use Rattle.std.specs.Prelude.{◌≡◌, ◌≢◌, ◌⊎◌, ℕ, ◌-◌, ◌^◌, ◌<◌, ◌≤◌, true, false, not, List, [], ◌∷◌, ◌++◌, filter, length, take, Some, None, IfSome, All}
+use Rattle.std.specs.List.{count_by}
 use Rattle.sys_abi.specs.declared.record.Record.{Record}
 use Rattle.plain_machine.specs.declared.plain.Plain.{Plain}
 use Rattle.plain_machine.specs.Runs.{run, console}
-use Rattle.plain_machine.specs.Tests.{is_work, ended, IsStuck}
+use Rattle.plain_machine.specs.Tests.{is_work, ended, full_arrive, IsStuck}
 use Rattle.plain_process.specs.Valid.{IsByte}
 use Rattle.plain_machine.specs.Valid.{IsValid}
 use Rattle.trace_log.specs.declared.requests.Schedule.{Schedule}
@@ -21,46 +26,53 @@ use Rattle.set_disk.specs.Files.{Files as Folder}
 use Rattle.dmtcp_top.specs.declared.settings.Settings.{Settings}
 use Rattle.dmtcp_top.specs.declared.status.Status.{Status}
 use Rattle.dmtcp_top.specs.declared.status.Status.TheVariants.{Done, Budget, Stuck}
-use Rattle.dmtcp_top.specs.Words.{IsRestart}
+use Rattle.dmtcp_top.specs.Words.{IsRestart, NameNoEvery}
+use Rattle.dmtcp_top.specs.Launches.{settings_in, schedule_in}
 use Rattle.dmtcp_top.specs.Sets.{SpellsState, SpellsSet}
-use Rattle.dmtcp_top.specs.Rounds.{GoesInRounds}
+use Rattle.dmtcp_top.specs.Rounds.{GoesInRounds, new_round}
 use Rattle.dmtcp_top.specs.declared.run_end.RunEnd.{RunEnd}
-use Rattle.dmtcp_top.specs.declared.run_end.RunEnd.TheVariants.{SinkFault, Memory}
+use Rattle.dmtcp_top.specs.declared.run_end.RunEnd.TheVariants.{Done as Ended, SinkFault, Memory}
 use Rattle.dmtcp_top.specs.RunEnds.{IsRun, EndsRun}
 use Rattle.dmtcp_top.specs.Sessions.{Sunk, Session, Took}
-use Rattle.dmtcp_top.specs.Ends.{Ends}
+use Rattle.dmtcp_top.specs.Ends.{Ends, IsInRounds}
 
 abbrev pub work_in : List Record → List Record
 work_in records = filter is_work records
 
+abbrev pub steps_in : List Record → List Record
+steps_in records = filter (λ r. not (is_mark r)) records
+
 abbrev pub OneOrder : Type 0
 OneOrder =
-    (schedule other : Schedule) (g : Plain) (a b : List Record)
-    → GoesInRounds schedule g a → GoesInRounds other g b → length (work_in a) ≤ length (work_in b) → work_in a ≡ take (length (work_in a)) (work_in b)
+    (schedule other : Schedule) (g : Plain) (a b : List Record) → schedule.every ≡ None → other.every ≡ None
+    → GoesInRounds schedule g a → GoesInRounds other g b → length (steps_in a) ≤ length (steps_in b) → steps_in a ≡ take (length (steps_in a)) (steps_in b)
 
 abbrev pub OneTrace : Type 0
 OneTrace =
-    (schedule other : Schedule) (g last final : Plain) (room more : ℕ) (a b : List Record)
-    → schedule.every ≡ None → other.every ≡ None → IsRun schedule g room a last → IsRun other g more b final → length a ≤ length b → a ≡ take (length a) b
+    (schedule other : Schedule) (g last final : Plain) (room more : ℕ) (a b : List Record) → schedule.every ≡ None → other.every ≡ None
+    → IsRun schedule g room a last → IsRun other g more b final → GoesInRounds schedule g a → GoesInRounds other g b → length a ≤ length b → a ≡ take (length a) b
 
 -- nobody lives, or nobody can go on
 abbrev pub ComesToRest : Plain → Type 0
 ComesToRest g = (ended g ≡ true) ⊎ IsStuck g
 
+abbrev pub StandsStill : Type 0
+StandsStill = (g : Plain) → IsValid g → ended g ≡ false → new_round g ≡ None → IsStuck g × (full_arrive g ≡ g)
+
 abbrev pub EndsThere : Type 0
 EndsThere =
     (schedule : Schedule) (g last : Plain) (records : List Record) (r : Record)
-    → IsValid g → run g records ≡ Some last → ComesToRest last → GoesInRounds schedule g (records ++ r ∷ []) → is_mark r ≡ true
+    → IsValid g → run g records ≡ Some last → ComesToRest last → GoesInRounds schedule g (records ++ r ∷ []) → (is_work r ≡ false) × (full_arrive last ≡ last → is_mark r ≡ true)
 
--- the same work, the same bytes on the console and the same state at the end
+-- the same work, the same bytes on the console and, once all bytes have arrived, the same state at the end
 pub record AreOne (g : Plain) (a b : List Record) (last final : Plain) : Type 0 where
   pub work : work_in a ≡ work_in b
   pub shown : console g a ≡ console g b
-  pub state : last ≡ final
+  pub state : full_arrive last ≡ full_arrive final
 
 abbrev pub OneEnd : Type 0
 OneEnd =
-    (schedule other : Schedule) (g last final : Plain) (a b : List Record)
+    (schedule other : Schedule) (g last final : Plain) (a b : List Record) → schedule.every ≡ None → other.every ≡ None
     → IsValid g → GoesInRounds schedule g a → GoesInRounds other g b → run g a ≡ Some last → run g b ≡ Some final → ComesToRest last → ComesToRest final → AreOne g a b last final
 
 -- what a run comes to where nothing outside fails and there is memory
@@ -73,7 +85,14 @@ abbrev pub OneEnding : Type 0
 OneEnding =
     (schedule other : Schedule) (g : Plain) (room : ℕ) (a b : List Record) (first second : RunEnd) (console log also more : Sunk)
     → IsValid g → schedule.every ≡ None → other.every ≡ None → IsAnswer first → IsAnswer second → EndsRun first schedule g room a console log → EndsRun second other g room b also more
-    → (first ≡ second) × (a ≡ b)
+    → GoesInRounds schedule g a → GoesInRounds other g b → (first ≡ second) × (a ≡ b)
+
+-- a trace in rounds to an end, and a run with room for it that no sink cut off
+abbrev pub EndsSo : Type 0
+EndsSo =
+    (schedule other : Schedule) (g last : Plain) (room more : ℕ) (a b : List Record) (end : RunEnd) (console log : Sunk)
+    → IsValid g → schedule.every ≡ None → other.every ≡ None → IsRun schedule g more a last → GoesInRounds schedule g a → ended last ≡ true → length a ≤ room
+    → EndsRun end other g room b console log → GoesInRounds other g b → end ≢ SinkFault → (end ≡ Memory) ⊎ ((end ≡ Ended) × (b ≡ a))
 
 -- the statuses with which a run answers
 abbrev pub Answers : Status → Type 0
@@ -82,11 +101,14 @@ Answers Budget = Unit {0}
 Answers Stuck = Unit {0}
 Answers _ = ⊥
 
+abbrev pub GoesOnInRounds : Session → Type 0
+GoesOnInRounds session = IsInRounds session.left.start session.left.trace
+
 abbrev pub OneRestart : Type 0
 OneRestart =
     (files : Folder) (generation : ℕ) (g : Plain) (settings : Settings) (a b : Session) (first second : Status) (log other : Sunk)
-    → IsValid g → SpellsSet files generation g → settings.every ≡ None → IsRestart a.words settings → IsRestart b.words settings → a.folder ≡ Some files → b.folder ≡ Some files
-    → Answers first → Answers second → Ends first a log → Ends second b other → (first ≡ second) × (a.trace ≡ b.trace)
+    → SpellsSet files generation g → settings.every ≡ None → IsRestart a.given.words settings → IsRestart b.given.words settings → a.given.folder ≡ Some files → b.given.folder ≡ Some files
+    → Answers first → Answers second → Ends first a log → Ends second b other → GoesOnInRounds a → GoesOnInRounds b → (first ≡ second) × (a.left.trace ≡ b.left.trace)
 
 -- what a set's files spell is valid
 abbrev pub SetIsValid : Type 0
@@ -94,10 +116,22 @@ SetIsValid = (images : List (List ℕ)) (g : Plain) → All (λ file. All IsByte
 
 -- the same work, and the same bytes on the console
 pub record ShowOne (a b : Session) : Type 0 where
-  pub work : work_in a.trace ≡ work_in b.trace
+  pub work : work_in a.left.trace ≡ work_in b.left.trace
   pub bytes : List ℕ
-  pub first : Took a.console bytes
-  pub second : Took b.console bytes
+  pub first : Took a.left.console bytes
+  pub second : Took b.left.console bytes
+
+-- the call began a run with this state
+abbrev pub BeginsWith : Session → Plain → Type 0
+BeginsWith session g = IfSome session.left.start (λ begun. begun.state ≡ g)
 
 abbrev pub OneAnswer : Type 0
-OneAnswer = (g : Plain) (a b : Session) (log other : Sunk) → IsValid g → a.start ≡ Some g → b.start ≡ Some g → Ends Done a log → Ends Done b other → ShowOne a b
+OneAnswer =
+    (g : Plain) (a b : Session) (log other : Sunk) → NameNoEvery a.given.words → NameNoEvery b.given.words
+    → BeginsWith a g → BeginsWith b g → Ends Done a log → Ends Done b other → GoesOnInRounds a → GoesOnInRounds b → ShowOne a b
+
+-- a call that ended as done, whose words ask for a checkpoint after every so many records of work, made as many, with room for more, and no mark
+abbrev pub LacksNoRequest : Type 0
+LacksNoRequest =
+    (session : Session) (log : Sunk) (every : ℕ) (ends : Ends Done session log) → (schedule_in ends.reached.0.begun).every ≡ Some every → (schedule_in ends.reached.0.begun).opening < 2 ^ 64 - 2
+    → every ≤ count_by is_work session.left.trace → length session.left.trace < (settings_in ends.reached.0.begun).records → All (λ r. is_mark r ≡ false) session.left.trace → ⊥

@@ -1,17 +1,24 @@
--- The order in which one thread of the host runs the threads of all processes: round after round. A round has the processes that live at its start, in
--- rising order. When a process's turn comes, the threads that it has then follow each other in rising order. In its turn a thread has the least of the
--- signals delivered that are pending and that its mask lets through, and runs one quantum, unless it stands at a call or a trap; if it then stands at a call
--- that is ready the call is served, if at a trap that is delivered. Who has ended meanwhile or can do nothing of this is passed over. Marks stand between
--- the records of the rounds, and nobody's turn goes on while a request for a checkpoint waits.
---     new_round g                      the first turn of a round that starts at this state
+-- The order in which one thread of the host runs the threads of all processes: round after round, while somebody lives. At the start of a round, where bytes
+-- are on the way, all that are missing of a direction arrive at once, one direction after the other, in rising order. A round has the processes that live at
+-- its start, in rising order. When a process's turn comes, the threads that it has then follow each other in rising order. In its turn a thread has the least
+-- of the signals delivered that are pending and that its mask lets through, and runs one quantum, unless it stands at a call or a trap; if it then stands at a
+-- call that is ready the call is served, if at a trap that is delivered. Who has ended meanwhile or can do nothing of this is passed over. Who can is seen
+-- when the next record comes, so after a checkpoint that the last one asked for. While a request for a checkpoint waits nobody's turn goes on: the bytes that
+-- are missing arrive in the same way, and marks stand between the records of the rounds wherever they may.
+--     new_round g                      what is due first in a round that starts at this state
+--     due_at g upcoming                what is due at this state, where a round comes this far
 --     in_rounds schedule g at records  each of the records is due when it comes, from this state and this place on
-use Rattle.std.specs.Prelude.{◌≡◌, ◌==◌, ◌&&◌, ◌||◌, ℕ, Bool, true, false, not, List, [], ◌∷◌, Option, Some, None, is_some, option_and_then, if◌then◌else◌}
+use Rattle.std.specs.Prelude.{◌≡◌, ◌==◌, ◌-◌, ◌&&◌, ◌||◌, ℕ, Bool, true, false, not, nat_lt, List, [], ◌∷◌, length, Option, Some, None, is_some, if◌then◌else◌}
+use Rattle.std.specs.List.{filter_map}
+use Rattle.std.specs.Option.{option_map}
 use Rattle.std.specs.FinMap as map
 use Rattle.sys_abi.specs.declared.identity.VPid.{VPid}
 use Rattle.sys_abi.specs.declared.identity.Tid.{Tid}
+use Rattle.sys_abi.specs.declared.identity.Dir.{Dir}
 use Rattle.sys_abi.specs.declared.record.Record.{Record}
-use Rattle.sys_abi.specs.declared.record.Record.TheVariants.{User, Call, Deliver}
+use Rattle.sys_abi.specs.declared.record.Record.TheVariants.{User, Call, Deliver, Arrive}
 use Rattle.plain_machine.specs.declared.plain.Plain.{Plain}
+use Rattle.plain_tables.specs.declared.channel.Direction.{Direction}
 use Rattle.plain_process.specs.declared.user_part.UserPart.{UserPart}
 use Rattle.plain_process.specs.declared.user_part.ThreadPart.{ThreadPart}
 use Rattle.plain_process.specs.Deliveries.{traps_with}
@@ -21,7 +28,7 @@ use Rattle.sys_abi.specs.Signals.{lowest_signal}
 use Rattle.trace_log.specs.declared.requests.Schedule.{Schedule}
 use Rattle.trace_log.specs.Requests.{Phase, Requested, Requests, is_mark, at_start, next_requests}
 
--- a place in the rounds: whose turn it is, the signal that is delivered first, if one is, and whether the thread has run its quantum
+-- a thread's turn in a round: the signal that is delivered first, if one is, and whether the thread has run its quantum
 pub record Place : Type 0 where
   pub p : VPid
   pub t : ℕ
@@ -29,6 +36,11 @@ pub record Place : Type 0 where
   pub has_run : Bool
   pub threads : List ℕ  -- those of p whose turn is still to come
   pub processes : List VPid  -- those of this round whose turn is still to come
+
+-- what is due: all bytes that are missing of a direction arrive, and then those of the others; or a thread has its turn
+pub data Due : Type 0 where
+  Arrival : Dir → List Dir → Due
+  InTurn : Place → Due
 
 abbrev pub or_else : {A : Type 0} → Option A → Option A → Option A
 or_else None other = other
@@ -78,11 +90,27 @@ unfoldable pub first_turn : Plain → List VPid → Option Place
 first_turn g [] = None
 first_turn g (p ∷ processes) = or_else (first_thread g p processes (threads_in (map.get g.users p))) (first_turn g processes)
 
-abbrev pub new_round : Plain → Option Place
-new_round g = first_turn g (map.keys g.users)
+-- the directions of which bytes are missing, in rising order
+abbrev pub if_missing : Dir × Direction → Option Dir
+if_missing entry = if nat_lt entry.1.arrived (length entry.1.left) then Some entry.0 else None
 
-abbrev pub next_turn : Plain → Place → Option Place
-next_turn g here = or_else (first_thread g here.p here.processes here.threads) (or_else (first_turn g here.processes) (new_round g))
+unfoldable pub coming : Plain → List Dir
+coming g = filter_map if_missing (map.entries g.kernel.directions)
+
+-- the rest of a round from its arrivals on, none where nobody lives
+abbrev pub round_of : Plain → List Dir → List VPid → Option Due
+round_of g dirs [] = None
+round_of g [] (p ∷ processes) = option_map InTurn (first_turn g (p ∷ processes))
+round_of g (dir ∷ dirs) (p ∷ processes) = Some (Arrival dir dirs)
+
+abbrev pub round_from : Plain → List Dir → Option Due
+round_from g dirs = round_of g dirs (map.keys g.users)
+
+abbrev pub new_round : Plain → Option Due
+new_round g = round_from g (coming g)
+
+abbrev pub next_turn : Plain → Place → Option Due
+next_turn g here = or_else (option_map InTurn (first_thread g here.p here.processes here.threads)) (or_else (option_map InTurn (first_turn g here.processes)) (new_round g))
 
 abbrev pub is_turn_of : Place → VPid → Tid → Bool
 is_turn_of here p t = (here.p.0 == p.0) && (here.t == t.0)
@@ -102,59 +130,95 @@ is_due_in g here (Call p t) = is_turn_of here p t && not (is_some here.signal)
 is_due_in g here (Deliver p t s) = is_turn_of here p t && is_due_signal g here s.0 here.signal
 is_due_in g here _ = false
 
-abbrev pub is_due_at : Plain → Option Place → Record → Bool
+-- all bytes that are missing of the direction arrive
+abbrev pub missing_in : Option Direction → ℕ
+missing_in None = 0
+missing_in (Some direction) = length direction.left - direction.arrived
+
+abbrev pub is_whole : Plain → Dir → ℕ → Bool
+is_whole g dir n = n == missing_in (map.get g.kernel.directions dir)
+
+abbrev pub is_same : Dir → Dir → Bool
+is_same a b = (a.conn.pid.0 == b.conn.pid.0) && (a.conn.num == b.conn.num) && (a.side == b.side)
+
+abbrev pub is_arrival : Plain → Dir → Record → Bool
+is_arrival g dir (Arrive other n) = is_same other dir && is_whole g dir n
+is_arrival g dir _ = false
+
+abbrev pub is_due_at : Plain → Option Due → Record → Bool
 is_due_at g None r = false
-is_due_at g (Some here) r = is_due_in g here r
+is_due_at g (Some (Arrival dir dirs)) r = is_arrival g dir r
+is_due_at g (Some (InTurn here)) r = is_due_in g here r
 
 abbrev pub stands_in : Option UserPart → ℕ → Bool
 stands_in None t = false
 stands_in (Some user) t = stands (user_step user t)
 
 -- the thread goes on with its turn, if it can
-abbrev pub same_turn : Plain → Place → Bool → Option Place
+abbrev pub same_turn : Plain → Place → Bool → Option Due
 same_turn g here has_run =
     if goes_on g here.p here.t (map.get g.users here.p) then
-    Some (record { p = here.p; t = here.t; signal = None; has_run = has_run; threads = here.threads; processes = here.processes })
+    Some (InTurn (record { p = here.p; t = here.t; signal = None; has_run = has_run; threads = here.threads; processes = here.processes }))
     else
     next_turn g here
 
--- the place after a record, where g is the state after it. A mark moves nobody
-abbrev pub place_after : Plain → Place → Record → Option Place
-place_after g here (User p t n) = if stands_in (map.get g.users here.p) here.t then same_turn g here true else next_turn g here
-place_after g here (Call p t) = next_turn g here
-place_after g here (Deliver p t s) = if is_some here.signal then same_turn g here false else next_turn g here
-place_after g here _ = Some here
+-- what is due after a record of a turn
+abbrev pub after_turn : Plain → Place → Record → Option Due
+after_turn g here (User p t n) = if stands_in (map.get g.users here.p) here.t then same_turn g here true else next_turn g here
+after_turn g here (Call p t) = next_turn g here
+after_turn g here (Deliver p t s) = if is_some here.signal then same_turn g here false else next_turn g here
+after_turn g here _ = None
 
-abbrev pub moved : Plain → Option Place → Record → Option Place
-moved g place r = option_and_then (λ here. place_after g here r) place
+-- how far a round has come: it begins, or the record came that was due
+pub data Upcoming : Type 0 where
+  NewRound : Upcoming
+  After : Due → Record → Upcoming
+
+abbrev pub due_at : Plain → Upcoming → Option Due
+due_at g NewRound = new_round g
+due_at g (After (Arrival dir dirs) r) = round_from g dirs
+due_at g (After (InTurn here) r) = after_turn g here r
 
 abbrev pub then_so : {A : Type 0} → Option A → (A → Bool) → Bool
 then_so None test = false
 then_so (Some a) test = test a
 
--- whose turn it is, and how far the requests have come
+-- how far the rounds and the requests have come
 pub record Standing : Type 0 where
-  pub place : Option Place
+  pub upcoming : Upcoming
   pub requests : Requests
 
 abbrev pub waits : Phase → Bool
 waits (Requested since) = true
 waits _ = false
 
-abbrev pub is_due : Plain → Standing → Record → Bool
-is_due g at r = is_mark r || (not (waits at.requests.phase) && is_due_at g at.place r)
+-- while a request waits bytes arrive of the least direction of which some are missing
+abbrev pub is_first_arrival : Plain → List Dir → Record → Bool
+is_first_arrival g [] r = false
+is_first_arrival g (dir ∷ dirs) r = is_arrival g dir r
 
--- after a record that leads from g to next
-abbrev pub standing_after : Schedule → Plain → Plain → Standing → Record → Standing
-standing_after schedule g next at r = record { place = moved next at.place r; requests = next_requests schedule g at.requests r }
+abbrev pub is_due : Plain → Standing → Record → Bool
+is_due g at r = is_mark r || (if waits at.requests.phase then is_first_arrival g (coming g) r else is_due_at g (due_at g at.upcoming) r)
+
+-- a mark, and what comes while a request waits, leaves the rounds where they are
+abbrev pub moved_by : Option Due → Upcoming → Record → Upcoming
+moved_by None upcoming r = upcoming
+moved_by (Some due) upcoming r = After due r
+
+abbrev pub moved : Plain → Standing → Record → Upcoming
+moved g at r = if is_mark r || waits at.requests.phase then at.upcoming else moved_by (due_at g at.upcoming) at.upcoming r
+
+-- after a record that came at g
+abbrev pub standing_after : Schedule → Plain → Standing → Record → Standing
+standing_after schedule g at r = record { upcoming = moved g at r; requests = next_requests schedule g at.requests r }
 
 unfoldable pub in_rounds : Schedule → Plain → Standing → List Record → Bool
 in_rounds schedule g at [] = true
-in_rounds schedule g at (r ∷ records) = is_due g at r && then_so (step g r) (λ next. in_rounds schedule next (standing_after schedule g next at r) records)
+in_rounds schedule g at (r ∷ records) = is_due g at r && then_so (step g r) (λ next. in_rounds schedule next (standing_after schedule g at r) records)
 
-abbrev pub first_standing : Schedule → Plain → Standing
-first_standing schedule g = record { place = new_round g; requests = at_start schedule }
+abbrev pub first_standing : Schedule → Standing
+first_standing schedule = record { upcoming = NewRound; requests = at_start schedule }
 
 -- the records are those of the rounds that start at this state
 abbrev pub GoesInRounds : Schedule → Plain → List Record → Type 0
-GoesInRounds schedule g records = in_rounds schedule g (first_standing schedule g) records ≡ true
+GoesInRounds schedule g records = in_rounds schedule g (first_standing schedule) records ≡ true

@@ -1,32 +1,33 @@
--- A run under way: the machine, the keeper of its checkpoints, the trace, the streams and the folder of sets, together.
+-- A run under way: the state, the keeper of its checkpoints, the trace, the streams and the folder of sets, together.
 --     IsUnderWay ..      all is as the trace says
 --     IsBrokenOff ..     the same where the run was cut off at its last mark, of whose line the log took a first part
 --     IsDue              a request waits exactly where the last record of work asked for a checkpoint
 --     IsSettled          no request waits, or there is no room for a mark
-use Rattle.std.specs.Prelude.{◌≡◌, ◌⊎◌, ℕ, cond, [], Option}
+use Rattle.std.specs.Prelude.{◌≡◌, ◌⊎◌, ℕ, cond, List, [], Option}
 use Rattle.set_disk.specs.Files.{Files as Folder}
 use Rattle.plain_machine.specs.declared.plain.Plain.{Plain}
 use Rattle.trace_log.specs.declared.requests.Schedule.{Schedule}
 use Rattle.trace_log.specs.Trace.{TraceState}
 use Rattle.trace_log.specs.Requests.{Requests, NoRequest, Requested, asks}
-use Rattle.trace_log.specs.LogText.{log_text}
-use Rattle.dmtcp_top.specs.declared.machine.Machine.{Machine}
 use Rattle.dmtcp_top.specs.declared.keeper.Keeper.{Keeper}
-use Rattle.dmtcp_top.specs.Sessions.{Sunk, TookFront}
-use Rattle.dmtcp_top.specs.Rounds.{Place}
+use Rattle.dmtcp_top.specs.Sessions.{Sunk, Took}
+use Rattle.dmtcp_top.specs.Rounds.{Due}
+use Rattle.dmtcp_top.specs.RunEnds.{CutLines}
 use Rattle.dmtcp_top.specs.Running.{IsRunning, IsNoted}
 use Rattle.dmtcp_top.specs.Keeping.{IsSafe}
 
 pub record IsUnderWay {D : Type 0} (reads : D → Option Folder) (moment : D → ℕ) (may_leave : D → Folder → Type 0) (left_since : D → ℕ → Folder → Type 0) (faults : D → ℕ)
-    (schedule : Schedule) (g : Plain) (m : Machine) (place : Option Place) (keeper : Keeper) (trace : TraceState) (sink log : Sunk) (first disk : D) : Type 0 where
-  pub running : IsRunning schedule g m place trace.records sink
+    (schedule : Schedule) (g : Plain) (now : Plain) (next : Option Due) (keeper : Keeper) (trace : TraceState) (sink log : Sunk) (first disk : D) : Type 0 where
+  pub running : IsRunning schedule g now next trace.records sink
   pub noted : IsNoted schedule running.requests keeper trace.records log
   pub safe : IsSafe reads moment may_leave left_since faults g trace.records first disk
 
 pub record IsBrokenOff {D : Type 0} (reads : D → Option Folder) (moment : D → ℕ) (may_leave : D → Folder → Type 0) (left_since : D → ℕ → Folder → Type 0) (faults : D → ℕ)
-    (schedule : Schedule) (g : Plain) (m : Machine) (place : Option Place) (trace : TraceState) (sink log : Sunk) (first disk : D) : Type 0 where
-  pub running : IsRunning schedule g m place trace.records sink
-  pub logged : TookFront log (log_text trace.records)
+    (schedule : Schedule) (g : Plain) (now : Plain) (next : Option Due) (trace : TraceState) (sink log : Sunk) (first disk : D) : Type 0 where
+  pub running : IsRunning schedule g now next trace.records sink
+  pub lines : List ℕ
+  pub cut : CutLines trace.records lines
+  pub logged : Took log lines
   pub safe : IsSafe reads moment may_leave left_since faults g trace.records first disk
 
 abbrev pub IsDue : Schedule → Requests → Type 0

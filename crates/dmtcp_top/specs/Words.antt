@@ -92,3 +92,8 @@ pub record AskNothing (words : List (List ℕ)) : Type 0 where
 pub record MakesNoCheckpoints (words : List (List ℕ)) : Type 0 where
   pub launch : (name : List ℕ) (settings : Settings) → IsLaunch words name settings → settings.every ≡ None
   pub restart : (settings : Settings) → IsRestart words settings → ⊥
+
+-- none of their options asks for checkpoints
+pub record NameNoEvery (words : List (List ℕ)) : Type 0 where
+  pub launch : (name : List ℕ) (settings : Settings) → IsLaunch words name settings → settings.every ≡ None
+  pub restart : (settings : Settings) → IsRestart words settings → settings.every ≡ None

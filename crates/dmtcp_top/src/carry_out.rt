@@ -1,9 +1,9 @@
 ghost use Rattle.std.specs.Prelude.{◌≡◌, ◌≤◌, ◌⊎◌, [], Option, map, string_bytes};
 ghost use Rattle.views.specs.Faults.{Rose};
-ghost use Rattle.plain_machine.specs.declared.plain.Plain.{Plain};
 ghost use Rattle.dmtcp_top.specs.Endings.{status_of, Arrives};
+ghost use Rattle.dmtcp_top.specs.Ends.{IsInRounds};
 ghost use Rattle.dmtcp_top.specs.Promise.{StaysWhole};
-ghost use Rattle.dmtcp_top.specs.Sessions.{session, sunk};
+ghost use Rattle.dmtcp_top.specs.Sessions.{Beginning, given, session, sunk};
 ghost use Rattle.dmtcp_top.specs.Words.{MakesNoCheckpoints};
 
 use crate::ending::Ending;
@@ -27,9 +27,11 @@ pub(crate) fn carry_out<'a, I: Inputs, O: Sink, L: Sink, F: Folder>(
     trace: &mut Trace,
 ) -> Ending<'a>
     requires { trace.old.records ≡ [] }
-    ensures promise { (start : Option Plain) × (Arrives result
-        (session (map string_bytes words.now) (I.held inputs.old) (F.reads disk.old) start trace.new.records (sunk (O.taken out.old) (O.taken out.new)))
+    ensures promise { (start : Option Beginning) × (Arrives result
+        (session (given (map string_bytes words.now) (I.held inputs.old) (F.reads disk.old)) start trace.new.records
+        (sunk (O.taken out.old) (O.taken out.new)))
         (sunk (L.taken log.old) (L.taken log.new))
+        × IsInRounds start trace.new.records
         × StaysWhole F.reads F.moment F.may_leave F.left_since F.faults start trace.new.records disk.old disk.new) }
     ensures input { status_of result ≡ Status.InputFault → Rose (I.faults inputs.old) (I.faults inputs.new) }
     ensures sink { status_of result ≡ Status.SinkFault → Rose (O.faults out.old) (O.faults out.new) ⊎ Rose (L.faults log.old) (L.faults log.new) }

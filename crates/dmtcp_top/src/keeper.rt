@@ -13,7 +13,7 @@ ghost use Rattle.dmtcp_top.specs.Launches.{schedule_of};
 ghost use Rattle.dmtcp_top.specs.Machines.{IsReady, lives, plain_of, with_record};
 ghost use Rattle.dmtcp_top.specs.Sessions.{Sunk, sunk, Took, TookFront};
 ghost use Rattle.dmtcp_top.specs.Keeping.{IsKept, IsPut, Counts, IsOutside, cause_told};
-ghost use Rattle.dmtcp_top.specs.Rounds.{Place};
+ghost use Rattle.dmtcp_top.specs.Rounds.{Due};
 ghost use Rattle.dmtcp_top.specs.UnderWay.{IsUnderWay, IsBrokenOff, IsDue, IsSettled};
 
 use crate::machine::{Machine, Stop};
@@ -80,16 +80,16 @@ impl Keeper {
         requires drained { self.old.lines.drained ≡ 0 }
         requires kept { self.old.schedule.every ≢ None → IsKept self.old (F.reads disk.old) (F.may_leave disk.old) }
 
-        ensures ok { OnOk result ((g : Plain) (place : Option Place) (sink : Sunk) (had : Option (List ℕ)) (first : F) →
-            (before : IsUnderWay F.reads F.moment F.may_leave F.left_since F.faults self.old.schedule g machine.now place self.old trace.old sink (sunk had (L.taken log.old)) first disk.old)
+        ensures ok { OnOk result ((g : Plain) (next : Option Due) (sink : Sunk) (had : Option (List ℕ)) (first : F) →
+            (before : IsUnderWay F.reads F.moment F.may_leave F.left_since F.faults self.old.schedule g (plain_of machine.now) next self.old trace.old sink (sunk had (L.taken log.old)) first disk.old)
             → IsDue self.old.schedule before.running.requests
-            → (after : IsUnderWay F.reads F.moment F.may_leave F.left_since F.faults self.old.schedule g machine.now place self.new trace.new sink (sunk had (L.taken log.new)) first disk.new)
+            → (after : IsUnderWay F.reads F.moment F.may_leave F.left_since F.faults self.old.schedule g (plain_of machine.now) next self.new trace.new sink (sunk had (L.taken log.new)) first disk.new)
             × IsSettled after.running.requests trace.new) }
         ensures kept { OnOk result (self.old.schedule.every ≢ None → IsKept self.new (F.reads disk.new) (F.may_leave disk.new)) }
-        ensures err { OnErr result ((g : Plain) (place : Option Place) (sink : Sunk) (had : Option (List ℕ)) (first : F) →
-            (before : IsUnderWay F.reads F.moment F.may_leave F.left_since F.faults self.old.schedule g machine.now place self.old trace.old sink (sunk had (L.taken log.old)) first disk.old)
+        ensures err { OnErr result ((g : Plain) (next : Option Due) (sink : Sunk) (had : Option (List ℕ)) (first : F) →
+            (before : IsUnderWay F.reads F.moment F.may_leave F.left_since F.faults self.old.schedule g (plain_of machine.now) next self.old trace.old sink (sunk had (L.taken log.old)) first disk.old)
             → IsDue self.old.schedule before.running.requests
-            → IsBrokenOff F.reads F.moment F.may_leave F.left_since F.faults self.old.schedule g machine.now place trace.new sink (sunk had (L.taken log.new)) first disk.new) }
+            → IsBrokenOff F.reads F.moment F.may_leave F.left_since F.faults self.old.schedule g (plain_of machine.now) next trace.new sink (sunk had (L.taken log.new)) first disk.new) }
         ensures size { length trace.new.records + trace.new.room ≡ length trace.old.records + trace.old.room }
         ensures room { trace.new.room ≤ trace.old.room }
         ensures schedule { self.new.schedule ≡ self.old.schedule }
@@ -127,16 +127,16 @@ impl Keeper {
         requires drained { self.old.lines.drained ≡ 0 }
         requires kept { IsKept self.old (F.reads disk.old) (F.may_leave disk.old) }
 
-        ensures ok { OnOk result ((g : Plain) (place : Option Place) (sink : Sunk) (had : Option (List ℕ)) (first : F) →
-            (before : IsUnderWay F.reads F.moment F.may_leave F.left_since F.faults self.old.schedule g machine.now place self.old trace.old sink (sunk had (L.taken log.old)) first disk.old)
+        ensures ok { OnOk result ((g : Plain) (next : Option Due) (sink : Sunk) (had : Option (List ℕ)) (first : F) →
+            (before : IsUnderWay F.reads F.moment F.may_leave F.left_since F.faults self.old.schedule g (plain_of machine.now) next self.old trace.old sink (sunk had (L.taken log.old)) first disk.old)
             → before.running.requests.phase ≡ Requested []
-            → (after : IsUnderWay F.reads F.moment F.may_leave F.left_since F.faults self.old.schedule g machine.now place self.new trace.new sink (sunk had (L.taken log.new)) first disk.new)
+            → (after : IsUnderWay F.reads F.moment F.may_leave F.left_since F.faults self.old.schedule g (plain_of machine.now) next self.new trace.new sink (sunk had (L.taken log.new)) first disk.new)
             × IsSettled after.running.requests trace.new) }
         ensures kept { OnOk result (IsKept self.new (F.reads disk.new) (F.may_leave disk.new)) }
-        ensures err { OnErr result ((g : Plain) (place : Option Place) (sink : Sunk) (had : Option (List ℕ)) (first : F) →
-            (before : IsUnderWay F.reads F.moment F.may_leave F.left_since F.faults self.old.schedule g machine.now place self.old trace.old sink (sunk had (L.taken log.old)) first disk.old)
+        ensures err { OnErr result ((g : Plain) (next : Option Due) (sink : Sunk) (had : Option (List ℕ)) (first : F) →
+            (before : IsUnderWay F.reads F.moment F.may_leave F.left_since F.faults self.old.schedule g (plain_of machine.now) next self.old trace.old sink (sunk had (L.taken log.old)) first disk.old)
             → before.running.requests.phase ≡ Requested []
-            → IsBrokenOff F.reads F.moment F.may_leave F.left_since F.faults self.old.schedule g machine.now place trace.new sink (sunk had (L.taken log.new)) first disk.new) }
+            → IsBrokenOff F.reads F.moment F.may_leave F.left_since F.faults self.old.schedule g (plain_of machine.now) next trace.new sink (sunk had (L.taken log.new)) first disk.new) }
         ensures size { length trace.new.records + trace.new.room ≡ length trace.old.records + trace.old.room }
         ensures room { trace.new.room ≤ trace.old.room }
         ensures schedule { self.new.schedule ≡ self.old.schedule }

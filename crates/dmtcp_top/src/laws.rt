@@ -1,5 +1,5 @@
 ghost use Rattle.dmtcp_top.specs.Promise.{NotBoth, OneDamage, OneState, RoundTrip};
-ghost use Rattle.dmtcp_top.specs.OneOrder.{OneOrder, OneTrace, EndsThere, OneEnd, OneEnding, OneRestart, SetIsValid, OneAnswer};
+ghost use Rattle.dmtcp_top.specs.OneOrder.{OneOrder, OneTrace, StandsStill, EndsThere, OneEnd, OneEnding, EndsSo, OneRestart, SetIsValid, OneAnswer, LacksNoRequest};
 
 /// Laws of the sets that calls leave and restarts take. It does nothing. A folder's set spells one state at most, so where
 /// it is one of a run's cuts, a restart goes on from exactly the state there. A set that counts never both spells a state
@@ -11,15 +11,18 @@ pub fn restart_laws()
     ensures place { OneDamage }
 {}
 
-/// Laws of the order in which the threads run. It does nothing. A state's rounds make one run, whenever checkpoints are
-/// asked for on the way and whatever comes of them, and it is over once nobody lives or can go on.
+/// Laws of the order in which the threads run. It does nothing. Where no checkpoints are made a state's rounds make one
+/// run, and it is over once nobody lives or can go on. Where they are to be made a run that ends has one.
 pub fn order_laws()
     ensures order { OneOrder }
     ensures trace { OneTrace }
+    ensures still { StandsStill }
     ensures over { EndsThere }
     ensures end { OneEnd }
     ensures ending { OneEnding }
+    ensures so { EndsSo }
     ensures restart { OneRestart }
     ensures valid { SetIsValid }
     ensures answer { OneAnswer }
+    ensures due { LacksNoRequest }
 {}

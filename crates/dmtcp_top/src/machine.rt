@@ -86,7 +86,7 @@ impl Machine {
         requires alive { lives self.old ≡ true }
         requires due { CanDeliver (plain_of self.old) self.old.guest.pid t s }
         requires room { 0 < trace.old.room }
-        ensures took { (taken : _) → Takes self.old self.new (a_record.Deliver self.old.guest.pid t s) trace.old trace.new (sunk taken taken) }
+        ensures took { (taken : _) → Takes (plain_of self.old) (plain_of self.new) (a_record.Deliver self.old.guest.pid t s) trace.old trace.new (sunk taken taken) }
         ensures ready { IsReady self.new }
         ensures same { IsSame self.old self.new }
     {
@@ -156,11 +156,11 @@ impl Machine {
         requires alive { lives self.old ≡ true }
         requires asks { user_step self.old.guest.user t.0 ≡ Asks request.now }
         requires room { 0 < trace.old.room }
-        ensures ok { OnOk result (Takes self.old self.new (a_record.Call self.old.guest.pid t) trace.old trace.new
+        ensures ok { OnOk result (Takes (plain_of self.old) (plain_of self.new) (a_record.Call self.old.guest.pid t) trace.old trace.new
             (sunk (O.taken out.old) (O.taken out.new))) }
         ensures ready { OnOk result (IsReady self.new) }
         ensures same { IsSame self.old self.new }
-        ensures failed { IsErrOf result Stop.Sink → Breaks self.old (a_record.Call self.old.guest.pid t) trace.old trace.new
+        ensures failed { IsErrOf result Stop.Sink → Breaks (plain_of self.old) (a_record.Call self.old.guest.pid t) trace.old trace.new
             (sunk (O.taken out.old) (O.taken out.new)) }
         ensures memory { IsErrOf result Stop.Memory →
             (trace.new ≡ trace.old) × (O.taken out.new ≡ O.taken out.old) }
@@ -190,7 +190,7 @@ impl Machine {
         requires asks { user_step self.old.guest.user t.0 ≡ Asks request.now }
         requires fault { lent self.old.guest.user.memory request.now ≡ None }
         requires room { 0 < trace.old.room }
-        ensures took { (taken : _) → Takes self.old self.new (a_record.Call self.old.guest.pid t) trace.old trace.new (sunk taken taken) }
+        ensures took { (taken : _) → Takes (plain_of self.old) (plain_of self.new) (a_record.Call self.old.guest.pid t) trace.old trace.new (sunk taken taken) }
         ensures ready { IsReady self.new }
         ensures same { IsSame self.old self.new }
     {
@@ -215,7 +215,7 @@ impl Machine {
         requires given { lent self.old.guest.user.memory request.now ≡ Some self.old.transfer }
         requires local { is_local request.now ≡ true }
         requires room { 0 < trace.old.room }
-        ensures ok { OnOk result ((taken : _) → Takes self.old self.new (a_record.Call self.old.guest.pid t) trace.old trace.new (sunk taken taken)) }
+        ensures ok { OnOk result ((taken : _) → Takes (plain_of self.old) (plain_of self.new) (a_record.Call self.old.guest.pid t) trace.old trace.new (sunk taken taken)) }
         ensures ready { OnOk result (IsReady self.new) }
         ensures same { IsSame self.old self.new }
         ensures memory { OnErr result (trace.new ≡ trace.old) }
@@ -242,11 +242,11 @@ impl Machine {
         requires given { lent self.old.guest.user.memory request.now ≡ Some self.old.transfer }
         requires kernels { is_local request.now ≡ false }
         requires room { 0 < trace.old.room }
-        ensures ok { OnOk result (Takes self.old self.new (a_record.Call self.old.guest.pid t) trace.old trace.new
+        ensures ok { OnOk result (Takes (plain_of self.old) (plain_of self.new) (a_record.Call self.old.guest.pid t) trace.old trace.new
             (sunk (O.taken out.old) (O.taken out.new))) }
         ensures ready { OnOk result (IsReady self.new) }
         ensures same { IsSame self.old self.new }
-        ensures failed { IsErrOf result Stop.Sink → Breaks self.old (a_record.Call self.old.guest.pid t) trace.old trace.new
+        ensures failed { IsErrOf result Stop.Sink → Breaks (plain_of self.old) (a_record.Call self.old.guest.pid t) trace.old trace.new
             (sunk (O.taken out.old) (O.taken out.new)) }
         ensures memory { IsErrOf result Stop.Memory →
             (trace.new ≡ trace.old) × (O.taken out.new ≡ O.taken out.old) }

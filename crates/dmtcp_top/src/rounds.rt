@@ -4,6 +4,7 @@ ghost use Rattle.trace_log.specs.LogText.{at_start};
 ghost use Rattle.trace_log.specs.Requests.{first_tally};
 ghost use Rattle.dmtcp_top.specs.Keeping.{IsKept, IsSafe};
 ghost use Rattle.dmtcp_top.specs.Machines.{plain_of, IsReady};
+ghost use Rattle.dmtcp_top.specs.Rounds.{GoesInRounds};
 ghost use Rattle.dmtcp_top.specs.RunEnds.{EndsRun};
 ghost use Rattle.dmtcp_top.specs.Sessions.{sunk};
 
@@ -34,6 +35,7 @@ impl Start {
         requires empty { trace.old.records ≡ [] }
         ensures ends { EndsRun result self.old.keeper.schedule (plain_of self.old.machine) trace.old.room trace.new.records
             (sunk (O.taken out.old) (O.taken out.new)) (sunk (L.taken log.old) (L.taken log.new)) }
+        ensures in_rounds { GoesInRounds self.old.keeper.schedule (plain_of self.old.machine) trace.new.records }
         ensures safe { IsSafe F.reads F.moment F.may_leave F.left_since F.faults (plain_of self.old.machine) trace.new.records disk.old disk.new }
         ensures untouched { self.old.keeper.schedule.every ≡ None → disk.new ≡ disk.old }
         ensures cause { result ≡ RunEnd.SinkFault → Rose (O.faults out.old) (O.faults out.new) ⊎ Rose (L.faults log.old) (L.faults log.new) }

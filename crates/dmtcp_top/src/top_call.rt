@@ -1,10 +1,6 @@
-ghost use Rattle.std.specs.Prelude.{◌≡◌, ◌⊎◌, ◌↔◌, [], Option, map, string_bytes};
-ghost use Rattle.views.specs.Faults.{Rose};
-ghost use Rattle.plain_machine.specs.declared.plain.Plain.{Plain};
-ghost use Rattle.dmtcp_top.specs.Sessions.{session, sunk};
-ghost use Rattle.dmtcp_top.specs.Ends.{FileDecides, IsDecided};
+ghost use Rattle.std.specs.Prelude.{◌≡◌, [], map, string_bytes};
+ghost use Rattle.dmtcp_top.specs.Sessions.{given, sunk, outside, failures};
 ghost use Rattle.dmtcp_top.specs.Promise.{IsPromised};
-ghost use Rattle.dmtcp_top.specs.Words.{AskNothing, MakesNoCheckpoints};
 
 use crate::carry_out::carry_out;
 use crate::status::Status;
@@ -35,41 +31,14 @@ pub fn dmtcp<R: Wait + Threads + Sync, I: Inputs, O: Sink, L: Sink, F: Folder>(
 ) -> Status
     requires { trace.old.records ≡ [] }
 
-    // What the status says of the trace, the console and the log, for the state with which a run began, if one did. And
-    // a crash at any moment of the call leaves the set that counted before it, or one of a cut of this run.
-    ensures promise { (start : Option Plain) × IsPromised F.reads F.moment F.may_leave F.left_since F.faults result
-        (session (map string_bytes words.now) (I.held inputs.old) (F.reads disk.old) start trace.new.records
-        (sunk (O.taken out.old) (O.taken out.new)))
-        (sunk (L.taken log.old) (L.taken log.new)) disk.old disk.new }
-
-    // An answer that something outside failed comes only where it did.
-    ensures input_failed { result ≡ Status.InputFault → Rose (I.faults inputs.old) (I.faults inputs.new) }
-    ensures sink_failed { result ≡ Status.SinkFault →
-        Rose (O.faults out.old) (O.faults out.new) ⊎ Rose (L.faults log.old) (L.faults log.new) }
-    ensures disk_failed { result ≡ Status.DiskFault → Rose (F.faults disk.old) (F.faults disk.new) }
-
-    // Where no sink failed the words decide whether it is Usage; where no input failed either, the program's file whether
-    // it is missing or bad; and where nothing outside failed, what the call was given decides the rest, but for want of
-    // memory.
-    ensures usage { (Rose (O.faults out.old) (O.faults out.new) → ⊥)
-        → (Rose (L.faults log.old) (L.faults log.new) → ⊥)
-        → (result ≡ Status.Usage) ↔ AskNothing (map string_bytes words.now) }
-    ensures file { (Rose (I.faults inputs.old) (I.faults inputs.new) → ⊥)
-        → (Rose (O.faults out.old) (O.faults out.new) → ⊥)
-        → (Rose (L.faults log.old) (L.faults log.new) → ⊥)
-        → (start : Option Plain) → FileDecides result
-        (session (map string_bytes words.now) (I.held inputs.old) (F.reads disk.old) start trace.new.records
-        (sunk (O.taken out.old) (O.taken out.new))) }
-    ensures decided { (Rose (I.faults inputs.old) (I.faults inputs.new) → ⊥)
-        → (Rose (O.faults out.old) (O.faults out.new) → ⊥)
-        → (Rose (L.faults log.old) (L.faults log.new) → ⊥)
-        → (Rose (F.faults disk.old) (F.faults disk.new) → ⊥)
-        → (start : Option Plain) → IsDecided result
-        (session (map string_bytes words.now) (I.held inputs.old) (F.reads disk.old) start trace.new.records
-        (sunk (O.taken out.old) (O.taken out.new))) }
-
-    // Without checkpoints, and without a restart, the folder is not touched.
-    ensures untouched { MakesNoCheckpoints (map string_bytes words.now) → disk.new ≡ disk.old }
+    // What the status says of the trace, the console and the log, in which order the records come, what a crash at any
+    // moment leaves of the folder of sets, and which status comes where: `specs/Promise.antt` has it field by field.
+    ensures promise { IsPromised F.reads F.moment F.may_leave F.left_since F.faults result
+        (given (map string_bytes words.now) (I.held inputs.old) (F.reads disk.old)) trace.new.records
+        (sunk (O.taken out.old) (O.taken out.new)) (sunk (L.taken log.old) (L.taken log.new))
+        (outside (failures (I.faults inputs.old) (I.faults inputs.new)) (failures (O.faults out.old) (O.faults out.new))
+        (failures (L.faults log.old) (L.faults log.new)) (failures (F.faults disk.old) (F.faults disk.new)))
+        disk.old disk.new }
     ensures same { I.held inputs.new ≡ I.held inputs.old }
 {
     let _ = rt;
@@ -87,31 +56,12 @@ pub fn run_words<I: Inputs, O: Sink, L: Sink, F: Folder>(
     trace: &mut Trace,
 ) -> Status
     requires { trace.old.records ≡ [] }
-    ensures promise { (start : Option Plain) × IsPromised F.reads F.moment F.may_leave F.left_since F.faults result
-        (session (map string_bytes words.now) (I.held inputs.old) (F.reads disk.old) start trace.new.records
-        (sunk (O.taken out.old) (O.taken out.new)))
-        (sunk (L.taken log.old) (L.taken log.new)) disk.old disk.new }
-    ensures input_failed { result ≡ Status.InputFault → Rose (I.faults inputs.old) (I.faults inputs.new) }
-    ensures sink_failed { result ≡ Status.SinkFault →
-        Rose (O.faults out.old) (O.faults out.new) ⊎ Rose (L.faults log.old) (L.faults log.new) }
-    ensures disk_failed { result ≡ Status.DiskFault → Rose (F.faults disk.old) (F.faults disk.new) }
-    ensures usage { (Rose (O.faults out.old) (O.faults out.new) → ⊥)
-        → (Rose (L.faults log.old) (L.faults log.new) → ⊥)
-        → (result ≡ Status.Usage) ↔ AskNothing (map string_bytes words.now) }
-    ensures file { (Rose (I.faults inputs.old) (I.faults inputs.new) → ⊥)
-        → (Rose (O.faults out.old) (O.faults out.new) → ⊥)
-        → (Rose (L.faults log.old) (L.faults log.new) → ⊥)
-        → (start : Option Plain) → FileDecides result
-        (session (map string_bytes words.now) (I.held inputs.old) (F.reads disk.old) start trace.new.records
-        (sunk (O.taken out.old) (O.taken out.new))) }
-    ensures decided { (Rose (I.faults inputs.old) (I.faults inputs.new) → ⊥)
-        → (Rose (O.faults out.old) (O.faults out.new) → ⊥)
-        → (Rose (L.faults log.old) (L.faults log.new) → ⊥)
-        → (Rose (F.faults disk.old) (F.faults disk.new) → ⊥)
-        → (start : Option Plain) → IsDecided result
-        (session (map string_bytes words.now) (I.held inputs.old) (F.reads disk.old) start trace.new.records
-        (sunk (O.taken out.old) (O.taken out.new))) }
-    ensures untouched { MakesNoCheckpoints (map string_bytes words.now) → disk.new ≡ disk.old }
+    ensures promise { IsPromised F.reads F.moment F.may_leave F.left_since F.faults result
+        (given (map string_bytes words.now) (I.held inputs.old) (F.reads disk.old)) trace.new.records
+        (sunk (O.taken out.old) (O.taken out.new)) (sunk (L.taken log.old) (L.taken log.new))
+        (outside (failures (I.faults inputs.old) (I.faults inputs.new)) (failures (O.faults out.old) (O.faults out.new))
+        (failures (L.faults log.old) (L.faults log.new)) (failures (F.faults disk.old) (F.faults disk.new)))
+        disk.old disk.new }
     ensures same { I.held inputs.new ≡ I.held inputs.old }
 {
     let ending = carry_out(alloc, words, inputs, out, log, disk, trace);

@@ -195,11 +195,11 @@ impl Machine {
         requires turn { HasTurn self.old turn }
         requires room { 0 < trace.old.room }
         ensures has { IfOk result (λ next. IfSome next (HasTurn self.new)) }
-        ensures ok { IfOk result (λ next. Notes self.old self.new (place_of self.old turn) (placed self.new next) trace.old trace.new
+        ensures ok { IfOk result (λ next. Notes (plain_of self.old) (plain_of self.new) (place_of self.old turn) (placed self.new next) trace.old trace.new
             (sunk (O.taken out.old) (O.taken out.new))) }
         ensures ready { OnOk result (IsReady self.new) }
         ensures same { IsSame self.old self.new }
-        ensures failed { IsErrOf result Stop.Sink → Spoils self.old (place_of self.old turn) trace.old trace.new
+        ensures failed { IsErrOf result Stop.Sink → Spoils (plain_of self.old) (place_of self.old turn) trace.old trace.new
             (sunk (O.taken out.old) (O.taken out.new)) }
         ensures memory { IsErrOf result Stop.Memory →
             (trace.new ≡ trace.old) × (O.taken out.new ≡ O.taken out.old) }
@@ -241,7 +241,7 @@ impl Machine {
         requires thread { HasThread self.old.guest.user t.0 }
         requires goes { ran_at (user_step self.old.guest.user t.0) ≡ Ran.Whole }
         requires room { 0 < trace.old.room }
-        ensures took { (n : ℕ) × ((taken : _) → Takes self.old self.new (a_record.User self.old.guest.pid t n) trace.old trace.new (sunk taken taken)) }
+        ensures took { (n : ℕ) × ((taken : _) → Takes (plain_of self.old) (plain_of self.new) (a_record.User self.old.guest.pid t n) trace.old trace.new (sunk taken taken)) }
         ensures ready { IsReady self.new }
         ensures same { IsSame self.old self.new }
         ensures alive { lives self.new ≡ true }

@@ -2,9 +2,8 @@ use Rattle.std.proofs.Common.{◌≡◌, [], Some, None, map, string_bytes, ap, 
 use Rattle.trace_log.specs.Trace.{TraceState}
 use Rattle.dmtcp_top.specs.declared.run_end.RunEnd.TheVariants.{Done as RunDone, Budget as RunBudget, Stuck as RunStuck, SinkFault as RunSinkFault, Memory as RunMemory}
 use Rattle.dmtcp_top.specs.declared.settings.Settings.{Settings}
-use Rattle.dmtcp_top.specs.Machines.{plain_of}
 use Rattle.dmtcp_top.specs.Sessions.{sunk}
-use Rattle.dmtcp_top.proofs.Arrivals.{usage_arrives}
+use Rattle.dmtcp_top.proofs.Arrivals.{beginning_of, usage_arrives}
 use Rattle.dmtcp_top.proofs.Carried.{from_ok, from_err, refused_memory, begun_refused, begun_arrives, every_is_some}
 use Rattle.dmtcp_top.proofs.Loads.{looks_none, whole_unbegun, whole_begun}
 use Rattle.dmtcp_top.proofs.Sinks.{took_nothing}
@@ -18,6 +17,7 @@ returns-in_default-clause-promise g c =
       (
         usage_arrives (map string_bytes c.args.words.now) (g.I.Inputs.held c.args.inputs.now) (g.F.Folder.reads c.args.disk.now) c.args.trace.now.records console log c.requires
             (took_nothing (g.O.Sink.taken c.args.out.now)) (took_nothing (g.L.Sink.taken c.args.log.now)) c.in_default.ensures.none,
+        tt,
         whole_unbegun c.args.trace.now.records c.args.disk.now c.args.disk.now c.requires (looks_none c.args.disk.now (g.met.F.Folder.only_now c.args.disk.now)),
       ),
     )
@@ -32,6 +32,7 @@ returns-then-is_err-clause-promise g c =
       (
         refused_memory (map string_bytes c.args.words.now) (g.I.Inputs.held c.args.inputs.now) (g.F.Folder.reads c.args.disk.now) c.reserve.new.self.records console log c.in-Some.job
             c.in-Some.ensures.some none (took_nothing (g.O.Sink.taken c.args.out.now)) (took_nothing (g.L.Sink.taken c.args.log.now)),
+        tt,
         whole_unbegun c.reserve.new.self.records c.args.disk.now c.args.disk.now none (looks_none c.args.disk.now (g.met.F.Folder.only_now c.args.disk.now)),
       ),
     )
@@ -46,6 +47,7 @@ returns-in-Err-clause-promise g c =
       (
         begun_refused (map string_bytes c.args.words.now) (g.I.Inputs.held c.args.inputs.now) (g.F.Folder.reads c.args.disk.now) c.reserve.new.self.records console log c.in-Some.job c.in-Err.ending
             c.in-Some.ensures.some c.in-Err.ensures.begins none (took_nothing (g.O.Sink.taken c.args.out.now)) (took_nothing (g.L.Sink.taken c.args.log.now)),
+        tt,
         whole_unbegun c.reserve.new.self.records c.args.disk.now c.begin.new.disk none c.begin.ensures.looks,
       ),
     )
@@ -60,12 +62,13 @@ returns-in-Done-clause-promise g c =
     let log = sunk (g.L.Sink.taken c.args.log.now) (g.L.Sink.taken c.run.new.log) in
     let reserved = from_ok c.reserve.result c.if-is_err.ensures.negation c.reserve.ensures.ok in
     let room : c.reserve.new.self.room ≡ c.settings-records.result.records = ap (λ (t : TraceState). t.room) reserved in (
-      Some (plain_of c.in-Ok.start.machine),
+      Some (beginning_of c.in-Ok.start),
       (
         begun_arrives (map string_bytes c.args.words.now) (g.I.Inputs.held c.args.inputs.now) (g.F.Folder.reads c.args.disk.now) c.run.new.trace.records console log RunDone
             c.run.result c.in-Ok.start c.in-Some.job c.reserve.new.self.room c.settings-records.result.records c.in-Some.ensures.some c.in-Ok.ensures.begins room (ap (λ (s : Settings). s.records) c.settings-records.ensures)
             c.in-Done.is c.run.ensures.ends,
-        whole_begun (plain_of c.in-Ok.start.machine) c.run.new.trace.records c.args.disk.now c.begin.new.disk c.run.new.disk c.begin.ensures.looks c.run.ensures.safe,
+        c.run.ensures.in_rounds,
+        whole_begun (beginning_of c.in-Ok.start) c.run.new.trace.records c.args.disk.now c.begin.new.disk c.run.new.disk c.begin.ensures.looks c.run.ensures.safe,
       ),
     )
 
@@ -75,12 +78,13 @@ returns-in-Budget-clause-promise g c =
     let log = sunk (g.L.Sink.taken c.args.log.now) (g.L.Sink.taken c.run.new.log) in
     let reserved = from_ok c.reserve.result c.if-is_err.ensures.negation c.reserve.ensures.ok in
     let room : c.reserve.new.self.room ≡ c.settings-records.result.records = ap (λ (t : TraceState). t.room) reserved in (
-      Some (plain_of c.in-Ok.start.machine),
+      Some (beginning_of c.in-Ok.start),
       (
         begun_arrives (map string_bytes c.args.words.now) (g.I.Inputs.held c.args.inputs.now) (g.F.Folder.reads c.args.disk.now) c.run.new.trace.records console log RunBudget
             c.run.result c.in-Ok.start c.in-Some.job c.reserve.new.self.room c.settings-records.result.records c.in-Some.ensures.some c.in-Ok.ensures.begins room (ap (λ (s : Settings). s.records) c.settings-records.ensures)
             c.in-Budget.is c.run.ensures.ends,
-        whole_begun (plain_of c.in-Ok.start.machine) c.run.new.trace.records c.args.disk.now c.begin.new.disk c.run.new.disk c.begin.ensures.looks c.run.ensures.safe,
+        c.run.ensures.in_rounds,
+        whole_begun (beginning_of c.in-Ok.start) c.run.new.trace.records c.args.disk.now c.begin.new.disk c.run.new.disk c.begin.ensures.looks c.run.ensures.safe,
       ),
     )
 
@@ -90,12 +94,13 @@ returns-in-Stuck-clause-promise g c =
     let log = sunk (g.L.Sink.taken c.args.log.now) (g.L.Sink.taken c.run.new.log) in
     let reserved = from_ok c.reserve.result c.if-is_err.ensures.negation c.reserve.ensures.ok in
     let room : c.reserve.new.self.room ≡ c.settings-records.result.records = ap (λ (t : TraceState). t.room) reserved in (
-      Some (plain_of c.in-Ok.start.machine),
+      Some (beginning_of c.in-Ok.start),
       (
         begun_arrives (map string_bytes c.args.words.now) (g.I.Inputs.held c.args.inputs.now) (g.F.Folder.reads c.args.disk.now) c.run.new.trace.records console log RunStuck
             c.run.result c.in-Ok.start c.in-Some.job c.reserve.new.self.room c.settings-records.result.records c.in-Some.ensures.some c.in-Ok.ensures.begins room (ap (λ (s : Settings). s.records) c.settings-records.ensures)
             c.in-Stuck.is c.run.ensures.ends,
-        whole_begun (plain_of c.in-Ok.start.machine) c.run.new.trace.records c.args.disk.now c.begin.new.disk c.run.new.disk c.begin.ensures.looks c.run.ensures.safe,
+        c.run.ensures.in_rounds,
+        whole_begun (beginning_of c.in-Ok.start) c.run.new.trace.records c.args.disk.now c.begin.new.disk c.run.new.disk c.begin.ensures.looks c.run.ensures.safe,
       ),
     )
 
@@ -105,12 +110,13 @@ returns-in-SinkFault-clause-promise g c =
     let log = sunk (g.L.Sink.taken c.args.log.now) (g.L.Sink.taken c.run.new.log) in
     let reserved = from_ok c.reserve.result c.if-is_err.ensures.negation c.reserve.ensures.ok in
     let room : c.reserve.new.self.room ≡ c.settings-records.result.records = ap (λ (t : TraceState). t.room) reserved in (
-      Some (plain_of c.in-Ok.start.machine),
+      Some (beginning_of c.in-Ok.start),
       (
         begun_arrives (map string_bytes c.args.words.now) (g.I.Inputs.held c.args.inputs.now) (g.F.Folder.reads c.args.disk.now) c.run.new.trace.records console log RunSinkFault
             c.run.result c.in-Ok.start c.in-Some.job c.reserve.new.self.room c.settings-records.result.records c.in-Some.ensures.some c.in-Ok.ensures.begins room (ap (λ (s : Settings). s.records) c.settings-records.ensures)
             c.in-SinkFault.is c.run.ensures.ends,
-        whole_begun (plain_of c.in-Ok.start.machine) c.run.new.trace.records c.args.disk.now c.begin.new.disk c.run.new.disk c.begin.ensures.looks c.run.ensures.safe,
+        c.run.ensures.in_rounds,
+        whole_begun (beginning_of c.in-Ok.start) c.run.new.trace.records c.args.disk.now c.begin.new.disk c.run.new.disk c.begin.ensures.looks c.run.ensures.safe,
       ),
     )
 
@@ -120,11 +126,12 @@ returns-clause-promise g c =
     let log = sunk (g.L.Sink.taken c.args.log.now) (g.L.Sink.taken c.run.new.log) in
     let reserved = from_ok c.reserve.result c.if-is_err.ensures.negation c.reserve.ensures.ok in
     let room : c.reserve.new.self.room ≡ c.settings-records.result.records = ap (λ (t : TraceState). t.room) reserved in (
-      Some (plain_of c.in-Ok.start.machine),
+      Some (beginning_of c.in-Ok.start),
       (
         begun_arrives (map string_bytes c.args.words.now) (g.I.Inputs.held c.args.inputs.now) (g.F.Folder.reads c.args.disk.now) c.run.new.trace.records console log RunMemory
             c.run.result c.in-Ok.start c.in-Some.job c.reserve.new.self.room c.settings-records.result.records c.in-Some.ensures.some c.in-Ok.ensures.begins room (ap (λ (s : Settings). s.records) c.settings-records.ensures)
             c.in-Memory.is c.run.ensures.ends,
-        whole_begun (plain_of c.in-Ok.start.machine) c.run.new.trace.records c.args.disk.now c.begin.new.disk c.run.new.disk c.begin.ensures.looks c.run.ensures.safe,
+        c.run.ensures.in_rounds,
+        whole_begun (beginning_of c.in-Ok.start) c.run.new.trace.records c.args.disk.now c.begin.new.disk c.run.new.disk c.begin.ensures.looks c.run.ensures.safe,
       ),
     )

@@ -1,5 +1,7 @@
-use Rattle.dmtcp_top.proofs.OneOrder.{one_order, one_trace, ends_there, one_end, one_ending, one_answer}
+use Rattle.dmtcp_top.proofs.OneOrder.{one_order, one_trace, ends_there, one_end, one_ending, ends_so, one_answer}
 use Rattle.dmtcp_top.proofs.OneRestart.{one_restart}
+use Rattle.dmtcp_top.proofs.MissedRequests.{lacks_no_request}
+use Rattle.dmtcp_top.proofs.Standstill.{stands_still}
 use Rattle.dmtcp_top.proofs.Restored.{set_is_valid}
 use Rattle.dmtcp_top.proofs.laws.order_laws.Goals as goal
 
@@ -26,3 +28,12 @@ returns-clause-valid c = set_is_valid
 
 pub returns-clause-answer : goal.returns-clause-answer
 returns-clause-answer c = one_answer
+
+pub returns-clause-so : goal.returns-clause-so
+returns-clause-so c = ends_so
+
+pub returns-clause-due : goal.returns-clause-due
+returns-clause-due c = lacks_no_request
+
+pub returns-clause-still : goal.returns-clause-still
+returns-clause-still c = stands_still

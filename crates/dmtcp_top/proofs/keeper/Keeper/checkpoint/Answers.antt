@@ -17,6 +17,7 @@ use Rattle.dmtcp_top.specs.Keeping.{IsPut, IsSafe}
 use Rattle.dmtcp_top.specs.Sessions.{sunk, Took, TookFront}
 use Rattle.dmtcp_top.proofs.Sinks.{OnErr-map}
 use Rattle.dmtcp_top.proofs.Results.{OnOk-map}
+use Rattle.dmtcp_top.proofs.ImagedKernels.{nothing_on_the_way}
 use Rattle.dmtcp_top.proofs.Checkpoints.{outcome_tally, cut_tally}
 use Rattle.dmtcp_top.proofs.Served.{on_ok2, can_be_held, cut_made, refused_ok, refused_broken, completed_ok, completed_broken, late_ok, late_broken, kept_refused, kept_cut, kept_complete, kept_put, safe_open_refused, safe_put_complete, safe_put_refused, safe_no_images, raised}
 use Rattle.dmtcp_top.proofs.keeper.Keeper.checkpoint.Goals as goal
@@ -43,7 +44,7 @@ returns-in-Err-clause-ok g c = on_ok2 c.conclude.result c.conclude.ensures.ok c.
     let r = Refused c.in-Err.cause in
     let held = can_be_held m c.requires.ready c.requires.alive in
     let safe = safe_open_refused g' c.args.trace.now.records c.in-Err.cause first c.args.disk.now c.open.new.disk g.met.F.Folder.counts_now before.safe c.in-Err.ensures.kind c.open.ensures.nothing c.open.ensures.crash c.open.ensures.counts (λ is. c.open.ensures.cause (c.in-Err.is ∙ ap Err is)) in
-    refused_ok k.schedule g' m place k c.conclude.new.self c.args.trace.now c.conclude.new.trace sink had (g.L.Sink.taken c.args.log.now) (g.L.Sink.taken c.conclude.new.log) c.in-Err.cause first c.args.disk.now c.open.new.disk before waits held c.in-Err.ensures.kind
+    refused_ok k.schedule g' (plain_of m) place k c.conclude.new.self c.args.trace.now c.conclude.new.trace sink had (g.L.Sink.taken c.args.log.now) (g.L.Sink.taken c.conclude.new.log) c.in-Err.cause first c.args.disk.now c.open.new.disk before waits held c.in-Err.ensures.kind
     c.conclude.ensures.trace (c.conclude.ensures.schedule ∙ ap (λ (x : Keeper). x.schedule) opened) (ap (λ (x : Keeper). x.lines) keeper ∙ ap (λ (x : Keeper). after x.lines r) opened) (ap (λ (x : Keeper). x.tally) keeper ∙ ap (λ (x : Keeper). tally_after x.tally r) opened)
     (subst (λ (x : Keeper). Took (sunk (g.L.Sink.taken c.args.log.now) (g.L.Sink.taken c.conclude.new.log)) (line_of x.lines r)) opened took) safe)
 
@@ -64,7 +65,7 @@ returns-in-Err-clause-err g c = OnErr-map c.conclude.result (λ front g' place s
     let r = Refused c.in-Err.cause in
     let held = can_be_held m c.requires.ready c.requires.alive in
     let safe = safe_open_refused g' c.args.trace.now.records c.in-Err.cause first c.args.disk.now c.open.new.disk g.met.F.Folder.counts_now before.safe c.in-Err.ensures.kind c.open.ensures.nothing c.open.ensures.crash c.open.ensures.counts (λ is. c.open.ensures.cause (c.in-Err.is ∙ ap Err is)) in
-    refused_broken k.schedule g' m place k c.args.trace.now c.conclude.new.trace sink had (g.L.Sink.taken c.args.log.now) (g.L.Sink.taken c.conclude.new.log) c.in-Err.cause first c.args.disk.now c.open.new.disk before waits held c.in-Err.ensures.kind
+    refused_broken k.schedule g' (plain_of m) place k c.args.trace.now c.conclude.new.trace sink had (g.L.Sink.taken c.args.log.now) (g.L.Sink.taken c.conclude.new.log) c.in-Err.cause first c.args.disk.now c.open.new.disk before waits held c.in-Err.ensures.kind
     c.conclude.ensures.trace (subst (λ (x : Keeper). TookFront (sunk (g.L.Sink.taken c.args.log.now) (g.L.Sink.taken c.conclude.new.log)) (line_of x.lines r)) opened front) safe) c.conclude.ensures.err
 
 pub returns-then-room-eq0-clause-ok : goal.returns-then-room-eq0-clause-ok
@@ -74,7 +75,7 @@ returns-then-room-eq0-clause-ok g c = λ g' place sink had first before waits.
     let opened = c.open.ensures.keeper in
     let marked = c.mark.ensures.keeper in
     let numbered : c.next-generation.result ≡ suc k.tally.greatest = c.next-generation.ensures ∙ c.in-Ok.ensures.ok.1 in
-    let at = cut_made k.schedule g' m place k c.mark.new.self c.args.trace.now c.mark.new.trace sink had (g.L.Sink.taken c.args.log.now) c.next-generation.result first c.args.disk.now c.open.new.disk g.met.F.Folder.counts_now before waits c.requires.ready c.requires.alive numbered
+    let at = cut_made k.schedule g' (plain_of m) place k c.mark.new.self c.args.trace.now c.mark.new.trace sink had (g.L.Sink.taken c.args.log.now) c.next-generation.result first c.args.disk.now c.open.new.disk g.met.F.Folder.counts_now before waits (can_be_held m c.requires.ready c.requires.alive) (nothing_on_the_way (plain_of m) (c.requires.ready.imaged c.requires.alive)).0 (nothing_on_the_way (plain_of m) (c.requires.ready.imaged c.requires.alive)).1 numbered
     c.mark.ensures.trace (ap (λ (x : Keeper). x.schedule) marked ∙ ap (λ (x : Keeper). x.schedule) opened) (ap (λ (x : Keeper). x.lines) marked ∙ ap (λ (x : Keeper). x.lines) opened)
     (ap (λ (x : Keeper). x.tally) marked ∙ ap (λ (x : Keeper). tally_after x.tally (Cut c.next-generation.result)) opened) c.open.ensures.nothing c.open.ensures.crash c.open.ensures.counts in
     (at.now, inr (let room = c.room.ensures in let none = c.if-room-eq0.true in omega arith))
@@ -113,7 +114,7 @@ returns-in-Ok-put-clause-ok g c = on_ok2 c.conclude-in-Ok-put.result c.conclude-
     let opened = c.open.ensures.keeper in
     let marked = c.mark.ensures.keeper in
     let numbered : c.next-generation.result ≡ suc k.tally.greatest = c.next-generation.ensures ∙ c.in-Ok.ensures.ok.1 in
-    let at = cut_made k.schedule g' m place k c.mark.new.self c.args.trace.now c.mark.new.trace sink had (g.L.Sink.taken c.args.log.now) c.next-generation.result first c.args.disk.now c.open.new.disk g.met.F.Folder.counts_now before waits c.requires.ready c.requires.alive numbered
+    let at = cut_made k.schedule g' (plain_of m) place k c.mark.new.self c.args.trace.now c.mark.new.trace sink had (g.L.Sink.taken c.args.log.now) c.next-generation.result first c.args.disk.now c.open.new.disk g.met.F.Folder.counts_now before waits (can_be_held m c.requires.ready c.requires.alive) (nothing_on_the_way (plain_of m) (c.requires.ready.imaged c.requires.alive)).0 (nothing_on_the_way (plain_of m) (c.requires.ready.imaged c.requires.alive)).1 numbered
     c.mark.ensures.trace (ap (λ (x : Keeper). x.schedule) marked ∙ ap (λ (x : Keeper). x.schedule) opened) (ap (λ (x : Keeper). x.lines) marked ∙ ap (λ (x : Keeper). x.lines) opened)
     (ap (λ (x : Keeper). x.tally) marked ∙ ap (λ (x : Keeper). tally_after x.tally (Cut c.next-generation.result)) opened) c.open.ensures.nothing c.open.ensures.crash c.open.ensures.counts in
     let above : ForSome (g.F.Folder.reads c.open.new.disk) (λ files. IfSome (last files) (λ info. info.generation ≤ c.next-generation.result)) =
@@ -122,7 +123,7 @@ returns-in-Ok-put-clause-ok g c = on_ok2 c.conclude-in-Ok-put.result c.conclude-
     safe_put_complete g' (plain_of m) c.mark.new.trace.records c.next-generation.result c.put.result c.in-Ok-put.store first c.open.new.disk c.put.new.disk g.met.F.Folder.counts_now g.met.F.Folder.reads_left at.now.safe at.at above c.in-Ok-put.is
     (subst (λ n. IsPut g.F.Folder.reads g.F.Folder.moment g.F.Folder.may_leave g.F.Folder.left_since (plain_of m) n c.put.result c.open.new.disk c.put.new.disk) (sym c.next-generation.ensures) put) c.put.ensures.counts in
     let safe = either c.put.ensures.put safe_with (λ none. absurd (let ok = c.in-Ok-put.is in let failed = none.0 in cc)) in
-    completed_ok k.schedule g' m place c.mark.new.self c.conclude-in-Ok-put.new.self c.mark.new.trace c.conclude-in-Ok-put.new.trace sink had (g.L.Sink.taken c.args.log.now) (g.L.Sink.taken c.conclude-in-Ok-put.new.log) c.next-generation.result first c.open.new.disk c.put.new.disk at
+    completed_ok k.schedule g' (plain_of m) place c.mark.new.self c.conclude-in-Ok-put.new.self c.mark.new.trace c.conclude-in-Ok-put.new.trace sink had (g.L.Sink.taken c.args.log.now) (g.L.Sink.taken c.conclude-in-Ok-put.new.log) c.next-generation.result first c.open.new.disk c.put.new.disk at
     c.conclude-in-Ok-put.ensures.trace c.conclude-in-Ok-put.ensures.schedule (ap (λ (x : Keeper). x.lines) keeper) (ap (λ (x : Keeper). x.tally) keeper) took safe)
 
 pub returns-in-Ok-put-clause-err : goal.returns-in-Ok-put-clause-err
@@ -132,7 +133,7 @@ returns-in-Ok-put-clause-err g c = OnErr-map c.conclude-in-Ok-put.result (λ fro
     let opened = c.open.ensures.keeper in
     let marked = c.mark.ensures.keeper in
     let numbered : c.next-generation.result ≡ suc k.tally.greatest = c.next-generation.ensures ∙ c.in-Ok.ensures.ok.1 in
-    let at = cut_made k.schedule g' m place k c.mark.new.self c.args.trace.now c.mark.new.trace sink had (g.L.Sink.taken c.args.log.now) c.next-generation.result first c.args.disk.now c.open.new.disk g.met.F.Folder.counts_now before waits c.requires.ready c.requires.alive numbered
+    let at = cut_made k.schedule g' (plain_of m) place k c.mark.new.self c.args.trace.now c.mark.new.trace sink had (g.L.Sink.taken c.args.log.now) c.next-generation.result first c.args.disk.now c.open.new.disk g.met.F.Folder.counts_now before waits (can_be_held m c.requires.ready c.requires.alive) (nothing_on_the_way (plain_of m) (c.requires.ready.imaged c.requires.alive)).0 (nothing_on_the_way (plain_of m) (c.requires.ready.imaged c.requires.alive)).1 numbered
     c.mark.ensures.trace (ap (λ (x : Keeper). x.schedule) marked ∙ ap (λ (x : Keeper). x.schedule) opened) (ap (λ (x : Keeper). x.lines) marked ∙ ap (λ (x : Keeper). x.lines) opened)
     (ap (λ (x : Keeper). x.tally) marked ∙ ap (λ (x : Keeper). tally_after x.tally (Cut c.next-generation.result)) opened) c.open.ensures.nothing c.open.ensures.crash c.open.ensures.counts in
     let above : ForSome (g.F.Folder.reads c.open.new.disk) (λ files. IfSome (last files) (λ info. info.generation ≤ c.next-generation.result)) =
@@ -141,7 +142,7 @@ returns-in-Ok-put-clause-err g c = OnErr-map c.conclude-in-Ok-put.result (λ fro
     safe_put_complete g' (plain_of m) c.mark.new.trace.records c.next-generation.result c.put.result c.in-Ok-put.store first c.open.new.disk c.put.new.disk g.met.F.Folder.counts_now g.met.F.Folder.reads_left at.now.safe at.at above c.in-Ok-put.is
     (subst (λ n. IsPut g.F.Folder.reads g.F.Folder.moment g.F.Folder.may_leave g.F.Folder.left_since (plain_of m) n c.put.result c.open.new.disk c.put.new.disk) (sym c.next-generation.ensures) put) c.put.ensures.counts in
     let safe = either c.put.ensures.put safe_with (λ none. absurd (let ok = c.in-Ok-put.is in let failed = none.0 in cc)) in
-    completed_broken k.schedule g' m place c.mark.new.self c.mark.new.trace c.conclude-in-Ok-put.new.trace sink had (g.L.Sink.taken c.args.log.now) (g.L.Sink.taken c.conclude-in-Ok-put.new.log) c.next-generation.result first c.open.new.disk c.put.new.disk at
+    completed_broken k.schedule g' (plain_of m) place c.mark.new.self c.mark.new.trace c.conclude-in-Ok-put.new.trace sink had (g.L.Sink.taken c.args.log.now) (g.L.Sink.taken c.conclude-in-Ok-put.new.log) c.next-generation.result first c.open.new.disk c.put.new.disk at
     c.conclude-in-Ok-put.ensures.trace front safe) c.conclude-in-Ok-put.ensures.err
 
 pub returns-in-Ok-put-clause-kept : goal.returns-in-Ok-put-clause-kept
@@ -165,7 +166,7 @@ returns-in-Err-put-clause-ok g c = on_ok2 c.conclude-in-Err-put.result c.conclud
     let opened = c.open.ensures.keeper in
     let marked = c.mark.ensures.keeper in
     let numbered : c.next-generation.result ≡ suc k.tally.greatest = c.next-generation.ensures ∙ c.in-Ok.ensures.ok.1 in
-    let at = cut_made k.schedule g' m place k c.mark.new.self c.args.trace.now c.mark.new.trace sink had (g.L.Sink.taken c.args.log.now) c.next-generation.result first c.args.disk.now c.open.new.disk g.met.F.Folder.counts_now before waits c.requires.ready c.requires.alive numbered
+    let at = cut_made k.schedule g' (plain_of m) place k c.mark.new.self c.args.trace.now c.mark.new.trace sink had (g.L.Sink.taken c.args.log.now) c.next-generation.result first c.args.disk.now c.open.new.disk g.met.F.Folder.counts_now before waits (can_be_held m c.requires.ready c.requires.alive) (nothing_on_the_way (plain_of m) (c.requires.ready.imaged c.requires.alive)).0 (nothing_on_the_way (plain_of m) (c.requires.ready.imaged c.requires.alive)).1 numbered
     c.mark.ensures.trace (ap (λ (x : Keeper). x.schedule) marked ∙ ap (λ (x : Keeper). x.schedule) opened) (ap (λ (x : Keeper). x.lines) marked ∙ ap (λ (x : Keeper). x.lines) opened)
     (ap (λ (x : Keeper). x.tally) marked ∙ ap (λ (x : Keeper). tally_after x.tally (Cut c.next-generation.result)) opened) c.open.ensures.nothing c.open.ensures.crash c.open.ensures.counts in
     let above : ForSome (g.F.Folder.reads c.open.new.disk) (λ files. IfSome (last files) (λ info. info.generation ≤ c.next-generation.result)) =
@@ -176,7 +177,7 @@ returns-in-Err-put-clause-ok g c = on_ok2 c.conclude-in-Err-put.result c.conclud
     (λ is. c.put.ensures.cause (c.in-Err-put.is ∙ ap Err is)) in
     let safe = either c.put.ensures.put safe_with (λ none. let memory : Memory ≡ c.in-Err-put.cause = let failed = none.0 in let is = c.in-Err-put.is in cc in
     subst (λ cause. IsSafe g.F.Folder.reads g.F.Folder.moment g.F.Folder.may_leave g.F.Folder.left_since g.F.Folder.faults g' (c.mark.new.trace.records ++ Refused cause ∷ []) first c.put.new.disk) memory (safe_no_images g' c.mark.new.trace.records first c.open.new.disk c.put.new.disk at.now.safe none.1)) in
-    late_ok k.schedule g' m place c.mark.new.self c.conclude-in-Err-put.new.self c.mark.new.trace c.conclude-in-Err-put.new.trace sink had (g.L.Sink.taken c.args.log.now) (g.L.Sink.taken c.conclude-in-Err-put.new.log) c.next-generation.result c.in-Err-put.cause first c.open.new.disk c.put.new.disk at c.in-Err-put.ensures.kind
+    late_ok k.schedule g' (plain_of m) place c.mark.new.self c.conclude-in-Err-put.new.self c.mark.new.trace c.conclude-in-Err-put.new.trace sink had (g.L.Sink.taken c.args.log.now) (g.L.Sink.taken c.conclude-in-Err-put.new.log) c.next-generation.result c.in-Err-put.cause first c.open.new.disk c.put.new.disk at c.in-Err-put.ensures.kind
     c.conclude-in-Err-put.ensures.trace c.conclude-in-Err-put.ensures.schedule (ap (λ (x : Keeper). x.lines) keeper) (ap (λ (x : Keeper). x.tally) keeper) took safe)
 
 pub returns-in-Err-put-clause-err : goal.returns-in-Err-put-clause-err
@@ -186,7 +187,7 @@ returns-in-Err-put-clause-err g c = OnErr-map c.conclude-in-Err-put.result (λ f
     let opened = c.open.ensures.keeper in
     let marked = c.mark.ensures.keeper in
     let numbered : c.next-generation.result ≡ suc k.tally.greatest = c.next-generation.ensures ∙ c.in-Ok.ensures.ok.1 in
-    let at = cut_made k.schedule g' m place k c.mark.new.self c.args.trace.now c.mark.new.trace sink had (g.L.Sink.taken c.args.log.now) c.next-generation.result first c.args.disk.now c.open.new.disk g.met.F.Folder.counts_now before waits c.requires.ready c.requires.alive numbered
+    let at = cut_made k.schedule g' (plain_of m) place k c.mark.new.self c.args.trace.now c.mark.new.trace sink had (g.L.Sink.taken c.args.log.now) c.next-generation.result first c.args.disk.now c.open.new.disk g.met.F.Folder.counts_now before waits (can_be_held m c.requires.ready c.requires.alive) (nothing_on_the_way (plain_of m) (c.requires.ready.imaged c.requires.alive)).0 (nothing_on_the_way (plain_of m) (c.requires.ready.imaged c.requires.alive)).1 numbered
     c.mark.ensures.trace (ap (λ (x : Keeper). x.schedule) marked ∙ ap (λ (x : Keeper). x.schedule) opened) (ap (λ (x : Keeper). x.lines) marked ∙ ap (λ (x : Keeper). x.lines) opened)
     (ap (λ (x : Keeper). x.tally) marked ∙ ap (λ (x : Keeper). tally_after x.tally (Cut c.next-generation.result)) opened) c.open.ensures.nothing c.open.ensures.crash c.open.ensures.counts in
     let above : ForSome (g.F.Folder.reads c.open.new.disk) (λ files. IfSome (last files) (λ info. info.generation ≤ c.next-generation.result)) =
@@ -197,7 +198,7 @@ returns-in-Err-put-clause-err g c = OnErr-map c.conclude-in-Err-put.result (λ f
     (λ is. c.put.ensures.cause (c.in-Err-put.is ∙ ap Err is)) in
     let safe = either c.put.ensures.put safe_with (λ none. let memory : Memory ≡ c.in-Err-put.cause = let failed = none.0 in let is = c.in-Err-put.is in cc in
     subst (λ cause. IsSafe g.F.Folder.reads g.F.Folder.moment g.F.Folder.may_leave g.F.Folder.left_since g.F.Folder.faults g' (c.mark.new.trace.records ++ Refused cause ∷ []) first c.put.new.disk) memory (safe_no_images g' c.mark.new.trace.records first c.open.new.disk c.put.new.disk at.now.safe none.1)) in
-    late_broken k.schedule g' m place c.mark.new.self c.mark.new.trace c.conclude-in-Err-put.new.trace sink had (g.L.Sink.taken c.args.log.now) (g.L.Sink.taken c.conclude-in-Err-put.new.log) c.next-generation.result c.in-Err-put.cause first c.open.new.disk c.put.new.disk at c.in-Err-put.ensures.kind
+    late_broken k.schedule g' (plain_of m) place c.mark.new.self c.mark.new.trace c.conclude-in-Err-put.new.trace sink had (g.L.Sink.taken c.args.log.now) (g.L.Sink.taken c.conclude-in-Err-put.new.log) c.next-generation.result c.in-Err-put.cause first c.open.new.disk c.put.new.disk at c.in-Err-put.ensures.kind
     c.conclude-in-Err-put.ensures.trace front safe) c.conclude-in-Err-put.ensures.err
 
 pub returns-in-Err-put-clause-kept : goal.returns-in-Err-put-clause-kept

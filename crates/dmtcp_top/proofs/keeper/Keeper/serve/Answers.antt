@@ -3,6 +3,7 @@ use Rattle.sys_abi.specs.declared.record.Record.TheVariants.{Lapsed}
 use Rattle.trace_log.specs.declared.requests.Tally.{Tally}
 use Rattle.trace_log.specs.Requests.{NoRequest, Requested, asks}
 use Rattle.dmtcp_top.specs.declared.keeper.Keeper.{Keeper}
+use Rattle.dmtcp_top.specs.Machines.{plain_of}
 use Rattle.dmtcp_top.proofs.Sinks.{OnErr-map}
 use Rattle.dmtcp_top.proofs.Results.{OnOk-map}
 use Rattle.dmtcp_top.proofs.Endings.{ended_if_dead}
@@ -23,7 +24,7 @@ returns-then-not-lives-clause-ok g c = on_ok2 c.conclude.result c.conclude.ensur
     let asked : asks k.schedule before.running.requests.tally ≡ true = ap (λ (t : Tally). asks k.schedule t) (sym before.noted.tallied) ∙ sym c.asks.ensures ∙ c.if-not-asks.false in
     let waits = due ∙ ap (λ b. cond b (Requested []) NoRequest) asked in
     let over = ended_if_dead m c.requires.ready.single (sym c.lives.ensures ∙ c.if-not-lives.true) in
-    lapsed_ok k.schedule g' m place k c.conclude.new.self c.args.trace.now c.conclude.new.trace sink had (g.L.Sink.taken c.args.log.now) (g.L.Sink.taken c.conclude.new.log) first c.args.disk.now before waits over
+    lapsed_ok k.schedule g' (plain_of m) place k c.conclude.new.self c.args.trace.now c.conclude.new.trace sink had (g.L.Sink.taken c.args.log.now) (g.L.Sink.taken c.conclude.new.log) first c.args.disk.now before waits over
     c.conclude.ensures.trace c.conclude.ensures.schedule (ap (λ (x : Keeper). x.lines) keeper) (ap (λ (x : Keeper). x.tally) keeper) took)
 
 pub returns-then-not-lives-clause-kept : goal.returns-then-not-lives-clause-kept
@@ -38,7 +39,7 @@ returns-then-not-lives-clause-err g c = OnErr-map c.conclude.result (λ front g'
     let asked : asks k.schedule before.running.requests.tally ≡ true = ap (λ (t : Tally). asks k.schedule t) (sym before.noted.tallied) ∙ sym c.asks.ensures ∙ c.if-not-asks.false in
     let waits = due ∙ ap (λ b. cond b (Requested []) NoRequest) asked in
     let over = ended_if_dead m c.requires.ready.single (sym c.lives.ensures ∙ c.if-not-lives.true) in
-    lapsed_broken k.schedule g' m place k c.args.trace.now c.conclude.new.trace sink had (g.L.Sink.taken c.args.log.now) (g.L.Sink.taken c.conclude.new.log) first c.args.disk.now before waits over c.conclude.ensures.trace front) c.conclude.ensures.err
+    lapsed_broken k.schedule g' (plain_of m) place k c.args.trace.now c.conclude.new.trace sink had (g.L.Sink.taken c.args.log.now) (g.L.Sink.taken c.conclude.new.log) first c.args.disk.now before waits over c.conclude.ensures.trace front) c.conclude.ensures.err
 
 pub checkpoint-requires-clause-below : goal.checkpoint-requires-clause-below
 checkpoint-requires-clause-below g c = asks_below c.args.self.now.schedule c.args.self.now.tally (sym c.asks.ensures ∙ c.if-not-asks.false)

@@ -46,7 +46,7 @@ returns-clause-took c taken =
     ∙ ap (λ (k : PlainKernel). kernel_after k c.deliver-delivered.new.self.pid c.deliver-delivered.result) found.kernel
     ∙ ap (λ p. kernel_after (kernel_found m.kernel m.guest.pid t s m.guest.user) p c.deliver-delivered.result) number
     ∙ ap (kernel_after (kernel_found m.kernel m.guest.pid t s m.guest.user) m.guest.pid) told in
-    deliver_takes m _ _ _ taken c.pid-p.result c.args.t c.args.s c.pid-p.ensures c.requires.alive c.requires.due kernel (ap (λ (g : GuestPart). g.pid) part) (ap (λ (g : GuestPart). g.user) part) c.append.ensures
+    deliver_takes m c.end_if_killed.new.self _ _ taken c.pid-p.result c.args.t c.args.s c.pid-p.ensures c.requires.alive c.requires.due kernel (ap (λ (g : GuestPart). g.pid) part) (ap (λ (g : GuestPart). g.user) part) c.append.ensures
 
 pub returns-clause-ready : goal.returns-clause-ready
-returns-clause-ready c = ready_after c.args.self.now _ _ _ _ (sunk None None) refl c.requires.ready c.requires.alive (returns-clause-same c) (returns-clause-took c None)
+returns-clause-ready c = ready_after c.args.self.now c.end_if_killed.new.self _ _ _ (sunk None None) refl c.requires.ready c.requires.alive (returns-clause-same c) (returns-clause-took c None)

@@ -70,8 +70,8 @@ returns-clause-ok g c =
     let part = c.answer.ensures.user ∙ ap (λ (h : GuestPart). put h.user c.args.t.0 c.args.request.now answer.reply c.put.new.self) c.in_ok-reserve_for.ensures.same
     ∙ ap (put m.guest.user c.args.t.0 c.args.request.now answer.reply) bytes in
     kernel_takes m c.serve.new.self _ _ _ c.pid-p.result c.args.t c.args.request.now m.transfer answer c.pid-p.ensures c.requires.alive c.requires.asks c.requires.given c.requires.kernels serves c.append.ensures
-    _ refl number part shown
+    (record { kernel = c.serve.new.self; guest = c.answer.new.self; transfer = c.put.new.self }) refl number part shown
 
 pub returns-clause-ready : goal.returns-clause-ready
 returns-clause-ready g c =
-    ready_after c.args.self.now _ _ _ _ _ refl c.requires.ready c.requires.alive (record { pid = c.answer.ensures.pid ∙ ap (λ (h : GuestPart). h.pid) c.in_ok-reserve_for.ensures.same }) (returns-clause-ok g c)
+    ready_after c.args.self.now (record { kernel = c.serve.new.self; guest = c.answer.new.self; transfer = c.put.new.self }) _ _ _ _ refl c.requires.ready c.requires.alive (record { pid = c.answer.ensures.pid ∙ ap (λ (h : GuestPart). h.pid) c.in_ok-reserve_for.ensures.same }) (returns-clause-ok g c)

@@ -25,8 +25,8 @@ pub returns-clause-took : goal.returns-clause-took
 returns-clause-took c taken =
     let m = c.args.self.now in
     let part = c.answer.ensures.user ∙ ap (put m.guest.user c.args.t.0 c.args.request.now (error 14)) c.clear.ensures in
-    fault_takes m _ _ _ taken c.pid-p.result c.args.t c.args.request.now c.pid-p.ensures c.requires.alive c.requires.asks c.requires.fault refl c.answer.ensures.pid part c.append.ensures
+    fault_takes m (record { kernel = c.args.self.now.kernel; guest = c.answer.new.self; transfer = c.clear.new.self }) _ _ taken c.pid-p.result c.args.t c.args.request.now c.pid-p.ensures c.requires.alive c.requires.asks c.requires.fault refl c.answer.ensures.pid part c.append.ensures
 
 pub returns-clause-ready : goal.returns-clause-ready
 returns-clause-ready c =
-    ready_after c.args.self.now _ _ _ _ (sunk None None) refl c.requires.ready c.requires.alive (record { pid = c.answer.ensures.pid }) (returns-clause-took c None)
+    ready_after c.args.self.now (record { kernel = c.args.self.now.kernel; guest = c.answer.new.self; transfer = c.clear.new.self }) _ _ _ (sunk None None) refl c.requires.ready c.requires.alive (record { pid = c.answer.ensures.pid }) (returns-clause-took c None)

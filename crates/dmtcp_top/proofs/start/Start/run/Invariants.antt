@@ -10,7 +10,7 @@ use Rattle.dmtcp_top.proofs.start.Start.run.Given as goal
 
 abbrev pub invariant-loop-record : goal.invariant-loop-record
 invariant-loop-record g l = record {
-  under : (now : IsUnderWay g.F.Folder.reads g.F.Folder.moment g.F.Folder.may_leave g.F.Folder.left_since g.F.Folder.faults l.initial.self.keeper.schedule (plain_of l.initial.self.machine) l.self.machine (placed l.self.machine l.turn) l.self.keeper l.trace
+  under : (now : IsUnderWay g.F.Folder.reads g.F.Folder.moment g.F.Folder.may_leave g.F.Folder.left_since g.F.Folder.faults l.initial.self.keeper.schedule (plain_of l.initial.self.machine) (plain_of l.self.machine) (placed l.self.machine l.turn) l.self.keeper l.trace
       (sunk (g.O.Sink.taken l.initial.out) (g.O.Sink.taken l.out)) (sunk (g.L.Sink.taken l.initial.log) (g.L.Sink.taken l.log)) l.initial.disk l.disk) × IsSettled now.running.requests l.trace;
   turn : IfSome l.turn (HasTurn l.self.machine);
   still : l.turn ≡ None → new_round (plain_of l.self.machine) ≡ None;
