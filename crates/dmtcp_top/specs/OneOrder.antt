@@ -11,7 +11,7 @@
 --     OneRestart           so restarts from one set answer one and leave one trace
 --     SetIsValid           whose state is valid, as that of a launch is
 --     OneAnswer            and two calls that begin with one state, launch or restart, show the same where both end as done
---     LacksNoRequest       where checkpoints are to be made a run that ends as done has a mark
+--     LacksNoRequest       a call that ends as done has the mark of a request that was due
 use Rattle.std.specs.Prelude.{◌≡◌, ◌≢◌, ◌⊎◌, ℕ, ◌-◌, ◌^◌, ◌<◌, ◌≤◌, true, false, not, List, [], ◌∷◌, ◌++◌, filter, length, take, Some, None, IfSome, All}
 use Rattle.std.specs.List.{count_by}
 use Rattle.sys_abi.specs.declared.record.Record.{Record}
@@ -130,7 +130,8 @@ OneAnswer =
     (g : Plain) (a b : Session) (log other : Sunk) → NameNoEvery a.given.words → NameNoEvery b.given.words
     → BeginsWith a g → BeginsWith b g → Ends Done a log → Ends Done b other → GoesOnInRounds a → GoesOnInRounds b → ShowOne a b
 
--- a call that ended as done, whose words ask for a checkpoint after every so many records of work, made as many, with room for more, and no mark
+-- no call that ended as done, whose words ask for a checkpoint after every so many records of work, made as many, with room for
+-- more and a generation left, and has no mark
 abbrev pub LacksNoRequest : Type 0
 LacksNoRequest =
     (session : Session) (log : Sunk) (every : ℕ) (ends : Ends Done session log) → (schedule_in ends.reached.0.begun).every ≡ Some every → (schedule_in ends.reached.0.begun).opening < 2 ^ 64 - 2

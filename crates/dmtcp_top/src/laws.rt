@@ -12,7 +12,8 @@ pub fn restart_laws()
 {}
 
 /// Laws of the order in which the threads run. It does nothing. Where no checkpoints are made a state's rounds make one
-/// run, and it is over once nobody lives or can go on. Where they are to be made a run that ends has one.
+/// run, and it is over once nobody lives or can go on. Where they are to be made, a call that ends as done with as many
+/// records of work as that takes, and room for more, has a mark, if a generation was left.
 pub fn order_laws()
     ensures order { OneOrder }
     ensures trace { OneTrace }
