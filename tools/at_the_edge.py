@@ -30,7 +30,8 @@ import sys
 import tempfile
 import time
 
-TOP = os.path.dirname(os.path.dirname(os.path.abspath(__file__)))
+from built import HOME, built_program
+
 NOBODY = 65534
 LAUNCH = "launch --every 1 0:hello.elf"
 
@@ -52,7 +53,7 @@ class Folder:
         self.path = path
         os.mkdir(path)
         for guest in ("hello.elf", "count.elf"):
-            shutil.copy(f"{TOP}/examples/{guest}", path)
+            shutil.copy(f"{HOME}/examples/{guest}", path)
 
     def at(self, name):
         return f"{self.path}/{name}"
@@ -224,11 +225,7 @@ def trials_named(names):
 
 
 def main():
-    program = os.path.abspath(sys.argv[1] if len(sys.argv) > 1 else f"{TOP}/crates/dmtcp/out/dmtcp")
-    if not os.access(program, os.X_OK):
-        build = "cd crates/dmtcp && rt run -- --version"
-        print(f"no program at {program}: build it by '{build}'", file=sys.stderr)
-        return 2
+    program = built_program(sys.argv, 1)
     signal.signal(signal.SIGPIPE, signal.SIG_DFL)
     failures = 0
     with tempfile.TemporaryDirectory() as place:

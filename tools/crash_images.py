@@ -28,7 +28,8 @@ import sys
 import tempfile
 from dataclasses import dataclass, field
 
-TOP = os.path.dirname(os.path.dirname(os.path.abspath(__file__)))
+from built import HOME, built_program
+
 TRACED = "trace=mkdir,openat,open,close,lseek,write,ftruncate,fsync,fdatasync"
 CALL = re.compile(r"(?:\d+ +)?(\w+)\((.*)\) += (-?\d+)(?:<([^>]*)>)?( .*)?$")
 NAME = re.compile(r"dmtcp_set/(s[01]_\d+\.img)$")
@@ -234,7 +235,7 @@ class Runs:
     def begin(self):
         shutil.rmtree(self.place, ignore_errors=True)
         os.mkdir(self.place)
-        shutil.copy(f"{TOP}/examples/hello.elf", self.place)
+        shutil.copy(f"{HOME}/examples/hello.elf", self.place)
         return Watch(self.dice)
 
     def run(self, watch, words, inject=None):
@@ -292,11 +293,7 @@ def try_runs(runs):
 
 
 def main():
-    program = os.path.abspath(sys.argv[1] if len(sys.argv) > 1 else f"{TOP}/crates/dmtcp/out/dmtcp")
-    if not os.access(program, os.X_OK):
-        build = "cd crates/dmtcp && rt run -- --version"
-        print(f"no program at {program}: build it by '{build}'", file=sys.stderr)
-        return 2
+    program = built_program(sys.argv, 1)
     dice = random.Random(int(sys.argv[2]) if len(sys.argv) > 2 else 1)
     with tempfile.TemporaryDirectory() as folder:
         try:
