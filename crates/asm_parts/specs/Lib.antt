@@ -1,0 +1,5 @@
+pub mod Texts
+pub mod Numbers
+pub mod Registers
+pub mod Operands
+pub mod Quotes

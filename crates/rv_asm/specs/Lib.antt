@@ -1,0 +1,5 @@
+pub mod Layout
+pub mod Pieces
+pub mod Files
+pub mod Labels
+pub mod Answers

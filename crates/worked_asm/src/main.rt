@@ -1,0 +1,126 @@
+//! Assembles each text on standard input, and prints the file's bytes behind its headers or the line that
+//! breaks a rule.
+//!
+//! A line `= NAME` begins a case, whose text is the lines up to the next one; `- NAME` begins one whose last
+//! line has no newline at its end. A file of more than 400 bytes behind the headers is told by the sum of its
+//! bytes. `stdout` was made by `tools/assembling`, a model written from the words of the documentation, which
+//! `tools/compare_with_binutils.py` compares with the GNU assembler. Nothing is proved here but that the
+//! program is safe and ends.
+#![tactic(auto)]
+
+use rv_asm::{AsmFault, assemble};
+use std::alloc::{AllocError, Global};
+use std::io;
+
+/// The size of a file's headers.
+const HEADERS: usize = 84;
+
+/// The longest body that is shown byte by byte.
+const SHOWN: usize = 400;
+
+/// A case: its name, its text, and whether its last newline is left out.
+#[derive(Drop)]
+struct Case {
+    name: String,
+    text: String,
+    is_cut: bool,
+}
+
+impl Case {
+    fn new(alloc: Global, name: &str, is_cut: bool) -> Result<Self, AllocError> {
+        Ok(Case {
+            name: String::from_str(alloc, name)?,
+            text: String::new(alloc),
+            is_cut,
+        })
+    }
+
+    fn add(&mut self, line: &str) -> Result<(), AllocError> {
+        self.text.push_str(line)?;
+        self.text.push('\n')
+    }
+
+    fn text(&self) -> &str {
+        let text = self.text.as_str();
+        if self.is_cut {
+            text.strip_suffix('\n').unwrap_or(text)
+        } else {
+            text
+        }
+    }
+
+    /// The line that tells what the text makes; nothing of the case before the first.
+    fn told(&self, alloc: Global) -> Result<String, AllocError> {
+        if self.name.is_empty() {
+            return Ok(String::new(alloc));
+        }
+        match assemble(alloc, self.text()) {
+            Ok(file) => shown(alloc, self.name.as_str(), file.as_slice()),
+            Err(AsmFault::Line(line)) => format!(in alloc; "{}: line {line}\n", self.name),
+            Err(AsmFault::Memory) => format!(in alloc; "{}: memory\n", self.name),
+        }
+    }
+}
+
+fn shown(alloc: Global, name: &str, file: &[u8]) -> Result<String, AllocError> {
+    let body = file.get(HEADERS..).unwrap_or(file);
+    let bytes = if body.len() <= SHOWN {
+        digits(alloc, body)?
+    } else {
+        format!(in alloc; "sum {}", sum(body))?
+    };
+    format!(in alloc;
+        "{name}: {} bytes, entry {:x}: {bytes}\n",
+        file.len(),
+        entry(file)
+    )
+}
+
+fn digits(alloc: Global, bytes: &[u8]) -> Result<String, AllocError> {
+    let mut text = String::new(alloc);
+    for byte in bytes {
+        text.push_str(format!(in alloc; "{byte:02x}")?.as_str())?;
+    }
+    Ok(text)
+}
+
+fn sum(bytes: &[u8]) -> u64 {
+    let mut sum: u64 = 0;
+    for byte in bytes {
+        sum = sum.wrapping_add(u64::from(*byte));
+    }
+    sum
+}
+
+fn entry(file: &[u8]) -> u32 {
+    match file.get(24..28) {
+        Some([a, b, c, d]) => u32::from_le_bytes([*a, *b, *c, *d]),
+        _ => 0,
+    }
+}
+
+/// The name of the case that a line begins, and whether its last newline is left out.
+fn begun(line: &str) -> Option<(&str, bool)> {
+    if let Some(name) = line.strip_prefix("= ") {
+        return Some((name, false));
+    }
+    let name = line.strip_prefix("- ")?;
+    Some((name, true))
+}
+
+fn main(rt: HostRuntime) -> io::Result<()> {
+    let mut case = Case::new(rt.alloc(), "", false)?;
+    for line in rt.lines(rt.alloc()) {
+        let line = line?;
+        match begun(line.as_str()) {
+            Some((name, is_cut)) => {
+                let told = case.told(rt.alloc())?;
+                print!(rt; "{told}")?;
+                case = Case::new(rt.alloc(), name, is_cut)?;
+            }
+            None => case.add(line.as_str())?,
+        }
+    }
+    let told = case.told(rt.alloc())?;
+    print!(rt; "{told}")
+}

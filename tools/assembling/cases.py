@@ -1,0 +1,25 @@
+"""The worked cases of crates/worked_asm: its standard input, and what it must print."""
+
+import model
+
+
+def read_cases(path):
+    """The cases of a file: each a name and a text. `= NAME` begins a case, `- NAME` one without its last newline."""
+    cases = []
+    for line in path.read_bytes().split(b"\n")[:-1]:
+        if line[:2] in (b"= ", b"- "):
+            cases.append([line[2:].decode(), line[:1] == b"-", []])
+        else:
+            cases[-1][2].append(line)
+    return [(name, b"\n".join(lines) + (b"" if cut or not lines else b"\n")) for name, cut, lines in cases]
+
+
+def said(name, text):
+    """The line that tells what a case's text makes."""
+    file = model.assembled(text)
+    if isinstance(file, int):
+        return f"{name}: line {file}"
+    entry = int.from_bytes(file[24:28], "little")
+    body = file[model.HEADERS :]
+    shown = body.hex() if len(body) <= 400 else f"sum {sum(body)}"
+    return f"{name}: {len(file)} bytes, entry {entry:x}: {shown}"
