@@ -1,4 +1,3 @@
-pub mod LentValues
 pub mod Names
 pub mod Orders
 pub mod Requests

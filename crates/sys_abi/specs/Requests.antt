@@ -58,7 +58,9 @@ request_by number arguments =
 -- the call at which a thread with these 32 registers stands
 abbrev pub request_of : List ℕ → Request
 request_of regs =
-    request_by (slice_index regs 17) (slice_index regs 10 ∷ slice_index regs 11 ∷ slice_index regs 12 ∷ slice_index regs 13 ∷ slice_index regs 14 ∷ slice_index regs 15 ∷ [])
+    request_by (slice_index regs 17)
+    (slice_index regs 10 ∷ slice_index regs 11 ∷ slice_index regs 12
+    ∷ slice_index regs 13 ∷ slice_index regs 14 ∷ slice_index regs 15 ∷ [])
 
 -- the calls that a process answers alone
 abbrev pub is_local : Request → Bool

@@ -10,13 +10,6 @@
 //! on Linux for RISC-V (`man 2 syscalls`, `asm-generic/unistd.h`, `man 3 errno`) and are this project's own list.
 #![tactic(auto)]
 
-pub mod by_address;
-pub mod by_conn;
-pub mod by_desc;
-pub mod by_dir;
-pub mod by_name;
-pub mod by_pid;
-pub mod by_slot;
 pub mod calls;
 pub mod cloning;
 pub mod delivery;
@@ -31,13 +24,6 @@ pub mod request;
 pub mod signals;
 pub mod transfer;
 
-pub use by_address::ByAddress;
-pub use by_conn::ByConn;
-pub use by_desc::ByDesc;
-pub use by_dir::ByDir;
-pub use by_name::ByName;
-pub use by_pid::ByPid;
-pub use by_slot::BySlot;
 pub use cloning::{CloneForm, clone_form};
 pub use delivery::{At, Delivered, Delivering, Given, IdleThread};
 pub use identity::{ConnId, DescId, Dir, Fd, RealAddr, RealPid, Signal, Slot, Tid, VPid, VirtAddr};

@@ -1,8 +1,0 @@
-use Rattle.std.proofs.Common.{sym, ap, ◌∙◌}
-use Rattle.sys_abi.proofs.OrderLaws.{desc_total}
-use Rattle.std.specs.FinMap as map
-use Rattle.views.proofs.TreeMaps.{keys-view}
-use Rattle.sys_abi.proofs.by_desc.ByDesc.keys.Goals as goal
-
-pub returns : goal.returns
-returns g c = c.keys.ensures.rest ∙ sym (keys-view desc_total c.self.inside.entries c.keys.ensures.ordered) ∙ ap map.keys c.self.view_is

@@ -1,7 +1,0 @@
-use Rattle.std.proofs.Common.{◌≡◌, ◌++◌}
-use Rattle.sys_abi.specs.Names.{by_name}
-use Rattle.sys_abi.proofs.by_name.duplicate_names.Given as goal
-
--- what has been copied stands after what is left
-abbrev pub invariant-loop-name : goal.invariant-loop-name
-invariant-loop-name g l = by_name l.name-iterator.iter ++ by_name l.copy.entries ≡ by_name l.names.entries
