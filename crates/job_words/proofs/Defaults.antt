@@ -12,14 +12,14 @@ use Rattle.clap.specs.Takes.{takes, level_passes, settle_passes, default_passes,
 use Rattle.clap.proofs.TakesLemmas.{leaf_takes}
 use Rattle.clap.specs.declared.builder.value_parser.Reading.{Reading}
 use Rattle.clap.specs.declared.parser.matches.ValueSource.TheVariants.{DefaultValue}
-use Rattle.job_words.specs.declared.option_key.OptionKey.{OptionKey}
-use Rattle.job_words.specs.declared.option_key.OptionKey.TheVariants.{Nodes, Workers, Every, Records, Shift, PidBase, PortBase}
-use Rattle.job_words.specs.declared.option_key.Form.{Form}
-use Rattle.job_words.specs.declared.option_key.Form.TheVariants.{Launch, Restart, Ring}
-use Rattle.job_words.specs.Options.{Text, Setting, number, file, name_of, has_option, words_of_all, IsSetting, AreSettings, numbers_of, given_for, given_or}
+use Rattle.option_words.specs.declared.option_key.OptionKey.{OptionKey}
+use Rattle.option_words.specs.declared.option_key.OptionKey.TheVariants.{Nodes, Workers, Every, Records, Shift, PidBase, PortBase}
+use Rattle.option_words.specs.declared.option_key.Form.{Form}
+use Rattle.option_words.specs.declared.option_key.Form.TheVariants.{Launch, Restart, Ring}
+use Rattle.option_words.specs.Options.{Text, Setting, number, file, name_of, has_option, words_of_all, IsSetting, AreSettings, numbers_of, given_for, given_or}
 use Rattle.job_words.specs.Parsed.{restart_app, ring_app}
-use Rattle.job_words.proofs.Numbers.{zero_written, written}
-use Rattle.job_words.proofs.Keys.{greatest_below}
+use Rattle.option_words.proofs.Numbers.{zero_written, written}
+use Rattle.option_words.proofs.Keys.{greatest_below}
 use Rattle.job_words.proofs.Walks.{id_of, same_ids, row_of, Knows, Walked, walk_all, at_row_absent, held_at, listed, settled_at, settles, built_rule}
 
 -- ---- look-ups

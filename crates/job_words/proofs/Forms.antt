@@ -23,24 +23,24 @@ use Rattle.std.proofs.lemmas.List.Elements.{All-nil, All-cons, All-head, All-tai
 use Rattle.std.proofs.lemmas.Fmt.{decimal_injective}
 use Rattle.job_words.specs.declared.word_fault.WordFault.{WordFault}
 use Rattle.job_words.specs.declared.word_fault.WordFault.TheVariants.{Usage, Memory}
-use Rattle.job_words.specs.declared.option_key.OptionKey.TheVariants.{Nodes, Workers, Every, Records}
-use Rattle.job_words.specs.declared.option_key.Form.{Form}
-use Rattle.job_words.specs.declared.option_key.Form.TheVariants.{Launch, Restart, Ring}
-use Rattle.job_words.specs.declared.options.Options.{Options}
+use Rattle.option_words.specs.declared.option_key.OptionKey.TheVariants.{Nodes, Workers, Every, Records}
+use Rattle.option_words.specs.declared.option_key.Form.{Form}
+use Rattle.option_words.specs.declared.option_key.Form.TheVariants.{Launch, Restart, Ring}
+use Rattle.option_words.specs.declared.options.Options.{Options}
 use Rattle.job_words.specs.declared.job.Job.{Job}
 use Rattle.job_words.specs.declared.job.Job.TheVariants as job
 use Rattle.job_words.specs.declared.job.LaunchJob.{LaunchJob}
 use Rattle.job_words.specs.declared.job.RestartJob.{RestartJob}
 use Rattle.job_words.specs.declared.job.RingJob.{RingJob}
-use Rattle.job_words.specs.Options.{Text, Setting, words_of_all, AreSettings, given_for}
+use Rattle.option_words.specs.Options.{Text, Setting, words_of_all, AreSettings, given_for}
 use Rattle.job_words.specs.Programs.{ProgramText, program_word, hosts_of}
 use Rattle.job_words.specs.Commands.{OneCommand, Command, launch, restart, ring, help, IsCommand, IsLaunch, words_of_command, HasNoZero, SpellNothing}
 use Rattle.job_words.specs.Jobs.{IsRestartOf, IsRingOf, IsJob, start_of}
-use Rattle.job_words.specs.Reading.{kept_number, IsRead, NoneFollows, texts_of}
+use Rattle.option_words.specs.Reading.{kept_number, IsRead, NoneFollows, texts_of}
 use Rattle.job_words.specs.Parsed.{AreOptions}
 use Rattle.job_words.specs.Parts.{ArePrograms, IsNodesOf}
 use Rattle.job_words.specs.Answers.{AnswersFor, IsRefusal}
-use Rattle.job_words.proofs.Settings.{other_reading, one_reading, nothing_plain}
+use Rattle.option_words.proofs.Settings.{other_reading, one_reading, nothing_plain}
 use Rattle.job_words.proofs.ProgramWords.{programs_plain, one_list}
 
 -- the words are of a command

@@ -1,9 +1,7 @@
-pub mod Numbers
-pub mod Keys
-pub mod Given
-pub mod Settings
 pub mod ProgramWords
 pub mod ProgramLists
 pub mod Forms
 pub mod Walks
 pub mod Defaults
+pub mod OneJob
+pub mod JobFacts

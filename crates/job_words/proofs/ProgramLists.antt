@@ -16,11 +16,11 @@ use Rattle.std.proofs.lemmas.List.Elements.{All-nil, All-cons, All-head, All-tai
 use Rattle.std.proofs.lemmas.List.Sums.{fold-append}
 use Rattle.job_words.specs.declared.job.NamedProgram.{NamedProgram}
 use Rattle.job_words.specs.declared.programs.Parts.{Parts}
-use Rattle.job_words.specs.Options.{Text}
+use Rattle.option_words.specs.Options.{Text}
 use Rattle.job_words.specs.Programs.{ProgramText, IsProgram, program_word, hosts_of}
 use Rattle.job_words.specs.Jobs.{start_of}
 use Rattle.job_words.specs.Parts.{ArePartsOf, ArePrograms, AreCounted, IsProgramWord, IsNodesOf, with_zeros}
-use Rattle.job_words.specs.Reading.{texts_of}
+use Rattle.option_words.specs.Reading.{texts_of}
 use Rattle.job_words.proofs.ProgramWords.{NoProgram, one_program, one_list, zeros, placed, hosts_below}
 
 same_program : (a b : NamedProgram) → a.host ≡ b.host → a.name ≡ b.name → a.arguments ≡ b.arguments → a ≡ b

@@ -12,11 +12,11 @@ use Rattle.std.proofs.lemmas.Str.Pattern.{IsSplitOnceResult, split_after, split_
 use Rattle.std.specs.Borrow.{Bor}
 use Rattle.std.specs.Option.{MatchOption}
 use Rattle.job_words.specs.declared.programs.Parts.{Parts}
-use Rattle.job_words.specs.Options.{Text}
+use Rattle.option_words.specs.Options.{Text}
 use Rattle.job_words.specs.Programs.{ProgramText, IsProgram, HasNoComma, COMMA, COLON, listed, program_word, with_zero, hosts_of}
 use Rattle.job_words.specs.Parts.{StandsFirst, zero_at_comma, with_zeros, ArePartsOf}
-use Rattle.job_words.proofs.Numbers.{first_digit, decimal_lacks}
-use Rattle.job_words.proofs.Settings.{begins_as_option}
+use Rattle.option_words.proofs.Numbers.{first_digit, decimal_lacks}
+use Rattle.option_words.proofs.Settings.{begins_as_option}
 
 abbrev Lacks : ℕ → List ℕ → Type 0
 Lacks byte text = All (λ b. b ≢ byte) text

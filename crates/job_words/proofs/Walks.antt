@@ -13,15 +13,15 @@ use Rattle.clap.specs.Simple.{Shape, filled, with_index}
 use Rattle.clap.specs.Takes.{walk_passes, turn_passes, flag_word_passes, long_passes, settle_passes, use_passes, step_passes, values_pass, bundle_passes}
 use Rattle.clap.specs.declared.builder.value_parser.Reading.TheVariants.{AsWritten}
 use Rattle.clap.specs.declared.parser.matches.ValueSource.TheVariants.{CommandLine}
-use Rattle.job_words.specs.declared.option_key.OptionKey.{OptionKey}
-use Rattle.job_words.specs.declared.option_key.OptionKey.TheVariants.{Nodes, Workers, Every, Records, Shift, PidBase, PortBase}
-use Rattle.job_words.specs.declared.option_key.Form.{Form}
-use Rattle.job_words.specs.declared.option_key.Form.TheVariants.{Launch}
-use Rattle.job_words.specs.Options.{Text, Setting, number, file, name_of, has_option, words_of_all, IsSetting, AreSettings, numbers_of}
+use Rattle.option_words.specs.declared.option_key.OptionKey.{OptionKey}
+use Rattle.option_words.specs.declared.option_key.OptionKey.TheVariants.{Nodes, Workers, Every, Records, Shift, PidBase, PortBase}
+use Rattle.option_words.specs.declared.option_key.Form.{Form}
+use Rattle.option_words.specs.declared.option_key.Form.TheVariants.{Launch}
+use Rattle.option_words.specs.Options.{Text, Setting, number, file, name_of, has_option, words_of_all, IsSetting, AreSettings, numbers_of}
 use Rattle.job_words.specs.Parsed.{option_rule}
-use Rattle.job_words.proofs.Numbers.{first_digit}
-use Rattle.job_words.proofs.Keys.{greatest_below, name_itself}
-use Rattle.job_words.proofs.Settings.{numbers_of-append, front, All_last, All_front}
+use Rattle.option_words.proofs.Numbers.{first_digit}
+use Rattle.option_words.proofs.Keys.{greatest_below, name_itself}
+use Rattle.option_words.proofs.Settings.{numbers_of-append, front, All_last, All_front}
 
 -- ---- names
 

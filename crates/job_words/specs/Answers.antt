@@ -1,7 +1,7 @@
 -- What the reader of one form answers, where no word holds a zero byte.
 use Rattle.std.specs.Prelude.{◌≡◌, List}
 use Rattle.job_words.specs.declared.job.Job.{Job}
-use Rattle.job_words.specs.Options.{Text}
+use Rattle.option_words.specs.Options.{Text}
 use Rattle.job_words.specs.Commands.{Command, IsCommand, words_of_command}
 use Rattle.job_words.specs.Jobs.{IsJobOf}
 

@@ -1,14 +1,14 @@
 -- Command lines, with the words that spell each. No word holds a zero byte.
 --
---     launch OPTIONS HOST:NAME[,ARGUMENT]..       starts 1 to 128 programs, each on a host below the number of nodes
---     restart OPTIONS                             goes on from the last complete set
---     ring N OPTIONS                              runs the worked ring of 2 to 16 processes
+--     launch OPTIONS HOST:NAME[,ARGUMENT]..     starts 1 to 128 programs, each on a host below the number of nodes
+--     restart OPTIONS                           goes on from the last complete set
+--     ring N OPTIONS                            runs the worked ring of 2 to 16 processes
 --     help
 use Rattle.std.specs.Prelude.{◌≡◌, ◌≢◌, ℕ, ◌<◌, ◌≤◌, List, [], ◌∷◌, ◌++◌, length, map, codes, All}
 use Rattle.std.specs.Fmt.{decimal}
-use Rattle.job_words.specs.declared.option_key.OptionKey.TheVariants.{Nodes}
-use Rattle.job_words.specs.declared.option_key.Form.TheVariants.{Launch, Restart, Ring}
-use Rattle.job_words.specs.Options.{Text, Setting, AreSettings, words_of_all, given_or}
+use Rattle.option_words.specs.declared.option_key.OptionKey.TheVariants.{Nodes}
+use Rattle.option_words.specs.declared.option_key.Form.TheVariants.{Launch, Restart, Ring}
+use Rattle.option_words.specs.Options.{Text, Setting, AreSettings, words_of_all, given_or}
 use Rattle.job_words.specs.Programs.{ProgramText, IsProgram, HOSTS, program_word, hosts_of}
 
 pub data Command : Type 0 where

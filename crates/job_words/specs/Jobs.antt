@@ -13,14 +13,14 @@
 --     --pid-base    2,000
 --     --port-base   30,000
 use Rattle.std.specs.Prelude.{◌≡◌, ℕ, List, map}
-use Rattle.job_words.specs.declared.option_key.OptionKey.TheVariants.{Nodes, Workers, Every, Records, Shift, PidBase, PortBase}
+use Rattle.option_words.specs.declared.option_key.OptionKey.TheVariants.{Nodes, Workers, Every, Records, Shift, PidBase, PortBase}
 use Rattle.job_words.specs.declared.job.Job.{Job}
 use Rattle.job_words.specs.declared.job.Job.TheVariants as job
 use Rattle.job_words.specs.declared.job.LaunchJob.{LaunchJob}
 use Rattle.job_words.specs.declared.job.RestartJob.{RestartJob}
 use Rattle.job_words.specs.declared.job.RingJob.{RingJob}
 use Rattle.job_words.specs.declared.job.NamedProgram.{NamedProgram}
-use Rattle.job_words.specs.Options.{Text, Setting, files_of, given_for, given_or}
+use Rattle.option_words.specs.Options.{Text, Setting, files_of, given_for, given_or}
 use Rattle.job_words.specs.Programs.{ProgramText, argument_bytes}
 use Rattle.job_words.specs.Commands.{Command, Spell, nodes_of, launch, restart, ring, help}
 
@@ -62,3 +62,7 @@ pub record IsJob (words : List Text) (asked : Job) : Type 0 where
   pub command : Command
   pub spell : Spell words command
   pub job : IsJobOf command asked
+
+-- words ask for one job at most
+abbrev pub OneJob : Type 0
+OneJob = (words : List Text) (a b : Job) → IsJob words a → IsJob words b → a ≡ b

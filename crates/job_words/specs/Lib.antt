@@ -1,8 +1,6 @@
-pub mod Options
 pub mod Programs
 pub mod Commands
 pub mod Jobs
-pub mod Reading
 pub mod Parts
 pub mod Answers
 pub mod Parsed

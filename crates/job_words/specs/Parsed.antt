@@ -4,8 +4,8 @@ use Rattle.std.specs.Prelude.{◌≡◌, ℕ, ◌<◌, ◌^◌, true, List, [], 
 use Rattle.std.specs.Fmt.{decimal}
 use Rattle.clap.specs.Walk.{Rule}
 use Rattle.clap.specs.Simple.{App, new_app, new_rule, on_top, with_rule}
-use Rattle.job_words.specs.declared.option_key.Form.{Form}
-use Rattle.job_words.specs.Options.{Text, Setting, AreSettings, words_of_all}
+use Rattle.option_words.specs.declared.option_key.Form.{Form}
+use Rattle.option_words.specs.Options.{Text, Setting, AreSettings, words_of_all}
 
 abbrev pub option_rule : Text → List Text → Rule
 option_rule name defaults = record (new_rule name) { long = Some name; defaults = defaults }

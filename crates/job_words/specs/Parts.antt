@@ -1,7 +1,7 @@
 -- The parts into which the reader takes a program's word.
 use Rattle.std.specs.Prelude.{◌≡◌, ◌⊎◌, ℕ, ◌<◌, ◌≤◌, ◌==◌, if◌then◌else◌, List, [], ◌∷◌, ◌++◌, length, map, All, Option, unwrap_or}
 use Rattle.job_words.specs.declared.programs.Parts.{Parts}
-use Rattle.job_words.specs.Options.{Text}
+use Rattle.option_words.specs.Options.{Text}
 use Rattle.job_words.specs.Programs.{ProgramText, IsProgram, HasNoComma, COMMA, listed, program_word, hosts_of}
 
 pub record ArePartsOf (program : ProgramText) (parts : Parts) : Type 0 where

@@ -1,4 +1,4 @@
-use crate::file_name::FileName;
+use option_words::FileName;
 use views::list_of::ListOf;
 
 /// What the words of a command line ask for.

@@ -5,17 +5,17 @@ ghost use Rattle.clap.specs.Simple.{app_of, matches_of, with_rule};
 ghost use Rattle.clap.specs.Takes.{takes};
 ghost use Rattle.clap.specs.Walk.{first_of, rows_of, rule_of};
 ghost use Rattle.job_words.specs.declared.word_fault.WordFault.TheVariants.{Memory};
-ghost use Rattle.job_words.specs.declared.option_key.Form.TheVariants as form;
-ghost use Rattle.job_words.specs.Options.{Setting, AreSettings, words_of_all};
+ghost use Rattle.option_words.specs.declared.option_key.Form.TheVariants as form;
+ghost use Rattle.option_words.specs.Options.{Setting, AreSettings, words_of_all};
 ghost use Rattle.job_words.specs.Jobs.{IsRestartOf, IsRingOf};
 ghost use Rattle.job_words.specs.Parsed.{option_rule, plain_app, restart_app, ring_app, AreOptions, IsNumber};
-ghost use Rattle.job_words.specs.Reading.{texts_of};
+ghost use Rattle.option_words.specs.Reading.{texts_of};
 
 use crate::job::{RestartJob, RingJob};
-use crate::number::decimal_in;
 use crate::word_fault::WordFault;
 use clap::error::ErrorKind;
 use clap::{Arg, ArgMatches, Command};
+use option_words::decimal_in;
 use std::alloc::{AllocError, Global};
 
 /// The restart of the words of its options.

@@ -2,11 +2,10 @@ ghost use Rattle.std.specs.Prelude.{◌≡◌, ◌+◌, ◌≤◌, ℕ, max, Lis
 ghost use Rattle.job_words.specs.Programs.{ProgramText, IsProgram, program_word, hosts_of};
 ghost use Rattle.job_words.specs.Jobs.{start_of};
 ghost use Rattle.job_words.specs.Parts.{ArePartsOf, ArePrograms, IsProgramWord, AreCounted, StandsFirst, IsNodesOf, zero_at_comma, with_zeros};
-ghost use Rattle.job_words.specs.Reading.{texts_of};
+ghost use Rattle.option_words.specs.Reading.{texts_of};
 
-use crate::file_name::FileName;
 use crate::job::NamedProgram;
-use crate::number::number_in;
+use option_words::{FileName, number_in};
 use std::alloc::{AllocError, Global};
 use views::list_of::ListOf;
 

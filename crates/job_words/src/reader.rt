@@ -1,17 +1,15 @@
 ghost use Rattle.std.specs.Prelude.{◌≡◌, ◌↔◌, ℕ, [], ◌∷◌, codes, map, All, IsTrue, IfOk, Ok, Err, string_bytes};
 ghost use Rattle.job_words.specs.declared.word_fault.WordFault.TheVariants.{Usage};
 ghost use Rattle.job_words.specs.Commands.{Command, SpellNothing, OneCommand, HasNoZero};
-ghost use Rattle.job_words.specs.Jobs.{IsJob};
+ghost use Rattle.job_words.specs.Jobs.{IsJob, OneJob};
 ghost use Rattle.job_words.specs.Answers.{AnswersFor, IsRefusal};
-ghost use Rattle.job_words.specs.Reading.{texts_of};
+ghost use Rattle.option_words.specs.Reading.{texts_of};
 
 use crate::job::{Job, LaunchJob};
-use crate::number::number_in;
-use crate::option_key::{Form, OptionKey};
-use crate::options::read_options;
 use crate::parsed::{restart_of, ring_of};
 use crate::programs::{nodes_for, programs_of};
 use crate::word_fault::WordFault;
+use option_words::{Form, OptionKey, number_in, read_options};
 use std::alloc::Global;
 
 /// The fewest and the most processes of a ring.
@@ -127,7 +125,8 @@ fn help(words: &[String]) -> Result<Job, WordFault>
     }
 }
 
-/// A law of command lines: words are of one command at most. It does nothing.
+/// Laws of command lines: words are of one command, and ask for one job, at most. It does nothing.
 pub fn word_laws()
-    ensures { OneCommand }
+    ensures command { OneCommand }
+    ensures job { OneJob }
 {}

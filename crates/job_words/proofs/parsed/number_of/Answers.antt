@@ -2,7 +2,7 @@ use Rattle.std.proofs.Common.{◌≡◌, List, ℕ, Some, None, sym, ◌∙◌}
 use Rattle.std.specs.Fmt.{decimal}
 use Rattle.clap.specs.Matches.{found_of}
 use Rattle.clap.proofs.WalkLemmas.{first_value-rows}
-use Rattle.job_words.proofs.Numbers.{decimal_reads}
+use Rattle.option_words.proofs.Numbers.{decimal_reads}
 use Rattle.job_words.proofs.parsed.number_of.Goals as goal
 
 same_some : (a b : List ℕ) → Some a ≡ Some b → a ≡ b

@@ -2,7 +2,7 @@ use Rattle.std.proofs.Common.{◌≡◌, Bool, true, false, ◌&&◌, refl}
 use Rattle.clap.specs.Simple.{app_of, is_simple, built, argument_words}
 use Rattle.clap.specs.Takes.{built_takes}
 use Rattle.clap.specs.Walk.{nothing_held}
-use Rattle.job_words.specs.Reading.{texts_of}
+use Rattle.option_words.specs.Reading.{texts_of}
 use Rattle.job_words.proofs.parsed.parse.Goals as goal
 
 left_true : (a b : Bool) → (a && b) ≡ true → a ≡ true

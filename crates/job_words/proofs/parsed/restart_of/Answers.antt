@@ -4,11 +4,11 @@ use Rattle.clap.specs.Matches.{found_of}
 use Rattle.clap.specs.Simple.{App, matches_of}
 use Rattle.clap.specs.Takes.{takes}
 use Rattle.clap.specs.Walk.{first_of, rows_of}
-use Rattle.job_words.specs.declared.option_key.OptionKey.TheVariants.{Nodes, Workers, Every, Records, Shift, PidBase, PortBase}
-use Rattle.job_words.specs.declared.option_key.Form.TheVariants.{Restart}
-use Rattle.job_words.specs.Options.{given_or}
+use Rattle.option_words.specs.declared.option_key.OptionKey.TheVariants.{Nodes, Workers, Every, Records, Shift, PidBase, PortBase}
+use Rattle.option_words.specs.declared.option_key.Form.TheVariants.{Restart}
+use Rattle.option_words.specs.Options.{given_or}
 use Rattle.job_words.specs.Parsed.{restart_app}
-use Rattle.job_words.specs.Reading.{texts_of}
+use Rattle.option_words.specs.Reading.{texts_of}
 use Rattle.job_words.proofs.Defaults.{option_found, restart_takes, restart_nodes, restart_workers, restart_every, restart_records, restart_shift, restart_pid_base, restart_port_base}
 use Rattle.job_words.proofs.parsed.restart_of.Goals as goal
 

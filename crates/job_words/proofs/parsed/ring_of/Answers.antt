@@ -3,10 +3,10 @@ use Rattle.clap.specs.Matches.{found_of}
 use Rattle.clap.specs.Simple.{App, matches_of}
 use Rattle.clap.specs.Takes.{takes}
 use Rattle.clap.specs.Walk.{rows_of}
-use Rattle.job_words.specs.declared.option_key.OptionKey.TheVariants.{Workers, Every}
-use Rattle.job_words.specs.Options.{given_or}
+use Rattle.option_words.specs.declared.option_key.OptionKey.TheVariants.{Workers, Every}
+use Rattle.option_words.specs.Options.{given_or}
 use Rattle.job_words.specs.Parsed.{ring_app}
-use Rattle.job_words.specs.Reading.{texts_of}
+use Rattle.option_words.specs.Reading.{texts_of}
 use Rattle.job_words.proofs.Defaults.{ring_takes, ring_workers, ring_every}
 use Rattle.job_words.proofs.parsed.ring_of.Goals as goal
 

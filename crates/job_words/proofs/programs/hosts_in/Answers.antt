@@ -2,8 +2,8 @@ use Rattle.std.proofs.Common.{◌+◌, ◌<◌, take, length, sym, subst, arith}
 use Rattle.std.specs.Prelude.{string_bytes, max}
 use Rattle.std.proofs.lemmas.List.{length-map}
 use Rattle.job_words.specs.Parts.{AreCounted}
-use Rattle.job_words.specs.Reading.{texts_of}
-use Rattle.job_words.proofs.Numbers.{IfNone-of_any}
+use Rattle.option_words.specs.Reading.{texts_of}
+use Rattle.option_words.proofs.Numbers.{IfNone-of_any}
 use Rattle.job_words.proofs.ProgramLists.{text_at, texts_more, not_all, one_counted}
 use Rattle.job_words.proofs.programs.hosts_in.Goals as goal
 

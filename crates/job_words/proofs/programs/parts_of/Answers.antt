@@ -1,7 +1,7 @@
 use Rattle.std.proofs.Common.{◌≡◌, ◌≤◌, length, Some, None, refl, ap, arith}
 use Rattle.std.proofs.lemmas.Str.Pattern.{split_parts}
 use Rattle.job_words.specs.Programs.{COLON}
-use Rattle.job_words.proofs.Numbers.{IfNone-of_any}
+use Rattle.option_words.proofs.Numbers.{IfNone-of_any}
 use Rattle.job_words.proofs.ProgramWords.{NoProgram, cut_of, host_small, not_empty, empty_name, first_is_name, found_program, bytes_length}
 use Rattle.job_words.proofs.programs.parts_of.Goals as goal
 

@@ -1,7 +1,7 @@
 use Rattle.std.proofs.Common.{◌<◌, length, arith}
 use Rattle.std.specs.Prelude.{string_bytes}
 use Rattle.std.proofs.lemmas.List.{length-map}
-use Rattle.job_words.specs.Reading.{texts_of}
+use Rattle.option_words.specs.Reading.{texts_of}
 use Rattle.job_words.proofs.ProgramLists.{text_at, word_of_all, one_started}
 use Rattle.job_words.proofs.programs.programs_of.Goals as goal
 

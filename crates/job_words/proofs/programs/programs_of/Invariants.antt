@@ -2,7 +2,7 @@ use Rattle.std.proofs.Common.{◌≡◌, List, map, take}
 use Rattle.job_words.specs.Programs.{ProgramText}
 use Rattle.job_words.specs.Parts.{ArePrograms}
 use Rattle.job_words.specs.Jobs.{start_of}
-use Rattle.job_words.specs.Reading.{texts_of}
+use Rattle.option_words.specs.Reading.{texts_of}
 use Rattle.job_words.proofs.programs.programs_of.Given as goal
 
 abbrev pub invariant-loop-word : goal.invariant-loop-word

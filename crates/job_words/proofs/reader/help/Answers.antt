@@ -2,7 +2,7 @@ use Rattle.std.proofs.Common.{◌∷◌, sym, subst}
 use Rattle.std.specs.Prelude.{codes}
 use Rattle.job_words.specs.declared.job.Job.TheVariants as job
 use Rattle.job_words.specs.Answers.{AnswersFor}
-use Rattle.job_words.specs.Reading.{texts_of}
+use Rattle.option_words.specs.Reading.{texts_of}
 use Rattle.job_words.proofs.Forms.{AreOf, answered, refused, help_of, help_answer, help_refused, no_words, some_words}
 use Rattle.job_words.proofs.reader.help.Goals as goal
 

@@ -1,7 +1,7 @@
 use Rattle.std.proofs.Common.{refl, ap, ◌∙◌, ◌∷◌}
 use Rattle.std.specs.Prelude.{codes, unwrap_or}
 use Rattle.job_words.specs.declared.job.LaunchJob.{LaunchJob}
-use Rattle.job_words.specs.Reading.{texts_of}
+use Rattle.option_words.specs.Reading.{texts_of}
 use Rattle.job_words.proofs.Forms.{answered, unremembered, memory_alone, refused, launch_of, launch_answer, launch_refused}
 use Rattle.job_words.proofs.ProgramLists.{are_words}
 use Rattle.job_words.proofs.reader.launch.Goals as goal

@@ -1,9 +1,9 @@
 use Rattle.std.proofs.Common.{◌≡◌, ◌↔◌, ap, sym, subst, ◌∙◌, ◌∷◌, List, Err, IfOk}
 use Rattle.std.specs.Prelude.{codes}
 use Rattle.job_words.specs.declared.word_fault.WordFault.TheVariants.{Usage}
-use Rattle.job_words.specs.Options.{Text}
+use Rattle.option_words.specs.Options.{Text}
 use Rattle.job_words.specs.Answers.{AnswersFor, IsRefusal}
-use Rattle.job_words.specs.Reading.{texts_of}
+use Rattle.option_words.specs.Reading.{texts_of}
 use Rattle.job_words.proofs.reader.read_form.Goals as goal
 
 pub returns-in-launch-clause-found : goal.returns-in-launch-clause-found

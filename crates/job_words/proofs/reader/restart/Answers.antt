@@ -1,7 +1,7 @@
 use Rattle.std.proofs.Common.{◌∷◌}
 use Rattle.std.specs.Prelude.{codes}
-use Rattle.job_words.specs.declared.option_key.Form.TheVariants.{Restart}
-use Rattle.job_words.specs.Reading.{texts_of}
+use Rattle.option_words.specs.declared.option_key.Form.TheVariants.{Restart}
+use Rattle.option_words.specs.Reading.{texts_of}
 use Rattle.job_words.proofs.Forms.{answered, unremembered, passed_on, refused, no_words, some_words, alone, restart_command_of, restart_answer, restart_refused}
 use Rattle.job_words.proofs.reader.restart.Goals as goal
 

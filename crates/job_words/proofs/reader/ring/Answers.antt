@@ -1,10 +1,10 @@
 use Rattle.std.proofs.Common.{◌≡◌, ap, sym, subst, ◌∙◌, ◌∷◌, List}
 use Rattle.std.specs.Prelude.{codes}
-use Rattle.job_words.specs.declared.option_key.Form.TheVariants.{Ring}
+use Rattle.option_words.specs.declared.option_key.Form.TheVariants.{Ring}
 use Rattle.job_words.specs.declared.job.Job.TheVariants as job
-use Rattle.job_words.specs.Options.{Text}
+use Rattle.option_words.specs.Options.{Text}
 use Rattle.job_words.specs.Answers.{AnswersFor, IsRefusal}
-use Rattle.job_words.specs.Reading.{texts_of}
+use Rattle.option_words.specs.Reading.{texts_of}
 use Rattle.job_words.proofs.Forms.{AreOf, answered, unremembered, passed_on, refused, no_words, some_words, alone, ring_command_of, ring_answer, ring_refused, ring_uncounted}
 use Rattle.job_words.proofs.reader.ring.Goals as goal
 

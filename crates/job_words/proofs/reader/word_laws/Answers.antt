@@ -1,5 +1,6 @@
 use Rattle.job_words.proofs.Forms.{one_command}
+use Rattle.job_words.proofs.OneJob.{one_job}
 use Rattle.job_words.proofs.reader.word_laws.Goals as goal
 
 pub returns : goal.returns
-returns c = one_command
+returns c = record { command = one_command; job = one_job }
