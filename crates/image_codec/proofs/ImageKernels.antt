@@ -1,7 +1,7 @@
 -- The kernel part of a shared image that can be spelled is one that a run may reach.
 use Rattle.std.proofs.Common.{◌≡◌, ◌≢◌, ℕ, ◌<◌, ◌≤◌, ◌^◌, ◌==◌, ◌&&◌, ◌||◌, Bool, true, false, cond, IsTrue, List, [], ◌∷◌, ◌++◌, length, filter, map as each, inl, inr, refl, sym, ap, subst, ◌∙◌, ⊎_elim, arith}
-use Rattle.std.specs.Prelude.{◌⊎◌, Some, is_some, nat_le, nat_lt}
-use Rattle.std.specs.List.{list_any, list_all, flat_map}
+use Rattle.std.specs.Prelude.{◌⊎◌, ◌%◌, not, bit_and, Some, is_some, nat_le, nat_lt}
+use Rattle.std.specs.List.{list_any, list_all, filter_map, flat_map}
 use Rattle.std.specs.declared.cmp.Ordering.{Ordering}
 use Rattle.std.specs.Ordering.{eq_by_cmp}
 use Rattle.std.specs.Cmp.{IsTotalOrder, nat_cmp_total}
@@ -9,7 +9,7 @@ use Rattle.std.specs.FinMap as map
 use Rattle.std.specs.FinMap.{nat_cmp-IsAntisymmetric}
 use Rattle.std.proofs.lemmas.Bool.Decides.{nat_tests}
 use Rattle.std.proofs.lemmas.List.{length-map}
-use Rattle.views.proofs.MapLaws.{get_insert_same, same_or_other, key_tied, other_key, entries-single}
+use Rattle.views.proofs.MapLaws.{same_or_other, key_tied, other_key, entries-single, true_false}
 use Rattle.views.proofs.MapValues.{EachEntry}
 use Rattle.sys_abi.specs.declared.identity.VPid.{VPid}
 use Rattle.sys_abi.specs.declared.identity.Slot.{Slot}
@@ -23,21 +23,28 @@ use Rattle.sys_abi.specs.declared.life.Life.{Life}
 use Rattle.plain_tables.specs.declared.description.Descriptor.{Descriptor}
 use Rattle.plain_tables.specs.Tables.{is_held, refers_to}
 use Rattle.plain_process.specs.Valid.{Each}
-use Rattle.plain_machine.specs.Valid.{FitsLife, IsDescriptor, IsDirection, IsGivenOut, IsKernel, IsProcess, IsSignalSet}
-use Rattle.image_codec.specs.declared.shared.ChannelImage.{ChannelImage}
-use Rattle.image_codec.specs.declared.shared.DescriptionImage.{DescriptionImage}
-use Rattle.image_codec.specs.declared.shared.DescriptorEntry.{DescriptorEntry}
-use Rattle.image_codec.specs.declared.shared.ThreadEntry.{ThreadEntry}
-use Rattle.image_codec.specs.declared.shared.ProcessEntry.{ProcessEntry}
-use Rattle.image_codec.specs.declared.shared.Shared.{Shared}
-use Rattle.image_codec.specs.Texts.{EachFrom}
-use Rattle.image_codec.specs.SharedTests as field
-use Rattle.image_codec.specs.SharedFits.{IsShared, ThreadFits, DescriptorFits}
-use Rattle.image_codec.specs.KernelParts.{kernel_of, process_entry, maker_entry, signals_entry, descriptor_entry, descriptor_entries, description_entry, direction_entries}
+use Rattle.plain_machine.specs.Valid.{FitsLife, IsGivenOut, IsKernel, IsProcess, IsSignalSet}
+use Rattle.plain_tables.specs.Valid.Descriptions.{AreFlags}
+use Rattle.plain_machine.proofs.WholeAlone.{IsHeldConsole, OnlyConsoles, alone_is_whole}
+use Rattle.sys_abi.specs.Lives.{lives}
+use Rattle.std.proofs.lemmas.Nat.{and_mask}
+use Rattle.image_shared.specs.declared.shared.FileImage.{FileImage}
+use Rattle.image_format.specs.Format.{n32, number_limit}
+use Rattle.image_format.proofs.Rising.{all_from}
+use Rattle.image_shared.specs.declared.shared.ChannelImage.{ChannelImage}
+use Rattle.image_shared.specs.declared.shared.DescriptionImage.{DescriptionImage}
+use Rattle.image_shared.specs.declared.shared.DescriptorEntry.{DescriptorEntry}
+use Rattle.image_shared.specs.declared.shared.ThreadEntry.{ThreadEntry}
+use Rattle.image_shared.specs.declared.shared.ProcessEntry.{ProcessEntry}
+use Rattle.image_shared.specs.declared.shared.Shared.{Shared}
+use Rattle.image_format.specs.Texts.{EachFrom}
+use Rattle.image_shared.specs.SharedTests as field
+use Rattle.image_shared.specs.SharedFormat.{VERSION}
+use Rattle.image_shared.specs.SharedFits.{IsShared, ThreadFits, DescriptorFits, kind_of, state_of}
+use Rattle.image_codec.specs.KernelParts.{kernel_of, process_entry, maker_entry, signals_entry, descriptor_entry, descriptor_entries, object_of, description_entry, name_entry, file_entry, channel_entry, direction_entries}
 use Rattle.image_codec.specs.KernelImages.{shared_of, process_image, descriptor_image, is_of}
 use Rattle.image_codec.specs.OneProcess.{ImageIsKernel, ImageHasNextId}
-use Rattle.image_codec.proofs.KernelLaws.{shared_of-kernel_of, thread_entries}
-use Rattle.plain_machine.proofs.Entries.{len_with}
+use Rattle.image_codec.proofs.KernelLaws.{IsListed, shared_of-kernel_of, thread_entries, is_console, no_listener}
 use Rattle.image_codec.proofs.OneProcess.{OneEntry, one_process, processes_are, one_is_live}
 
 -- tests
@@ -132,19 +139,27 @@ described_in id (d ∷ ds) is = ⊎_elim
 refers_by : (id : DescId) (descriptor : Descriptor) → field.is_pair id.pid.0 id.num descriptor.desc ≡ true → refers_to id descriptor ≡ true
 refers_by id descriptor pair = ap (λ k. eq_by_cmp desc_cmp k descriptor.desc) (pair_is id descriptor.desc pair) ∙ key_tied desc_total desc_exact descriptor.desc
 
-held_among : (id : DescId) (p : VPid) (es : List (Slot × Descriptor)) → list_any (field.refers_to id) (each descriptor_image (filter (is_of p) es)) ≡ true
+held_among : (id : DescId) (p : VPid) (es : List (Slot × Descriptor)) → list_any (field.names_description id) (each descriptor_image (filter (is_of p) es)) ≡ true
     → list_any (refers_to id) (each (λ (e : Slot × Descriptor). e.1) es) ≡ true
 held_among id p [] is = cc
 held_among id p (e ∷ es) is = kept (is_of p e) (λ there. held_among id p es there) is
   where
-    kept : (b : Bool) → (list_any (field.refers_to id) (each descriptor_image (filter (is_of p) es)) ≡ true → list_any (refers_to id) (each (λ (e : Slot × Descriptor). e.1) es) ≡ true)
-        → list_any (field.refers_to id) (each descriptor_image (cond b (e ∷ filter (is_of p) es) (filter (is_of p) es))) ≡ true
+    kept : (b : Bool) → (list_any (field.names_description id) (each descriptor_image (filter (is_of p) es)) ≡ true → list_any (refers_to id) (each (λ (e : Slot × Descriptor). e.1) es) ≡ true)
+        → list_any (field.names_description id) (each descriptor_image (cond b (e ∷ filter (is_of p) es) (filter (is_of p) es))) ≡ true
         → (refers_to id e.1 || list_any (refers_to id) (each (λ (e : Slot × Descriptor). e.1) es)) ≡ true
     kept true later is = ⊎_elim
         (λ here. ap (λ b. b || list_any (refers_to id) (each (λ (e : Slot × Descriptor). e.1) es)) (refers_by id e.1 here))
         (λ there. or_second (refers_to id e.1) _ (later there))
-        (one_of_two (field.is_pair id.pid.0 id.num e.1.desc) (list_any (field.refers_to id) (each descriptor_image (filter (is_of p) es))) is)
+        (one_of_two (field.is_pair id.pid.0 id.num e.1.desc) (list_any (field.names_description id) (each descriptor_image (filter (is_of p) es))) is)
     kept false later is = or_second (refers_to id e.1) _ (later is)
+
+-- fields
+word_of : (n : ℕ) → n < number_limit n32 → n < 2 ^ 32
+word_of n small = omega arith
+
+one_parent : (b : Bool) → IsTrue (b || false) → IsTrue b
+one_parent true is = refl
+one_parent false is = is
 
 module _ (s : Shared) (is : IsShared s) (one : OneEntry s) where
   abbrev k : PlainKernel
@@ -154,66 +169,122 @@ module _ (s : Shared) (is : IsShared s) (one : OneEntry s) where
   unfolding kernel_of
   described id is = ap is_some (map.get-from_entries desc_total (each description_entry s.descriptions) id) ∙ described_in id s.descriptions is
 
-  descriptor_is : (front : List DescriptorEntry) (d : DescriptorEntry) → DescriptorFits s.descriptions front d → IsDescriptor k (descriptor_entry one.process.pid d).0 (descriptor_entry one.process.pid d).1
-  descriptor_is front d fits = record {
-    number = from_lt d.number 256 (and_second _ (nat_lt d.number 256) fits.number.1);
-    alive = one_is_live s one;
-    described = described d.desc fits.described.1;
-  }
+  abbrev IsOwn : Slot → Descriptor → Type 0
+  IsOwn at descriptor = (at.pid ≡ one.process.pid) × (at.fd < 256) × (is_some (map.get k.descriptions descriptor.desc) ≡ true)
 
-  descriptors_are : (front ds : List DescriptorEntry) → EachFrom (DescriptorFits s.descriptions) front ds → EachEntry (IsDescriptor k) (each (descriptor_entry one.process.pid) ds ++ [])
+  descriptors_are : (front ds : List DescriptorEntry) → EachFrom (DescriptorFits s.descriptions) front ds → EachEntry IsOwn (each (descriptor_entry one.process.pid) ds ++ [])
   unfolding EachFrom
   descriptors_are front [] fits = tt
-  descriptors_are front (d ∷ ds) fits = (descriptor_is front d fits.0, descriptors_are (front ++ d ∷ []) ds fits.1)
+  descriptors_are front (d ∷ ds) fits =
+      ((refl, from_lt d.number 256 (and_second _ (nat_lt d.number 256) fits.0.number.1), described d.desc fits.0.described.1), descriptors_are (front ++ d ∷ []) ds fits.1)
 
   -- a description that the image's process holds is held
-  held : (id : DescId) → IsTrue (field.is_held s.processes id) → is_held k.descriptors id ≡ true
+  held : (id : DescId) → IsTrue (field.is_held_by_some s.processes id) → is_held k.descriptors id ≡ true
   unfolding is_held shared_of
   held id is_there =
       let entries : map.entries k.processes ≡ process_entry one.process ∷ [] = ap map.entries (processes_are s one) ∙ entries-single vpid_total vpid_exact one.process.pid (process_entry one.process).1 in
       let back : s.processes ≡ each (process_image k) (process_entry one.process ∷ []) =
       sym (ap (λ (t : Shared). t.processes) (shared_of-kernel_of s is.fields)) ∙ ap (each (process_image k)) entries in
-      let there = subst (λ (ps : List ProcessEntry). IsTrue (field.is_held ps id)) back is_there in
+      let there = subst (λ (ps : List ProcessEntry). IsTrue (field.is_held_by_some ps id)) back is_there in
       ⊎_elim (λ own. held_among id one.process.pid (map.entries k.descriptors) own) (λ none. absurd (cc)) (one_of_two (field.holds id (process_image k (process_entry one.process))) false there)
 
-  descriptions_are : (ds : List DescriptionImage) → IsTrue (list_all (field.is_rightly_held s.processes) ds) → EachEntry (λ d description. is_held k.descriptors d ≡ true) (each description_entry ds)
-  descriptions_are [] are = tt
-  descriptions_are (d ∷ ds) are =
-      let first = and_first (field.is_rightly_held s.processes d) (list_all (field.is_rightly_held s.processes) ds) are in
-      let rest = and_second (field.is_rightly_held s.processes d) (list_all (field.is_rightly_held s.processes) ds) are in
-      (held d.id (and_first (field.is_held s.processes d.id) _ first), descriptions_are ds rest)
+  abbrev maker : Maker
+  maker = (maker_entry one.process).1
 
-  all_held : Each k.descriptions (λ d description. is_held k.descriptors d ≡ true)
-  unfolding kernel_of field.is_whole
-  all_held = each_made desc_total desc_exact (λ d description. is_held k.descriptors d ≡ true) (each description_entry s.descriptions)
-      (descriptions_are s.descriptions (and_first (list_all (field.is_rightly_held s.processes) s.descriptions) _ is.whole))
+  -- it is nobody's, or the process's
+  owner_is : (d : DescriptionImage) → IsTrue (field.is_rightly_held s.processes d) → (d.owner ≡ 0) ⊎ (d.owner ≡ one.process.pid.0)
+  owner_is d right =
+      let there = subst (λ (ps : List ProcessEntry). IsTrue (field.is_rightly_held ps d)) one.listed right in
+      owned (field.holds d.id one.process) (field.may_share one.process d.id one.process) (d.owner == 0) (one.process.pid.0 == d.owner) (lives one.process.life)
+      (one.process.host == one.process.host) (λ is. from_eq d.owner 0 is) (λ is. sym (from_eq one.process.pid.0 d.owner is)) there
+    where
+      owned : (holds shares nobody own alive near : Bool) {A B : Type 0} → (IsTrue nobody → A) → (IsTrue own → B)
+          → IsTrue ((holds || false) && ((not holds || ((shares && true) && (nobody || ((own && alive && near) || false)))) && true)) → A ⊎ B
+      owned true true true own alive near first second is = inl (first refl)
+      owned true true false true alive near first second is = inr (second refl)
+      owned true true false false alive near first second is = cc
+      owned true false nobody own alive near first second is = cc
+      owned false shares nobody own alive near first second is = cc
+
+  flags_are : (flags : ℕ) → IsTrue (field.is_status_flags flags) → AreFlags flags
+  flags_are flags is = record {
+    known = from_eq (bit_and flags 0xC03) flags (and_first (bit_and flags 0xC03 == flags) (not (bit_and flags 3 == 3)) is);
+    mode = λ three.
+        let low : bit_and flags 3 ≡ flags % 4 = and_mask flags 2 in
+        let same : bit_and flags 3 ≡ 3 = low ∙ three in
+        let other = and_second (bit_and flags 0xC03 == flags) (not (bit_and flags 3 == 3)) is in
+        true_false (sym other ∙ ap (λ n. not (n == 3)) same);
+  }
+
+  -- a number of the process is below its running number
+  below_made : (number : ℕ) (maker : VPid) → IsTrue (field.is_number_below one.process.pid.0 one.process.made maker.0 number) → maker ≡ one.process.pid → number < one.process.made
+  below_made number maker is same =
+      let own : (maker.0 == one.process.pid.0) ≡ true = let numbers = ap (λ (p : VPid). p.0) same in grind (arith, nat_tests, numbers) in
+      from_lt number one.process.made (ap (λ b. not b || nat_lt number one.process.made) (sym own) ∙ is)
+
+  description_is : (front : List DescriptionImage) (d : DescriptionImage) → IsListed s front d → IsTrue (field.is_rightly_held s.processes d)
+      → IsTrue (field.is_number_below one.process.pid.0 one.process.made d.id.pid.0 d.id.num) → IsHeldConsole k one.process.pid maker (description_entry d).0 (description_entry d).1
+  unfolding kernel_of
+  description_is front d fits right below = record {
+    object = ap object_of (is_console d.object fits.kind.1);
+    held = held d.id (and_first (field.is_held_by_some s.processes d.id) _ right);
+    flags = flags_are d.flags fits.flags.1;
+    owner = owner_is d right;
+    known = from_lt d.id.pid.0 s.next_id (and_second (field.is_maker_after (field.last_description front) d.id.pid.0) (nat_lt d.id.pid.0 s.next_id) fits.maker.1);
+    word = word_of d.id.num fits.number.0;
+    below = below_made d.id.num d.id.pid below;
+  }
+
+  descriptions_are : (front ds : List DescriptionImage) → EachFrom (IsListed s) front ds → IsTrue (list_all (field.is_rightly_held s.processes) ds)
+      → IsTrue (list_all (λ (d : DescriptionImage). field.is_number_below one.process.pid.0 one.process.made d.id.pid.0 d.id.num) ds)
+      → EachEntry (IsHeldConsole k one.process.pid maker) (each description_entry ds)
+  unfolding EachFrom
+  descriptions_are front [] fits right below = tt
+  descriptions_are front (d ∷ ds) fits right below = (
+    description_is front d fits.0 (and_first (field.is_rightly_held s.processes d) _ right) (and_first (field.is_number_below one.process.pid.0 one.process.made d.id.pid.0 d.id.num) _ below),
+    descriptions_are (front ++ d ∷ []) ds fits.1 (and_second (field.is_rightly_held s.processes d) _ right) (and_second (field.is_number_below one.process.pid.0 one.process.made d.id.pid.0 d.id.num) _ below),
+  )
+
+  all_consoles : Each k.descriptions (IsHeldConsole k one.process.pid maker)
+  unfolding kernel_of field.is_whole_shared
+  all_consoles =
+      let made = and_second (state_of one.process.life == 0) _ one.fits.life.state.1 in
+      each_made desc_total desc_exact (IsHeldConsole (kernel_of s) one.process.pid maker) (each description_entry s.descriptions)
+      (descriptions_are [] s.descriptions is.fields.descriptions (and_first (list_all (field.is_rightly_held s.processes) s.descriptions) _ is.whole) (and_second _ _ made))
+
+  only_consoles : OnlyConsoles (kernel_of s) one.process.pid (process_entry one.process).1 maker
+  unfolding kernel_of
+  only_consoles =
+      let files = is.fields.files in
+      let channels = is.fields.channels in
+      let silent = no_listener s.descriptions (all_from (IsListed s) (λ d. IsTrue (field.is_object_kind VERSION (kind_of d.object))) (λ front d fits. fits.kind.1) [] s.descriptions is.fields.descriptions) in
+      record {
+        numbers = record {
+          first_id = from_le 40000 s.next_id (and_first (nat_le 40000 s.next_id) _ is.fields.next_id.1);
+          last_id = from_lt s.next_id (2 ^ 31) (and_second (nat_le 40000 s.next_id) _ is.fields.next_id.1);
+          first_file = from_le 1 s.next_file is.fields.next_file.1;
+          last_file = word_of s.next_file is.fields.next_file.0;
+        };
+        process_is = process_is s one;
+        alive = ap lives one.life;
+        parent = from_eq one.process.parent 1 (one_parent (one.process.parent == 1) one.fits.parent.1);
+        host = from_lt one.process.host 16 one.fits.host.1;
+        made = word_of one.process.made one.fits.made.0;
+        processes = ap (λ (ps : List ProcessEntry). map.from_entries (each process_entry ps)) one.listed;
+        makers = ap (λ (ps : List ProcessEntry). map.from_entries (each maker_entry ps)) one.listed;
+        descriptors = subst (λ (ps : List ProcessEntry). Each (map.from_entries {R = slot_cmp} (flat_map descriptor_entries ps)) IsOwn) (sym one.listed)
+            (each_made slot_total slot_exact IsOwn (flat_map descriptor_entries (one.process ∷ [])) (descriptors_are [] one.process.descriptors one.fits.descriptors));
+        descriptions = all_consoles;
+        names = ap (λ (fs : List FileImage). map.from_entries (filter_map name_entry fs)) files;
+        files = ap (λ (fs : List FileImage). map.from_entries (each file_entry fs)) files;
+        channels = ap (λ (cs : List ChannelImage). map.from_entries (each (channel_entry s.descriptions) cs)) channels;
+        directions = ap (λ (cs : List ChannelImage). map.from_entries (flat_map direction_entries cs)) channels;
+        listeners = ap map.from_entries silent;
+        inboxes = refl;
+      }
 
   kernel_is : IsKernel (kernel_of s)
-  unfolding kernel_of
-  kernel_is =
-      let Made = λ (ps : List ProcessEntry) (p : VPid). is_some (map.get (map.from_entries {R = vpid_cmp} (each maker_entry ps)) p) ≡ true in
-      let Known = λ (ps : List ProcessEntry) (p : VPid). is_some (map.get (map.from_entries {R = vpid_cmp} (each process_entry ps)) p) ≡ true in
-      record {
-        first_id = from_le 40000 s.next_id (and_first (nat_le 40000 s.next_id) _ is.fields.next_id.1);
-        last_id = from_lt s.next_id (2 ^ 31) (and_second (nat_le 40000 s.next_id) _ is.fields.next_id.1);
-        count = subst (λ n. n ≤ 128) (sym (ap map.len (processes_are s one)))
-            (let most = len_with vpid_total map.empty one.process.pid (process_entry one.process).1 in let none = map.len-empty vpid_cmp Process in omega arith);
-        made = subst (λ (ps : List ProcessEntry). Each (map.from_entries {R = vpid_cmp} (each process_entry ps)) (λ p process. Made ps p)) (sym one.listed)
-            (each_made vpid_total vpid_exact (λ p process. Made (one.process ∷ []) p) (each process_entry (one.process ∷ []))
-            (ap is_some (get_insert_same vpid_total vpid_exact map.empty one.process.pid (maker_entry one.process).1), tt));
-        hosts = subst (λ (ps : List ProcessEntry). Each (map.from_entries {R = vpid_cmp} (each maker_entry ps)) (λ p (maker : Maker). maker.host < 16)) (sym one.listed)
-            (each_made vpid_total vpid_exact (λ p (maker : Maker). maker.host < 16) (each maker_entry (one.process ∷ [])) (from_lt one.process.host 16 one.fits.host.1, tt));
-        processes = subst (λ (ps : List ProcessEntry). Each (map.from_entries {R = vpid_cmp} (each process_entry ps)) (IsProcess s.next_id)) (sym one.listed)
-            (each_made vpid_total vpid_exact (IsProcess s.next_id) (each process_entry (one.process ∷ [])) (process_is s one, tt));
-        makers = subst (λ (ps : List ProcessEntry). Each (map.from_entries {R = vpid_cmp} (each maker_entry ps)) (λ p maker. Known ps p)) (sym one.listed)
-            (each_made vpid_total vpid_exact (λ p maker. Known (one.process ∷ []) p) (each maker_entry (one.process ∷ []))
-            (ap is_some (get_insert_same vpid_total vpid_exact map.empty one.process.pid (process_entry one.process).1), tt));
-        descriptors = subst (λ (ps : List ProcessEntry). Each (map.from_entries {R = slot_cmp} (flat_map descriptor_entries ps)) (IsDescriptor (kernel_of s))) (sym one.listed)
-            (each_made slot_total slot_exact (IsDescriptor (kernel_of s)) (flat_map descriptor_entries (one.process ∷ [])) (descriptors_are [] one.process.descriptors one.fits.descriptors));
-        descriptions = all_held;
-        directions = subst (λ (cs : List ChannelImage). Each (map.from_entries {R = dir_cmp} (flat_map direction_entries cs)) (λ dir direction. IsDirection direction)) (sym is.fields.channels)
-            (each_made dir_total dir_exact (λ dir direction. IsDirection direction) [] tt);
-      }
+  kernel_is = alone_is_whole (kernel_of s) one.process.pid (process_entry one.process).1 maker only_consoles
 
 pub image_is_kernel : ImageIsKernel
 image_is_kernel s is = kernel_is s is (one_process s is)

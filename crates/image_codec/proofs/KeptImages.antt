@@ -19,19 +19,22 @@ use Rattle.plain_tables.specs.declared.process.Process.{Process}
 use Rattle.sys_abi.specs.declared.life.Life.{Life}
 use Rattle.sys_abi.specs.declared.life.Life.TheVariants.{Live}
 use Rattle.plain_machine.specs.Valid.{FitsLife, IsGivenOut, IsKernel, IsProcess, IsSignalSet}
-use Rattle.image_codec.specs.declared.shared.DescriptionImage.{DescriptionImage}
-use Rattle.image_codec.specs.declared.shared.ThreadEntry.{ThreadEntry}
-use Rattle.image_codec.specs.declared.shared.ProcessEntry.{ProcessEntry}
-use Rattle.image_codec.specs.declared.shared.Shared.{Shared}
-use Rattle.image_codec.specs.Texts.{EachFrom}
-use Rattle.image_codec.specs.SharedTests as field
-use Rattle.image_codec.specs.SharedTests.{last_item}
-use Rattle.image_codec.specs.SharedFits.{SharedFits, ProcessFits, ThreadFits, DescriptionFits}
+use Rattle.image_shared.specs.declared.shared.FileImage.{FileImage}
+use Rattle.image_shared.specs.declared.shared.ChannelImage.{ChannelImage}
+use Rattle.image_shared.specs.declared.shared.DescriptionImage.{DescriptionImage}
+use Rattle.image_shared.specs.declared.shared.ThreadEntry.{ThreadEntry}
+use Rattle.image_shared.specs.declared.shared.ProcessEntry.{ProcessEntry}
+use Rattle.image_shared.specs.declared.shared.Shared.{Shared}
+use Rattle.image_format.specs.Texts.{EachFrom}
+use Rattle.image_shared.specs.SharedTests as field
+use Rattle.image_format.specs.Fields.{last_item}
+use Rattle.image_shared.specs.SharedFormat.{VERSION}
+use Rattle.image_shared.specs.SharedFits.{SharedFits, ProcessFits, ThreadFits, DescriptionFits}
 use Rattle.image_codec.specs.KernelParts.{kernel_of, process_entry, maker_entry, signals_entry, descriptor_entries}
 use Rattle.image_codec.specs.KernelImages.{IsImage, thread_image}
 use Rattle.image_codec.specs.OneProcess.{HasOtherThreads, OtherThreadsKeepImage}
 use Rattle.image_codec.proofs.OneProcess.{OneEntry, one_process, processes_are, found_once}
-use Rattle.image_codec.proofs.Rising.{last_item-push}
+use Rattle.image_format.proofs.Rising.{last_item-push}
 
 -- tests
 both_true : (a b : Bool) → IsTrue a → IsTrue b → IsTrue (a && b)
@@ -73,17 +76,19 @@ unfolding EachFrom
 each_weaker P Q to front [] h = tt
 each_weaker P Q to front (x ∷ items) h = (to front x h.0, each_weaker P Q to (front ++ x ∷ []) items h.1)
 
-description_fits : (before after : ℕ) → before ≤ after → (front : List DescriptionImage) (d : DescriptionImage) → DescriptionFits before front d → DescriptionFits after front d
-description_fits before after more front d fits =
-    let maker = and_first (field.is_maker_after (field.last_description front) d.id.pid.0) (nat_lt d.id.pid.0 before) fits.maker.1 in
-    let below = and_second (field.is_maker_after (field.last_description front) d.id.pid.0) (nat_lt d.id.pid.0 before) fits.maker.1 in
-    record {
-      maker = (fits.maker.0, both_true _ _ maker (later_below d.id.pid.0 before after below more));
-      number = fits.number;
-      kind = fits.kind;
-      flags = fits.flags;
-      owner = fits.owner;
-    }
+module _ (version : ℕ) (files : List FileImage) (channels : List ChannelImage) where
+  description_fits : (before after : ℕ) → before ≤ after → (front : List DescriptionImage) (d : DescriptionImage)
+      → DescriptionFits version before files channels front d → DescriptionFits version after files channels front d
+  description_fits before after more front d fits =
+      let maker = and_first (field.is_maker_after (field.last_description front) d.id.pid.0) (nat_lt d.id.pid.0 before) fits.maker.1 in
+      let below = and_second (field.is_maker_after (field.last_description front) d.id.pid.0) (nat_lt d.id.pid.0 before) fits.maker.1 in
+      record {
+        maker = (fits.maker.0, both_true _ _ maker (later_below d.id.pid.0 before after below more));
+        number = fits.number;
+        kind = fits.kind;
+        flags = fits.flags;
+        owner = fits.owner;
+      }
 
 -- the entries of a map of threads fit as they stand
 abbrev IsNext : List ThreadEntry → List (ℕ × ℕ) → Type 0
@@ -158,7 +163,7 @@ module _ (before after : PlainKernel) (p : VPid) (process : Process) (s : Shared
   found = found_once s one p other.old (ap (λ (k : PlainKernel). map.get k.processes p) image.kernel ∙ other.was)
 
   is_process : IsProcess after.next_id p process
-  is_process = valid.processes p process (ap (λ m. map.get m p) other.processes ∙ get_insert_same vpid_total vpid_exact before.processes p process)
+  is_process = valid.processes.each p process (ap (λ m. map.get m p) other.processes ∙ get_insert_same vpid_total vpid_exact before.processes p process)
 
   -- the process that the image gets in place of its own
   abbrev new : ProcessEntry
@@ -206,18 +211,18 @@ module _ (before after : PlainKernel) (p : VPid) (process : Process) (s : Shared
       let old = image.spelled.fields in
       let limit : after.next_id < 2 ^ 31 = other.limit in
       record {
-        next_id = (omega arith, is_next_id after.next_id valid.first_id limit);
+        next_id = (omega arith, is_next_id after.next_id valid.numbers.first_id limit);
         next_file = old.next_file;
         files = old.files;
         channels = old.channels;
         description_count = old.description_count;
-        descriptions = each_weaker (DescriptionFits s.next_id) (DescriptionFits after.next_id) (description_fits s.next_id after.next_id more_numbers) [] s.descriptions old.descriptions;
+        descriptions = each_weaker (DescriptionFits VERSION s.next_id s.files s.channels) (DescriptionFits VERSION after.next_id s.files s.channels) (description_fits VERSION s.files s.channels s.next_id after.next_id more_numbers) [] s.descriptions old.descriptions;
         process_count = (lit< tt, refl);
         processes = (process_fits, tt);
       }
 
-  whole_after : IsTrue (field.is_whole image_after)
-  unfolding field.is_whole
+  whole_after : IsTrue (field.is_whole_shared image_after)
+  unfolding field.is_whole_shared
   whole_after =
       subst (λ (ps : List ProcessEntry). IsTrue (list_all (field.is_rightly_held ps) s.descriptions && list_all (field.is_near_parent ps) ps)) one.listed image.spelled.whole
 

@@ -20,21 +20,23 @@ use Rattle.sys_abi.specs.declared.identity.DescId.{DescId}
 use Rattle.sys_abi.specs.Orders.{vpid_cmp, slot_cmp, desc_cmp}
 use Rattle.sys_abi.proofs.OrderLaws.{vpid_total, slot_total, desc_total}
 use Rattle.plain_machine.specs.declared.kernel.PlainKernel.{PlainKernel}
-use Rattle.image_codec.specs.declared.shared.ObjectImage.{ObjectImage}
-use Rattle.image_codec.specs.declared.shared.ObjectImage.TheVariants.{Console, File, Stream, Socket, Listener}
-use Rattle.image_codec.specs.declared.shared.FileImage.{FileImage}
-use Rattle.image_codec.specs.declared.shared.ChannelImage.{ChannelImage}
-use Rattle.image_codec.specs.declared.shared.DescriptionImage.{DescriptionImage}
-use Rattle.image_codec.specs.declared.shared.ThreadEntry.{ThreadEntry}
-use Rattle.image_codec.specs.declared.shared.DescriptorEntry.{DescriptorEntry}
-use Rattle.image_codec.specs.declared.shared.ProcessEntry.{ProcessEntry}
-use Rattle.image_codec.specs.declared.shared.Shared.{Shared}
-use Rattle.image_codec.specs.Texts.{EachFrom}
-use Rattle.image_codec.specs.SharedTests as field
-use Rattle.image_codec.specs.SharedFits.{SharedFits, DescriptionFits, ProcessFits, ThreadFits, DescriptorFits, kind_of}
+use Rattle.image_shared.specs.declared.shared.ObjectImage.{ObjectImage}
+use Rattle.image_shared.specs.declared.shared.ObjectImage.TheVariants.{Console, File, Stream, Socket, Listener}
+use Rattle.image_shared.specs.declared.shared.FileImage.{FileImage}
+use Rattle.image_shared.specs.declared.shared.ChannelImage.{ChannelImage}
+use Rattle.image_shared.specs.declared.shared.DescriptionImage.{DescriptionImage}
+use Rattle.image_shared.specs.declared.shared.ThreadEntry.{ThreadEntry}
+use Rattle.image_shared.specs.declared.shared.DescriptorEntry.{DescriptorEntry}
+use Rattle.image_shared.specs.declared.shared.ProcessEntry.{ProcessEntry}
+use Rattle.image_shared.specs.declared.shared.Shared.{Shared}
+use Rattle.image_format.specs.Texts.{EachFrom}
+use Rattle.image_format.specs.Fields.{last_item}
+use Rattle.image_shared.specs.SharedTests as field
+use Rattle.image_shared.specs.SharedFormat.{VERSION}
+use Rattle.image_shared.specs.SharedFits.{SharedFits, DescriptionFits, ProcessFits, ThreadFits, DescriptorFits, kind_of}
 use Rattle.image_codec.specs.KernelParts.{kernel_of, process_entry, maker_entry, descriptor_entries, descriptor_entry, description_entry, signals_entry, object_of, listening_of, name_entry, file_entry, channel_entry, direction_entries}
 use Rattle.image_codec.specs.KernelImages.{shared_of, IsImage, object_image, description_image, thread_image, descriptor_image, process_image, is_of, maker_or}
-use Rattle.image_codec.proofs.Rising.{RisesFrom, IsAfter, each_rising, sorted_rising, sorted_append, entries_made, undone, all_from}
+use Rattle.image_format.proofs.Rising.{RisesFrom, IsAfter, each_rising, sorted_rising, sorted_append, entries_made, undone, all_from}
 
 pub both_true : (a b : Bool) → IsTrue (a && b) → IsTrue a × IsTrue b
 both_true true true h = (refl, refl)
@@ -51,7 +53,7 @@ after_number (Some before) n h = nat_below before n h
 
 -- threads
 thread_rises : (next_id : ℕ) (earlier : List ProcessEntry) (front : List ThreadEntry) (thread : ThreadEntry) → ThreadFits next_id earlier front thread
-    → IsAfter nat_cmp (option_map (λ (t : ThreadEntry). t.tid) (field.last_item front)) thread.tid
+    → IsAfter nat_cmp (option_map (λ (t : ThreadEntry). t.tid) (last_item front)) thread.tid
 thread_rises next_id earlier front thread h =
     after_number _ _ ((both_true _ _ ((both_true _ _ h.number.1).0)).0)
 
@@ -84,33 +86,37 @@ after_pair : (before : Option DescriptionImage) (p n : ℕ) → IsTrue (field.is
 after_pair None p n h g = tt
 after_pair (Some before) p n h g = pair_below before.id.pid.0 before.id.num p n g h
 
-description_rises : (next_id : ℕ) (front : List DescriptionImage) (description : DescriptionImage) → DescriptionFits next_id front description
-    → IsAfter desc_cmp (option_map (λ (d : DescriptionImage). d.id) (field.last_item front)) description.id
-description_rises next_id front description h =
-    after_pair (field.last_item front) description.id.pid.0 description.id.num ((both_true _ _ h.maker.1).0) h.number.1
+-- a description of the shared image, after those before it
+abbrev pub IsListed : Shared → List DescriptionImage → DescriptionImage → Type 0
+IsListed s = DescriptionFits VERSION s.next_id s.files s.channels
 
-console_back : (object : ObjectImage) → IsTrue (field.is_object_kind (kind_of object)) → object_image (object_of object) ≡ object
+description_rises : (s : Shared) (front : List DescriptionImage) (description : DescriptionImage) → IsListed s front description
+    → IsAfter desc_cmp (option_map (λ (d : DescriptionImage). d.id) (last_item front)) description.id
+description_rises s front description h =
+    after_pair (last_item front) description.id.pid.0 description.id.num ((both_true _ _ h.maker.1).0) h.number.1
+
+console_back : (object : ObjectImage) → IsTrue (field.is_object_kind VERSION (kind_of object)) → object_image (object_of object) ≡ object
 console_back Console h = refl
 console_back (File number offset) h = cc
 console_back (Stream conn side) h = cc
 console_back (Socket address) h = cc
 console_back (Listener address backlog pending) h = cc
 
-description_back : (description : DescriptionImage) → IsTrue (field.is_object_kind (kind_of description.object)) → description_image (description_entry description) ≡ description
+description_back : (description : DescriptionImage) → IsTrue (field.is_object_kind VERSION (kind_of description.object)) → description_image (description_entry description) ≡ description
 description_back description h = λ i. record description { object = console_back description.object h i }
 
-descriptions_back : (next_id : ℕ) (descriptions : List DescriptionImage) → EachFrom (DescriptionFits next_id) [] descriptions
+descriptions_back : (s : Shared) (descriptions : List DescriptionImage) → EachFrom (IsListed s) [] descriptions
     → mapped description_image (map.entries (map.from_entries {R = desc_cmp} (mapped description_entry descriptions))) ≡ descriptions
-descriptions_back next_id descriptions h =
-    ap (mapped description_image) (entries_made desc_total description_entry descriptions (each_rising desc_cmp (λ (d : DescriptionImage). d.id) (DescriptionFits next_id) (description_rises next_id) [] descriptions h))
-    ∙ undone description_entry description_image descriptions (all_from (DescriptionFits next_id) _ (λ front d fits. description_back d fits.kind.1) [] descriptions h)
+descriptions_back s descriptions h =
+    ap (mapped description_image) (entries_made desc_total description_entry descriptions (each_rising desc_cmp (λ (d : DescriptionImage). d.id) (IsListed s) (description_rises s) [] descriptions h))
+    ∙ undone description_entry description_image descriptions (all_from (IsListed s) _ (λ front d fits. description_back d fits.kind.1) [] descriptions h)
 
 -- descriptors, all in one list
 abbrev slots_of : VPid → List DescriptorEntry → List Slot
 slots_of p descriptors = mapped (λ (d : DescriptorEntry). record { pid = p; fd = d.number }) descriptors
 
 number_rises : (descriptions : List DescriptionImage) (front : List DescriptorEntry) (descriptor : DescriptorEntry) → DescriptorFits descriptions front descriptor
-    → IsAfter nat_cmp (option_map (λ (d : DescriptorEntry). d.number) (field.last_item front)) descriptor.number
+    → IsAfter nat_cmp (option_map (λ (d : DescriptorEntry). d.number) (last_item front)) descriptor.number
 number_rises descriptions front descriptor h = after_number _ _ ((both_true _ _ h.number.1).0)
 
 same_pid : (a b c : ℕ) → nat_cmp b c ≡ Less → ordering_then (nat_cmp a a) (nat_cmp b c) ≡ Less
@@ -239,8 +245,8 @@ all_found (x ∷ processes) h = (found_first x processes h.0, later processes h.
     later (e ∷ items) h g = (found_later x e processes h.0 g.0, later items h.1 g.1)
 
 process_rises : (next_id : ℕ) (channels : List ChannelImage) (descriptions : List DescriptionImage) (front : List ProcessEntry) (process : ProcessEntry) → ProcessFits next_id channels descriptions front process
-    → IsAfter vpid_cmp (option_map (λ (e : ProcessEntry). e.pid) (field.last_item front)) process.pid
-process_rises next_id channels descriptions front process h = after_pid (field.last_item front) ((both_true _ _ ((both_true _ _ h.number.1).0)).0)
+    → IsAfter vpid_cmp (option_map (λ (e : ProcessEntry). e.pid) (last_item front)) process.pid
+process_rises next_id channels descriptions front process h = after_pid (last_item front) ((both_true _ _ ((both_true _ _ h.number.1).0)).0)
   where
     after_pid : (before : Option ProcessEntry) → IsTrue (is_above (option_map (λ (e : ProcessEntry). e.pid.0) before) process.pid.0)
         → IsAfter vpid_cmp (option_map (λ (e : ProcessEntry). e.pid) before) process.pid
@@ -300,7 +306,7 @@ processes_back next_id channels descriptions k processes h of_processes makers o
 pub shared_of-kernel_of : (s : Shared) → SharedFits s → shared_of (kernel_of s) ≡ s
 unfolding shared_of kernel_of
 shared_of-kernel_of s h =
-    let descriptions = descriptions_back s.next_id s.descriptions h.descriptions in
+    let descriptions = descriptions_back s s.descriptions h.descriptions in
     let processes = processes_back s.next_id s.channels s.descriptions (kernel_of s) s.processes h.processes refl refl refl in
     λ i. record s { files = sym h.files i; channels = sym h.channels i; descriptions = descriptions i; processes = processes i }
 
@@ -318,17 +324,17 @@ image_made k made next_id next_file files channels descriptions processes =
     λ i. record { next_id = next_id i; next_file = next_file i; files = files i; channels = channels i; descriptions = descriptions i; processes = processes i }
 
 -- back from the image: what has no image so far is empty in the kernel part
-no_listener : (descriptions : List DescriptionImage) → AllByRecursion (λ d. IsTrue (field.is_object_kind (kind_of d.object))) descriptions
+pub is_console : (object : ObjectImage) → IsTrue (field.is_object_kind VERSION (kind_of object)) → object ≡ Console
+is_console Console h = refl
+is_console (File number offset) h = cc
+is_console (Stream conn side) h = cc
+is_console (Socket address) h = cc
+is_console (Listener address backlog pending) h = cc
+
+pub no_listener : (descriptions : List DescriptionImage) → AllByRecursion (λ d. IsTrue (field.is_object_kind VERSION (kind_of d.object))) descriptions
     → filter_map (λ (d : DescriptionImage). listening_of d.object) descriptions ≡ []
 no_listener [] h = refl
 no_listener (d ∷ descriptions) h = ap (λ (o : ObjectImage). filter_map (λ (e : DescriptionImage). listening_of e.object) (record d { object = o } ∷ descriptions)) (is_console d.object h.0) ∙ no_listener descriptions h.1
-  where
-    is_console : (object : ObjectImage) → IsTrue (field.is_object_kind (kind_of object)) → object ≡ Console
-    is_console Console h = refl
-    is_console (File number offset) h = cc
-    is_console (Stream conn side) h = cc
-    is_console (Socket address) h = cc
-    is_console (Listener address backlog pending) h = cc
 
 pub kernel_made : (s : Shared) (k : PlainKernel) → SharedFits s
     → k.processes ≡ map.from_entries (mapped process_entry s.processes) → k.makers ≡ map.from_entries (mapped maker_entry s.processes)
@@ -337,7 +343,7 @@ pub kernel_made : (s : Shared) (k : PlainKernel) → SharedFits s
     → k ≡ kernel_of s
 unfolding kernel_of
 kernel_made s k h processes makers descriptors descriptions names files next_file channels directions listeners inboxes next_id =
-    let silent = no_listener s.descriptions (all_from (DescriptionFits s.next_id) (λ d. IsTrue (field.is_object_kind (kind_of d.object))) (λ front d fits. fits.kind.1) [] s.descriptions h.descriptions) in
+    let silent = no_listener s.descriptions (all_from (IsListed s) (λ d. IsTrue (field.is_object_kind VERSION (kind_of d.object))) (λ front d fits. fits.kind.1) [] s.descriptions h.descriptions) in
     let of_names : k.names ≡ map.from_entries (filter_map name_entry s.files) = names ∙ ap (λ (fs : List FileImage). map.from_entries (filter_map name_entry fs)) (sym h.files) in
     let of_files : k.files ≡ map.from_entries (mapped file_entry s.files) = files ∙ ap (λ (fs : List FileImage). map.from_entries (mapped file_entry fs)) (sym h.files) in
     let of_channels : k.channels ≡ map.from_entries (mapped (channel_entry s.descriptions) s.channels) = channels ∙ ap (λ (cs : List ChannelImage). map.from_entries (mapped (channel_entry s.descriptions) cs)) (sym h.channels) in

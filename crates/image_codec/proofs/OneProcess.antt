@@ -19,18 +19,19 @@ use Rattle.sys_abi.specs.declared.life.Life.TheVariants.{Live, Zombie}
 use Rattle.plain_process.specs.declared.user_part.ThreadPart.{ThreadPart}
 use Rattle.plain_machine.specs.Kernel.{is_live}
 use Rattle.plain_tables.specs.Tables.{is_live_process}
-use Rattle.image_codec.specs.declared.shared.ThreadEntry.{ThreadEntry}
-use Rattle.image_codec.specs.declared.shared.ProcessEntry.{ProcessEntry}
-use Rattle.image_codec.specs.declared.shared.Shared.{Shared}
-use Rattle.image_codec.specs.declared.thread_image.ThreadImage.{ThreadImage}
-use Rattle.image_codec.specs.Fields.{is_within}
-use Rattle.image_codec.specs.Texts.{EachFrom}
-use Rattle.image_codec.specs.SharedTests as field
-use Rattle.image_codec.specs.SharedFits.{IsShared, ProcessFits, state_of}
+use Rattle.image_shared.specs.declared.shared.ThreadEntry.{ThreadEntry}
+use Rattle.image_shared.specs.declared.shared.ProcessEntry.{ProcessEntry}
+use Rattle.image_shared.specs.declared.shared.Shared.{Shared}
+use Rattle.image_process.specs.declared.thread_image.ThreadImage.{ThreadImage}
+use Rattle.image_format.specs.Fields.{is_within}
+use Rattle.image_format.specs.Texts.{EachFrom}
+use Rattle.image_shared.specs.SharedTests as field
+use Rattle.image_shared.specs.SharedFits.{IsShared, ProcessFits, state_of}
 use Rattle.image_codec.specs.KernelParts.{kernel_of, process_entry, signals_entry}
-use Rattle.image_codec.specs.ProcessTests.{is_among}
-use Rattle.image_codec.specs.ProcessImages.{process_at, pid_at, tids_at, tids_of, is_alive}
-use Rattle.image_codec.specs.UserParts.{thread_entry}
+use Rattle.image_process.specs.ProcessTests.{is_listed}
+use Rattle.image_process.proofs.ThreadKeys.{made_there}
+use Rattle.image_process.specs.ProcessImages.{process_at, pid_at, tids_at, tids_of}
+use Rattle.image_process.specs.UserParts.{thread_entry}
 use Rattle.image_codec.specs.Sets.{live_count}
 use Rattle.image_codec.specs.OneProcess.{ImageHasOneProcess}
 use Rattle.sys_abi.specs.Lives.{lives}
@@ -73,8 +74,8 @@ module _ (s : Shared) (one : OneEntry s) where
   at_two : process_at s 2 ≡ Some one.process
   unfolding process_at
   at_two =
-      ap (λ (ps : List ProcessEntry). slice_get (filter (λ process. is_alive process.life) ps) 0) one.listed
-      ∙ ap (λ (l : Life). slice_get (cond (is_alive l) (one.process ∷ []) []) 0) one.life
+      ap (λ (ps : List ProcessEntry). slice_get (filter (λ process. lives process.life) ps) 0) one.listed
+      ∙ ap (λ (l : Life). slice_get (cond (lives l) (one.process ∷ []) []) 0) one.life
 
   one_lives : live_count s ≡ 1
   unfolding live_count
@@ -138,36 +139,9 @@ one_of_image s is =
 
 -- which threads a map has
 
-differ : (m n : ℕ) → n ≢ m → (m == n) ≡ false
-differ m n other = elim (m == n) as (λ b. (m == n) ≡ b → b ≡ false) [ true ↦ λ is. absurd (other (grind (arith, nat_tests))) | false ↦ λ is. refl ] refl
-
-equal : (m n : ℕ) → m ≡ n → (m == n) ≡ true
-equal m n is = grind (arith, nat_tests, is)
-
-pub keys_there : {X : Type 0} (es : List (ℕ × X)) (t : ℕ) → is_some (map.find nat_cmp t es) ≡ is_among (each (λ e. e.0) es) t
-keys_there [] t = refl
-keys_there (e ∷ es) t = ⊎_elim
-    (λ (here : t ≡ e.0).
-    ap (λ b. is_some (cond b (Some e.1) (map.find nat_cmp t es))) (ap (λ k. eq_by_cmp nat_cmp k e.0) here ∙ key_tied nat_cmp_total nat_cmp-IsAntisymmetric e.0)
-    ∙ sym (ap (λ b. b || is_among (each (λ (f : ℕ × _). f.0) es) t) (equal e.0 t (sym here))))
-    (λ (other : t ≢ e.0).
-    ap (λ b. is_some (cond b (Some e.1) (map.find nat_cmp t es))) (other_key nat_cmp_total nat_cmp-IsAntisymmetric t e.0 other) ∙ keys_there es t
-    ∙ sym (ap (λ b. b || is_among (each (λ (f : ℕ × _). f.0) es) t) (differ e.0 t other)))
-    (same_or_other nat_cmp_total nat_cmp-IsAntisymmetric t e.0)
-
-made_there : {X : Type 0} (es : List (ℕ × X)) (t : ℕ) → is_some (map.get (map.from_entries {R = nat_cmp} es) t) ≡ is_among (each (λ e. e.0) es) t
-made_there es t = ap is_some (map.get-from_entries nat_cmp_total es t) ∙ keys_there es t
-
 pub signals_keys : (threads : List ThreadEntry) → each (λ (e : ℕ × ℕ). e.0) (each signals_entry threads) ≡ tids_of threads
 signals_keys [] = refl
 signals_keys (thread ∷ threads) = ap (λ (tids : List ℕ). thread.tid ∷ tids) (signals_keys threads)
 
-pub threads_there : (threads : List ThreadEntry) (t : ℕ) → is_some (map.get (map.from_entries {R = nat_cmp} (each signals_entry threads)) t) ≡ is_among (tids_of threads) t
-threads_there threads t = made_there (each signals_entry threads) t ∙ ap (λ (tids : List ℕ). is_among tids t) (signals_keys threads)
-
-pub part_keys : (images : List ThreadImage) → each (λ (e : ℕ × ThreadPart). e.0) (each thread_entry images) ≡ each (λ (image : ThreadImage). image.tid) images
-part_keys [] = refl
-part_keys (image ∷ images) = ap (λ (tids : List ℕ). image.tid ∷ tids) (part_keys images)
-
-pub parts_there : (images : List ThreadImage) (t : ℕ) → is_some (map.get (map.from_entries {R = nat_cmp} (each thread_entry images)) t) ≡ is_among (each (λ (image : ThreadImage). image.tid) images) t
-parts_there images t = made_there (each thread_entry images) t ∙ ap (λ (tids : List ℕ). is_among tids t) (part_keys images)
+pub threads_there : (threads : List ThreadEntry) (t : ℕ) → is_some (map.get (map.from_entries {R = nat_cmp} (each signals_entry threads)) t) ≡ is_listed (tids_of threads) t
+threads_there threads t = made_there (each signals_entry threads) t ∙ ap (λ (tids : List ℕ). is_listed tids t) (signals_keys threads)

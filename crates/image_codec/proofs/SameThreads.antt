@@ -8,13 +8,16 @@ use Rattle.views.specs.Maps.{map_values}
 use Rattle.views.proofs.MapValues.{get-map_values, keys-map_values}
 use Rattle.plain_tables.specs.declared.process.Process.{Process}
 use Rattle.plain_process.specs.declared.user_part.ThreadPart.{ThreadPart}
-use Rattle.image_codec.specs.ProcessTests.{is_among}
-use Rattle.image_codec.specs.ProcessImages.{pid_at, tids_at, threads_of}
-use Rattle.image_codec.specs.UserParts.{user_of}
+use Rattle.image_process.specs.ProcessTests.{is_listed}
+use Rattle.image_process.specs.ProcessImages.{pid_at, tids_at}
+use Rattle.image_process.specs.ProcessFits.{threads_of}
+use Rattle.image_process.specs.UserParts.{user_of}
 use Rattle.image_codec.specs.OneProcess.{ImagesHaveSameThreads, SameThreadsHaveTids}
 use Rattle.image_codec.proofs.KernelLaws.{thread_entries}
-use Rattle.image_codec.proofs.OneProcess.{one_process, pid_is, tids_are, found_once, threads_there, parts_there, part_keys, signals_keys}
-use Rattle.image_codec.proofs.Owners.{number-is, same_tids}
+use Rattle.image_codec.proofs.OneProcess.{one_process, pid_is, tids_are, found_once, threads_there, signals_keys}
+use Rattle.image_process.proofs.ProcessFiles.{image_of}
+use Rattle.image_process.proofs.ThreadKeys.{parts_there, part_keys}
+use Rattle.image_process.proofs.Owners.{number-is, same_tids}
 use Rattle.plain_machine.proofs.ThreadKeys.{key_only}
 
 marks : {X Y : Type 0} (x : Option X) (y : Option Y) → is_some x ≡ is_some y → option_map key_only x ≡ option_map key_only y
@@ -35,11 +38,12 @@ unfolding user_of
 images_have_same_threads s text image p process is spells found =
     let one = one_process s is in
     let (here, known) = found_once s one p process found in
-    let number : Some one.process.pid.0 ≡ Some image.pid.0 = sym (pid_is s one) ∙ number-is (pid_at s 2) image.pid.0 spells.keeps.fields.number in
+    let facts = image_of (pid_at s 2) (tids_at s 2) text image spells in
+    let number : Some one.process.pid.0 ≡ Some image.pid.0 = sym (pid_is s one) ∙ number-is (pid_at s 2) image.pid.0 facts.fields.number in
     let same : one.process.pid.0 ≡ image.pid.0 = cc in
-    let tids : threads_of image ≡ tids_at s 2 = sym (same_tids (pid_at s 2) (tids_at s 2) image spells.keeps) in (
+    let tids : threads_of image ≡ tids_at s 2 = sym (same_tids (pid_at s 2) (tids_at s 2) image facts) in (
       here ∙ (λ i. record { 0 = same i }),
-      λ t. parts_there image.threads t ∙ ap (λ (numbers : List ℕ). is_among numbers t) (tids ∙ tids_are s one) ∙ sym (threads_there one.process.threads t)
+      λ t. parts_there image.threads t ∙ ap (λ (numbers : List ℕ). is_listed numbers t) (tids ∙ tids_are s one) ∙ sym (threads_there one.process.threads t)
           ∙ ap (λ (q : Process). is_some (map.get q.threads t)) known,
     )
 

@@ -3,17 +3,17 @@ use Rattle.std.proofs.Common.{◌≡◌, ℕ, ◌+◌, List, [], ◌∷◌, leng
 use Rattle.std.specs.FinMap as map
 use Rattle.sys_abi.specs.Orders.{vpid_cmp}
 use Rattle.plain_machine.specs.declared.plain.Plain.{Plain}
-use Rattle.image_codec.specs.declared.manifest.Manifest.{Manifest}
-use Rattle.image_codec.specs.declared.process_image.ProcImage.{ProcImage}
-use Rattle.image_codec.specs.declared.shared.Shared.{Shared}
-use Rattle.image_codec.specs.ProcessImages.{pid_at, tids_at}
-use Rattle.image_codec.specs.Manifests.{SpellsManifest}
-use Rattle.image_codec.specs.SharedFits.{IsShared}
+use Rattle.image_format.specs.declared.manifest.Manifest.{Manifest}
+use Rattle.image_process.specs.declared.process_image.ProcImage.{ProcImage}
+use Rattle.image_shared.specs.declared.shared.Shared.{Shared}
+use Rattle.image_process.specs.ProcessImages.{pid_at, tids_at}
+use Rattle.image_format.specs.Manifests.{SpellsManifest}
+use Rattle.image_shared.specs.SharedFits.{IsShared}
 use Rattle.image_codec.specs.Sets.{SpellsImages, SpellsFiles, IsStateOf, user_entry, OneStateOfSet, OneSetOfState}
 use Rattle.image_codec.proofs.KernelLaws.{only_image}
-use Rattle.image_codec.proofs.ManifestLaws as manifest
-use Rattle.image_codec.proofs.SharedLaws as shared_image
-use Rattle.image_codec.proofs.ProcessFiles as process_image
+use Rattle.image_format.proofs.ManifestLaws as manifest
+use Rattle.image_shared.proofs.SharedLaws as shared_image
+use Rattle.image_process.proofs.ProcessFiles as process_image
 use Rattle.image_codec.proofs.UserImages.{image_of, only_images}
 
 one_of_images : (shared : Shared) (file : ℕ) (texts : List (List ℕ)) (images others : List ProcImage) → SpellsImages shared file texts images → SpellsImages shared file texts others → images ≡ others
@@ -82,7 +82,9 @@ record IsMade (shared : Shared) (images : List ProcImage) : Type 0 where
 files_made : (files : List (List ℕ)) (shared : Shared) (images : List ProcImage) → SpellsFiles files shared images → IsMade shared images
 unfolding SpellsFiles
 files_made [] shared images h = absurd h
-files_made (first ∷ texts) shared images h = record { spelled = h.0.keeps; made = only_images shared h.0.keeps.fields texts images h.2 }
+files_made (first ∷ texts) shared images h =
+    let spelled = (shared_image.text_of first shared h.0).keeps in
+    record { spelled = spelled; made = only_images shared spelled.fields texts images h.2 }
 
 pub one_set_of_state : OneSetOfState
 one_set_of_state text other files others g state s t =

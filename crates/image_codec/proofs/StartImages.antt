@@ -11,9 +11,9 @@ use Rattle.plain_tables.specs.declared.description.Descriptor.{Descriptor}
 use Rattle.plain_tables.specs.Tables.{pid, slot}
 use Rattle.plain_process.specs.Start.{Launched}
 use Rattle.plain_machine.specs.Start.{FIRST_PID, console_descriptor, start_kernel, with_processes, with_process, with_files, empty_kernel}
-use Rattle.image_codec.specs.SharedFits.{IsShared}
-use Rattle.image_codec.specs.SharedTests.{is_whole}
-use Rattle.image_codec.specs.Texts.{EachFrom}
+use Rattle.image_shared.specs.SharedFits.{IsShared}
+use Rattle.image_shared.specs.SharedTests.{is_whole_shared}
+use Rattle.image_format.specs.Texts.{EachFrom}
 use Rattle.image_codec.specs.KernelParts.{kernel_of}
 use Rattle.image_codec.specs.StartImages.{start_image, StartHasImage}
 
@@ -21,7 +21,7 @@ is_small : (host : ℕ) → host < 16 → IsTrue (nat_lt host 16)
 is_small host h = grind (arith, nat_tests)
 
 start_fits : (host : ℕ) → host < 16 → IsShared (start_image host)
-unfolding start_image EachFrom is_whole
+unfolding start_image EachFrom is_whole_shared
 start_fits host h = record {
   fields = record {
     next_id = (lit< tt, refl);

@@ -18,21 +18,24 @@ use Rattle.sys_abi.proofs.OrderLaws.{vpid_total}
 use Rattle.plain_process.specs.declared.memory.Frame.{Frame}
 use Rattle.plain_process.specs.declared.user_part.ThreadPart.{ThreadPart}
 use Rattle.plain_process.specs.declared.user_part.UserPart.{UserPart}
-use Rattle.image_codec.specs.declared.page_image.PageImage.{PageImage}
-use Rattle.image_codec.specs.declared.thread_image.ThreadImage.{ThreadImage}
-use Rattle.image_codec.specs.declared.process_image.ProcImage.{ProcImage}
-use Rattle.image_codec.specs.declared.shared.ProcessEntry.{ProcessEntry}
-use Rattle.image_codec.specs.declared.shared.Shared.{Shared}
-use Rattle.image_codec.specs.Texts.{EachFrom}
-use Rattle.image_codec.specs.SharedTests.{last_item}
-use Rattle.image_codec.specs.SharedFits.{SharedFits, ProcessFits}
-use Rattle.image_codec.specs.ProcessTests.{is_above_page, is_page_number}
-use Rattle.image_codec.specs.ProcessImages.{process_at, pid_at, tids_at, tids_of, is_alive, IsPage, IsImage, SpellsProcess}
-use Rattle.image_codec.specs.UserParts.{page_entry, thread_entry, user_of}
+use Rattle.image_process.specs.declared.page_image.PageImage.{PageImage}
+use Rattle.image_process.specs.declared.thread_image.ThreadImage.{ThreadImage}
+use Rattle.image_process.specs.declared.process_image.ProcImage.{ProcImage}
+use Rattle.image_shared.specs.declared.shared.ProcessEntry.{ProcessEntry}
+use Rattle.image_shared.specs.declared.shared.Shared.{Shared}
+use Rattle.image_format.specs.Texts.{EachFrom}
+use Rattle.image_format.specs.Fields.{last_item}
+use Rattle.image_shared.specs.SharedFits.{SharedFits, ProcessFits}
+use Rattle.image_process.specs.ProcessTests.{is_above_page, is_page_number}
+use Rattle.image_process.specs.ProcessImages.{process_at, pid_at, tids_at, tids_of, SpellsProcess}
+use Rattle.sys_abi.specs.Lives.{lives}
+use Rattle.image_process.specs.ProcessFits.{IsPage, IsImage}
+use Rattle.image_process.specs.UserParts.{page_entry, thread_entry, user_of}
 use Rattle.image_codec.specs.Sets.{SpellsImages, user_entry}
 use Rattle.image_codec.proofs.KernelLaws.{both_true, nat_below, tids_rise, pids_sorted}
-use Rattle.image_codec.proofs.Owners.{number-is, drop-at, same_tids}
-use Rattle.image_codec.proofs.Rising.{RisesFrom, IsAfter, each_rising, entries_made, undone, all_from, keys-mapped}
+use Rattle.image_process.proofs.ProcessFiles.{image_of as image_facts}
+use Rattle.image_process.proofs.Owners.{number-is, drop-at, same_tids}
+use Rattle.image_format.proofs.Rising.{RisesFrom, IsAfter, each_rising, entries_made, undone, all_from, keys-mapped}
 
 abbrev page_image : ℕ × Frame → PageImage
 page_image entry = record { number = entry.0; frame = entry.1 }
@@ -113,10 +116,10 @@ HasRisingThreads e = RisesFrom nat_cmp None (tids_of e.threads)
 
 module _ (shared : Shared) (fits : SharedFits shared) where
   abbrev living : List ProcessEntry
-  living = filter (λ (e : ProcessEntry). is_alive e.life) shared.processes
+  living = filter (λ (e : ProcessEntry). lives e.life) shared.processes
 
   all_rise : AllByRecursion HasRisingThreads living
-  all_rise = all_filter (λ (e : ProcessEntry). is_alive e.life) HasRisingThreads shared.processes
+  all_rise = all_filter (λ (e : ProcessEntry). lives e.life) HasRisingThreads shared.processes
       (all_from (ProcessFits shared.next_id shared.channels shared.descriptions) HasRisingThreads (λ front e is. tids_rise shared.next_id front e.threads is.threads) [] shared.processes fits.processes)
 
   rises_at : (early : Bool) (i : ℕ) (o : Option ProcessEntry) → o ≡ (if early then None else slice_get living i) → RisesFrom nat_cmp None (option_map_or (λ (e : ProcessEntry). tids_of e.threads) o [])
@@ -134,7 +137,7 @@ module _ (shared : Shared) (fits : SharedFits shared) where
   images_back file [] [] h = tt
   images_back file [] (image ∷ images) h = absurd h
   images_back file (text ∷ texts) [] h = absurd h
-  images_back file (text ∷ texts) (image ∷ images) h = (image_back (pid_at shared file) (tids_at shared file) image (tids_at_rise file) h.0.keeps, images_back (file + 1) texts images h.1)
+  images_back file (text ∷ texts) (image ∷ images) h = (image_back (pid_at shared file) (tids_at shared file) image (tids_at_rise file) (image_facts (pid_at shared file) (tids_at shared file) text image h.0), images_back (file + 1) texts images h.1)
 
   -- and their numbers are those of the live processes
   at_place : (file i : ℕ) → file ≡ i + 2 → process_at shared file ≡ slice_get living i
@@ -151,7 +154,7 @@ module _ (shared : Shared) (fits : SharedFits shared) where
   next_is : (file i : ℕ) (text : List ℕ) (image : ProcImage) → file ≡ i + 2 → SpellsProcess (pid_at shared file) (tids_at shared file) text image
       → (e : ProcessEntry) × (drop i living ≡ e ∷ drop (i + 1) living) × (e.pid ≡ image.pid)
   next_is file i text image is spells =
-      let (e, found, number) = named (process_at shared file) image.pid.0 (number-is (pid_at shared file) image.pid.0 spells.keeps.fields.number) in
+      let (e, found, number) = named (process_at shared file) image.pid.0 (number-is (pid_at shared file) image.pid.0 (image_facts (pid_at shared file) (tids_at shared file) text image spells).fields.number) in
       (e, drop-at living i e (sym (at_place file i is) ∙ found), λ j. record { 0 = number j })
 
   all_images : (P : VPid → Type 0) (file i : ℕ) (texts : List (List ℕ)) (images : List ProcImage) → file ≡ i + 2 → SpellsImages shared file texts images → AllByRecursion P (mapped pid_of (drop i living))
@@ -180,6 +183,6 @@ module _ (shared : Shared) (fits : SharedFits shared) where
   pub only_images : (texts : List (List ℕ)) (images : List ProcImage) → SpellsImages shared 2 texts images → mapped image_of (map.entries (map.from_entries {R = vpid_cmp} (mapped user_entry images))) ≡ images
   only_images texts images h =
       let sorted : IsStrictlySortedBy vpid_cmp (mapped image_pid images) =
-      sorted_images 2 0 texts images refl h (sorted_filter (λ (e : ProcessEntry). is_alive e.life) vpid_cmp pid_of shared.processes (pids_sorted shared fits)) in
+      sorted_images 2 0 texts images refl h (sorted_filter (λ (e : ProcessEntry). lives e.life) vpid_cmp pid_of shared.processes (pids_sorted shared fits)) in
       ap (mapped image_of) (entries-from_entries vpid_total (mapped user_entry images) (subst (IsStrictlySortedBy vpid_cmp) (sym (keys-mapped user_entry images)) sorted))
       ∙ undone user_entry image_of images (images_back 2 texts images h)

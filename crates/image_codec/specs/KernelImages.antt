@@ -15,15 +15,15 @@ use Rattle.plain_tables.specs.declared.description.Description.{Description}
 use Rattle.plain_tables.specs.declared.description.Descriptor.{Descriptor}
 use Rattle.plain_machine.specs.declared.kernel.PlainKernel.{PlainKernel}
 use Rattle.plain_tables.specs.Tables.{is_slot_of}
-use Rattle.image_codec.specs.declared.shared.ObjectImage.{ObjectImage}
-use Rattle.image_codec.specs.declared.shared.ObjectImage.TheVariants.{Console, File, Stream, Socket}
-use Rattle.image_codec.specs.declared.shared.DescriptionImage.{DescriptionImage}
-use Rattle.image_codec.specs.declared.shared.ThreadEntry.{ThreadEntry}
-use Rattle.image_codec.specs.declared.shared.DescriptorEntry.{DescriptorEntry}
-use Rattle.image_codec.specs.declared.shared.ProcessEntry.{ProcessEntry}
-use Rattle.image_codec.specs.declared.shared.Shared.{Shared}
+use Rattle.image_shared.specs.declared.shared.ObjectImage.{ObjectImage}
+use Rattle.image_shared.specs.declared.shared.ObjectImage.TheVariants.{Console, File, Stream, Socket}
+use Rattle.image_shared.specs.declared.shared.DescriptionImage.{DescriptionImage}
+use Rattle.image_shared.specs.declared.shared.ThreadEntry.{ThreadEntry}
+use Rattle.image_shared.specs.declared.shared.DescriptorEntry.{DescriptorEntry}
+use Rattle.image_shared.specs.declared.shared.ProcessEntry.{ProcessEntry}
+use Rattle.image_shared.specs.declared.shared.Shared.{Shared}
 use Rattle.image_codec.specs.KernelParts.{kernel_of}
-use Rattle.image_codec.specs.SharedFits.{IsShared}
+use Rattle.image_shared.specs.SharedFits.{IsShared}
 
 -- an object whose image needs more than the object (a listener's queue), or that has none, is left out so far
 abbrev pub object_image : Object → ObjectImage
@@ -33,7 +33,12 @@ object_image (object.Socket address) = Socket address
 object_image _ = Console
 
 abbrev pub description_image : DescId × Description → DescriptionImage
-description_image entry = record { id = entry.0; object = object_image entry.1.object; flags = entry.1.flags; owner = entry.1.owner }
+description_image entry = record {
+  id = entry.0;
+  object = object_image entry.1.object;
+  flags = entry.1.flags;
+  owner = entry.1.owner;
+}
 
 abbrev pub thread_image : ℕ × ℕ → ThreadEntry
 thread_image entry = record { tid = entry.0; pending = entry.1 }

@@ -2,7 +2,8 @@
 --     kernel_of s      its lists as maps, where all bytes of a direction have arrived
 --     is_named descriptions conn side      whether a stream, or the queue of a listener, names the side of the channel
 -- Source: docs/FORMATS.md, "Shared image".
-use Rattle.std.specs.Prelude.{◌==◌, ◌&&◌, ℕ, Bool, false, List, [], ◌∷◌, length, Option, Some, None, map as each}
+use Rattle.std.specs.Prelude.{◌==◌, ◌&&◌, ℕ, Bool, false, List, [], ◌∷◌, length, Option, Some, None}
+use Rattle.std.specs.Prelude.{map as each}
 use Rattle.std.specs.List.{flat_map, filter_map, list_any}
 use Rattle.std.specs.declared.cmp.Ordering.{Ordering}
 use Rattle.std.specs.Ordering.{eq_by_cmp}
@@ -25,16 +26,17 @@ use Rattle.plain_tables.specs.declared.channel.ChannelEnd.{ChannelEnd}
 use Rattle.plain_tables.specs.declared.channel.Direction.{Direction}
 use Rattle.plain_tables.specs.declared.channel.Listening.{Listening}
 use Rattle.plain_machine.specs.declared.kernel.PlainKernel.{PlainKernel}
-use Rattle.image_codec.specs.declared.shared.FileImage.{FileImage}
-use Rattle.image_codec.specs.declared.shared.SideImage.{SideImage}
-use Rattle.image_codec.specs.declared.shared.ChannelImage.{ChannelImage}
-use Rattle.image_codec.specs.declared.shared.ObjectImage.{ObjectImage}
-use Rattle.image_codec.specs.declared.shared.ObjectImage.TheVariants.{Console, File, Stream, Socket, Listener}
-use Rattle.image_codec.specs.declared.shared.DescriptionImage.{DescriptionImage}
-use Rattle.image_codec.specs.declared.shared.ThreadEntry.{ThreadEntry}
-use Rattle.image_codec.specs.declared.shared.DescriptorEntry.{DescriptorEntry}
-use Rattle.image_codec.specs.declared.shared.ProcessEntry.{ProcessEntry}
-use Rattle.image_codec.specs.declared.shared.Shared.{Shared}
+use Rattle.image_shared.specs.declared.shared.FileImage.{FileImage}
+use Rattle.image_shared.specs.declared.shared.SideImage.{SideImage}
+use Rattle.image_shared.specs.declared.shared.ChannelImage.{ChannelImage}
+use Rattle.image_shared.specs.declared.shared.ObjectImage.{ObjectImage}
+use Rattle.image_shared.specs.declared.shared.ObjectImage.TheVariants.{Console, File, Stream, Socket}
+use Rattle.image_shared.specs.declared.shared.ObjectImage.TheVariants.{Listener}
+use Rattle.image_shared.specs.declared.shared.DescriptionImage.{DescriptionImage}
+use Rattle.image_shared.specs.declared.shared.ThreadEntry.{ThreadEntry}
+use Rattle.image_shared.specs.declared.shared.DescriptorEntry.{DescriptorEntry}
+use Rattle.image_shared.specs.declared.shared.ProcessEntry.{ProcessEntry}
+use Rattle.image_shared.specs.declared.shared.Shared.{Shared}
 
 -- processes, their threads and their descriptors
 abbrev pub signals_entry : ThreadEntry → ℕ × ℕ
@@ -55,7 +57,10 @@ abbrev pub maker_entry : ProcessEntry → VPid × Maker
 maker_entry image = (image.pid, record { host = image.host; made = image.made })
 
 abbrev pub descriptor_entry : VPid → DescriptorEntry → Slot × Descriptor
-descriptor_entry p image = (record { pid = p; fd = image.number }, record { desc = image.desc; cloexec = image.cloexec })
+descriptor_entry p image = (
+  record { pid = p; fd = image.number },
+  record { desc = image.desc; cloexec = image.cloexec },
+)
 
 abbrev pub descriptor_entries : ProcessEntry → List (Slot × Descriptor)
 descriptor_entries image = each (descriptor_entry image.pid) image.descriptors
@@ -69,10 +74,18 @@ object_of (Socket address) = object.Socket address
 object_of (Listener address backlog pending) = object.Listener address
 
 abbrev pub description_entry : DescriptionImage → DescId × Description
-description_entry image = (image.id, record { object = object_of image.object; flags = image.flags; owner = image.owner })
+description_entry image = (
+  image.id,
+  record {
+    object = object_of image.object;
+    flags = image.flags;
+    owner = image.owner;
+  },
+)
 
 abbrev pub listening_of : ObjectImage → Option (VirtAddr × Listening)
-listening_of (Listener address backlog pending) = Some (address, record { backlog = backlog; queue = pending })
+listening_of (Listener address backlog pending) =
+    Some (address, record { backlog = backlog; queue = pending })
 listening_of _ = None
 
 -- files, and those of them that have a name
@@ -96,10 +109,13 @@ names_side conn side (Listener address backlog pending) = (side == 1) && list_an
 names_side conn side _ = false
 
 unfoldable pub is_named : List DescriptionImage → ConnId → ℕ → Bool
-is_named descriptions conn side = list_any (λ description. names_side conn side description.object) descriptions
+is_named descriptions conn side = list_any (λ it. names_side conn side it.object) descriptions
 
 abbrev pub channel_end : List DescriptionImage → ConnId → ℕ → SideImage → ChannelEnd
-channel_end descriptions conn side image = record { address = image.address; is_open = is_named descriptions conn side }
+channel_end descriptions conn side image = record {
+  address = image.address;
+  is_open = is_named descriptions conn side;
+}
 
 abbrev pub channel_entry : List DescriptionImage → ChannelImage → ConnId × Channel
 channel_entry descriptions image = (
@@ -123,9 +139,11 @@ direction_entry conn side image = (
 )
 
 abbrev pub direction_entries : ChannelImage → List (Dir × Direction)
-direction_entries image = direction_entry image.id 0 image.first ∷ direction_entry image.id 1 image.second ∷ []
+direction_entries image =
+    direction_entry image.id 0 image.first ∷ direction_entry image.id 1 image.second ∷ []
 
--- a map with the entries of a list put in from its end, so that at a key that stands twice the first one counts
+-- a map with the entries of a list put in from its end, so that at a key that stands twice the first one
+-- counts
 abbrev pub inserted : {K X : Type 0} {R : K → K → Ordering} → List (K × X) → map.FinMap R X → map.FinMap R X
 inserted [] m = m
 inserted (e ∷ es) m = map.insert (inserted es m) e.0 e.1

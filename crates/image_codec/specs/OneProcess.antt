@@ -1,8 +1,10 @@
--- The shared image of one process that lives: what it tells of the kernel part, and which changes of the kernel part keep an image.
+-- The shared image of one process that lives: what it tells of the kernel part, and which changes of the
+-- kernel part keep an image.
 --     HasOneProcess s      the process, its file of a set, and what the kernel part has of it
 --     HasOtherThreads before p process after      other threads and pending signals of a process, and numbers given out
 -- Source: docs/FORMATS.md, "Shared image" and "Process image".
-use Rattle.std.specs.Prelude.{◌≡◌, ◌≢◌, ℕ, ◌^◌, ◌<◌, ◌≤◌, true, false, List, [], ◌∷◌, length, map as each, Some}
+use Rattle.std.specs.Prelude.{◌≡◌, ◌≢◌, ℕ, ◌^◌, ◌<◌, ◌≤◌, true, false, List, [], ◌∷◌, length, map as each}
+use Rattle.std.specs.Prelude.{Some}
 use Rattle.std.specs.FinMap as map
 use Rattle.sys_abi.specs.declared.identity.VPid.{VPid}
 use Rattle.plain_tables.specs.declared.process.Process.{Process}
@@ -11,17 +13,19 @@ use Rattle.plain_process.specs.declared.user_part.UserPart.{UserPart}
 use Rattle.plain_machine.specs.declared.kernel.PlainKernel.{PlainKernel}
 use Rattle.plain_machine.specs.Kernel.{is_live}
 use Rattle.plain_machine.specs.Valid.{IsKernel, SameThreads}
-use Rattle.image_codec.specs.declared.process_image.ProcImage.{ProcImage}
-use Rattle.image_codec.specs.declared.shared.ProcessEntry.{ProcessEntry}
-use Rattle.image_codec.specs.declared.shared.Shared.{Shared}
-use Rattle.image_codec.specs.SharedFits.{IsShared}
+use Rattle.image_process.specs.declared.process_image.ProcImage.{ProcImage}
+use Rattle.image_shared.specs.declared.shared.ProcessEntry.{ProcessEntry}
+use Rattle.image_shared.specs.declared.shared.Shared.{Shared}
+use Rattle.image_shared.specs.SharedFits.{IsShared}
 use Rattle.image_codec.specs.KernelParts.{kernel_of, process_entry}
 use Rattle.image_codec.specs.KernelImages.{HasImage}
-use Rattle.image_codec.specs.ProcessImages.{SpellsProcess, pid_at, tids_at, tids_of, threads_of}
+use Rattle.image_process.specs.ProcessImages.{SpellsProcess, pid_at, tids_at, tids_of}
+use Rattle.image_process.specs.ProcessFits.{threads_of}
 use Rattle.image_codec.specs.Sets.{live_count}
-use Rattle.image_codec.specs.UserParts.{thread_entry, user_of}
+use Rattle.image_process.specs.UserParts.{thread_entry, user_of}
 
--- the one process of an image: it lives, its file is the second one of a set, and nobody else is in the kernel part
+-- the one process of an image: it lives, its file is the second one of a set, and nobody else is in the
+-- kernel part
 pub record HasOneProcess (s : Shared) : Type 0 where
   pub process : ProcessEntry
   pub listed : s.processes ≡ process ∷ []
@@ -58,7 +62,8 @@ SameThreadsHaveTids =
     (s : Shared) (image : ProcImage) (user : UserPart) (p : VPid) (process : Process) → IsShared s → map.get (kernel_of s).processes p ≡ Some process → SameThreads process user
     → each thread_entry image.threads ≡ map.entries user.threads → threads_of image ≡ tids_at s 2
 
--- a kernel part after the threads and pending signals of a process became others, where numbers may have been given out meanwhile
+-- a kernel part after the threads and pending signals of a process became others, where numbers may have been
+-- given out meanwhile
 pub record HasOtherThreads (before : PlainKernel) (p : VPid) (process : Process) (after : PlainKernel) : Type 0 where
   pub old : Process
   pub was : map.get before.processes p ≡ Some old

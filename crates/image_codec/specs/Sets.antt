@@ -1,25 +1,26 @@
--- What a whole set spells: a manifest and the files that it names, the shared image and then the image of each live process in rising order
--- of their numbers.
+-- What a whole set spells: a manifest and the files that it names, the shared image and then the image of
+-- each live process in rising order of their numbers.
 --     SpellsFiles files shared images      the files spell these values
---     DamagedFiles files file n      the files spell none: n is the place of the first damage, which is in the file of this index
+--     DamagedFiles files file n      the files spell none: the first damage is at n in the file of this index
 --     SpellsSet manifest files g state      the set of the generation g spells this plain state
 --     OneStateOfSet      a set spells one state of one generation at most
 --     OneSetOfState      a state has one set of a generation at most
 --     FilesApart, FilesEither      no files spell values and are damaged, and all files of bytes do one of both
 --     OneDamageOfFiles      files have one first damage at most
 -- Source: docs/FORMATS.md, "Whole sets".
-use Rattle.std.specs.Prelude.{◌≡◌, ◌≢◌, ℕ, ◌+◌, ◌<◌, ◌⊎◌, List, [], ◌∷◌, length, slice_index, count_by, All, map as each}
+use Rattle.std.specs.Prelude.{◌≡◌, ◌≢◌, ℕ, ◌+◌, ◌<◌, ◌⊎◌, List, [], ◌∷◌, length, slice_index, count_by, All}
+use Rattle.std.specs.Prelude.{map as each}
 use Rattle.std.specs.FinMap as map
 use Rattle.sys_abi.specs.declared.identity.VPid.{VPid}
 use Rattle.plain_process.specs.declared.user_part.UserPart.{UserPart}
 use Rattle.plain_machine.specs.declared.plain.Plain.{Plain}
-use Rattle.image_codec.specs.declared.process_image.ProcImage.{ProcImage}
-use Rattle.image_codec.specs.declared.shared.Shared.{Shared}
-use Rattle.image_codec.specs.Manifests.{SpellsManifest}
-use Rattle.image_codec.specs.SharedFormat.{SpellsShared, DamagedShared}
-use Rattle.image_codec.specs.ProcessImages.{SpellsProcess, DamagedProcess, pid_at, tids_at}
+use Rattle.image_process.specs.declared.process_image.ProcImage.{ProcImage}
+use Rattle.image_shared.specs.declared.shared.Shared.{Shared}
+use Rattle.image_format.specs.Manifests.{SpellsManifest}
+use Rattle.image_shared.specs.SharedFormat.{SpellsShared, DamagedShared}
+use Rattle.image_process.specs.ProcessImages.{SpellsFileAt, DamagedFileAt}
 use Rattle.image_codec.specs.KernelParts.{kernel_of}
-use Rattle.image_codec.specs.UserParts.{user_of}
+use Rattle.image_process.specs.UserParts.{user_of}
 use Rattle.sys_abi.specs.Lives.{lives}
 
 -- each file the image of the process of its place
@@ -28,14 +29,15 @@ SpellsImages shared file [] [] = Unit {0}
 SpellsImages shared file [] (image ∷ images) = ⊥
 SpellsImages shared file (text ∷ texts) [] = ⊥
 SpellsImages shared file (text ∷ texts) (image ∷ images) =
-    SpellsProcess (pid_at shared file) (tids_at shared file) text image × SpellsImages shared (file + 1) texts images
+    SpellsFileAt shared file text image × SpellsImages shared (file + 1) texts images
 
 -- the first file that is damaged, after those that are not
 unfoldable pub DamagedImages : Shared → ℕ → List (List ℕ) → ℕ → ℕ → Type 0
 DamagedImages shared file [] damaged n = ⊥
 DamagedImages shared file (text ∷ texts) damaged n =
-    ((damaged ≡ file) × DamagedProcess (pid_at shared file) (tids_at shared file) text n)
-    ⊎ ((image : ProcImage) × SpellsProcess (pid_at shared file) (tids_at shared file) text image × DamagedImages shared (file + 1) texts damaged n)
+    ((damaged ≡ file) × DamagedFileAt shared file text n)
+    ⊎ ((image : ProcImage) × SpellsFileAt shared file text image
+    × DamagedImages shared (file + 1) texts damaged n)
 
 unfoldable pub live_count : Shared → ℕ
 live_count shared = count_by (λ process. lives process.life) shared.processes
@@ -43,15 +45,19 @@ live_count shared = count_by (λ process. lives process.life) shared.processes
 -- the shared image is file 1, and there is a file for each live process
 unfoldable pub SpellsFiles : List (List ℕ) → Shared → List ProcImage → Type 0
 SpellsFiles [] shared images = ⊥
-SpellsFiles (first ∷ texts) shared images = SpellsShared first shared × (length texts ≡ live_count shared) × SpellsImages shared 2 texts images
+SpellsFiles (first ∷ texts) shared images =
+    SpellsShared first shared × (length texts ≡ live_count shared) × SpellsImages shared 2 texts images
 
--- a missing file is damaged at 0; a number of files that is not that of the live processes is a damage at the shared image's end
+-- a missing file is damaged at 0; a number of files that is not that of the live processes is a damage at the
+-- shared image's end
 unfoldable pub DamagedFiles : List (List ℕ) → ℕ → ℕ → Type 0
 DamagedFiles [] damaged n = (damaged ≡ 1) × (n ≡ 0)
 DamagedFiles (first ∷ texts) damaged n =
     ((damaged ≡ 1) × DamagedShared first n)
-    ⊎ ((shared : Shared) × SpellsShared first shared × (length texts ≢ live_count shared) × (damaged ≡ 1) × (n ≡ length first))
-    ⊎ ((shared : Shared) × SpellsShared first shared × (length texts ≡ live_count shared) × DamagedImages shared 2 texts damaged n)
+    ⊎ ((shared : Shared) × SpellsShared first shared × (length texts ≢ live_count shared)
+    × (damaged ≡ 1) × (n ≡ length first))
+    ⊎ ((shared : Shared) × SpellsShared first shared × (length texts ≡ live_count shared)
+    × DamagedImages shared 2 texts damaged n)
 
 abbrev pub user_entry : ProcImage → VPid × UserPart
 user_entry image = (image.pid, user_of image)
@@ -81,14 +87,24 @@ OneSetOfState =
 
 -- files that spell values are damaged nowhere
 abbrev pub FilesApart : Type 0
-FilesApart = (files : List (List ℕ)) (damaged n : ℕ) (shared : Shared) (images : List ProcImage) → SpellsFiles files shared images → DamagedFiles files damaged n → ⊥
+FilesApart =
+    (files : List (List ℕ)) (damaged n : ℕ) (shared : Shared) (images : List ProcImage)
+    → SpellsFiles files shared images → DamagedFiles files damaged n → ⊥
 
 -- the first damage is in one file, at one place of it
 abbrev pub OneDamageOfFiles : Type 0
-OneDamageOfFiles = (files : List (List ℕ)) (damaged other n m : ℕ) → DamagedFiles files damaged n → DamagedFiles files other m → (damaged ≡ other) × (n ≡ m)
+OneDamageOfFiles =
+    (files : List (List ℕ)) (damaged other n m : ℕ)
+    → DamagedFiles files damaged n → DamagedFiles files other m → (damaged ≡ other) × (n ≡ m)
 
 -- files of bytes, however many, spell values or are damaged somewhere
+abbrev pub HasValues : List (List ℕ) → Type 0
+HasValues files = (shared : Shared) × (images : List ProcImage) × SpellsFiles files shared images
+
+abbrev pub HasDamage : List (List ℕ) → Type 0
+HasDamage files = (damaged : ℕ) × (n : ℕ) × DamagedFiles files damaged n
+
 abbrev pub FilesEither : Type 0
 FilesEither =
     (files : List (List ℕ)) → All (λ text. (i : ℕ) → slice_index text i < 256) files
-    → ((shared : Shared) × (images : List ProcImage) × SpellsFiles files shared images) ⊎ ((damaged : ℕ) × (n : ℕ) × DamagedFiles files damaged n)
+    → HasValues files ⊎ HasDamage files

@@ -1,10 +1,13 @@
 ghost use Rattle.std.specs.Prelude.{ℕ, List, Option};
-ghost use Rattle.image_codec.specs.Files.{FileLaws};
-ghost use Rattle.image_codec.specs.Manifests.{SpellsManifest, DamagedManifest};
-ghost use Rattle.image_codec.specs.OneProcess.{ImageHasOneProcess, ImageIsKernel, ImageHasNextId, ImagesHaveSameThreads, SameThreadsHaveTids, OtherThreadsKeepImage};
-ghost use Rattle.image_codec.specs.ProcessImages.{SpellsProcess, DamagedProcess};
-ghost use Rattle.image_codec.specs.Sets.{OneStateOfSet, OneSetOfState, FilesApart, FilesEither, OneDamageOfFiles};
-ghost use Rattle.image_codec.specs.SharedFormat.{SpellsShared, DamagedShared};
+ghost use Rattle.image_format.specs.Files.{FileLaws};
+ghost use Rattle.image_format.specs.Manifests.{SpellsManifest, DamagedManifest};
+ghost use Rattle.image_codec.specs.OneProcess.{ImageHasOneProcess, ImageIsKernel, ImageHasNextId};
+ghost use Rattle.image_codec.specs.OneProcess.{ImagesHaveSameThreads, SameThreadsHaveTids};
+ghost use Rattle.image_codec.specs.OneProcess.{OtherThreadsKeepImage};
+ghost use Rattle.image_process.specs.ProcessImages.{SpellsProcess, DamagedProcess};
+ghost use Rattle.image_codec.specs.Sets.{OneStateOfSet, OneSetOfState, FilesApart, FilesEither};
+ghost use Rattle.image_codec.specs.Sets.{OneDamageOfFiles};
+ghost use Rattle.image_shared.specs.SharedFormat.{SpellsShared, DamagedShared};
 ghost use Rattle.image_codec.specs.StartImages.{StartHasImage};
 
 /// The laws of a set's files. It does nothing. A file spells at most one value, and a value has at most one spelling; other
@@ -16,7 +19,8 @@ ghost use Rattle.image_codec.specs.StartImages.{StartHasImage};
 pub fn image_laws()
     ensures manifest { FileLaws SpellsManifest DamagedManifest }
     ensures shared { FileLaws SpellsShared DamagedShared }
-    ensures process { (pid : Option ℕ) (tids : List ℕ) → FileLaws (SpellsProcess pid tids) (DamagedProcess pid tids) }
+    ensures process { (pid : Option ℕ) (tids : List ℕ)
+        → FileLaws (SpellsProcess pid tids) (DamagedProcess pid tids) }
     ensures set { OneStateOfSet }
     ensures spelling { OneSetOfState }
     ensures start { StartHasImage }

@@ -3,16 +3,18 @@
 ghost use Rattle.std.specs.Prelude.{◌≡◌, IfOk, filter, map as each};
 ghost use Rattle.std.specs.FinMap as map;
 ghost use Rattle.image_codec.specs.KernelParts.{kernel_of};
-ghost use Rattle.image_codec.specs.SharedFits.{IsShared};
-ghost use Rattle.image_codec.specs.KernelImages.{HasImage, IsImage, description_image, descriptor_image, is_of, maker_or, object_image, process_image, thread_image};
+ghost use Rattle.image_shared.specs.SharedFits.{IsShared};
+ghost use Rattle.image_codec.specs.KernelImages.{HasImage, IsImage, description_image, descriptor_image};
+ghost use Rattle.image_codec.specs.KernelImages.{is_of, maker_or, object_image, process_image, thread_image};
 
-use crate::shared::{
+use id_maps::{ByDesc, BySlot};
+use image_shared::{
     DescriptionImage, DescriptorEntry, ObjectImage, ProcessEntry, Shared, ThreadEntry,
 };
 use plain_machine::PlainKernel;
 use plain_tables::{Description, Descriptor, Maker, Object, Process};
 use std::alloc::{AllocError, Global};
-use sys_abi::{ByDesc, BySlot, VPid};
+use sys_abi::VPid;
 use views::list_of::ListOf;
 use views::number_map::NumberMap;
 

@@ -3,16 +3,19 @@
 ghost use Rattle.std.specs.Prelude.{◌≡◌, IfOk, OnOk, map as each};
 ghost use Rattle.std.specs.FinMap as map;
 ghost use Rattle.std.specs.List.{flat_map};
-ghost use Rattle.image_codec.specs.SharedFits.{IsShared};
-ghost use Rattle.image_codec.specs.KernelParts.{kernel_of, inserted, description_entry, descriptor_entries, descriptor_entry, maker_entry, object_of, process_entry, signals_entry};
+ghost use Rattle.image_shared.specs.SharedFits.{IsShared};
+ghost use Rattle.image_codec.specs.KernelParts.{kernel_of, inserted, description_entry, descriptor_entries};
+ghost use Rattle.image_codec.specs.KernelParts.{descriptor_entry, maker_entry, object_of, process_entry};
+ghost use Rattle.image_codec.specs.KernelParts.{signals_entry};
 
-use crate::shared::{
+use id_maps::{ByAddress, ByConn, ByDesc, ByDir, ByName, ByPid, BySlot};
+use image_shared::{
     DescriptionImage, DescriptorEntry, ObjectImage, ProcessEntry, Shared, ThreadEntry,
 };
 use plain_machine::PlainKernel;
 use plain_tables::{Description, Descriptor, Maker, Object, Process};
 use std::alloc::{AllocError, Global};
-use sys_abi::{ByAddress, ByConn, ByDesc, ByDir, ByName, ByPid, BySlot, Slot, VPid};
+use sys_abi::{Slot, VPid};
 use views::list_of::ListOf;
 use views::number_map::NumberMap;
 
@@ -86,7 +89,8 @@ fn descriptors_of(
     alloc: Global,
     images: &ListOf<ProcessEntry>,
 ) -> Result<BySlot<Descriptor>, AllocError>
-    ensures { IfOk result (λ descriptors. descriptors ≡ map.from_entries (flat_map descriptor_entries images.now)) }
+    ensures { IfOk result (λ descriptors.
+        descriptors ≡ map.from_entries (flat_map descriptor_entries images.now)) }
 {
     let mut descriptors = BySlot::new(alloc);
     for image in images.iter().rev() {
@@ -101,7 +105,8 @@ fn insert_descriptors(
     pid: VPid,
     images: &ListOf<DescriptorEntry>,
 ) -> Result<(), AllocError>
-    ensures { OnOk result (descriptors.new ≡ inserted (each (descriptor_entry pid) images.now) descriptors.old) }
+    ensures { OnOk result
+        (descriptors.new ≡ inserted (each (descriptor_entry pid) images.now) descriptors.old) }
 {
     for image in images.iter().rev() {
         let slot = Slot {
@@ -122,7 +127,8 @@ fn descriptions_of(
     alloc: Global,
     images: &ListOf<DescriptionImage>,
 ) -> Result<ByDesc<Description>, AllocError>
-    ensures { IfOk result (λ descriptions. descriptions ≡ map.from_entries (each description_entry images.now)) }
+    ensures { IfOk result (λ descriptions.
+        descriptions ≡ map.from_entries (each description_entry images.now)) }
 {
     let mut descriptions = ByDesc::new(alloc);
     for image in images.iter().rev() {

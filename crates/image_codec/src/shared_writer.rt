@@ -1,14 +1,16 @@
 ghost use Rattle.std.specs.Prelude.{◌≡◌, ◌^◌, ◌<◌, ◌++◌, length, All, IfOk, OnOk};
-ghost use Rattle.image_codec.specs.SharedFits.{IsShared, kind_of, state_of, status_of};
-ghost use Rattle.image_codec.specs.SharedFormat.{SpellsShared};
-ghost use Rattle.image_codec.specs.SharedTexts.{HasCounts, list_text, description_text, thread_text, descriptor_text, life_text, process_text};
+ghost use Rattle.image_shared.specs.SharedFits.{IsShared, kind_of, state_of, status_of};
+ghost use Rattle.image_shared.specs.SharedFormat.{SpellsShared};
+ghost use Rattle.image_shared.specs.SharedTexts.{HasCounts, list_text, description_text, thread_text};
+ghost use Rattle.image_shared.specs.SharedTexts.{descriptor_text};
+ghost use Rattle.image_shared.specs.SharedTexts.{life_text, process_text, IsSharedText};
 
-use crate::fields::{put_bytes, put_u8, put_u32};
-use crate::shared::{
+use image_format::fields::{put_bytes, put_u8, put_u32};
+use image_shared::{
     DescriptionImage, DescriptorEntry, ObjectImage, ProcessEntry, Shared, ThreadEntry,
 };
-use plain_machine::Life;
 use std::alloc::{AllocError, Global};
+use sys_abi::Life;
 
 fn kind_of(object: &ObjectImage) -> u8
     ensures { result ≡ kind_of object.now }
@@ -22,7 +24,7 @@ fn kind_of(object: &ObjectImage) -> u8
     }
 }
 
-#[tactic(auto, unfolding(crate::specs::SharedTexts::description_text))]
+#[tactic(auto, unfolding(image_shared::specs::SharedTexts::description_text))]
 fn put_description(bytes: &mut Vec<u8>, description: &DescriptionImage) -> Result<(), AllocError>
     ensures { OnOk result (bytes.new.items ≡ bytes.old.items ++ description_text description.now) }
 {
@@ -33,7 +35,7 @@ fn put_description(bytes: &mut Vec<u8>, description: &DescriptionImage) -> Resul
     put_u32(bytes, description.owner)
 }
 
-#[tactic(auto, using(crate::proofs::Writing::puts_none, crate::proofs::Writing::puts_more, crate::proofs::Writing::puts_all))]
+#[tactic(auto, using(image_format::proofs::Writing::puts_none, image_format::proofs::Writing::puts_more, image_format::proofs::Writing::puts_all))]
 fn put_descriptions(bytes: &mut Vec<u8>, items: &[DescriptionImage]) -> Result<(), AllocError>
     requires { length items.now < 2 ^ 32 }
     ensures { OnOk result (bytes.new.items ≡ bytes.old.items ++ list_text description_text items.now) }
@@ -45,7 +47,7 @@ fn put_descriptions(bytes: &mut Vec<u8>, items: &[DescriptionImage]) -> Result<(
     Ok(())
 }
 
-#[tactic(auto, unfolding(crate::specs::SharedTexts::thread_text))]
+#[tactic(auto, unfolding(image_shared::specs::SharedTexts::thread_text))]
 fn put_thread(bytes: &mut Vec<u8>, thread: &ThreadEntry) -> Result<(), AllocError>
     ensures { OnOk result (bytes.new.items ≡ bytes.old.items ++ thread_text thread.now) }
 {
@@ -53,7 +55,7 @@ fn put_thread(bytes: &mut Vec<u8>, thread: &ThreadEntry) -> Result<(), AllocErro
     put_u32(bytes, thread.pending)
 }
 
-#[tactic(auto, using(crate::proofs::Writing::puts_none, crate::proofs::Writing::puts_more, crate::proofs::Writing::puts_all))]
+#[tactic(auto, using(image_format::proofs::Writing::puts_none, image_format::proofs::Writing::puts_more, image_format::proofs::Writing::puts_all))]
 fn put_threads(bytes: &mut Vec<u8>, items: &[ThreadEntry]) -> Result<(), AllocError>
     requires { length items.now < 2 ^ 32 }
     ensures { OnOk result (bytes.new.items ≡ bytes.old.items ++ list_text thread_text items.now) }
@@ -65,7 +67,7 @@ fn put_threads(bytes: &mut Vec<u8>, items: &[ThreadEntry]) -> Result<(), AllocEr
     Ok(())
 }
 
-#[tactic(auto, unfolding(crate::specs::SharedTexts::descriptor_text))]
+#[tactic(auto, unfolding(image_shared::specs::SharedTexts::descriptor_text))]
 fn put_descriptor(bytes: &mut Vec<u8>, descriptor: &DescriptorEntry) -> Result<(), AllocError>
     ensures { OnOk result (bytes.new.items ≡ bytes.old.items ++ descriptor_text descriptor.now) }
 {
@@ -75,7 +77,7 @@ fn put_descriptor(bytes: &mut Vec<u8>, descriptor: &DescriptorEntry) -> Result<(
     put_u8(bytes, if descriptor.cloexec { 1 } else { 0 })
 }
 
-#[tactic(auto, using(crate::proofs::Writing::puts_none, crate::proofs::Writing::puts_more, crate::proofs::Writing::puts_all))]
+#[tactic(auto, using(image_format::proofs::Writing::puts_none, image_format::proofs::Writing::puts_more, image_format::proofs::Writing::puts_all))]
 fn put_descriptors(bytes: &mut Vec<u8>, items: &[DescriptorEntry]) -> Result<(), AllocError>
     requires { length items.now < 2 ^ 32 }
     ensures { OnOk result (bytes.new.items ≡ bytes.old.items ++ list_text descriptor_text items.now) }
@@ -87,7 +89,7 @@ fn put_descriptors(bytes: &mut Vec<u8>, items: &[DescriptorEntry]) -> Result<(),
     Ok(())
 }
 
-#[tactic(auto, unfolding(crate::specs::SharedTexts::life_text))]
+#[tactic(auto, unfolding(image_shared::specs::SharedTexts::life_text))]
 fn put_life(bytes: &mut Vec<u8>, life: Life) -> Result<(), AllocError>
     ensures { OnOk result (bytes.new.items ≡ bytes.old.items ++ life_text life) }
 {
@@ -99,7 +101,7 @@ fn put_life(bytes: &mut Vec<u8>, life: Life) -> Result<(), AllocError>
     put_u32(bytes, status)
 }
 
-#[tactic(auto, unfolding(crate::specs::SharedTexts::process_text))]
+#[tactic(auto, unfolding(image_shared::specs::SharedTexts::process_text))]
 fn put_process(bytes: &mut Vec<u8>, process: &ProcessEntry) -> Result<(), AllocError>
     requires { HasCounts process.now }
     ensures { OnOk result (bytes.new.items ≡ bytes.old.items ++ process_text process.now) }
@@ -114,7 +116,7 @@ fn put_process(bytes: &mut Vec<u8>, process: &ProcessEntry) -> Result<(), AllocE
     put_descriptors(bytes, process.descriptors.as_slice())
 }
 
-#[tactic(auto, using(crate::proofs::Writing::puts_none, crate::proofs::Writing::puts_more, crate::proofs::Writing::puts_all))]
+#[tactic(auto, using(image_format::proofs::Writing::puts_none, image_format::proofs::Writing::puts_more, image_format::proofs::Writing::puts_all))]
 fn put_processes(bytes: &mut Vec<u8>, items: &[ProcessEntry]) -> Result<(), AllocError>
     requires size { length items.now < 2 ^ 32 }
     requires counts { All HasCounts items.now }
@@ -127,11 +129,10 @@ fn put_processes(bytes: &mut Vec<u8>, items: &[ProcessEntry]) -> Result<(), Allo
     Ok(())
 }
 
-/// The bytes of the shared image's file.
-#[tactic(auto, unfolding(crate::specs::SharedTexts::shared_text))]
-pub fn write_shared(alloc: Global, s: &Shared) -> Result<Vec<u8>, AllocError>
+#[tactic(auto, unfolding(image_shared::specs::SharedTexts::shared_text))]
+fn shared_text(alloc: Global, s: &Shared) -> Result<Vec<u8>, AllocError>
     requires { IsShared s.now }
-    ensures { IfOk result (λ bytes. SpellsShared bytes.items s.now) }
+    ensures { IfOk result (λ bytes. IsSharedText bytes.items s.now) }
 {
     let mut bytes = Vec::new(alloc);
     put_bytes(&mut bytes, b"DMTSHR01")?;
@@ -142,4 +143,12 @@ pub fn write_shared(alloc: Global, s: &Shared) -> Result<Vec<u8>, AllocError>
     put_descriptions(&mut bytes, s.descriptions.as_slice())?;
     put_processes(&mut bytes, s.processes.as_slice())?;
     Ok(bytes)
+}
+
+/// The bytes of the shared image's file.
+pub fn write_shared(alloc: Global, s: &Shared) -> Result<Vec<u8>, AllocError>
+    requires { IsShared s.now }
+    ensures { IfOk result (λ bytes. SpellsShared bytes.items s.now) }
+{
+    shared_text(alloc, s)
 }

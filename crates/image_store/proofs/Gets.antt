@@ -9,9 +9,10 @@ use Rattle.std.proofs.lemmas.Option.{same_Some}
 use Rattle.set_disk.specs.Files.{Files}
 use Rattle.set_disk.specs.Crash.{Same}
 use Rattle.set_disk.specs.Moments.{Passes}
+use Rattle.set_disk.specs.SeenFolder.{SeenFolder}
 use Rattle.image_store.specs.Slots.{manifest_of, generation_of, info_of, later, last}
 use Rattle.image_store.specs.FoundSets.{set_of, last_set, IsSet, HasSet}
-use Rattle.image_codec.specs.declared.damage.Damage.{Damage as Place}
+use Rattle.image_format.specs.declared.damage.Damage.{Damage as Place}
 use Rattle.image_store.specs.SetDamages.{IsFirstDamage, HasDamage}
 use Rattle.image_store.specs.StoreStates.{Known, FitsFiles}
 use Rattle.image_store.specs.declared.set_info.SetInfo.{SetInfo}
@@ -66,5 +67,5 @@ pub damage_found_set : (files : Files) (info : SetInfo) (damage : Place) → las
 damage_found_set files info damage is (set, found, there) =
     subst (λ s. IsFirstDamage s damage) (same_Some set (set_of files info) (sym found ∙ last_set_is files info is)) there
 
-pub fits_still : {D : Type 0} {moment : D → ℕ} {may_leave : D → Files → Type 0} {left_since : D → ℕ → Files → Type 0} {a b : D} (store : Known) (files : Files) → Passes moment may_leave left_since Same a b → FitsFiles store files (may_leave a) → FitsFiles store files (may_leave b)
+pub fits_still : {a b : SeenFolder} (store : Known) (files : Files) → Passes Same a b → FitsFiles store files a.may_leave → FitsFiles store files b.may_leave
 fits_still store files stretch fits = record { settled = settled_same files stretch fits.settled; first = fits.first; second = fits.second; last = fits.last }

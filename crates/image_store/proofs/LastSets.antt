@@ -9,11 +9,11 @@ use Rattle.std.proofs.lemmas.Bool.{cases_eq}
 use Rattle.std.proofs.lemmas.List.{length-map}
 use Rattle.std.proofs.lemmas.Bool.Decides.{nat_tests}
 use Rattle.set_disk.specs.Files.{Files}
-use Rattle.image_store.specs.Slots.{manifest_of, count_of, info_of, later, last, slot_to_write}
+use Rattle.image_store.specs.Slots.{manifest_of, file_count, info_of, later, last, slot_to_write}
 use Rattle.image_store.specs.SlotImages.{KeepsOthers, NoneOrKept, IsBeforePut, IsPut, IsInPut}
 use Rattle.image_store.specs.FoundSets.{FoundSet, file_at, files_from, set_of, last_set, IsSet, HasSet}
-use Rattle.image_codec.specs.declared.manifest.Manifest.{Manifest}
-use Rattle.image_codec.specs.Manifests.{SpellsManifest}
+use Rattle.image_format.specs.declared.manifest.Manifest.{Manifest}
+use Rattle.image_format.specs.Manifests.{SpellsManifest}
 use Rattle.image_store.specs.StoreCrashes.{OldOrNew}
 use Rattle.image_store.specs.declared.set_info.SetInfo.{SetInfo}
 use Rattle.image_store.proofs.ManifestFronts.{info_some, info_open, spelled_gate, spelled_length, spelled_generation, spelled_count}
@@ -195,7 +195,7 @@ other_kept s files image slot keeps differs = ap (info_of slot) (other_manifest 
 other_set : (s : ℕ) (files image : Files) (info : SetInfo) → KeepsOthers s files image → info.slot ≢ s → set_of image info ≡ set_of files info
 unfolding set_of
 other_set s files image info keeps differs =
-    ap (λ (there : ℕ → Option (List ℕ)). let found : FoundSet = record { slot = info.slot; generation = info.generation; manifest = manifest_in there; files = files_from there 1 (count_of (manifest_in there)) } in found)
+    ap (λ (there : ℕ → Option (List ℕ)). let found : FoundSet = record { slot = info.slot; generation = info.generation; manifest = manifest_in there; files = files_from there 1 (file_count (manifest_in there)) } in found)
     (other_files s files image info.slot keeps differs)
 
 same_sets : (files image : Files) (found : Option SetInfo) → last image ≡ found → last files ≡ found → ((info : SetInfo) → found ≡ Some info → set_of image info ≡ set_of files info) → last_set image ≡ last_set files
@@ -228,7 +228,7 @@ unfolding set_of
 whole_set files image s text g images put spelled = record {
   generation = refl;
   manifest = subst (λ bytes. SpellsManifest bytes (record { generation = g; lengths = map length images })) (sym put.manifest) spelled;
-  files = ap (files_from (file_at image s) 1) (ap count_of put.manifest ∙ spelled_count text _ spelled ∙ length-map images length) ∙ put.there;
+  files = ap (files_from (file_at image s) 1) (ap file_count put.manifest ∙ spelled_count text _ spelled ∙ length-map images length) ∙ put.there;
 }
 
 pub put_set_is : (files image : Files) (text : List ℕ) (g : ℕ) (images : List (List ℕ)) → IsPut (slot_to_write (last files)) files text images image → SpellsManifest text (record { generation = g; lengths = map length images }) → IfSome (last files) (λ i. i.generation < g) → HasSet (last_set image) g images

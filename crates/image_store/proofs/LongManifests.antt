@@ -7,16 +7,16 @@ use Rattle.std.specs.Prelude.{Bool, true, Result, Ok, Err, IsErrAnd}
 use Rattle.std.proofs.lemmas.Bool.{cases_lt}
 use Rattle.std.proofs.lemmas.Bool.Decides.{nat_tests}
 use Rattle.std.proofs.lemmas.List.{take-append-drop, take_all}
-use Rattle.image_codec.specs.declared.damage.Damage.{Damage}
-use Rattle.image_codec.specs.declared.damage.ReadFault.{ReadFault}
-use Rattle.image_codec.specs.declared.damage.ReadFault.TheVariants as of_reader
-use Rattle.image_codec.specs.declared.manifest.Manifest.{Manifest}
-use Rattle.image_codec.specs.Files.{IsRead, IsDamagedAt}
-use Rattle.image_codec.specs.Fields.{is_bytes}
-use Rattle.image_codec.specs.Format.{Size, n8, n32, n64, size_of, Format, unsigned, raw, give, next, each, counted, any, Spells, Breaks, BreaksField, Damaged}
-use Rattle.image_codec.specs.Manifests.{MANIFEST_MAGIC, manifest_format, length_format, is_complete, is_file_count, SpellsManifest, DamagedManifest}
-use Rattle.image_codec.proofs.DamageLaws.{stays}
-use Rattle.image_codec.proofs.Numerals.{length-bytes_of}
+use Rattle.image_format.specs.declared.damage.Damage.{Damage}
+use Rattle.image_format.specs.declared.damage.ReadFault.{ReadFault}
+use Rattle.image_format.specs.declared.damage.ReadFault.TheVariants as of_reader
+use Rattle.image_format.specs.declared.manifest.Manifest.{Manifest}
+use Rattle.image_format.specs.Files.{IsRead, IsDamagedAt}
+use Rattle.image_format.specs.Fields.{is_bytes}
+use Rattle.image_format.specs.Format.{Size, n8, n32, n64, byte_count, FormatOf, unsigned, raw, give, next, each, counted, any, Spells, Breaks, BreaksField, Damaged}
+use Rattle.image_format.specs.Manifests.{MANIFEST_MAGIC, manifest_format, length_format, is_gate, is_image_count, SpellsManifest, DamagedManifest}
+use Rattle.image_format.proofs.DamageLaws.{stays}
+use Rattle.image_format.proofs.Numerals.{length-number_text}
 use Rattle.image_store.specs.declared.store_fault.StoreFault.{StoreFault}
 use Rattle.image_store.specs.declared.store_fault.StoreFault.TheVariants.{Damaged as Told, Memory as out_of_memory}
 use Rattle.image_store.specs.FaultsOf.{of_reading}
@@ -36,9 +36,9 @@ any_holds size text n full (inl (short, place)) = absurd (omega arith)
 any_holds size text n full (inr (_, refused, _)) = cc
 
 -- behind the first field
-unsigned_length : (size : Size) (ok : ℕ → Bool) (first : List ℕ) (b : ℕ) → Spells (unsigned size ok) first b → length first ≡ size_of size
+unsigned_length : (size : Size) (ok : ℕ → Bool) (first : List ℕ) (b : ℕ) → Spells (unsigned size ok) first b → length first ≡ byte_count size
 unfolding Spells
-unsigned_length size ok first b spelled = ap length spelled.0 ∙ length-bytes_of size b
+unsigned_length size ok first b spelled = ap length spelled.0 ∙ length-number_text size b
 
 raw_length : (size : ℕ) (ok : List ℕ → Bool) (first b : List ℕ) → Spells (raw size ok) first b → length first ≡ size
 unfolding Spells
@@ -52,34 +52,34 @@ inside text first rest n m is place below = let whole = ap length is ∙ length-
 
 -- lengths whose bytes are there are no damage
 each_holds : (count : ℕ) (front text : List ℕ) (n : ℕ) → 8 * count ≤ length text → Breaks (each (λ _. length_format) count front) text n → ⊥
-unfolding Breaks each length_format size_of
+unfolding Breaks each length_format byte_count
 each_holds zero front text n full breaks = breaks
 each_holds (suc count) front text n full (inl breaks) = any_holds 8 text n (omega arith) breaks
 each_holds (suc count) front text n full (inr (b, first, rest, m, is, spelled, breaks, place)) =
     each_holds count (front ++ b ∷ []) rest m (behind text first rest 8 (8 * count) is (unsigned_length n64 any first b spelled) (omega arith)) breaks
 
-few : (count : ℕ) → IsTrue (is_file_count count) → count ≤ 129
+few : (count : ℕ) → IsTrue (is_image_count count) → count ≤ 129
 few count ok = grind (arith, nat_tests)
 
-file_count : (first : List ℕ) (count : ℕ) → Spells (unsigned n32 is_file_count) first count → count ≤ 129
+file_count : (first : List ℕ) (count : ℕ) → Spells (unsigned n32 is_image_count) first count → count ≤ 129
 unfolding Spells
 file_count first count spelled = few count spelled.2
 
-counted_inside : (text : List ℕ) (n : ℕ) → 1036 ≤ length text → Breaks (counted is_file_count (λ _. length_format)) text n → n < length text
-unfolding Breaks counted size_of
+counted_inside : (text : List ℕ) (n : ℕ) → 1036 ≤ length text → Breaks (counted is_image_count (λ _. length_format)) text n → n < length text
+unfolding Breaks counted byte_count
 counted_inside text n long (inl breaks) = field_inside 4 _ text n (omega arith) (omega arith) breaks
 counted_inside text n long (inr (count, first, rest, m, is, spelled, breaks, place)) =
     let most = file_count first count spelled in
-    absurd (each_holds count [] rest m (behind text first rest 4 (8 * count) is (unsigned_length n32 is_file_count first count spelled) (omega (arith, most))) breaks)
+    absurd (each_holds count [] rest m (behind text first rest 4 (8 * count) is (unsigned_length n32 is_image_count first count spelled) (omega (arith, most))) breaks)
 
 -- the manifest from a field on
-abbrev lengths_part : ℕ → Format Manifest
-lengths_part generation = next (counted is_file_count (λ _. length_format)) (λ lengths. give (record { generation = generation; lengths = lengths }))
+abbrev lengths_part : ℕ → FormatOf Manifest
+lengths_part generation = next (counted is_image_count (λ _. length_format)) (λ lengths. give (record { generation = generation; lengths = lengths }))
 
-abbrev generation_part : Format Manifest
+abbrev generation_part : FormatOf Manifest
 generation_part = next (unsigned n64 any) (λ generation. lengths_part generation)
 
-abbrev magic_part : Format Manifest
+abbrev magic_part : FormatOf Manifest
 magic_part = next (raw 7 (is_bytes MANIFEST_MAGIC)) (λ magic. generation_part)
 
 lengths_inside : (generation : ℕ) (text : List ℕ) (n : ℕ) → 1036 ≤ length text → Breaks (lengths_part generation) text n → n < length text
@@ -88,7 +88,7 @@ lengths_inside generation text n long (inl breaks) = counted_inside text n long 
 lengths_inside generation text n long (inr (lengths, first, rest, m, is, spelled, breaks, place)) = elim breaks [ ]
 
 generation_inside : (text : List ℕ) (n : ℕ) → 1044 ≤ length text → Breaks generation_part text n → n < length text
-unfolding Breaks size_of
+unfolding Breaks byte_count
 generation_inside text n long (inl breaks) = field_inside 8 _ text n (omega arith) (omega arith) breaks
 generation_inside text n long (inr (generation, first, rest, m, is, spelled, breaks, place)) =
     inside text first rest n m is place
@@ -102,11 +102,11 @@ magic_inside text n long (inr (magic, first, rest, m, is, spelled, breaks, place
     (generation_inside rest m (behind text first rest 7 1044 is (raw_length 7 (is_bytes MANIFEST_MAGIC) first magic spelled) long) breaks)
 
 manifest_inside : (text : List ℕ) (n : ℕ) → 1052 ≤ length text → Breaks manifest_format text n → n < length text
-unfolding Breaks manifest_format size_of
+unfolding Breaks manifest_format byte_count
 manifest_inside text n long (inl breaks) = field_inside 1 _ text n (omega arith) (omega arith) breaks
 manifest_inside text n long (inr (gate, first, rest, m, is, spelled, breaks, place)) =
     inside text first rest n m is place
-    (magic_inside rest m (behind text first rest 1 1051 is (unsigned_length n8 is_complete first gate spelled) long) breaks)
+    (magic_inside rest m (behind text first rest 1 1051 is (unsigned_length n8 is_gate first gate spelled) long) breaks)
 
 -- of a file that is longer
 longer_damaged : (front more : List ℕ) (n : ℕ) → 1052 ≤ length front → DamagedManifest front n → DamagedManifest (front ++ more) n

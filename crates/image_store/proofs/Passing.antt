@@ -11,62 +11,64 @@ use Rattle.set_disk.specs.Files.{Files}
 use Rattle.set_disk.specs.Crash.{AfterStep, IsSettled, Only, Same}
 use Rattle.set_disk.specs.Moments.{Passes, LeavesOnly}
 use Rattle.set_disk.specs.declared.disk_fault.DiskFault.{DiskFault}
+use Rattle.set_disk.specs.SeenFolder.{SeenFolder}
 use Rattle.image_store.specs.StoreCrashes.{SameTold, ChangesNothing}
 use Rattle.set_disk.proofs.Stretches.{either}
 
-module _ {D : Type 0} {moment : D → ℕ} {may_leave : D → Files → Type 0} {left_since : D → ℕ → Files → Type 0} where
-  both_steps : {a b : D} {R S T : Files → Files → Type 0} → Passes moment may_leave left_since R a b → ((old mid new : Files) → R old mid → S mid new → T old new) → (image : Files) → AfterStep S (may_leave b) image → AfterStep T (may_leave a) image
-  both_steps first both image (mid, left, second) =
-      let from = first.now mid left in
-      (from.0, from.1, both from.0 mid image from.2 second)
+both_steps : {a b : SeenFolder} {R S T : Files → Files → Type 0} → Passes R a b → ((old mid new : Files) → R old mid → S mid new → T old new) → (image : Files) → AfterStep S b.may_leave image → AfterStep T a.may_leave image
+both_steps first both image (mid, left, second) =
+    let from = first.now mid left in
+    (from.0, from.1, both from.0 mid image from.2 second)
 
-  pub passes_then : {a b c : D} {R S : Files → Files → Type 0} (T : Files → Files → Type 0) → Passes moment may_leave left_since R a b → Passes moment may_leave left_since S b c → ((old new : Files) → R old new → T old new) → ((old mid new : Files) → R old mid → S mid new → T old new) → Passes moment may_leave left_since T a c
-  passes_then T first second one both = record {
-    later = let l = first.later in let m = second.later in omega arith;
-    now = λ image left. both_steps first both image (second.now image left);
-    since = λ t image le left. either (second.since t image (let l = first.later in omega arith) left)
-        (λ earlier. either (first.since t image le earlier) inl (λ it. inr (it.0, it.1, one it.0 image it.2)))
-        (λ it. inr (both_steps first both image it));
-    keeps = λ t image le left. second.keeps t image (let l = first.later in omega arith) (first.keeps t image le left);
-  }
+pub passes_then : {a b c : SeenFolder} {R S : Files → Files → Type 0} (T : Files → Files → Type 0) → Passes R a b → Passes S b c → ((old new : Files) → R old new → T old new) → ((old mid new : Files) → R old mid → S mid new → T old new) → Passes T a c
+passes_then T first second one both = record {
+  later = let l = first.later in let m = second.later in omega arith;
+  now = λ image left. both_steps first both image (second.now image left);
+  since = λ t image le left. either (second.since t image (let l = first.later in omega arith) left)
+      (λ earlier. either (first.since t image le earlier) inl (λ it. inr (it.0, it.1, one it.0 image it.2)))
+      (λ it. inr (both_steps first both image it));
+  keeps = λ t image le left. second.keeps t image (let l = first.later in omega arith) (first.keeps t image le left);
+  wants = λ want. first.wants (second.wants want);
+}
 
-  pub passes_widen : {a b : D} {R : Files → Files → Type 0} (T : Files → Files → Type 0) → Passes moment may_leave left_since R a b → ((old new : Files) → R old new → T old new) → Passes moment may_leave left_since T a b
-  passes_widen T call wider = record {
-    later = call.later;
-    now = λ image left. let it = call.now image left in (it.0, it.1, wider it.0 image it.2);
-    since = λ t image le left. either (call.since t image le left) inl (λ it. inr (it.0, it.1, wider it.0 image it.2));
-    keeps = call.keeps;
-  }
+pub passes_widen : {a b : SeenFolder} {R : Files → Files → Type 0} (T : Files → Files → Type 0) → Passes R a b → ((old new : Files) → R old new → T old new) → Passes T a b
+passes_widen T call wider = record {
+  later = call.later;
+  now = λ image left. let it = call.now image left in (it.0, it.1, wider it.0 image it.2);
+  since = λ t image le left. either (call.since t image le left) inl (λ it. inr (it.0, it.1, wider it.0 image it.2));
+  keeps = call.keeps;
+  wants = call.wants;
+}
 
-  pub passes_none : (T : Files → Files → Type 0) → ((files : Files) → T files files) → (d : D) → Passes moment may_leave left_since T d d
-  passes_none T same d = record {
-    later = omega arith;
-    now = λ image left. (image, left, same image);
-    since = λ t image le left. inl left;
-    keeps = λ t image le left. left;
-  }
+pub passes_none : (T : Files → Files → Type 0) → ((files : Files) → T files files) → (d : SeenFolder) → Passes T d d
+passes_none T same d = record {
+  later = omega arith;
+  now = λ image left. (image, left, same image);
+  since = λ t image le left. inl left;
+  keeps = λ t image le left. left;
+  wants = λ want. want;
+}
 
-  -- only_now is the law of the folder at the start
-  pub leaves_only : {a b : D} {T : Files → Files → Type 0} (files : Files) (P : Files → Type 0) → Passes moment may_leave left_since T a b → ((image : Files) → left_since a (moment a) image → may_leave a image) → ((image : Files) → may_leave a image → image ≡ files) → P files → ((image : Files) → T files image → P image) → LeavesOnly moment left_since a b P
-  leaves_only {a} {b} {T} files P stretch only_now only here leads =
-      let after : (image : Files) → AfterStep T (may_leave a) image → P image = λ image it. leads image (subst (λ f. T f image) (only it.0 it.1) it.2) in
-      record {
-        later = stretch.later;
-        each = λ image left. either (stretch.since (moment a) image (omega arith) left) (λ before. subst P (sym (only image (only_now image before))) here) (after image);
-        before = λ t image le left. either (stretch.since t image le left) inl (λ it. inr (after image it));
-      }
+pub leaves_only : {a b : SeenFolder} {T : Files → Files → Type 0} (files : Files) (P : Files → Type 0) → Passes T a b → ((image : Files) → a.may_leave image → image ≡ files) → P files → ((image : Files) → T files image → P image) → LeavesOnly a b P
+leaves_only {a} {b} {T} files P stretch only here leads =
+    let after : (image : Files) → AfterStep T a.may_leave image → P image = λ image it. leads image (subst (λ f. T f image) (only it.0 it.1) it.2) in
+    record {
+      later = stretch.later;
+      each = λ image left. either (stretch.since a.moment image (omega arith) left) (λ before. subst P (sym (only image (a.only_now image before))) here) (after image);
+      before = λ t image le left. either (stretch.since t image le left) inl (λ it. inr (after image it));
+    }
 
-  pub nothing_then : {reads : D → Option Files} {a b c : D} → ChangesNothing reads moment may_leave left_since a b → ChangesNothing reads moment may_leave left_since b c → ChangesNothing reads moment may_leave left_since a c
-  nothing_then first second = record {
-    same = second.same ∙ first.same;
-    crash = passes_then Same first.crash second.crash (λ old new is. is) (λ old mid new is is2. is2 ∙ is);
-  }
+pub nothing_then : {a b c : SeenFolder} → ChangesNothing a b → ChangesNothing b c → ChangesNothing a c
+nothing_then first second = record {
+  same = second.same ∙ first.same;
+  crash = passes_then Same first.crash second.crash (λ old new is. is) (λ old mid new is is2. is2 ∙ is);
+}
 
-  pub nothing_none : {reads : D → Option Files} (d : D) → ChangesNothing reads moment may_leave left_since d d
-  nothing_none d = record { same = refl; crash = passes_none Same (λ files. refl) d }
+pub nothing_none : (d : SeenFolder) → ChangesNothing d d
+nothing_none d = record { same = refl; crash = passes_none Same (λ files. refl) d }
 
-  pub nothing_call : {reads : D → Option Files} {a b : D} → reads b ≡ reads a → Passes moment may_leave left_since Same a b → ChangesNothing reads moment may_leave left_since a b
-  nothing_call same crash = record { same = same; crash = crash }
+pub nothing_call : {a b : SeenFolder} → b.files ≡ a.files → Passes Same a b → ChangesNothing a b
+nothing_call same crash = record { same = same; crash = crash }
 
 pub told_same : (old new : Option Files) → new ≡ old → SameTold old new
 told_same old new is = ap is_some is
@@ -98,15 +100,16 @@ pub reads_ok : {A : Type 0} (result : Result A DiskFault) (a b c : Option Files)
 reads_ok (Ok value) a b c f g h first second same = reads_then a b c f g h first second same
 reads_ok (Err fault) a b c f g h first second same = tt
 
--- what a settled folder leaves, where it tells its content
-pub settled_at : (told : Option Files) (images : Files → Type 0) (files : Files) → IsSettled told images → told ≡ Some files → Only files images
-settled_at told images files settled is = let P : Option Files → Type 0 = λ o. IsSettled o images in subst P is settled
-
+-- where a folder tells what it holds
 pub told_at : (P : Files → Type 0) (told : Option Files) (files : Files) → IfSome told P → told ≡ Some files → P files
 told_at P told files holds is = let Q : Option Files → Type 0 = λ o. IfSome o P in subst Q is holds
 
+-- what a settled folder leaves, where it tells its content
+pub settled_at : (folder : SeenFolder) (files : Files) → IsSettled folder → folder.files ≡ Some files → Only files folder.may_leave
+settled_at folder files settled is = told_at (λ f. Only f folder.may_leave) folder.files files settled is
+
 -- a settled folder stays settled while nothing changes
-pub settled_same : {D : Type 0} {moment : D → ℕ} {may_leave : D → Files → Type 0} {left_since : D → ℕ → Files → Type 0} {a b : D} (files : Files) → Passes moment may_leave left_since Same a b → Only files (may_leave a) → Only files (may_leave b)
+pub settled_same : {a b : SeenFolder} (files : Files) → Passes Same a b → Only files a.may_leave → Only files b.may_leave
 settled_same files stretch only = λ image left. let it = stretch.now image left in it.2 ∙ only it.0 it.1
 
 pub on_err : {A E P : Type 0} (result : Result A E) → P → OnErr result P

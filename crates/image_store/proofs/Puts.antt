@@ -10,7 +10,7 @@ use Rattle.std.specs.Option.{option_map_or}
 use Rattle.std.proofs.lemmas.Option.{slice_get-get_or}
 use Rattle.set_disk.specs.Files.{Files}
 use Rattle.set_disk.specs.Crash.{Only}
-use Rattle.image_codec.specs.Manifests.{SpellsManifest}
+use Rattle.image_format.specs.Manifests.{SpellsManifest}
 use Rattle.image_store.specs.Slots.{gate_of, manifest_of, last, slot_to_write}
 use Rattle.image_store.specs.FoundSets.{FoundSet, last_set, HasSet}
 use Rattle.image_store.specs.StoreStates.{Known, FitsFiles, generation_after, next_generation, gate_known, with_set}

@@ -8,7 +8,7 @@ use Rattle.std.specs.Prelude.{Bool, true, false, if◌then◌else◌, ◌==◌, 
 use Rattle.std.specs.Option.{option_or}
 use Rattle.std.proofs.lemmas.Bool.Decides.{nat_tests}
 use Rattle.std.proofs.lemmas.List.{drop_more, drop_all, take_all, map_push, take_more}
-use Rattle.image_codec.specs.declared.damage.Damage.{Damage}
+use Rattle.image_format.specs.declared.damage.Damage.{Damage}
 use Rattle.image_store.specs.FoundSets.{files_from}
 use Rattle.image_store.specs.SetDamages.{damage_at, damage_from}
 

@@ -6,11 +6,11 @@ use Rattle.std.proofs.Common.{◌≡◌, ℕ, inl, inr, List, length, refl, sym,
 use Rattle.std.specs.Prelude.{Option, Some, None, map, option_map, Result, Ok, Err, IfOk, IfErr}
 use Rattle.std.proofs.lemmas.Option.{same_Some}
 use Rattle.set_disk.specs.Files.{Files}
-use Rattle.image_codec.specs.declared.damage.Damage.{Damage as Place}
-use Rattle.image_codec.specs.declared.manifest.Manifest.{Manifest}
-use Rattle.image_codec.specs.declared.set_bytes.SetBytes.{SetBytes}
-use Rattle.image_codec.specs.Manifests.{SpellsManifest}
-use Rattle.image_codec.proofs.ManifestLaws.{laws}
+use Rattle.image_format.specs.declared.damage.Damage.{Damage as Place}
+use Rattle.image_format.specs.declared.manifest.Manifest.{Manifest}
+use Rattle.image_format.specs.declared.set_bytes.SetBytes.{SetBytes}
+use Rattle.image_format.specs.Manifests.{SpellsManifest}
+use Rattle.image_format.proofs.ManifestLaws.{laws}
 use Rattle.image_store.specs.Slots.{last}
 use Rattle.image_store.specs.FoundSets.{FoundSet, IsSet, HasSet, set_of, last_set}
 use Rattle.image_store.specs.SetDamages.{damage_from, IsFirstDamage, HasDamage}

@@ -7,11 +7,11 @@ use Rattle.std.specs.Prelude.{Bool, true, false, if◌then◌else◌, ◌==◌, 
 use Rattle.std.proofs.lemmas.Bool.Decides.{nat_tests}
 use Rattle.std.specs.Option.{option_or}
 use Rattle.set_disk.specs.Files.{Files}
-use Rattle.image_codec.specs.declared.damage.Damage.{Damage as Place}
-use Rattle.image_codec.specs.declared.manifest.Manifest.{Manifest}
-use Rattle.image_codec.specs.declared.set_bytes.SetBytes.{SetBytes}
-use Rattle.image_codec.specs.Manifests.{SpellsManifest, DamagedManifest}
-use Rattle.image_store.specs.Slots.{manifest_of, generation_of, count_of}
+use Rattle.image_format.specs.declared.damage.Damage.{Damage as Place}
+use Rattle.image_format.specs.declared.manifest.Manifest.{Manifest}
+use Rattle.image_format.specs.declared.set_bytes.SetBytes.{SetBytes}
+use Rattle.image_format.specs.Manifests.{SpellsManifest, DamagedManifest}
+use Rattle.image_store.specs.Slots.{manifest_of, generation_of, file_count}
 use Rattle.image_store.specs.FoundSets.{file_at, files_from, set_of, IsSet}
 use Rattle.image_store.specs.SetDamages.{damage_at, damage_from, IsFirstDamage}
 use Rattle.image_store.specs.StoreCauses.{IsOutside, IsOfReading, IsOrOutside, TellsDamage}
@@ -54,12 +54,12 @@ module _ (files : Files) (info : SetInfo) where
   unfolding set_of
   spelled_of g bytes set = set.manifest
 
-  files_of : (g : ℕ) (bytes : List (List ℕ)) → IsSet (set_of files info) g bytes → files_from (file_at files info.slot) 1 (count_of text) ≡ map Some bytes
+  files_of : (g : ℕ) (bytes : List (List ℕ)) → IsSet (set_of files info) g bytes → files_from (file_at files info.slot) 1 (file_count text) ≡ map Some bytes
   unfolding set_of
   files_of g bytes set = set.files
 
   -- the number of files that the manifest names
-  count_is : (m : Manifest) → SpellsManifest text m → files_from (file_at files info.slot) 1 (length m.lengths) ≡ files_from (file_at files info.slot) 1 (count_of text)
+  count_is : (m : Manifest) → SpellsManifest text m → files_from (file_at files info.slot) 1 (length m.lengths) ≡ files_from (file_at files info.slot) 1 (file_count text)
   count_is m spelled = ap (files_from (file_at files info.slot) 1) (sym (spelled_count text m spelled))
 
   pub only_manifest : (r : Result SetBytes StoreFault) (y fault : StoreFault) → r ≡ Err y → y ≡ fault → ((m : Manifest) → SpellsManifest text m → IsOutside fault) → (g : ℕ) (bytes : List (List ℕ)) → IsSet (set_of files info) g bytes → IsOrOutside r bytes

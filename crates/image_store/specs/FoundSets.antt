@@ -1,13 +1,15 @@
 -- The set that counts in a folder, with the contents that are there.
---     FoundSet                        a slot's set: its generation, its manifest, and the files that the manifest names, `None` where one is not there
+--     FoundSet                        a slot's set: its generation, its manifest, and the files that the
+--                                     manifest names, `None` where one is not there
 --     last_set files                  the set that counts
---     IsSet found generation files    it is whole: its manifest spells this generation and the lengths of these files, and these files are there
+--     IsSet found generation files    it is whole: its manifest spells this generation and the lengths of
+--                                     these files, and these files are there
 --     HasSet found generation files   there is one, and it is that
 use Rattle.std.specs.Prelude.{◌≡◌, ℕ, zero, suc, List, [], ◌∷◌, length, map, Option, Some, option_map}
 use Rattle.std.specs.FinMap as files_by_name
 use Rattle.set_disk.specs.Files.{Files}
-use Rattle.image_codec.specs.Manifests.{SpellsManifest}
-use Rattle.image_store.specs.Slots.{manifest_of, count_of, last}
+use Rattle.image_format.specs.Manifests.{SpellsManifest}
+use Rattle.image_store.specs.Slots.{manifest_of, file_count, last}
 use Rattle.image_store.specs.declared.set_info.SetInfo.{SetInfo}
 
 pub record FoundSet : Type 0 where
@@ -31,7 +33,7 @@ set_of files info = record {
   slot = info.slot;
   generation = info.generation;
   manifest = manifest_of files info.slot;
-  files = files_from (file_at files info.slot) 1 (count_of (manifest_of files info.slot));
+  files = files_from (file_at files info.slot) 1 (file_count (manifest_of files info.slot));
 }
 
 unfoldable pub last_set : Files → Option FoundSet

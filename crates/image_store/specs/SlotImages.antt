@@ -14,13 +14,15 @@ pub record KeepsOthers (slot : ℕ) (files image : Files) : Type 0 where
   pub others : (q : FileName) → q.slot ≢ slot → files_by_name.get image q ≡ files_by_name.get files q
 
 abbrev pub NoneOrKept : Files → Files → ℕ → Type 0
-NoneOrKept files image slot = (info_of slot (manifest_of image slot) ≡ None) ⊎ (info_of slot (manifest_of image slot) ≡ info_of slot (manifest_of files slot))
+NoneOrKept files image slot = (info_of slot (manifest_of image slot) ≡ None)
+    ⊎ (info_of slot (manifest_of image slot) ≡ info_of slot (manifest_of files slot))
 
 pub record IsBeforePut (slot : ℕ) (files image : Files) : Type 0 where
   pub others : KeepsOthers slot files image
   pub info : NoneOrKept files image slot
 
-pub record IsPut (slot : ℕ) (files : Files) (text : List ℕ) (images : List (List ℕ)) (image : Files) : Type 0 where
+pub record IsPut (slot : ℕ) (files : Files) (text : List ℕ) (images : List (List ℕ))
+    (image : Files) : Type 0 where
   pub others : KeepsOthers slot files image
   pub manifest : manifest_of image slot ≡ text
   pub there : files_from (file_at image slot) 1 (length images) ≡ map Some images

@@ -1,16 +1,19 @@
 -- Why a store refuses.
---     HasCause result fault old new     a count of faults goes from old to new in a call: it does not fall, and the result is that fault only where it rose
+--     HasCause result fault old new     a count of faults goes from old to new in a call: it does not fall,
+--                                       and the result is that fault only where it rose
 --     IsOutside fault                   the disk failed or memory ran out
 --     IsOfReading fault                 any refusal but that no set counts
---     IsOrOutside result bytes          the result is the set of these files, or the disk failed or memory ran out
+--     IsOrOutside result bytes          the result is the set of these files, or the disk failed or memory
+--                                       ran out
 --     IsDamageOrOutside result damage   the result is this damage, or the disk failed or memory ran out
 --     IsManifestOrOutside result m      the same of a manifest
---     TellsDamage result damage         the result is this damage, Ok where there is none, or the disk failed or memory ran out
+--     TellsDamage result damage         the result is this damage, Ok where there is none, or the disk failed
+--                                       or memory ran out
 use Rattle.std.specs.Prelude.{◌≡◌, ℕ, ◌^◌, ◌<◌, ◌≤◌, List, Option, Some, None, Result, Ok, Err}
 use Rattle.views.specs.Faults.{IsFaultOf}
-use Rattle.image_codec.specs.declared.damage.Damage.{Damage}
-use Rattle.image_codec.specs.declared.manifest.Manifest.{Manifest}
-use Rattle.image_codec.specs.declared.set_bytes.SetBytes.{SetBytes}
+use Rattle.image_format.specs.declared.damage.Damage.{Damage}
+use Rattle.image_format.specs.declared.manifest.Manifest.{Manifest}
+use Rattle.image_format.specs.declared.set_bytes.SetBytes.{SetBytes}
 use Rattle.image_store.specs.declared.store_fault.StoreFault.{StoreFault}
 use Rattle.image_store.specs.declared.store_fault.StoreFault.TheVariants.{DiskFault, NoSet, Damaged, Memory}
 

@@ -1,15 +1,21 @@
 -- What a store knows of its folder.
---     Known                         the gate byte of each slot's manifest as the store found or left it, if it has one; the set that counts; the floor
---     generation_after floor last, next_generation store      one more than the greater of the floor and the generation of the set that counts
+--     Known                         the gate byte of each slot's manifest as the store found or left it, if
+--                                   it has one; the set that counts; the floor
+--     generation_after floor last, next_generation store      one more than the greater of the floor and the
+--                                                             generation of the set that counts
 --     gate_known store slot         the gate byte of a slot
 --     with_set store slot g         what it knows once a set of this generation was put into the slot
 --     within_floor floor info       the set, unless there is a floor and its generation is greater
---     FitsFolder store told images  the store fits a folder that tells its content where nothing is pending there and it is as the store found or left it. It fits every folder that tells none
+--     FitsFolder store folder       the store fits a folder that tells its content where nothing is pending
+--                                   there and it is as the store found or left it. It fits every folder that
+--                                   tells none
 --     NoneAbove floor files         where there is a floor, no set of the folder has a greater generation
-use Rattle.std.specs.Prelude.{◌≡◌, ℕ, suc, ◌<◌, ◌≤◌, max, ◌&&◌, if◌then◌else◌, ◌==◌, nat_lt, Option, Some, None, IfSome}
+use Rattle.std.specs.Prelude.{◌≡◌, ℕ, suc, ◌<◌, ◌≤◌, max, ◌&&◌, if◌then◌else◌, ◌==◌, nat_lt, Option, Some}
+use Rattle.std.specs.Prelude.{None, IfSome}
 use Rattle.std.specs.Option.{option_map_or, ForSome}
 use Rattle.set_disk.specs.Files.{Files}
 use Rattle.set_disk.specs.Crash.{Only}
+use Rattle.set_disk.specs.SeenFolder.{SeenFolder}
 use Rattle.image_store.specs.Slots.{gate_of, manifest_of, last}
 use Rattle.image_store.specs.FoundSets.{last_set}
 use Rattle.image_store.specs.declared.set_info.SetInfo.{SetInfo}
@@ -48,8 +54,8 @@ pub record FitsFiles (store : Known) (files : Files) (images : Files → Type 0)
   pub second : gate_of (manifest_of files 1) ≡ store.second
   pub last : last files ≡ store.last
 
-abbrev pub FitsFolder : Known → Option Files → (Files → Type 0) → Type 0
-FitsFolder store told images = ForSome told (λ files. FitsFiles store files images)
+abbrev pub FitsFolder : Known → SeenFolder → Type 0
+FitsFolder store folder = ForSome folder.files (λ files. FitsFiles store files folder.may_leave)
 
 abbrev pub NoneAbove : ℕ → Files → Type 0
 NoneAbove floor files = 0 < floor → IfSome (last_set files) (λ set. set.generation ≤ floor)

@@ -17,12 +17,13 @@ pub const CLOSED: u8 = 0;
 /// written before.
 pub fn write_gate<F: Folder>(disk: &mut F, slot: u32, gate: u8) -> Result<(), DiskFault>
     ensures written { OnOk result
-        (F.reads disk.new ≡ option_map (λ files. with_write files (manifest_name slot) 0 (gate ∷ [])) (F.reads disk.old)) }
-    ensures durable { OnOk result (IsSettled (F.reads disk.new) (F.may_leave disk.new)) }
-    ensures told { SameTold (F.reads disk.old) (F.reads disk.new) }
-    ensures crash { Passes F.moment F.may_leave F.left_since (Torn (manifest_name slot) 0 1) disk.old disk.new }
-    ensures cause { HasCause result DiskFault.Failed (F.faults disk.old) (F.faults disk.new) }
-    ensures want { result ≡ Err DiskFault.Memory → F.may_want }
+        ((F.seen disk.new).files ≡ option_map (λ files. with_write files (manifest_name slot) 0 (gate ∷ []))
+        (F.seen disk.old).files) }
+    ensures durable { OnOk result (IsSettled (F.seen disk.new)) }
+    ensures told { SameTold (F.seen disk.old).files (F.seen disk.new).files }
+    ensures crash { Passes (Torn (manifest_name slot) 0 1) (F.seen disk.old) (F.seen disk.new) }
+    ensures cause { HasCause result DiskFault.Failed (F.seen disk.old).faults (F.seen disk.new).faults }
+    ensures want { result ≡ Err DiskFault.Memory → (F.seen disk.old).may_want }
 {
     disk.write_at(FileName { slot, index: 0 }, 0, &[gate])?;
     disk.sync()
@@ -31,14 +32,15 @@ pub fn write_gate<F: Folder>(disk: &mut F, slot: u32, gate: u8) -> Result<(), Di
 /// Closes the gate of a slot whose manifest has this first byte, if it has one. A gate that is there
 /// and is not open stays as it is.
 pub fn close_gate<F: Folder>(disk: &mut F, slot: u32, gate: Option<u8>) -> Result<(), DiskFault>
-    requires { IsSettled (F.reads disk.old) (F.may_leave disk.old) }
+    requires { IsSettled (F.seen disk.old) }
 
-    ensures closed { OnOk result (F.reads disk.new ≡ option_map (with_closed slot gate) (F.reads disk.old)) }
-    ensures durable { OnOk result (IsSettled (F.reads disk.new) (F.may_leave disk.new)) }
-    ensures told { SameTold (F.reads disk.old) (F.reads disk.new) }
-    ensures crash { Passes F.moment F.may_leave F.left_since (closing_step slot gate) disk.old disk.new }
-    ensures cause { HasCause result DiskFault.Failed (F.faults disk.old) (F.faults disk.new) }
-    ensures want { result ≡ Err DiskFault.Memory → F.may_want }
+    ensures closed { OnOk result ((F.seen disk.new).files ≡ option_map (with_closed slot gate)
+        (F.seen disk.old).files) }
+    ensures durable { OnOk result (IsSettled (F.seen disk.new)) }
+    ensures told { SameTold (F.seen disk.old).files (F.seen disk.new).files }
+    ensures crash { Passes (closing_step slot gate) (F.seen disk.old) (F.seen disk.new) }
+    ensures cause { HasCause result DiskFault.Failed (F.seen disk.old).faults (F.seen disk.new).faults }
+    ensures want { result ≡ Err DiskFault.Memory → (F.seen disk.old).may_want }
 {
     match gate {
         None => write_gate(disk, slot, CLOSED),

@@ -22,11 +22,13 @@ pub struct Head {
 
 /// Reads the front of a slot's manifest.
 pub fn read_head<F: Folder>(disk: &mut F, slot: u32) -> Result<Head, DiskFault>
-    ensures gate { IfOk result (λ head. ForSome (F.reads disk.old) (λ files. gate_of (manifest_of files slot) ≡ head.gate)) }
-    ensures info { IfOk result (λ head. ForSome (F.reads disk.old) (λ files. info_of slot (manifest_of files slot) ≡ head.info)) }
-    ensures same { F.reads disk.new ≡ F.reads disk.old }
-    ensures crash { Passes F.moment F.may_leave F.left_since Same disk.old disk.new }
-    ensures cause { HasCause result DiskFault.Failed (F.faults disk.old) (F.faults disk.new) }
+    ensures gate { IfOk result (λ head. ForSome (F.seen disk.old).files
+        (λ files. gate_of (manifest_of files slot) ≡ head.gate)) }
+    ensures info { IfOk result (λ head. ForSome (F.seen disk.old).files
+        (λ files. info_of slot (manifest_of files slot) ≡ head.info)) }
+    ensures same { (F.seen disk.new).files ≡ (F.seen disk.old).files }
+    ensures crash { Passes Same (F.seen disk.old) (F.seen disk.new) }
+    ensures cause { HasCause result DiskFault.Failed (F.seen disk.old).faults (F.seen disk.new).faults }
 {
     let mut buf = [0; HEAD_LEN];
     let n = disk.read_at(FileName { slot, index: 0 }, 0, &mut buf)?;
@@ -44,7 +46,7 @@ fn head_of(slot: u32, front: &[u8]) -> Head
 }
 
 /// The set of a slot whose manifest begins so, if it is complete.
-#[tactic(auto, unfolding(crate::specs::Slots::info_of, crate::specs::Slots::is_complete))]
+#[tactic(auto, unfolding(crate::specs::Slots::info_of, crate::specs::Slots::has_open_gate))]
 fn info_of(slot: u32, front: &[u8]) -> Option<SetInfo>
     ensures { result ≡ info_of slot front.now }
 {

@@ -23,7 +23,7 @@ pub mod store;
 pub mod store_fault;
 mod writing;
 
-pub use image_codec::{Damage, SetBytes};
+pub use image_format::{Damage, SetBytes};
 pub use laws::store_laws;
 pub use runs::put_all;
 pub use set_info::SetInfo;

@@ -2,9 +2,9 @@ ghost use Rattle.std.specs.Prelude.{◌≡◌, ◌≤◌, Err, Some, None, Optio
 ghost use Rattle.std.specs.Option.{ForSome};
 ghost use Rattle.std.specs.FinMap as files_by_name;
 ghost use Rattle.set_disk.specs.Files.{contents};
-ghost use Rattle.image_codec.specs.declared.damage.Damage.{Damage as Place};
-ghost use Rattle.image_codec.specs.declared.manifest.Manifest.{Manifest};
-ghost use Rattle.image_codec.specs.Manifests.{SpellsManifest, DamagedManifest};
+ghost use Rattle.image_format.specs.declared.damage.Damage.{Damage as Place};
+ghost use Rattle.image_format.specs.declared.manifest.Manifest.{Manifest};
+ghost use Rattle.image_format.specs.Manifests.{SpellsManifest, DamagedManifest};
 ghost use Rattle.image_store.specs.Slots.{manifest_of, generation_of};
 ghost use Rattle.image_store.specs.FoundSets.{file_at, files_from, set_of, IsSet};
 ghost use Rattle.image_store.specs.SetDamages.{damage_at, damage_from, IsFirstDamage};
@@ -13,8 +13,7 @@ ghost use Rattle.image_store.specs.StoreCauses.{HasCause, IsOutside, IsOfReading
 
 use crate::set_info::SetInfo;
 use crate::store_fault::StoreFault;
-use image_codec::manifest::read_manifest;
-use image_codec::{Damage, Manifest, SetBytes};
+use image_format::{Damage, Manifest, SetBytes, read_manifest};
 use set_disk::{FileName, Folder};
 use std::alloc::Global;
 use views::list_of::ListOf;
@@ -29,11 +28,12 @@ pub fn read_front<F: Folder>(
     name: FileName,
     len: u64,
 ) -> Result<Vec<u8>, StoreFault>
-    ensures bytes { IfOk result (λ bytes. ForSome (F.reads disk.old) (λ files. bytes.items ≡ take len (contents files name))) }
+    ensures bytes { IfOk result (λ bytes. ForSome (F.seen disk.old).files
+        (λ files. bytes.items ≡ take len (contents files name))) }
     ensures fits { IfOk result (λ bytes. list_length bytes.items ≤ len) }
     ensures refused { IfErr result IsOutside }
-    ensures nothing { ChangesNothing F.reads F.moment F.may_leave F.left_since disk.old disk.new }
-    ensures cause { HasCause result StoreFault.DiskFault (F.faults disk.old) (F.faults disk.new) }
+    ensures nothing { ChangesNothing (F.seen disk.old) (F.seen disk.new) }
+    ensures cause { HasCause result StoreFault.DiskFault (F.seen disk.old).faults (F.seen disk.new).faults }
 {
     let mut bytes = vec![in alloc; 0; len as usize]?;
     let n = disk.read_at(name, 0, &mut bytes)?;
@@ -44,7 +44,8 @@ pub fn read_front<F: Folder>(
 /// The damage of a file that is to have this length and has that one, if it is there.
 #[tactic(auto, unfolding(crate::specs::SetDamages::damage_at))]
 fn damage_at(index: u32, length: u64, there: Option<u64>) -> Option<Damage>
-    ensures { (file : Option (List ℕ)) → there ≡ option_map list_length file → result ≡ damage_at index length file }
+    ensures { (file : Option (List ℕ)) → there ≡ option_map list_length file
+        → result ≡ damage_at index length file }
 {
     match there {
         None => Some(Damage {
@@ -63,11 +64,12 @@ fn damage_at(index: u32, length: u64, there: Option<u64>) -> Option<Damage>
 fn check_lengths<F: Folder>(disk: &mut F, slot: u32, lengths: &[u64]) -> Result<(), StoreFault>
     requires { list_length lengths.now ≤ 129 }
 
-    ensures found { ForSome (F.reads disk.old) (λ files.
-        TellsDamage result (damage_from 1 lengths.now (files_from (file_at files slot) 1 (list_length lengths.now)))) }
+    ensures found { ForSome (F.seen disk.old).files (λ files.
+        TellsDamage result (damage_from 1 lengths.now
+        (files_from (file_at files slot) 1 (list_length lengths.now)))) }
     ensures read { IfErr result IsOfReading }
-    ensures nothing { ChangesNothing F.reads F.moment F.may_leave F.left_since disk.old disk.new }
-    ensures cause { HasCause result StoreFault.DiskFault (F.faults disk.old) (F.faults disk.new) }
+    ensures nothing { ChangesNothing (F.seen disk.old) (F.seen disk.new) }
+    ensures cause { HasCause result StoreFault.DiskFault (F.seen disk.old).faults (F.seen disk.new).faults }
 {
     for (i, length) in lengths.iter().enumerate() {
         let index = i as u32 + 1;
@@ -86,14 +88,16 @@ fn read_image<F: Folder>(
     name: FileName,
     length: u64,
 ) -> Result<ListOf<u8>, StoreFault>
-    requires { ForSome (F.reads disk.old) (λ files. damage_at name.index length (files_by_name.get files name) ≡ None) }
+    requires { ForSome (F.seen disk.old).files
+        (λ files. damage_at name.index length (files_by_name.get files name) ≡ None) }
 
-    ensures found { IfOk result (λ image. ForSome (F.reads disk.old) (λ files. files_by_name.get files name ≡ Some image)) }
+    ensures found { IfOk result (λ image. ForSome (F.seen disk.old).files
+        (λ files. files_by_name.get files name ≡ Some image)) }
     ensures length { IfOk result (λ image. list_length image ≡ length) }
     ensures read { IfErr result IsOfReading }
-    ensures refused { ForSome (F.reads disk.old) (λ files. IfErr result IsOutside) }
-    ensures nothing { ChangesNothing F.reads F.moment F.may_leave F.left_since disk.old disk.new }
-    ensures cause { HasCause result StoreFault.DiskFault (F.faults disk.old) (F.faults disk.new) }
+    ensures refused { ForSome (F.seen disk.old).files (λ files. IfErr result IsOutside) }
+    ensures nothing { ChangesNothing (F.seen disk.old) (F.seen disk.new) }
+    ensures cause { HasCause result StoreFault.DiskFault (F.seen disk.old).faults (F.seen disk.new).faults }
 {
     let image = ListOf::from_vec(read_front(alloc, disk, name, length)?);
     let len = image.len() as u64;
@@ -114,16 +118,16 @@ fn read_images<F: Folder>(
     lengths: &[u64],
 ) -> Result<ListOf<ListOf<u8>>, StoreFault>
     requires few { list_length lengths.now ≤ 129 }
-    requires whole { ForSome (F.reads disk.old) (λ files.
+    requires whole { ForSome (F.seen disk.old).files (λ files.
         damage_from 1 lengths.now (files_from (file_at files slot) 1 (list_length lengths.now)) ≡ None) }
 
-    ensures found { IfOk result (λ images. ForSome (F.reads disk.old) (λ files.
+    ensures found { IfOk result (λ images. ForSome (F.seen disk.old).files (λ files.
         files_from (file_at files slot) 1 (list_length lengths.now) ≡ map Some images)) }
     ensures lengths { IfOk result (λ images. map list_length images ≡ lengths.now) }
     ensures read { IfErr result IsOfReading }
-    ensures refused { ForSome (F.reads disk.old) (λ files. IfErr result IsOutside) }
-    ensures nothing { ChangesNothing F.reads F.moment F.may_leave F.left_since disk.old disk.new }
-    ensures cause { HasCause result StoreFault.DiskFault (F.faults disk.old) (F.faults disk.new) }
+    ensures refused { ForSome (F.seen disk.old).files (λ files. IfErr result IsOutside) }
+    ensures nothing { ChangesNothing (F.seen disk.old) (F.seen disk.new) }
+    ensures cause { HasCause result StoreFault.DiskFault (F.seen disk.old).faults (F.seen disk.new).faults }
 {
     let mut images = Vec::with_capacity(alloc, lengths.len())?;
     for (i, length) in lengths.iter().enumerate() {
@@ -139,13 +143,17 @@ fn read_manifest_of<F: Folder>(
     disk: &mut F,
     slot: u32,
 ) -> Result<Manifest, StoreFault>
-    ensures found { IfOk result (λ m. ForSome (F.reads disk.old) (λ files. SpellsManifest (manifest_of files slot) m)) }
+    ensures found { IfOk result (λ m. ForSome (F.seen disk.old).files
+        (λ files. SpellsManifest (manifest_of files slot) m)) }
     ensures few { IfOk result (λ m. list_length m.lengths ≤ 129) }
-    ensures only { ForSome (F.reads disk.old) (λ files. (m : Manifest) → SpellsManifest (manifest_of files slot) m → IsManifestOrOutside result m) }
-    ensures damaged { (d : Place) → result ≡ Err (StoreFault.Damaged d) → ForSome (F.reads disk.old) (λ files. (d.file ≡ 0) × DamagedManifest (manifest_of files slot) d.offset) }
+    ensures only { ForSome (F.seen disk.old).files
+        (λ files. (m : Manifest) → SpellsManifest (manifest_of files slot) m → IsManifestOrOutside result m) }
+    ensures damaged { (d : Place) → result ≡ Err (StoreFault.Damaged d)
+        → ForSome (F.seen disk.old).files
+        (λ files. (d.file ≡ 0) × DamagedManifest (manifest_of files slot) d.offset) }
     ensures read { IfErr result IsOfReading }
-    ensures nothing { ChangesNothing F.reads F.moment F.may_leave F.left_since disk.old disk.new }
-    ensures cause { HasCause result StoreFault.DiskFault (F.faults disk.old) (F.faults disk.new) }
+    ensures nothing { ChangesNothing (F.seen disk.old) (F.seen disk.new) }
+    ensures cause { HasCause result StoreFault.DiskFault (F.seen disk.old).faults (F.seen disk.new).faults }
 {
     let name = FileName { slot, index: 0 };
     let bytes = read_front(alloc, disk, name, LONGEST_MANIFEST + 1)?;
@@ -158,14 +166,19 @@ pub fn read_set<F: Folder>(
     disk: &mut F,
     info: SetInfo,
 ) -> Result<SetBytes, StoreFault>
-    requires { ForSome (F.reads disk.old) (λ files. generation_of (manifest_of files info.slot) ≡ info.generation) }
+    requires { ForSome (F.seen disk.old).files
+        (λ files. generation_of (manifest_of files info.slot) ≡ info.generation) }
 
-    ensures found { IfOk result (λ set. ForSome (F.reads disk.old) (λ files. IsSet (set_of files info) info.generation set.files)) }
-    ensures only { ForSome (F.reads disk.old) (λ files. (g : ℕ) (bytes : List (List ℕ)) → IsSet (set_of files info) g bytes → IsOrOutside result bytes) }
-    ensures damaged { (d : Place) → result ≡ Err (StoreFault.Damaged d) → ForSome (F.reads disk.old) (λ files. IsFirstDamage (set_of files info) d) }
+    ensures found { IfOk result (λ set. ForSome (F.seen disk.old).files
+        (λ files. IsSet (set_of files info) info.generation set.files)) }
+    ensures only { ForSome (F.seen disk.old).files
+        (λ files. (g : ℕ) (bytes : List (List ℕ)) → IsSet (set_of files info) g bytes
+        → IsOrOutside result bytes) }
+    ensures damaged { (d : Place) → result ≡ Err (StoreFault.Damaged d)
+        → ForSome (F.seen disk.old).files (λ files. IsFirstDamage (set_of files info) d) }
     ensures read { IfErr result IsOfReading }
-    ensures nothing { ChangesNothing F.reads F.moment F.may_leave F.left_since disk.old disk.new }
-    ensures cause { HasCause result StoreFault.DiskFault (F.faults disk.old) (F.faults disk.new) }
+    ensures nothing { ChangesNothing (F.seen disk.old) (F.seen disk.new) }
+    ensures cause { HasCause result StoreFault.DiskFault (F.seen disk.old).faults (F.seen disk.new).faults }
 {
     let manifest = read_manifest_of(alloc, disk, info.slot)?;
     let lengths = manifest.lengths.as_slice();

@@ -9,7 +9,7 @@ ghost use Rattle.image_store.specs.StoreCauses.{HasCause, IsOutside};
 
 use crate::store::Store;
 use crate::store_fault::StoreFault;
-use image_codec::SetBytes;
+use image_format::SetBytes;
 use set_disk::Folder;
 use std::alloc::Global;
 
@@ -20,19 +20,20 @@ fn put_or_open<F: Folder>(
     disk: &mut F,
     set: &SetBytes,
 ) -> Result<Store, StoreFault>
-    requires fits { FitsFolder store (F.reads disk.old) (F.may_leave disk.old) }
+    requires fits { FitsFolder store (F.seen disk.old) }
     requires room { next_generation store < 2 ^ 64 - 1 }
     requires small { IsSmall set.now }
 
-    ensures fits { IfOk result (λ after. FitsFolder after (F.reads disk.new) (F.may_leave disk.new)) }
+    ensures fits { IfOk result (λ after. FitsFolder after (F.seen disk.new)) }
     ensures next { IfOk result (λ after. next_generation after ≡ suc (next_generation store)) }
-    ensures crash { ForSome (F.reads disk.old) (λ files.
-        LeavesOnly F.moment F.left_since disk.old disk.new (OldOrNew (last_set files) (next_generation store) set.now.files)) }
-    ensures reads { ForSome (F.reads disk.old) (λ files. ForSome (F.reads disk.new)
+    ensures crash { ForSome (F.seen disk.old).files (λ files.
+        LeavesOnly (F.seen disk.old) (F.seen disk.new)
         (OldOrNew (last_set files) (next_generation store) set.now.files)) }
-    ensures told { SameTold (F.reads disk.old) (F.reads disk.new) }
+    ensures reads { ForSome (F.seen disk.old).files (λ files. ForSome (F.seen disk.new).files
+        (OldOrNew (last_set files) (next_generation store) set.now.files)) }
+    ensures told { SameTold (F.seen disk.old).files (F.seen disk.new).files }
     ensures refused { IfErr result IsOutside }
-    ensures cause { HasCause result StoreFault.DiskFault (F.faults disk.old) (F.faults disk.new) }
+    ensures cause { HasCause result StoreFault.DiskFault (F.seen disk.old).faults (F.seen disk.new).faults }
 {
     let generation = store.next();
     match store.put_set(alloc, disk, set) {
@@ -49,20 +50,21 @@ pub fn put_all<F: Folder>(
     disk: &mut F,
     sets: &[SetBytes],
 ) -> Result<Store, StoreFault>
-    requires fits { FitsFolder store (F.reads disk.old) (F.may_leave disk.old) }
+    requires fits { FitsFolder store (F.seen disk.old) }
     requires room { next_generation store + length sets.now < 2 ^ 64 - 1 }
     requires small { All IsSmall sets.now }
 
-    ensures fits { IfOk result (λ after. FitsFolder after (F.reads disk.new) (F.may_leave disk.new)) }
+    ensures fits { IfOk result (λ after. FitsFolder after (F.seen disk.new)) }
 
     // Each set has had its generation.
     ensures next { IfOk result (λ after. next_generation after ≡ next_generation store + length sets.now) }
     ensures refused { IfErr result IsOutside }
-    ensures cause { HasCause result StoreFault.DiskFault (F.faults disk.old) (F.faults disk.new) }
+    ensures cause { HasCause result StoreFault.DiskFault (F.seen disk.old).faults (F.seen disk.new).faults }
 
     // A crash at any moment leaves the set that counted before, or one of these.
-    ensures crash { ForSome (F.reads disk.old) (λ files.
-        LeavesOnly F.moment F.left_since disk.old disk.new (λ image. IsOneOf (last_set files) (next_generation store) sets.now (last_set image))) }
+    ensures crash { ForSome (F.seen disk.old).files (λ files.
+        LeavesOnly (F.seen disk.old) (F.seen disk.new)
+        (λ image. IsOneOf (last_set files) (next_generation store) sets.now (last_set image))) }
 {
     let mut store = store;
     for set in sets {

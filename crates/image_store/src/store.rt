@@ -2,7 +2,7 @@ ghost use Rattle.std.specs.Prelude.{◌≡◌, ◌↔◌, ℕ, suc, ◌-◌, ◌
 ghost use Rattle.std.specs.Option.{ForSome};
 ghost use Rattle.set_disk.specs.Files.{Files};
 ghost use Rattle.set_disk.specs.Moments.{LeavesOnly};
-ghost use Rattle.image_codec.specs.declared.damage.Damage.{Damage as Place};
+ghost use Rattle.image_format.specs.declared.damage.Damage.{Damage as Place};
 ghost use Rattle.image_store.specs.Slots.{later, slot_to_write};
 ghost use Rattle.image_store.specs.FoundSets.{last_set, HasSet};
 ghost use Rattle.image_store.specs.StoreStates.{FitsFolder, NoneAbove, generation_after, next_generation, within_floor, gate_known, with_set};
@@ -16,7 +16,7 @@ use crate::reading::read_set;
 use crate::set_info::SetInfo;
 use crate::store_fault::StoreFault;
 use crate::writing::{manifest_bytes, write_set};
-use image_codec::SetBytes;
+use image_format::SetBytes;
 use set_disk::Folder;
 use std::alloc::Global;
 use std::marker::Model;
@@ -52,17 +52,19 @@ impl Store {
         disk: &mut F,
         floor: u64,
     ) -> Result<Store, StoreFault>
-        requires { ForSome (F.reads disk.old) (NoneAbove floor) }
+        requires { ForSome (F.seen disk.old).files (NoneAbove floor) }
 
-        ensures fits { IfOk result (λ store. FitsFolder store (F.reads disk.new) (F.may_leave disk.new)) }
+        ensures fits { IfOk result (λ store. FitsFolder store (F.seen disk.new)) }
         ensures floor { IfOk result (λ store. store.floor ≡ floor) }
-        ensures passed { 0 < floor → IfOk result (λ store. IfSome store.last (λ info. info.generation ≤ floor)) }
+        ensures passed { 0 < floor → IfOk result
+            (λ store. IfSome store.last (λ info. info.generation ≤ floor)) }
         ensures refused { IfErr result IsOutside }
 
         // A crash at any moment leaves only what one before the call could leave.
-        ensures crash { LeavesOnly F.moment F.left_since disk.old disk.new (F.may_leave disk.old) }
-        ensures nothing { ChangesNothing F.reads F.moment F.may_leave F.left_since disk.old disk.new }
-        ensures cause { HasCause result StoreFault.DiskFault (F.faults disk.old) (F.faults disk.new) }
+        ensures crash { LeavesOnly (F.seen disk.old) (F.seen disk.new) (F.seen disk.old).may_leave }
+        ensures nothing { ChangesNothing (F.seen disk.old) (F.seen disk.new) }
+        ensures cause { HasCause result StoreFault.DiskFault (F.seen disk.old).faults
+            (F.seen disk.new).faults }
     {
         disk.sync()?;
         let first = read_head(disk, 0)?;
@@ -105,37 +107,44 @@ impl Store {
         disk: &mut F,
         set: &SetBytes,
     ) -> Result<(Store, u64), StoreFault>
-        requires fits { FitsFolder self (F.reads disk.old) (F.may_leave disk.old) }
+        requires fits { FitsFolder self (F.seen disk.old) }
         requires room { next_generation self < 2 ^ 64 - 1 }
         requires some { 0 < length set.now.files }
         requires few { length set.now.files ≤ 129 }
 
         ensures generation { IfOk result (λ done. done.1 ≡ next_generation self) }
-        ensures last { IfOk result (λ done. IsSomeAnd done.0.last (λ info. info.generation ≡ next_generation self)) }
+        ensures last { IfOk result (λ done. IsSomeAnd done.0.last
+            (λ info. info.generation ≡ next_generation self)) }
         ensures next { IfOk result (λ done. next_generation done.0 ≡ suc (next_generation self)) }
 
         // It lies in the slot that did not count, slot 0 where none counted.
-        ensures store { IfOk result (λ done. done.0 ≡ with_set self (slot_to_write self.last) (next_generation self)) }
-        ensures fits { IfOk result (λ done. FitsFolder done.0 (F.reads disk.new) (F.may_leave disk.new)) }
+        ensures store { IfOk result (λ done. done.0 ≡ with_set self (slot_to_write self.last)
+            (next_generation self)) }
+        ensures fits { IfOk result (λ done. FitsFolder done.0 (F.seen disk.new)) }
 
         // A crash at any moment of the call leaves the set that counted before, or the new one.
-        ensures crash { ForSome (F.reads disk.old) (λ files.
-            LeavesOnly F.moment F.left_since disk.old disk.new (OldOrNew (last_set files) (next_generation self) set.now.files)) }
+        ensures crash { ForSome (F.seen disk.old).files (λ files.
+            LeavesOnly (F.seen disk.old) (F.seen disk.new)
+            (OldOrNew (last_set files) (next_generation self) set.now.files)) }
 
         // After Ok each crash leaves the new one, and reads give it.
-        ensures durable { OnOk result (ForSome (F.reads disk.old) (λ _. (image : Files) → F.may_leave disk.new image
+        ensures durable { OnOk result (ForSome (F.seen disk.old).files
+            (λ _. (image : Files) → (F.seen disk.new).may_leave image
             → HasSet (last_set image) (next_generation self) set.now.files)) }
-        ensures stored { OnOk result (ForSome (F.reads disk.new) (λ files. HasSet (last_set files) (next_generation self) set.now.files)) }
+        ensures stored { OnOk result (ForSome (F.seen disk.new).files
+            (λ files. HasSet (last_set files) (next_generation self) set.now.files)) }
 
         // After a refusal reads give the one or the other.
-        ensures err { OnErr result (ForSome (F.reads disk.old) (λ before. ForSome (F.reads disk.new)
+        ensures err { OnErr result (ForSome (F.seen disk.old).files (λ before. ForSome (F.seen disk.new).files
             (OldOrNew (last_set before) (next_generation self) set.now.files))) }
-        ensures told { SameTold (F.reads disk.old) (F.reads disk.new) }
+        ensures told { SameTold (F.seen disk.old).files (F.seen disk.new).files }
         ensures refused { IfErr result IsOutside }
-        ensures cause { HasCause result StoreFault.DiskFault (F.faults disk.old) (F.faults disk.new) }
+        ensures cause { HasCause result StoreFault.DiskFault (F.seen disk.old).faults
+            (F.seen disk.new).faults }
 
         // Where the folder never wants for memory, a call that does has not touched it.
-        ensures own { (F.may_want → ⊥) → result ≡ Err StoreFault.Memory → disk.new ≡ disk.old }
+        ensures own { ((F.seen disk.old).may_want → ⊥) → result ≡ Err StoreFault.Memory
+            → disk.new ≡ disk.old }
     {
         let generation = self.next();
         let slot = slot_to_write(self.last);
@@ -147,28 +156,31 @@ impl Store {
 
     /// Reads the set that counts.
     pub fn get_set<F: Folder>(&self, alloc: Global, disk: &mut F) -> Result<SetBytes, StoreFault>
-        requires { FitsFolder self.now (F.reads disk.old) (F.may_leave disk.old) }
+        requires { FitsFolder self.now (F.seen disk.old) }
 
         // There is none exactly where none counts.
         ensures none { IsErrOf result StoreFault.NoSet ↔ (self.now.last ≡ None) }
 
         // What is read is the set that counts, and a set that is whole is read.
-        ensures found { IfOk result (λ set. ForSome (F.reads disk.old) (λ files. IfSome self.now.last (λ info.
+        ensures found { IfOk result (λ set. ForSome (F.seen disk.old).files
+            (λ files. IfSome self.now.last (λ info.
             HasSet (last_set files) info.generation set.files))) }
-        ensures only { ForSome (F.reads disk.old) (λ files. (g : ℕ) (bytes : List (List ℕ)) → HasSet (last_set files) g bytes
+        ensures only { ForSome (F.seen disk.old).files
+            (λ files. (g : ℕ) (bytes : List (List ℕ)) → HasSet (last_set files) g bytes
             → IsOrOutside result bytes) }
 
         // Where it is damaged the first damage is told, and only there.
-        ensures broken { ForSome (F.reads disk.old) (λ files. (d : Place) → HasDamage (last_set files) d
+        ensures broken { ForSome (F.seen disk.old).files (λ files. (d : Place) → HasDamage (last_set files) d
             → IsDamageOrOutside result d) }
         ensures damaged { (d : Place) → result ≡ Err (StoreFault.Damaged d)
-            → ForSome (F.reads disk.old) (λ files. HasDamage (last_set files) d) }
+            → ForSome (F.seen disk.old).files (λ files. HasDamage (last_set files) d) }
 
         // The folder stays as it is, and the store goes on to fit it.
-        ensures crash { LeavesOnly F.moment F.left_since disk.old disk.new (F.may_leave disk.old) }
-        ensures fits { FitsFolder self.now (F.reads disk.new) (F.may_leave disk.new) }
-        ensures nothing { ChangesNothing F.reads F.moment F.may_leave F.left_since disk.old disk.new }
-        ensures cause { HasCause result StoreFault.DiskFault (F.faults disk.old) (F.faults disk.new) }
+        ensures crash { LeavesOnly (F.seen disk.old) (F.seen disk.new) (F.seen disk.old).may_leave }
+        ensures fits { FitsFolder self.now (F.seen disk.new) }
+        ensures nothing { ChangesNothing (F.seen disk.old) (F.seen disk.new) }
+        ensures cause { HasCause result StoreFault.DiskFault (F.seen disk.old).faults
+            (F.seen disk.new).faults }
     {
         match self.last {
             None => Err(StoreFault::NoSet),

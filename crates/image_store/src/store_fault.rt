@@ -1,4 +1,4 @@
-use image_codec::{Damage, ReadFault};
+use image_format::{Damage, ReadFault};
 use set_disk::DiskFault as FolderFault;
 use std::alloc::{AllocError, AllocFailed};
 use thiserror::Error;

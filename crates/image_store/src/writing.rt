@@ -6,13 +6,12 @@ ghost use Rattle.set_disk.specs.Moments.{LeavesOnly, Passes};
 ghost use Rattle.image_store.specs.Slots.{gate_of, manifest_of};
 ghost use Rattle.image_store.specs.SlotWrites.{with_images, with_manifest, OnlyFile, KeepsManifest, KeepsGate};
 ghost use Rattle.image_store.specs.SlotImages.{IsInPut, IsPut};
-ghost use Rattle.image_codec.specs.Manifests.{SpellsManifest};
+ghost use Rattle.image_format.specs.Manifests.{SpellsManifest};
 ghost use Rattle.image_store.specs.StoreCrashes.{SameTold};
 ghost use Rattle.image_store.specs.StoreCauses.{HasCause};
 
 use crate::gate::{OPEN, close_gate, write_gate};
-use image_codec::Manifest;
-use image_codec::manifest::write_manifest;
+use image_format::{Manifest, write_manifest};
 use set_disk::{DiskFault, FileName, Folder};
 use std::alloc::{AllocError, Global};
 use views::list_of::ListOf;
@@ -26,7 +25,8 @@ pub fn manifest_bytes(
     requires some { 0 < length images.now }
     requires few { length images.now ≤ 129 }
 
-    ensures { IfOk result (λ bytes. SpellsManifest bytes.items (record { generation = generation; lengths = map length images.now })) }
+    ensures { IfOk result (λ bytes. SpellsManifest bytes.items
+        (record { generation = generation; lengths = map length images.now })) }
 {
     let mut lengths = Vec::with_capacity(alloc, images.len())?;
     for image in images {
@@ -45,11 +45,12 @@ pub fn manifest_bytes(
 /// Puts the bytes in the place of all that the file has.
 fn write_file<F: Folder>(disk: &mut F, name: FileName, bytes: &[u8]) -> Result<(), DiskFault>
     ensures written { OnOk result
-        (F.reads disk.new ≡ option_map (λ files. files_by_name.insert files name bytes.now) (F.reads disk.old)) }
-    ensures told { SameTold (F.reads disk.old) (F.reads disk.new) }
-    ensures crash { Passes F.moment F.may_leave F.left_since (OnlyFile name) disk.old disk.new }
-    ensures cause { HasCause result DiskFault.Failed (F.faults disk.old) (F.faults disk.new) }
-    ensures want { result ≡ Err DiskFault.Memory → F.may_want }
+        ((F.seen disk.new).files ≡ option_map (λ files. files_by_name.insert files name bytes.now)
+        (F.seen disk.old).files) }
+    ensures told { SameTold (F.seen disk.old).files (F.seen disk.new).files }
+    ensures crash { Passes (OnlyFile name) (F.seen disk.old) (F.seen disk.new) }
+    ensures cause { HasCause result DiskFault.Failed (F.seen disk.old).faults (F.seen disk.new).faults }
+    ensures want { result ≡ Err DiskFault.Memory → (F.seen disk.old).may_want }
 {
     disk.cut(name, 0)?;
     disk.write_at(name, 0, bytes)
@@ -59,11 +60,12 @@ fn write_file<F: Folder>(disk: &mut F, name: FileName, bytes: &[u8]) -> Result<(
 fn write_images<F: Folder>(disk: &mut F, slot: u32, images: &[ListOf<u8>]) -> Result<(), DiskFault>
     requires { length images.now ≤ 129 }
 
-    ensures written { OnOk result (F.reads disk.new ≡ option_map (with_images slot 1 images.now) (F.reads disk.old)) }
-    ensures told { SameTold (F.reads disk.old) (F.reads disk.new) }
-    ensures crash { Passes F.moment F.may_leave F.left_since (KeepsManifest slot) disk.old disk.new }
-    ensures cause { HasCause result DiskFault.Failed (F.faults disk.old) (F.faults disk.new) }
-    ensures want { result ≡ Err DiskFault.Memory → F.may_want }
+    ensures written { OnOk result ((F.seen disk.new).files ≡ option_map (with_images slot 1 images.now)
+        (F.seen disk.old).files) }
+    ensures told { SameTold (F.seen disk.old).files (F.seen disk.new).files }
+    ensures crash { Passes (KeepsManifest slot) (F.seen disk.old) (F.seen disk.new) }
+    ensures cause { HasCause result DiskFault.Failed (F.seen disk.old).faults (F.seen disk.new).faults }
+    ensures want { result ≡ Err DiskFault.Memory → (F.seen disk.old).may_want }
 {
     for (i, image) in images.iter().enumerate() {
         let index = i as u32 + 1;
@@ -74,14 +76,15 @@ fn write_images<F: Folder>(disk: &mut F, slot: u32, images: &[ListOf<u8>]) -> Re
 
 /// Writes the manifest behind its gate.
 fn write_body<F: Folder>(disk: &mut F, slot: u32, manifest: &[u8]) -> Result<(), DiskFault>
-    requires gate { ForSome (F.reads disk.old) (λ files. 0 < length (manifest_of files slot)) }
+    requires gate { ForSome (F.seen disk.old).files (λ files. 0 < length (manifest_of files slot)) }
     requires some { 0 < length manifest.now }
 
-    ensures written { OnOk result (F.reads disk.new ≡ option_map (with_manifest slot manifest.now) (F.reads disk.old)) }
-    ensures told { SameTold (F.reads disk.old) (F.reads disk.new) }
-    ensures crash { Passes F.moment F.may_leave F.left_since (KeepsGate slot) disk.old disk.new }
-    ensures cause { HasCause result DiskFault.Failed (F.faults disk.old) (F.faults disk.new) }
-    ensures want { result ≡ Err DiskFault.Memory → F.may_want }
+    ensures written { OnOk result ((F.seen disk.new).files ≡ option_map (with_manifest slot manifest.now)
+        (F.seen disk.old).files) }
+    ensures told { SameTold (F.seen disk.old).files (F.seen disk.new).files }
+    ensures crash { Passes (KeepsGate slot) (F.seen disk.old) (F.seen disk.new) }
+    ensures cause { HasCause result DiskFault.Failed (F.seen disk.old).faults (F.seen disk.new).faults }
+    ensures want { result ≡ Err DiskFault.Memory → (F.seen disk.old).may_want }
 {
     let name = FileName { slot, index: 0 };
     disk.write_at(name, 1, &manifest[1..])?;
@@ -96,16 +99,18 @@ fn fill_slot<F: Folder>(
     manifest: &[u8],
 ) -> Result<(), DiskFault>
     requires few { length images.now ≤ 129 }
-    requires gate { ForSome (F.reads disk.old) (λ files. 0 < length (manifest_of files slot)) }
+    requires gate { ForSome (F.seen disk.old).files (λ files. 0 < length (manifest_of files slot)) }
     requires some { 0 < length manifest.now }
 
     ensures written { OnOk result
-        (F.reads disk.new ≡ option_map (λ files. with_manifest slot manifest.now (with_images slot 1 images.now files)) (F.reads disk.old)) }
-    ensures durable { OnOk result (IsSettled (F.reads disk.new) (F.may_leave disk.new)) }
-    ensures told { SameTold (F.reads disk.old) (F.reads disk.new) }
-    ensures crash { Passes F.moment F.may_leave F.left_since (KeepsGate slot) disk.old disk.new }
-    ensures cause { HasCause result DiskFault.Failed (F.faults disk.old) (F.faults disk.new) }
-    ensures want { result ≡ Err DiskFault.Memory → F.may_want }
+        ((F.seen disk.new).files ≡ option_map
+        (λ files. with_manifest slot manifest.now (with_images slot 1 images.now files))
+        (F.seen disk.old).files) }
+    ensures durable { OnOk result (IsSettled (F.seen disk.new)) }
+    ensures told { SameTold (F.seen disk.old).files (F.seen disk.new).files }
+    ensures crash { Passes (KeepsGate slot) (F.seen disk.old) (F.seen disk.new) }
+    ensures cause { HasCause result DiskFault.Failed (F.seen disk.old).faults (F.seen disk.new).faults }
+    ensures want { result ≡ Err DiskFault.Memory → (F.seen disk.old).may_want }
 {
     write_images(disk, slot, images)?;
     write_body(disk, slot, manifest)?;
@@ -121,19 +126,20 @@ pub fn write_set<F: Folder>(
     images: &[ListOf<u8>],
     manifest: &[u8],
 ) -> Result<(), DiskFault>
-    requires settled { IsSettled (F.reads disk.old) (F.may_leave disk.old) }
-    requires gate { ForSome (F.reads disk.old) (λ files. gate_of (manifest_of files slot) ≡ gate) }
+    requires settled { IsSettled (F.seen disk.old) }
+    requires gate { ForSome (F.seen disk.old).files (λ files. gate_of (manifest_of files slot) ≡ gate) }
     requires few { length images.now ≤ 129 }
     requires some { 0 < length manifest.now }
     requires open { slice_index manifest.now 0 ≡ 1 }
 
-    ensures written { OnOk result (ForSome (F.reads disk.old) (λ files. ForSome (F.reads disk.new) (IsPut slot files manifest.now images.now))) }
-    ensures durable { OnOk result (IsSettled (F.reads disk.new) (F.may_leave disk.new)) }
-    ensures told { SameTold (F.reads disk.old) (F.reads disk.new) }
-    ensures crash { ForSome (F.reads disk.old) (λ files.
-        LeavesOnly F.moment F.left_since disk.old disk.new (IsInPut slot files manifest.now images.now)) }
-    ensures cause { HasCause result DiskFault.Failed (F.faults disk.old) (F.faults disk.new) }
-    ensures want { result ≡ Err DiskFault.Memory → F.may_want }
+    ensures written { OnOk result (ForSome (F.seen disk.old).files
+        (λ files. ForSome (F.seen disk.new).files (IsPut slot files manifest.now images.now))) }
+    ensures durable { OnOk result (IsSettled (F.seen disk.new)) }
+    ensures told { SameTold (F.seen disk.old).files (F.seen disk.new).files }
+    ensures crash { ForSome (F.seen disk.old).files (λ files.
+        LeavesOnly (F.seen disk.old) (F.seen disk.new) (IsInPut slot files manifest.now images.now)) }
+    ensures cause { HasCause result DiskFault.Failed (F.seen disk.old).faults (F.seen disk.new).faults }
+    ensures want { result ≡ Err DiskFault.Memory → (F.seen disk.old).may_want }
 {
     close_gate(disk, slot, gate)?;
     fill_slot(disk, slot, images, manifest)?;

@@ -1,6 +1,6 @@
 // Images of a process with one thread.
 ghost use Rattle.std.specs.Prelude.{IfOk};
-ghost use Rattle.image_codec.specs.ProcessImages.{HasImage};
+ghost use Rattle.image_process.specs.ProcessFits.{HasImage};
 
 use crate::asserts::{holds, same};
 use crate::damages::{Change, changed, cut, damage_at, longer};

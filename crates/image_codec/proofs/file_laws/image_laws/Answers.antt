@@ -1,11 +1,11 @@
 use Rattle.image_codec.proofs.ImageKernels.{image_is_kernel, image_has_next_id}
 use Rattle.image_codec.proofs.KeptImages.{other_threads_keep_image}
-use Rattle.image_codec.proofs.ManifestLaws as manifest
+use Rattle.image_format.proofs.ManifestLaws as manifest
 use Rattle.image_codec.proofs.OneProcess.{one_of_image}
-use Rattle.image_codec.proofs.ProcessFiles as process
+use Rattle.image_process.proofs.ProcessFiles as process
 use Rattle.image_codec.proofs.SameThreads.{images_have_same_threads, same_threads_have_tids}
 use Rattle.image_codec.proofs.SetLaws.{one_set_of_state, one_state_of_set}
-use Rattle.image_codec.proofs.SharedLaws as shared
+use Rattle.image_shared.proofs.SharedLaws as shared
 use Rattle.image_codec.proofs.StartImages.{start_has_image}
 use Rattle.image_codec.proofs.file_laws.image_laws.Goals as goal
 

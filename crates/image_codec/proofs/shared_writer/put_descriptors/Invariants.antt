@@ -1,6 +1,6 @@
 use Rattle.std.proofs.Common.{◌≡◌, ◌++◌, take}
 use Rattle.std.specs.List.{flat_map}
-use Rattle.image_codec.specs.SharedTexts.{descriptor_text}
+use Rattle.image_shared.specs.SharedTexts.{descriptor_text}
 use Rattle.image_codec.proofs.shared_writer.put_descriptors.Given as goal
 
 abbrev pub invariant-loop-item : goal.invariant-loop-item

@@ -1,6 +1,6 @@
 use Rattle.std.proofs.Common.{◌≡◌, ◌++◌, take}
 use Rattle.std.specs.List.{flat_map}
-use Rattle.image_codec.specs.SharedTexts.{process_text}
+use Rattle.image_shared.specs.SharedTexts.{process_text}
 use Rattle.image_codec.proofs.shared_writer.put_processes.Given as goal
 
 abbrev pub invariant-loop-item : goal.invariant-loop-item

@@ -1,8 +1,6 @@
-use Rattle.std.proofs.Common.{sym, subst}
-use Rattle.std.specs.Prelude.{All}
-use Rattle.image_codec.specs.SharedTexts.{HasCounts}
-use Rattle.image_codec.proofs.SharedLaws.{counts}
+use Rattle.std.proofs.lemmas.Result.{IfOk-weaker}
+use Rattle.image_shared.proofs.SharedLaws.{of_text}
 use Rattle.image_codec.proofs.shared_writer.write_shared.Goals as goal
 
-pub put_processes-requires-clause-counts : goal.put_processes-requires-clause-counts
-put_processes-requires-clause-counts c = subst (All HasCounts) (sym c.as_slice-2.ensures) (counts c.args.s.now c.requires)
+pub returns : goal.returns
+returns c = IfOk-weaker c.shared_text.result _ _ (λ bytes is. of_text bytes.items c.args.s.now is) c.shared_text.ensures

@@ -12,4 +12,4 @@ pub returns-in-Some-eq1-clause-crash : goal.returns-in-Some-eq1-clause-crash
 returns-in-Some-eq1-clause-crash g c = passes_widen (closing_step c.args.slot c.args.gate) c.write_gate-in-Some-eq1.ensures.crash (λ old new torn. closing_torn c.args.slot c.args.gate old new (inr (let one : c.in-Some-eq1.field-0 ≡ 1 = omega arith in c.in-Some-eq1.is ∙ ap (λ (n : ℕ). Some n) one)) torn)
 
 pub returns-in-Some-clause-crash : goal.returns-in-Some-clause-crash
-returns-in-Some-clause-crash g c = passes_none (closing_step c.args.slot c.args.gate) (λ files. closing_same c.args.slot c.args.gate c.in-Some.field-0 files c.in-Some.is) c.args.disk.now
+returns-in-Some-clause-crash g c = passes_none (closing_step c.args.slot c.args.gate) (λ files. closing_same c.args.slot c.args.gate c.in-Some.field-0 files c.in-Some.is) (g.F.Folder.seen c.args.disk.now)

@@ -6,7 +6,7 @@ use Rattle.image_store.proofs.Readings.{damage_start, damage_end, damage_after, 
 use Rattle.image_store.proofs.reading.check_lengths.Goals as goal
 
 pub loop-i-init : goal.loop-i-init
-loop-i-init g c = record { found = λ files is. refl; nothing = nothing_none c.args.disk.now; count = counts_none _ }
+loop-i-init g c = record { found = λ files is. refl; nothing = nothing_none (g.F.Folder.seen c.args.disk.now); count = counts_none _ }
 
 pub returns-in_err-there-clause-nothing : goal.returns-in_err-there-clause-nothing
 returns-in_err-there-clause-nothing g c = nothing_then c.loop-i.invariant.nothing (nothing_call c.len.ensures.same c.len.ensures.crash)

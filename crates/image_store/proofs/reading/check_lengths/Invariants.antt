@@ -11,7 +11,7 @@ abbrev pub invariant-loop-i : goal.invariant-loop-i
 invariant-loop-i g l =
     let folder = g.F.Folder in
     record {
-      found : ForSome (folder.reads l.fn.disk) (λ files. damage_here (file_at files l.slot) l.lengths l.i ≡ damage_here (file_at files l.slot) l.lengths 0);
-      nothing : ChangesNothing folder.reads folder.moment folder.may_leave folder.left_since l.fn.disk l.disk;
-      count : Counts (folder.faults l.fn.disk) (folder.faults l.disk);
+      found : ForSome (folder.seen l.fn.disk).files (λ files. damage_here (file_at files l.slot) l.lengths l.i ≡ damage_here (file_at files l.slot) l.lengths 0);
+      nothing : ChangesNothing (folder.seen l.fn.disk) (folder.seen l.disk);
+      count : Counts (folder.seen l.fn.disk).faults (folder.seen l.disk).faults;
     }

@@ -7,7 +7,7 @@ use Rattle.image_store.proofs.Readings.{damage_start, files_left, fits_here, lef
 use Rattle.image_store.proofs.reading.read_images.Goals as goal
 
 pub returns-in_err-images-clause-nothing : goal.returns-in_err-images-clause-nothing
-returns-in_err-images-clause-nothing g c = nothing_none c.args.disk.now
+returns-in_err-images-clause-nothing g c = nothing_none (g.F.Folder.seen c.args.disk.now)
 
 pub loop-i-init : goal.loop-i-init
 loop-i-init g c =
@@ -16,7 +16,7 @@ loop-i-init g c =
       found = λ files is. ap (λ (xs : List (List ℕ)). map Some xs ++ files_left (file_at files c.args.slot) lengths 0) c.in_ok-images.ensures.items ∙ left_start (file_at files c.args.slot) lengths;
       whole = λ files is. damage_start (file_at files c.args.slot) lengths ∙ c.requires.whole files is;
       sizes = ap (λ (xs : List (List ℕ)). map length xs) c.in_ok-images.ensures.items;
-      nothing = nothing_none c.args.disk.now;
+      nothing = nothing_none (g.F.Folder.seen c.args.disk.now);
       count = counts_none _;
     }
 

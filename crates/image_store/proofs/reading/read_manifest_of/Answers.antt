@@ -1,6 +1,7 @@
 use Rattle.std.proofs.Common.{ℕ, List, sym, subst, ◌∙◌}
-use Rattle.image_codec.specs.Manifests.{SpellsManifest, DamagedManifest}
+use Rattle.image_format.specs.Manifests.{SpellsManifest, DamagedManifest}
 use Rattle.image_store.specs.Slots.{manifest_of}
+use Rattle.image_store.proofs.ManifestFronts.{few}
 use Rattle.image_store.proofs.LongManifests.{front_found, front_only, front_damaged, told_only, told_damaged}
 use Rattle.image_store.proofs.reading.read_manifest_of.Goals as goal
 
@@ -25,3 +26,6 @@ pub returns-clause-only : goal.returns-clause-only
 returns-clause-only g c files is m spelled =
     let same = c.deref.ensures.value ∙ c.in_ok-bytes.ensures.bytes files is in
     c.in_ok-read_manifest.ensures.only m (subst (λ (t : List ℕ). SpellsManifest t m) (sym same) (front_only (manifest_of files c.args.slot) m spelled))
+
+pub returns-clause-few : goal.returns-clause-few
+returns-clause-few g c = few c.deref.result.now c.in_ok-read_manifest.field-0 c.in_ok-read_manifest.ensures.found

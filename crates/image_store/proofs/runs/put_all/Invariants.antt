@@ -13,10 +13,10 @@ abbrev pub invariant-loop-set : goal.invariant-loop-set
 invariant-loop-set g l =
     let folder = g.F.Folder in
     record {
-      fits : FitsFolder l.store (folder.reads l.disk) (folder.may_leave l.disk);
+      fits : FitsFolder l.store (folder.seen l.disk);
       next : next_generation l.store ≡ next_generation l.fn.store + l.set-index;
-      told : SameTold (folder.reads l.fn.disk) (folder.reads l.disk);
-      reads : ForSome (folder.reads l.fn.disk) (λ files. ForSome (folder.reads l.disk) (λ now. IsOneOf (last_set files) (next_generation l.fn.store) l.sets (last_set now)));
-      count : Counts (folder.faults l.fn.disk) (folder.faults l.disk);
-      crash : ForSome (folder.reads l.fn.disk) (λ files. LeavesOnly folder.moment folder.left_since l.fn.disk l.disk (λ image. IsOneOf (last_set files) (next_generation l.fn.store) l.sets (last_set image)));
+      told : SameTold (folder.seen l.fn.disk).files (folder.seen l.disk).files;
+      reads : ForSome (folder.seen l.fn.disk).files (λ files. ForSome (folder.seen l.disk).files (λ now. IsOneOf (last_set files) (next_generation l.fn.store) l.sets (last_set now)));
+      count : Counts (folder.seen l.fn.disk).faults (folder.seen l.disk).faults;
+      crash : ForSome (folder.seen l.fn.disk).files (λ files. LeavesOnly (folder.seen l.fn.disk) (folder.seen l.disk) (λ image. IsOneOf (last_set files) (next_generation l.fn.store) l.sets (last_set image)));
     }

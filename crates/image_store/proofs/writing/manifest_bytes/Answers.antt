@@ -2,10 +2,10 @@ use Rattle.std.proofs.Common.{◌≡◌, ◌<◌, ◌≤◌, ℕ, ◌∙◌, ap,
 use Rattle.std.specs.Prelude.{map, IsTrue}
 use Rattle.std.proofs.lemmas.List.{take_all, length-map}
 use Rattle.std.proofs.lemmas.Bool.Decides.{nat_tests}
-use Rattle.image_codec.specs.Manifests.{is_file_count}
+use Rattle.image_format.specs.Manifests.{is_image_count}
 use Rattle.image_store.proofs.writing.manifest_bytes.Goals as goal
 
-counted : (n m : ℕ) → n ≡ m → 0 < m → m ≤ 129 → IsTrue (is_file_count n)
+counted : (n m : ℕ) → n ≡ m → 0 < m → m ≤ 129 → IsTrue (is_image_count n)
 counted n m is some few = grind (arith, nat_tests)
 
 pub write_manifest-requires : goal.write_manifest-requires

@@ -13,7 +13,7 @@ pub loop-i-init : goal.loop-i-init
 loop-i-init g c = record {
   written = refl;
   told = refl;
-  crash = passes_none (KeepsManifest c.args.slot) (manifest_same c.args.slot) c.args.disk.now;
+  crash = passes_none (KeepsManifest c.args.slot) (manifest_same c.args.slot) (g.F.Folder.seen c.args.disk.now);
   count = counts_none _;
 }
 
@@ -30,9 +30,9 @@ loop-i-preserved g c =
     let i = c.loop-i.i in
     let image = c.index-images-i.result in
     let here : c.as_slice.result.now ≡ image = c.as_slice.ensures in
-    let written = c.in_ok-write_file.ensures.written ∙ ap (λ (bytes : List ℕ). option_map (λ files. files_by_name.insert files (record { slot = c.args.slot; index = i + 1 }) bytes) (g.F.Folder.reads c.loop-i.disk)) here in
+    let written = c.in_ok-write_file.ensures.written ∙ ap (λ (bytes : List ℕ). option_map (λ files. files_by_name.insert files (record { slot = c.args.slot; index = i + 1 }) bytes) (g.F.Folder.seen c.loop-i.disk).files) here in
     record {
-      written = images_more c.args.slot i c.args.images.now image (g.F.Folder.reads c.loop-i.disk) (g.F.Folder.reads c.write_file.new.disk) c.loop-i-test.true c.index-images-i.is written ∙ c.loop-i.invariant.written;
+      written = images_more c.args.slot i c.args.images.now image (g.F.Folder.seen c.loop-i.disk).files (g.F.Folder.seen c.write_file.new.disk).files c.loop-i-test.true c.index-images-i.is written ∙ c.loop-i.invariant.written;
       told = told_then _ _ _ c.loop-i.invariant.told c.write_file.ensures.told;
       crash = passes_then (KeepsManifest c.args.slot) c.loop-i.invariant.crash c.write_file.ensures.crash (λ old new keeps. keeps) (λ old mid new keeps only. one_more c.args.slot i old mid new keeps only);
       count = counts_then c.loop-i.invariant.count (counts c.write_file.ensures.cause);

@@ -11,8 +11,8 @@ abbrev pub invariant-loop-i : goal.invariant-loop-i
 invariant-loop-i g l =
     let folder = g.F.Folder in
     record {
-      written : option_map (with_images l.slot (l.i + 1) (drop l.i l.images)) (folder.reads l.disk) ≡ option_map (with_images l.slot 1 l.images) (folder.reads l.fn.disk);
-      told : SameTold (folder.reads l.fn.disk) (folder.reads l.disk);
-      crash : Passes folder.moment folder.may_leave folder.left_since (KeepsManifest l.slot) l.fn.disk l.disk;
-      count : Counts (folder.faults l.fn.disk) (folder.faults l.disk);
+      written : option_map (with_images l.slot (l.i + 1) (drop l.i l.images)) (folder.seen l.disk).files ≡ option_map (with_images l.slot 1 l.images) (folder.seen l.fn.disk).files;
+      told : SameTold (folder.seen l.fn.disk).files (folder.seen l.disk).files;
+      crash : Passes (KeepsManifest l.slot) (folder.seen l.fn.disk) (folder.seen l.disk);
+      count : Counts (folder.seen l.fn.disk).faults (folder.seen l.disk).faults;
     }

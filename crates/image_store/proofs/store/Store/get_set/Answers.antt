@@ -15,7 +15,7 @@ pub returns-in-None-clause-only : goal.returns-in-None-clause-only
 returns-in-None-clause-only g c = λ files is n bytes has. none_set files n bytes (last_is c.args.self.now files _ c.self.inside.last _ (c.requires files is) (ap (λ (k : Known). k.last) c.self.view_is) c.in-None.is) has
 
 pub returns-in-None-clause-nothing : goal.returns-in-None-clause-nothing
-returns-in-None-clause-nothing g c = nothing_none c.args.disk.now
+returns-in-None-clause-nothing g c = nothing_none (g.F.Folder.seen c.args.disk.now)
 
 pub returns-in-Some-clause-found : goal.returns-in-Some-clause-found
 returns-in-Some-clause-found g c = IfOk-weaker c.read_set.result _ _ (λ set found files is.

@@ -17,10 +17,10 @@ returns-clause-nothing g c =
 
 pub returns-clause-fits : goal.returns-clause-fits
 returns-clause-fits g c = λ files is.
-    let second : g.F.Folder.reads c.read_head.new.disk ≡ Some files = sym c.read_head-2.ensures.same ∙ is in
-    let first : g.F.Folder.reads c.sync.new.self ≡ Some files = sym c.read_head.ensures.same ∙ second in
-    let start : g.F.Folder.reads c.args.disk.now ≡ Some files = sym c.sync.ensures.same ∙ first in
-    let settled = settled_at (g.F.Folder.reads c.sync.new.self) (g.F.Folder.may_leave c.sync.new.self) files c.in_ok-sync.ensures.durable first in
+    let second : (g.F.Folder.seen c.read_head.new.disk).files ≡ Some files = sym c.read_head-2.ensures.same ∙ is in
+    let first : (g.F.Folder.seen c.sync.new.self).files ≡ Some files = sym c.read_head.ensures.same ∙ second in
+    let start : (g.F.Folder.seen c.args.disk.now).files ≡ Some files = sym c.sync.ensures.same ∙ first in
+    let settled = settled_at (g.F.Folder.seen c.sync.new.self) files c.in_ok-sync.ensures.durable first in
     record {
       settled = settled_same files c.read_head-2.ensures.crash (settled_same files c.read_head.ensures.crash settled);
       first = c.in_ok-first.ensures.gate files first;

@@ -13,7 +13,7 @@ use Rattle.image_store.proofs.store.Store.put_set.Goals as goal
 
 pub returns-in_err-manifest-clause-crash : goal.returns-in_err-manifest-clause-crash
 returns-in_err-manifest-clause-crash g c = λ files is.
-    leaves_only {may_leave = g.F.Folder.may_leave} files (OldOrNew (last_set files) (next_generation c.args.self) c.args.set.now.files) (passes_none Same (λ f. refl) c.args.disk.now) (g.met.F.Folder.only_now c.args.disk.now) (c.requires.fits files is).settled (inl refl)
+    leaves_only files (OldOrNew (last_set files) (next_generation c.args.self) c.args.set.now.files) (passes_none Same (λ f. refl) (g.F.Folder.seen c.args.disk.now)) (c.requires.fits files is).settled (inl refl)
     (λ image same. inl (ap last_set same))
 
 pub gate-requires : goal.gate-requires
@@ -23,7 +23,7 @@ pub with_set-requires : goal.with_set-requires
 with_set-requires g c = small_slot _ _ c.slot_to_write-slot.ensures
 
 pub write_set-requires-clause-settled : goal.write_set-requires-clause-settled
-write_set-requires-clause-settled g c = where_told (g.F.Folder.reads c.args.disk.now) (λ files is. (c.requires.fits files is).settled)
+write_set-requires-clause-settled g c = where_told (g.F.Folder.seen c.args.disk.now).files (λ files is. (c.requires.fits files is).settled)
 
 pub write_set-requires-clause-gate : goal.write_set-requires-clause-gate
 write_set-requires-clause-gate g c = λ files is. gate_is c.slot_to_write-slot.result c.args.self files _ (small_slot _ _ c.slot_to_write-slot.ensures) (c.requires.fits files is) ∙ sym c.gate.ensures
@@ -37,45 +37,46 @@ write_set-requires-clause-open g c = ap (λ bytes. slice_index bytes 0) c.deref.
 pub returns-in_err-write_set-clause-crash : goal.returns-in_err-write_set-clause-crash
 returns-in_err-write_set-clause-crash g c = λ files is.
     let ready = ready_of c.args.self files _ c.self.inside.last c.slot_to_write-slot.result c.next-generation.result c.deref.result.now c.in_ok-manifest.manifest.items c.as_slice-images.result.now c.args.set.now.files (c.requires.fits files is) (ap (λ (k : Known). k.last) c.self.view_is) c.slot_to_write-slot.ensures c.next-generation.ensures c.deref.ensures.value c.in_ok-manifest.ensures c.as_slice-images.ensures in
-    weakens c.args.disk.now c.write_set.new.disk _ _ (c.write_set.ensures.crash files is) (ready_image files _ _ _ _ _ _ ready)
+    weakens (g.F.Folder.seen c.args.disk.now) (g.F.Folder.seen c.write_set.new.disk) _ _ (c.write_set.ensures.crash files is) (ready_image files _ _ _ _ _ _ ready)
 
 pub returns-in_err-write_set-clause-err : goal.returns-in_err-write_set-clause-err
 returns-in_err-write_set-clause-err g c = on_err c.from_residual-in_err-write_set.result (λ files is after is_after.
     let ready = ready_of c.args.self files _ c.self.inside.last c.slot_to_write-slot.result c.next-generation.result c.deref.result.now c.in_ok-manifest.manifest.items c.as_slice-images.result.now c.args.set.now.files (c.requires.fits files is) (ap (λ (k : Known). k.last) c.self.view_is) c.slot_to_write-slot.ensures c.next-generation.ensures c.deref.ensures.value c.in_ok-manifest.ensures c.as_slice-images.ensures in
     let stretch = c.write_set.ensures.crash files is in
-    let left = g.met.F.Folder.counts_now c.write_set.new.disk (g.F.Folder.moment c.args.disk.now) after stretch.later (g.met.F.Folder.reads_left c.write_set.new.disk after is_after) in
+    let seen = g.F.Folder.seen c.write_set.new.disk in
+    let left = seen.counts_now (g.F.Folder.seen c.args.disk.now).moment after stretch.later (seen.reads_left after is_after) in
     ready_image files _ _ _ _ _ _ ready after (stretch.each after left))
 
 pub returns-clause-crash : goal.returns-clause-crash
 returns-clause-crash g c = λ files is.
     let ready = ready_of c.args.self files _ c.self.inside.last c.slot_to_write-slot.result c.next-generation.result c.deref.result.now c.in_ok-manifest.manifest.items c.as_slice-images.result.now c.args.set.now.files (c.requires.fits files is) (ap (λ (k : Known). k.last) c.self.view_is) c.slot_to_write-slot.ensures c.next-generation.ensures c.deref.ensures.value c.in_ok-manifest.ensures c.as_slice-images.ensures in
-    weakens c.args.disk.now c.write_set.new.disk _ _ (c.write_set.ensures.crash files is) (ready_image files _ _ _ _ _ _ ready)
+    weakens (g.F.Folder.seen c.args.disk.now) (g.F.Folder.seen c.write_set.new.disk) _ _ (c.write_set.ensures.crash files is) (ready_image files _ _ _ _ _ _ ready)
 
 pub returns-clause-next : goal.returns-clause-next
 returns-clause-next g c = next_next c.args.self c.with_set.result c.slot_to_write-slot.result c.next-generation.result c.with_set.ensures c.next-generation.ensures
 
 pub returns-clause-fits : goal.returns-clause-fits
 returns-clause-fits g c = λ after is_after.
-    let start = told_before (g.F.Folder.reads c.args.disk.now) (g.F.Folder.reads c.write_set.new.disk) after c.write_set.ensures.told is_after in
+    let start = told_before (g.F.Folder.seen c.args.disk.now).files (g.F.Folder.seen c.write_set.new.disk).files after c.write_set.ensures.told is_after in
     let files = start.0 in
     let fits = c.requires.fits files start.1 in
     let ready = ready_of c.args.self files _ c.self.inside.last c.slot_to_write-slot.result c.next-generation.result c.deref.result.now c.in_ok-manifest.manifest.items c.as_slice-images.result.now c.args.set.now.files fits (ap (λ (k : Known). k.last) c.self.view_is) c.slot_to_write-slot.ensures c.next-generation.ensures c.deref.ensures.value c.in_ok-manifest.ensures c.as_slice-images.ensures in
-    let only = settled_at (g.F.Folder.reads c.write_set.new.disk) (g.F.Folder.may_leave c.write_set.new.disk) after c.in_ok-write_set.ensures.durable is_after in
-    subst (λ (k : Known). FitsFiles k after (g.F.Folder.may_leave c.write_set.new.disk)) (sym c.with_set.ensures)
+    let only = settled_at (g.F.Folder.seen c.write_set.new.disk) after c.in_ok-write_set.ensures.durable is_after in
+    subst (λ (k : Known). FitsFiles k after (g.F.Folder.seen c.write_set.new.disk).may_leave) (sym c.with_set.ensures)
     (put_fits c.slot_to_write-slot.result c.args.self files after _ _ _ _ _ _ _ (small_slot _ _ c.slot_to_write-slot.ensures) fits only ready (c.in_ok-write_set.ensures.written files start.1 after is_after))
 
 pub returns-clause-stored : goal.returns-clause-stored
 returns-clause-stored g c = λ after is_after.
-    let start = told_before (g.F.Folder.reads c.args.disk.now) (g.F.Folder.reads c.write_set.new.disk) after c.write_set.ensures.told is_after in
+    let start = told_before (g.F.Folder.seen c.args.disk.now).files (g.F.Folder.seen c.write_set.new.disk).files after c.write_set.ensures.told is_after in
     let files = start.0 in
     let ready = ready_of c.args.self files _ c.self.inside.last c.slot_to_write-slot.result c.next-generation.result c.deref.result.now c.in_ok-manifest.manifest.items c.as_slice-images.result.now c.args.set.now.files (c.requires.fits files start.1) (ap (λ (k : Known). k.last) c.self.view_is) c.slot_to_write-slot.ensures c.next-generation.ensures c.deref.ensures.value c.in_ok-manifest.ensures c.as_slice-images.ensures in
     ready_set files _ _ _ _ _ _ ready after (c.in_ok-write_set.ensures.written files start.1 after is_after)
 
 pub returns-clause-durable : goal.returns-clause-durable
 returns-clause-durable g c = λ files is image left.
-    let still = told_still (g.F.Folder.reads c.args.disk.now) (g.F.Folder.reads c.write_set.new.disk) files c.write_set.ensures.told is in
+    let still = told_still (g.F.Folder.seen c.args.disk.now).files (g.F.Folder.seen c.write_set.new.disk).files files c.write_set.ensures.told is in
     let after = still.0 in
     let ready = ready_of c.args.self files _ c.self.inside.last c.slot_to_write-slot.result c.next-generation.result c.deref.result.now c.in_ok-manifest.manifest.items c.as_slice-images.result.now c.args.set.now.files (c.requires.fits files is) (ap (λ (k : Known). k.last) c.self.view_is) c.slot_to_write-slot.ensures c.next-generation.ensures c.deref.ensures.value c.in_ok-manifest.ensures c.as_slice-images.ensures in
-    let only = settled_at (g.F.Folder.reads c.write_set.new.disk) (g.F.Folder.may_leave c.write_set.new.disk) after c.in_ok-write_set.ensures.durable still.1 in
+    let only = settled_at (g.F.Folder.seen c.write_set.new.disk) after c.in_ok-write_set.ensures.durable still.1 in
     subst (λ (f : Files). HasSet (last_set f) (next_generation c.args.self) c.args.set.now.files) (sym (only image left))
     (ready_set files _ _ _ _ _ _ ready after (c.in_ok-write_set.ensures.written files is after still.1))

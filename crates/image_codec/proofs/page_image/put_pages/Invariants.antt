@@ -1,7 +1,0 @@
-use Rattle.std.proofs.Common.{◌≡◌, ◌++◌, take}
-use Rattle.std.specs.List.{flat_map}
-use Rattle.image_codec.specs.ProcessImages.{page_text}
-use Rattle.image_codec.proofs.page_image.put_pages.Given as goal
-
-abbrev pub invariant-loop-page : goal.invariant-loop-page
-invariant-loop-page l = l.bytes.items ≡ l.initial.bytes.items ++ flat_map page_text (take l.page-index l.pages)

@@ -1,0 +1,9 @@
+pub mod DamageLaws
+pub mod Laws
+pub mod Loop
+pub mod ManifestLaws
+pub mod Numerals
+pub mod Rising
+pub mod Texts
+pub mod WholeFiles
+pub mod Writing

@@ -1,0 +1,42 @@
+ghost use Rattle.std.specs.Prelude.{◌≡◌, ◌-◌, ◌≤◌, length};
+
+use std::alloc::AllocError;
+use thiserror::Error;
+
+/// Where a set is damaged: a file of the slot, by its index (0 the manifest, 1 the shared image, then the images of
+/// processes), and the offset in bytes of the first field whose value is not allowed after the fields before it.
+#[derive(Clone, Copy, Debug, PartialEq, Eq)]
+pub struct Damage {
+    pub file: u32,
+    pub offset: u64,
+}
+
+/// Why bytes were not read as an image.
+#[derive(Clone, Copy, Debug, PartialEq, Eq, Error)]
+pub enum ReadFault {
+    #[error("damaged: file {} at {}", .0.file, .0.offset)]
+    Damaged(Damage),
+    #[error("out of memory")]
+    Memory,
+}
+
+impl From<AllocError> for ReadFault {
+    ghost use Rattle.image_format.specs.declared.damage.ReadFault.TheVariants.{Memory};
+
+    ghost from_gives = { λ _ fault. fault ≡ Memory };
+
+    fn from(_error: AllocError) -> Self {
+        ReadFault::Memory
+    }
+}
+
+/// The damage of a file's field from which on so many bytes are left.
+pub fn damaged(file: u32, bytes: &[u8], left: usize) -> ReadFault
+    requires { left ≤ length bytes.now }
+    ensures { result ≡ ReadFault.Damaged (record { file = file; offset = length bytes.now - left }) }
+{
+    ReadFault::Damaged(Damage {
+        file,
+        offset: (bytes.len() - left) as u64,
+    })
+}

@@ -1,0 +1,9 @@
+pub mod DistinctWaiters
+pub mod HeapWalk
+pub mod LiveProcesses
+pub mod Owners
+pub mod ProcessFiles
+pub mod ProcessLaws
+pub mod ReturnContent
+pub mod ThreadKeys
+pub mod Waiting

@@ -1,0 +1,209 @@
+ghost use Rattle.std.specs.Prelude.{◌≡◌, ℕ, ◌≤◌, [], filter, slice_get, IfOk};
+ghost use Rattle.std.specs.Option.{option_copied};
+ghost use Rattle.image_format.specs.Files.{IsRead, IsDamagedAt};
+ghost use Rattle.image_process.specs.ProcessImages.{process_at, pid_at, tids_at, tids_of};
+ghost use Rattle.sys_abi.specs.Lives.{lives};
+ghost use Rattle.image_process.specs.ProcessImages.{process_format, is_whole_process};
+ghost use Rattle.image_process.specs.ProcessImages.{SpellsProcess, DamagedProcess, SpellsFileAt};
+ghost use Rattle.image_process.specs.ProcessImages.{DamagedFileAt};
+ghost use Rattle.image_process.specs.ProcessFits.{threads_of, IsPage, HasImage};
+ghost use Rattle.image_process.specs.ProcessTexts.{IsProcessText};
+ghost use Rattle.image_process.specs.ProcessTests.{is_number};
+ghost use Rattle.image_format.specs.Reading.{Gives, read};
+ghost use Rattle.image_format.specs.Texts.{EachFrom};
+
+use crate::actions::{actions_at, put_actions};
+use crate::page_image::{
+    PageImage, has_heap, has_return_page, is_break_end, is_break_start, pages_at, put_pages,
+};
+use crate::thread_image::{ThreadImage, put_threads, threads_at};
+use crate::waiters::{put_waiters, waiters_at};
+use image_format::ReadFault;
+use image_format::damage::damaged;
+use image_format::fields::{Fault, after_magic, put_bytes, put_u32, u32_at};
+use image_shared::{ProcessEntry, Shared, ThreadEntry};
+use plain_process::{SignalAction, Waiter};
+use std::alloc::{AllocError, Global};
+use sys_abi::VPid;
+use sys_abi::page::PAGE_SIZE;
+use views::list_of::ListOf;
+
+/// The image of one process: its own part, as lists in rising order of their numbers.
+#[derive(Drop)]
+pub struct ProcImage {
+    pub pid: VPid,
+    pub break_start: u32,
+    pub break_end: u32,
+    pub pages: ListOf<PageImage>,
+    /// What the process does on the signals 1 to 31.
+    pub actions: ListOf<SignalAction>,
+    /// Who waits on its words, in waking order.
+    pub waiters: ListOf<Waiter>,
+    pub threads: ListOf<ThreadImage>,
+}
+
+fn lives(process: &ProcessEntry) -> bool
+    ensures { result ≡ lives process.now.life }
+{
+    process.life.is_live()
+}
+
+/// The live process at this place.
+#[tactic(auto, unfolding(crate::proofs::LiveProcesses::live_from), using(crate::proofs::LiveProcesses::passes_dead, crate::proofs::LiveProcesses::passes_live, crate::proofs::LiveProcesses::is_found, crate::proofs::LiveProcesses::is_none))]
+fn live_at(processes: &[ProcessEntry], place: usize) -> Option<&ProcessEntry>
+    ensures { option_copied result ≡ slice_get (filter (λ process. lives process.life) processes.now) place }
+{
+    let mut left = place;
+    for process in processes {
+        if lives(process) {
+            if left == 0 {
+                return Some(process);
+            }
+            left -= 1;
+        }
+    }
+    None
+}
+
+/// The process whose image is this file of a set.
+#[tactic(auto, unfolding(crate::specs::ProcessImages::process_at))]
+fn process_at(shared: &Shared, file: u32) -> Option<&ProcessEntry>
+    ensures { option_copied result ≡ process_at shared.now file }
+{
+    if file < 2 {
+        return None;
+    }
+    live_at(shared.processes.as_slice(), file as usize - 2)
+}
+
+fn is_number(pid: Option<u32>, number: u32) -> bool
+    ensures { result ≡ is_number pid number }
+{
+    match pid {
+        Some(pid) => pid == number,
+        None => false,
+    }
+}
+
+#[tactic(auto, unfolding(crate::specs::ProcessImages::is_whole_process))]
+fn is_whole_process(p: &ProcImage) -> bool
+    requires order { p.now.break_start ≤ p.now.break_end }
+    requires pages { EachFrom (IsPage p.now.break_start p.now.break_end) [] p.now.pages }
+    ensures { result ≡ is_whole_process p.now }
+{
+    has_heap(p.break_start, p.break_end, p.pages.as_slice()) && has_return_page(p.pages.as_slice())
+}
+
+#[tactic(auto, unfolding(crate::specs::ProcessImages::process_format, image_format::specs::Reading::read, image_format::specs::Reading::read_next, image_format::specs::Reading::read_if))]
+fn process_of<'a>(
+    alloc: Global,
+    pid: Option<u32>,
+    threads: &[ThreadEntry],
+    text: &'a [u8],
+) -> Result<(ProcImage, &'a [u8]), Fault>
+    ensures { Gives (λ x. (x.0, x.1.now)) result (read (process_format pid (tids_of threads.now)) text.now) }
+{
+    let at_number = after_magic(text, b"DMTPRC01")?;
+    let (number, at_start) = u32_at(at_number)?;
+    if !is_number(pid, number) {
+        return Err(Fault::Left(at_number.len()));
+    }
+    let (break_start, at_end) = u32_at(at_start)?;
+    if !is_break_start(break_start) {
+        return Err(Fault::Left(at_start.len()));
+    }
+    let (break_end, rest) = u32_at(at_end)?;
+    if !is_break_end(break_start, break_end) {
+        return Err(Fault::Left(at_end.len()));
+    }
+    let (pages, rest) = pages_at(alloc, break_start, break_end, rest)?;
+    let (actions, rest) = actions_at(alloc, rest)?;
+    let (waiters, rest) = waiters_at(alloc, threads, rest)?;
+    let (images, rest) = threads_at(alloc, threads, rest)?;
+    let p = ProcImage {
+        pid: VPid(number),
+        break_start,
+        break_end,
+        pages,
+        actions,
+        waiters,
+        threads: images,
+    };
+    Ok((p, rest))
+}
+
+/// The image of the process of this number with these threads.
+fn read_image(
+    alloc: Global,
+    file: u32,
+    pid: Option<u32>,
+    threads: &[ThreadEntry],
+    bytes: &[u8],
+) -> Result<ProcImage, ReadFault>
+    ensures found { IfOk result (λ p. SpellsProcess pid (tids_of threads.now) bytes.now p) }
+    ensures only { (p : ProcImage) → SpellsProcess pid (tids_of threads.now) bytes.now p → IsRead result p }
+    ensures exact { IsDamagedAt file (DamagedProcess pid (tids_of threads.now) bytes.now) result }
+    ensures again { IfOk result HasImage }
+{
+    match process_of(alloc, pid, threads, bytes) {
+        Ok((p, rest)) => {
+            if !rest.is_empty() {
+                return Err(damaged(file, bytes, rest.len()));
+            }
+            if is_whole_process(&p) {
+                Ok(p)
+            } else {
+                Err(damaged(file, bytes, 0))
+            }
+        }
+        Err(Fault::Left(left)) => Err(damaged(file, bytes, left)),
+        Err(Fault::Memory) => Err(ReadFault::Memory),
+    }
+}
+
+/// The image of a process that this file of a set spells: of the live processes of the shared image in order, the first one's
+/// is file 2.
+pub fn read_process(
+    alloc: Global,
+    file: u32,
+    bytes: &[u8],
+    shared: &Shared,
+) -> Result<ProcImage, ReadFault>
+    ensures found { IfOk result (λ p. SpellsFileAt shared.now file bytes.now p) }
+    ensures only { (p : ProcImage) → SpellsFileAt shared.now file bytes.now p → IsRead result p }
+    ensures exact { IsDamagedAt file (DamagedFileAt shared.now file bytes.now) result }
+    ensures again { IfOk result HasImage }
+{
+    match process_at(shared, file) {
+        Some(process) => {
+            let pid = Some(process.pid.0);
+            read_image(alloc, file, pid, process.threads.as_slice(), bytes)
+        }
+        None => read_image(alloc, file, None, &[], bytes),
+    }
+}
+
+#[tactic(auto, unfolding(crate::specs::ProcessTexts::process_text))]
+fn process_text(alloc: Global, p: &ProcImage) -> Result<Vec<u8>, AllocError>
+    requires { HasImage p.now }
+    ensures { IfOk result (λ bytes. IsProcessText (Some p.now.pid.0) (threads_of p.now) bytes.items p.now) }
+{
+    let mut bytes = Vec::with_capacity(alloc, (p.pages.len() + 1) * (PAGE_SIZE + 5))?;
+    put_bytes(&mut bytes, b"DMTPRC01")?;
+    put_u32(&mut bytes, p.pid.0)?;
+    put_u32(&mut bytes, p.break_start)?;
+    put_u32(&mut bytes, p.break_end)?;
+    put_pages(&mut bytes, p.pages.as_slice())?;
+    put_actions(&mut bytes, p.actions.as_slice())?;
+    put_waiters(&mut bytes, p.waiters.as_slice())?;
+    put_threads(&mut bytes, p.threads.as_slice())?;
+    Ok(bytes)
+}
+
+/// The bytes of the process's image.
+pub fn write_process(alloc: Global, p: &ProcImage) -> Result<Vec<u8>, AllocError>
+    requires { HasImage p.now }
+    ensures { IfOk result (λ bytes. SpellsProcess (Some p.now.pid.0) (threads_of p.now) bytes.items p.now) }
+{
+    process_text(alloc, p)
+}

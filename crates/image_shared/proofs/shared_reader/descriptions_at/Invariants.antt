@@ -1,0 +1,10 @@
+use Rattle.std.proofs.Common.{◌≡◌, ◌-◌, []}
+use Rattle.image_format.specs.Format.{each}
+use Rattle.image_shared.specs.SharedFormat as format
+use Rattle.image_format.specs.Reading.{read}
+use Rattle.image_shared.proofs.shared_reader.descriptions_at.Given as goal
+
+abbrev pub invariant-loop-item : goal.invariant-loop-item
+invariant-loop-item l =
+    read (each (format.description l.version l.next_id l.files l.channels) (l.count - l._item) l.descriptions) l.rest
+    ≡ read (each (format.description l.version l.next_id l.files l.channels) l.count []) l.initial.rest

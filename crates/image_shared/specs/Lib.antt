@@ -1,0 +1,4 @@
+pub mod SharedFits
+pub mod SharedFormat
+pub mod SharedTests
+pub mod SharedTexts
