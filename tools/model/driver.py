@@ -4,11 +4,12 @@
 from dataclasses import dataclass, field
 from enum import Enum
 
-from .images import process_image, shared_image
-from .rounds import Rounds
+from .images import has_image, process_image, shared_image
+from .objects import Counter, DatagramEnd
+from .rounds import arrivals, rounds
 from .state import Machine
 from .store import Store
-from .trace import Kind, Trace, mark
+from .trace import DATAGRAM_PAIR, EVENT_COUNTER, UNSUPPORTED, WORK, Kind, Record, Trace, mark
 
 LAST_ASKED = 2**64 - 2
 """A request is made where the greatest generation so far is below this."""
@@ -20,6 +21,21 @@ class RunEnd(Enum):
     DONE = "no process lives"
     SPENT = "the trace is full"
     STUCK = "nobody can go on"
+
+
+UNSUPPORTED_OBJECTS: dict[type, int] = {DatagramEnd: DATAGRAM_PAIR, Counter: EVENT_COUNTER}
+NAMES_OF_UNSUPPORTED = {DATAGRAM_PAIR: "a datagram pair", EVENT_COUNTER: "an event counter"}
+
+
+def _unsupported(machine: Machine) -> Record | None:
+    """The refusal for the lowest process and descriptor that no image holds."""
+    for pid in sorted(machine.processes):
+        descriptors = machine.processes[pid].descriptors
+        for fd in sorted(descriptors):
+            kind = UNSUPPORTED_OBJECTS.get(type(machine.descriptions[descriptors[fd].name].object))
+            if kind is not None:
+                return Record(Kind.REFUSED, x=UNSUPPORTED, fd=fd, a=pid, b=kind)
+    return None
 
 
 @dataclass
@@ -40,8 +56,11 @@ class Keeper:
         if self.every is None or self.work % self.every or self.generation >= LAST_ASKED:
             return
         self.requests += 1
-        if machine.process is None:
+        unsupported = _unsupported(machine)
+        if not machine.processes:
             self._lapse()
+        elif unsupported is not None:
+            self._refuse(unsupported)
         else:
             self._checkpoint(machine)
 
@@ -49,27 +68,46 @@ class Keeper:
         if self.trace.append(mark(Kind.LAPSED)):
             self.lines.append(f"checkpoint {self.requests} lapsed")
 
+    def _refuse(self, unsupported: Record) -> None:
+        if self.trace.append(unsupported):
+            what = NAMES_OF_UNSUPPORTED[unsupported.b]
+            place = f"process {unsupported.a} descriptor {unsupported.fd}"
+            self.lines.append(f"checkpoint {self.requests} refused: {place} is {what}")
+
+    def _let_arrive(self, machine: Machine) -> bool:
+        """All bytes that are on their way arrive; false where the trace is full before."""
+        records = arrivals(machine)
+        while not self.trace.is_full():
+            record = next(records, None)
+            if record is None:
+                return True
+            self.trace.append(record)
+        return False
+
     def _checkpoint(self, machine: Machine) -> None:
-        """A cut, the set, and the mark and line of its end as far as the trace has room."""
-        if not self.trace.append(mark(Kind.CUT, self.generation + 1)):
+        """What is on its way arrives; a cut, the set, and the mark and line of its end as far as the trace has room."""
+        if not self._let_arrive(machine) or not self.trace.append(mark(Kind.CUT, self.generation + 1)):
             return
         self.generation += 1
         if self.trace.is_full():
             return
+        if not has_image(machine):
+            raise NotImplementedError("the manual describes no image of this state yet")
         self.store.put_set([shared_image(machine, machine.process), process_image(machine.process)])
         if self.trace.append(mark(Kind.COMPLETE, self.generation)):
             self.lines.append(f"checkpoint {self.requests} complete: generation {self.generation}, drained 0")
 
 
 def drive(machine: Machine, keeper: Keeper) -> RunEnd:
-    """Runs the process's threads in rounds until nobody lives, the trace is full, or nobody can go on."""
-    rounds = Rounds(machine)
-    while machine.process is not None:
+    """Runs the threads in rounds until nobody lives, the trace is full, or nobody can go on."""
+    records = rounds(machine)
+    while machine.processes:
         if keeper.trace.is_full():
             return RunEnd.SPENT
-        record = rounds.step()
+        record = next(records, None)
         if record is None:
             return RunEnd.STUCK
         keeper.trace.append(record)
-        keeper.after_work(machine)
+        if record.kind in WORK:
+            keeper.after_work(machine)
     return RunEnd.DONE

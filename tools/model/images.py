@@ -1,6 +1,7 @@
 """The images of a state: what a checkpoint writes (docs/FORMATS.md, "Shared image" and "Process image")."""
 
 from .bits import word_bytes, words_bytes
+from .objects import Console
 from .state import Context, Machine, Process, Thread
 
 SHARED_MAGIC = b"DMTSHR01"
@@ -36,6 +37,13 @@ def _process_entry(process: Process) -> bytes:
         out += words_bytes([number, descriptor.name.pid, descriptor.name.num])
         out += _byte(descriptor.close_on_exec)
     return out
+
+
+def has_image(machine: Machine) -> bool:
+    """Whether the manual says which image a state has: one process, and the console alone."""
+    console = all(isinstance(one.object, Console) for one in machine.descriptions.values())
+    more = machine.zombies or machine.files or machine.channels
+    return console and len(machine.processes) == 1 and not more
 
 
 def shared_image(machine: Machine, process: Process) -> bytes:

@@ -1,6 +1,7 @@
 """A process's memory: pages with rights, the break, mappings (docs/MACHINE.md, "Instructions" and "Calls")."""
 
 from dataclasses import dataclass, field
+from struct import Struct
 
 from .bits import WORD_LIMIT
 from .traps import Trap, TrapSignal
@@ -13,6 +14,8 @@ READ, WRITE, EXECUTE = 4, 2, 1
 BREAK_LIMIT = 0x40000000
 MAPPINGS_START = 0x40000000
 MAPPINGS_END = 0x70000000
+NUMBERS = {1: Struct("<B"), 2: Struct("<H"), 4: Struct("<I")}
+"""Numbers of so many bytes, the lowest first."""
 
 
 @dataclass
@@ -40,6 +43,11 @@ class Memory:
     break_start: int
     break_now: int
     pages: dict[int, Page] = field(default_factory=dict)
+
+    def copy(self) -> "Memory":
+        """The same in bytes and pages of its own."""
+        pages = {number: Page(bytearray(page.data), page.rights) for number, page in self.pages.items()}
+        return Memory(self.break_start, self.break_now, pages)
 
     def allows(self, address: int, length: int, right: int) -> bool:
         """Whether all bytes from the address on are there with the right; past 0xFFFFFFFF none is."""
@@ -91,7 +99,7 @@ class Memory:
         if page is None or not page.rights & READ:
             raise Trap(TrapSignal.FAULT)
         if offset + size <= PAGE_SIZE:
-            return int.from_bytes(page.data[offset : offset + size], "little")
+            return NUMBERS[size].unpack_from(page.data, offset)[0]
         return self._across(address, size, READ)
 
     def store(self, address: int, size: int, value: int) -> None:
@@ -101,7 +109,7 @@ class Memory:
         if page is None or not page.rights & WRITE:
             raise Trap(TrapSignal.FAULT)
         if offset + size <= PAGE_SIZE:
-            page.data[offset : offset + size] = value.to_bytes(size, "little")
+            NUMBERS[size].pack_into(page.data, offset, value)
             return
         if not self.allows(address, size, WRITE):
             raise Trap(TrapSignal.FAULT)

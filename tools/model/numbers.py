@@ -1,4 +1,4 @@
-"""Numbers of calls, of their flags and of errors (docs/MACHINE.md, "Calls")."""
+"""Numbers of calls, of their flags and of errors (docs/MACHINE.md, "Calls"; docs/CALLS.md)."""
 
 from enum import IntEnum
 
@@ -6,14 +6,33 @@ from enum import IntEnum
 class Errno(IntEnum):
     """The errors that calls answer."""
 
+    ENOENT = 2
     ESRCH = 3
     EINTR = 4
     EBADF = 9
+    ECHILD = 10
     EAGAIN = 11
     ENOMEM = 12
     EFAULT = 14
+    EEXIST = 17
     EINVAL = 22
+    ENFILE = 23
+    EMFILE = 24
+    EFBIG = 27
+    ENOSPC = 28
+    ESPIPE = 29
+    EPIPE = 32
+    ENAMETOOLONG = 36
     ENOSYS = 38
+    ENOTSOCK = 88
+    EMSGSIZE = 90
+    EOPNOTSUPP = 95
+    EAFNOSUPPORT = 97
+    EADDRINUSE = 98
+    EADDRNOTAVAIL = 99
+    EISCONN = 106
+    ENOTCONN = 107
+    ECONNREFUSED = 111
 
 
 class Number(IntEnum):
@@ -73,6 +92,28 @@ class CloneFlag(IntEnum):
     PARENT_SETTID = 0x100000
     CHILD_CLEARTID = 0x200000
     CHILD_SETTID = 0x1000000
+
+
+class OpenFlag(IntEnum):
+    """The bits of `openat` beside those that a description keeps; calls that make descriptors have CLOEXEC too."""
+
+    CREAT = 0x40
+    EXCL = 0x80
+    TRUNC = 0x200
+    CLOEXEC = 0x80000
+
+
+class Command(IntEnum):
+    """The commands of `fcntl`."""
+
+    DUPFD = 0
+    GETFD = 1
+    SETFD = 2
+    GETFL = 3
+    SETFL = 4
+    SETOWN = 8
+    GETOWN = 9
+    DUPFD_CLOEXEC = 1030
 
 
 FUTEX_WAIT, FUTEX_WAKE, FUTEX_PRIVATE = 0, 1, 128

@@ -2,22 +2,11 @@
 
 from .images import KIND_CONSOLE, SHARED_MAGIC, STATE_LIVES
 from .memory import Memory
+from .objects import ACCESS_MODE, APPEND, BOTH_MODES, NONBLOCK, Description, DescriptionName
 from .reader import Reader
-from .state import (
-    ACCESS_MODE,
-    BOTH_MODES,
-    FIRST_NUMBER,
-    NOBODY,
-    NUMBER_END,
-    Description,
-    DescriptionName,
-    Descriptor,
-    Machine,
-    Process,
-    Thread,
-)
+from .state import FIRST_NUMBER, NOBODY, NUMBER_END, Descriptor, Machine, Process, Thread
 
-KNOWN_FLAGS = 0x3 | 0x400 | 0x800
+KNOWN_FLAGS = ACCESS_MODE | APPEND | NONBLOCK
 HOSTS = 16
 SIGNALS_END = 1 << 31
 THREADS_LIMIT = 64
@@ -100,4 +89,4 @@ def read_shared(data: bytes) -> Machine:
     reader.whole(held == set(descriptions))
     owners = {description.owner for description in descriptions.values()}
     reader.whole(owners <= {0, process.number})
-    return Machine(next_id, next_file, descriptions, process)
+    return Machine(next_id, next_file, {process.number: process}, descriptions)

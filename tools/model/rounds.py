@@ -1,104 +1,84 @@
 """Whose turn it is (docs/MACHINE.md, "Rounds" and "Signals")."""
 
-from collections import deque
-from dataclasses import dataclass, field
-from enum import Enum
+from collections.abc import Iterator
 
-from .calls import make_call
+from .calls import is_ready, make_call
 from .cpu import StandsAt, look, run_quantum
-from .signals import Cause, deliver, due_signal
+from .objects import DirectionName
+from .signals import Cause, deliver, due_signal, waits_at_call
 from .state import Machine, Process, Thread
-from .trace import Record, call, delivery, user
+from .trace import Record, arrival, call, delivery, user
 
 
-class Part(Enum):
-    """What of a turn comes next."""
-
-    SIGNAL = "a signal that is due"
-    QUANTUM = "up to 4,096 instructions"
-    STAND = "the call or trap at which the thread then stands"
-
-
-@dataclass
-class Turn:
-    """The rest of a thread's turn."""
-
-    thread: int
-    part: Part = Part.SIGNAL
+def arrivals(machine: Machine) -> Iterator[Record]:
+    """All that is on its way arrives, direction by direction in rising order."""
+    for name in sorted(machine.channels):
+        for side, direction in enumerate(machine.channels[name].directions):
+            count = direction.on_their_way()
+            if count:
+                direction.arrived = len(direction.data)
+                yield arrival(DirectionName(name, side), count)
 
 
-def has_turn(process: Process, thread: Thread) -> bool:
+def has_turn(machine: Machine, process: Process, thread: Thread) -> bool:
     """A signal is due to the thread, or it can go on."""
-    return due_signal(process, thread) is not None or not process.waits(thread)
+    return due_signal(process, thread) is not None or not waits_at_call(machine, process, thread)
 
 
-@dataclass
-class Rounds:
-    """The rest of the turn, and the threads of the round that come after it."""
+def _cause(process: Process, thread: Thread, signal: int) -> Cause:
+    """A thread that stands at a trap with the signal that is due has it delivered for the trap; it stays pending."""
+    stand = None if process.waits(thread) else look(thread, process.memory)
+    traps = stand is not None and stand.at is StandsAt.TRAP and stand.signal == signal
+    return Cause.TRAP if traps else Cause.PENDING
 
-    machine: Machine
-    turn: Turn | None = None
-    queue: deque[int] = field(default_factory=deque)
 
-    def step(self) -> Record | None:
-        """Makes the next record of work; None where nobody can go on. The process lives."""
-        process = self.machine.process
-        while True:
-            if self.turn is None:
-                self.turn = self._next_turn(process)
-            if self.turn is None:
-                return None
-            record = self._part(process, process.threads[self.turn.thread])
-            if record is not None:
-                return record
+def _lives(machine: Machine, process: Process, thread: Thread) -> bool:
+    return process.number in machine.processes and thread.number in process.threads
 
-    def _next_turn(self, process: Process) -> Turn | None:
-        """The next thread of this round that has a turn, else the first one of a new round."""
-        found = self._from_queue(process)
-        if found is None:
-            self.queue.extend(sorted(process.threads))
-            found = self._from_queue(process)
-        return found
 
-    def _from_queue(self, process: Process) -> Turn | None:
-        while self.queue:
-            number = self.queue.popleft()
-            if number in process.threads and has_turn(process, process.threads[number]):
-                return Turn(number)
-        return None
+def _signal(machine: Machine, process: Process, thread: Thread) -> Iterator[Record]:
+    """The first part of a turn: the signal that is due, if one is."""
+    signal = due_signal(process, thread)
+    if signal is not None:
+        deliver(machine, process, thread, signal, _cause(process, thread, signal))
+        yield delivery(process.number, thread.number, signal)
 
-    def _part(self, process: Process, thread: Thread) -> Record | None:
-        """One part of the turn, which may come to no record."""
-        part = self.turn.part
-        if part is Part.SIGNAL:
-            self.turn.part = Part.QUANTUM
-            return self._signal(process, thread)
-        if part is Part.QUANTUM and not process.waits(thread):
-            self.turn.part = Part.STAND
-            count = run_quantum(thread, process.memory)
-            return user(process.number, thread.number, count) if count else None
-        self.turn = None
-        return self._stand(process, thread) if part is Part.STAND else None
 
-    def _signal(self, process: Process, thread: Thread) -> Record | None:
-        signal = due_signal(process, thread)
-        if signal is None:
-            return None
-        deliver(self.machine, process, thread, signal, self._cause(process, thread, signal))
-        return delivery(process.number, thread.number, signal)
+def _stand(machine: Machine, process: Process, thread: Thread) -> Iterator[Record]:
+    """The last part of a turn: the call or the trap at which the thread then stands."""
+    stand = look(thread, process.memory)
+    if stand.at is StandsAt.CALL and is_ready(machine, process, thread):
+        make_call(machine, process, thread)
+        yield call(process.number, thread.number)
+    elif stand.at is StandsAt.TRAP:
+        deliver(machine, process, thread, stand.signal, Cause.TRAP)
+        yield delivery(process.number, thread.number, stand.signal)
 
-    def _cause(self, process: Process, thread: Thread, signal: int) -> Cause:
-        """A thread that stands at a trap with the signal that is due has it delivered for the trap; it stays pending."""
-        stand = None if process.waits(thread) else look(thread, process.memory)
-        traps = stand is not None and stand.at is StandsAt.TRAP and stand.signal == signal
-        return Cause.TRAP if traps else Cause.PENDING
 
-    def _stand(self, process: Process, thread: Thread) -> Record | None:
-        stand = look(thread, process.memory)
-        if stand.at is StandsAt.CALL:
-            make_call(self.machine, process, thread)
-            return call(process.number, thread.number)
-        if stand.at is StandsAt.TRAP:
-            deliver(self.machine, process, thread, stand.signal, Cause.TRAP)
-            return delivery(process.number, thread.number, stand.signal)
-        return None
+def _turn(machine: Machine, process: Process, thread: Thread) -> Iterator[Record]:
+    """A turn's parts, until the thread can't go on."""
+    yield from _signal(machine, process, thread)
+    if not _lives(machine, process, thread) or process.waits(thread):
+        return
+    count = run_quantum(thread, process.memory)
+    if count:
+        yield user(process.number, thread.number, count)
+    yield from _stand(machine, process, thread)
+
+
+def _threads(machine: Machine) -> list[tuple[Process, Thread]]:
+    """The threads of a round, by the numbers of their processes and then by their own."""
+    processes = [machine.processes[number] for number in sorted(machine.processes)]
+    return [(process, process.threads[number]) for process in processes for number in sorted(process.threads)]
+
+
+def rounds(machine: Machine) -> Iterator[Record]:
+    """The records of a run, one after the other, until nobody can go on."""
+    has_gone_on = True
+    while has_gone_on:
+        yield from arrivals(machine)
+        has_gone_on = False
+        for process, thread in _threads(machine):
+            if _lives(machine, process, thread) and has_turn(machine, process, thread):
+                has_gone_on = True
+                yield from _turn(machine, process, thread)

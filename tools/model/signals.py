@@ -3,11 +3,15 @@
 from enum import Enum
 
 from .bits import WORD_MASK
+from .calls import is_ready
+from .closing import end_process
+from .cpu import stands_at_call
 from .numbers import Errno
 from .start import RETURN_ADDRESS
 from .state import A0, A1, A2, RA, SIGNALS, SP, Action, Context, Machine, Process, Thread, signal_bit
 
-KILL = 9
+KILL, NO_ROOM = 9, 11
+"""The signal that no handler has, and the one by which a process ends where no context can be saved."""
 IGNORED_BY_DEFAULT = (17, 23, 28)
 DEFAULT, IGNORE = 0, 1
 NOT_MASKED_ITSELF = 0x40000000
@@ -26,6 +30,7 @@ class Effect(Enum):
     """What a delivery comes to."""
 
     ENDS = "the process ends"
+    ENDS_WITHOUT_ROOM = "the process ends as by signal 11"
     NOTHING = "nothing else happens"
     HANDLED = "the handler is entered"
 
@@ -49,9 +54,9 @@ def _effect(process: Process, thread: Thread, signal: int, cause: Cause) -> Effe
         return Effect.ENDS
     if ignored:
         return Effect.NOTHING
-    if action.handler == DEFAULT or len(thread.contexts) >= CONTEXTS_LIMIT:
+    if action.handler == DEFAULT:
         return Effect.ENDS
-    return Effect.HANDLED
+    return Effect.HANDLED if len(thread.contexts) < CONTEXTS_LIMIT else Effect.ENDS_WITHOUT_ROOM
 
 
 def _take_pending(process: Process, thread: Thread, signal: int) -> None:
@@ -62,11 +67,17 @@ def _take_pending(process: Process, thread: Thread, signal: int) -> None:
         process.pending &= ~signal_bit(signal)
 
 
-def _interrupted(process: Process, thread: Thread, action: Action) -> Context:
-    """The context that a handler saves; a thread that waited waits no more (rule 5)."""
-    # The manual's "a call that isn't ready" is a futex's wait alone, of the calls that are built.
-    context = Context(thread.regs[1:32], thread.pc, thread.mask)
+def waits_at_call(machine: Machine, process: Process, thread: Thread) -> bool:
+    """Whether a thread waits on a word, or stands at a call that isn't ready."""
     if process.waits(thread):
+        return True
+    return stands_at_call(thread, process.memory) and not is_ready(machine, process, thread)
+
+
+def _interrupted(machine: Machine, process: Process, thread: Thread, action: Action) -> Context:
+    """The context that a handler saves; a thread that waited waits no more (rule 5)."""
+    context = Context(thread.regs[1:32], thread.pc, thread.mask)
+    if waits_at_call(machine, process, thread):
         process.wait_no_more(thread)
         if not action.flags & CALL_AGAIN:
             context.regs[A0 - 1] = -Errno.EINTR & WORD_MASK
@@ -74,10 +85,10 @@ def _interrupted(process: Process, thread: Thread, action: Action) -> Context:
     return context
 
 
-def _enter_handler(process: Process, thread: Thread, signal: int) -> None:
+def _enter_handler(machine: Machine, process: Process, thread: Thread, signal: int) -> None:
     """Rules 4 and 5."""
     action = process.actions[signal]
-    thread.contexts.append(_interrupted(process, thread, action))
+    thread.contexts.append(_interrupted(machine, process, thread, action))
     thread.mask |= action.mask
     if not action.flags & NOT_MASKED_ITSELF:
         thread.mask |= signal_bit(signal)
@@ -93,6 +104,8 @@ def deliver(machine: Machine, process: Process, thread: Thread, signal: int, cau
     if cause is Cause.PENDING:
         _take_pending(process, thread, signal)
     if effect is Effect.ENDS:
-        machine.end_process()
+        end_process(machine, process, signal)
+    elif effect is Effect.ENDS_WITHOUT_ROOM:
+        end_process(machine, process, NO_ROOM)
     elif effect is Effect.HANDLED:
-        _enter_handler(process, thread, signal)
+        _enter_handler(machine, process, thread, signal)

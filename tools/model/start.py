@@ -1,19 +1,12 @@
 """The state before the first record (docs/MACHINE.md, "The start")."""
 
+from dataclasses import dataclass
+
 from .bits import words_bytes
 from .elf import Program
 from .memory import EXECUTE, PAGE_SHIFT, PAGE_SIZE, READ, WRITE, Memory, blank_page, page_up
-from .state import (
-    FIRST_NUMBER,
-    READ_AND_WRITE,
-    SP,
-    Description,
-    DescriptionName,
-    Descriptor,
-    Machine,
-    Process,
-    Thread,
-)
+from .objects import READ_AND_WRITE, Description, DescriptionName
+from .state import FIRST_NUMBER, SP, Descriptor, Machine, Process, Thread
 
 STACK_START = 0x7FFC0000
 STACK_END = 0x80000000
@@ -55,25 +48,35 @@ def _put_arguments(memory: Memory, arguments: list[bytes]) -> int:
     return sp
 
 
+@dataclass(frozen=True)
+class Word:
+    """A word of a job: a program, its name, and the host on which it runs."""
+
+    program: Program
+    name: bytes
+    host: int = 0
+
+
+def _process(word: Word, number: int) -> Process:
+    """A process with one thread of its own number, and its console on its descriptors."""
+    memory = _load(word.program)
+    thread = Thread(number, pc=word.program.entry)
+    thread.regs[SP] = _put_arguments(memory, [word.name])
+    console = DescriptionName(number, 0)
+    descriptors = {place: Descriptor(console) for place in STANDARD_DESCRIPTORS}
+    return Process(number, memory, host=word.host, threads={number: thread}, descriptors=descriptors)
+
+
+def start_job(words: list[Word]) -> Machine:
+    """A process for each word, in their order, each with a console description of its own."""
+    processes = {number: _process(word, number) for number, word in enumerate(words, start=FIRST_NUMBER)}
+    consoles = {DescriptionName(number, 0): Description(READ_AND_WRITE) for number in processes}
+    return Machine(FIRST_NUMBER + len(words), 1, processes, consoles)
+
+
 def start(program: Program, name: bytes) -> Machine:
-    """One process, with one thread of its own number, and the console on its descriptors."""
-    memory = _load(program)
-    thread = Thread(FIRST_NUMBER, pc=program.entry)
-    thread.regs[SP] = _put_arguments(memory, [name])
-    console = DescriptionName(FIRST_NUMBER, 0)
-    process = Process(
-        number=FIRST_NUMBER,
-        memory=memory,
-        made=1,
-        threads={FIRST_NUMBER: thread},
-        descriptors={number: Descriptor(console) for number in STANDARD_DESCRIPTORS},
-    )
-    return Machine(
-        next_id=FIRST_NUMBER + 1,
-        next_file=1,
-        descriptions={console: Description(READ_AND_WRITE, 0)},
-        process=process,
-    )
+    """The start of one program on host 0."""
+    return start_job([Word(program, name)])
 
 
 def whole_page(content: bytes) -> bytes:

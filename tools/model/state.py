@@ -1,10 +1,12 @@
-"""A plain state: the kernel part and the process's user part (docs/MACHINE.md, "The state", "Threads", "Signals")."""
+"""A plain state: the kernel part and each live process's user part (docs/MACHINE.md, "The state", "Threads")."""
 
 from dataclasses import dataclass, field
 
-from .bits import WORD_MASK
+from .bits import WORD_MASK, signed
+from .built import BUILT, Built
 from .decode import DISCARD
 from .memory import Memory
+from .objects import Channel, ChannelName, Description, DescriptionName, File
 
 RA, SP, TP, A0, A1, A2, A7 = 1, 2, 4, 10, 11, 12, 17
 FIRST_NUMBER = 40000
@@ -13,7 +15,6 @@ NUMBER_END = 2**31 - 1
 NOBODY = 1
 SIGNALS = range(1, 32)
 ALL_SIGNALS = 0x7FFFFFFF
-ACCESS_MODE, READ_ONLY, READ_AND_WRITE, BOTH_MODES = 3, 0, 2, 3
 
 
 def signal_bit(signal: int) -> int:
@@ -46,6 +47,10 @@ class Thread:
         """`a0` to `a5`."""
         return self.regs[A0 + index]
 
+    def signed_argument(self, index: int) -> int:
+        """`a0` to `a5` as a signed number."""
+        return signed(self.argument(index))
+
     def answer(self, value: int) -> None:
         """Puts a call's answer and goes on at the next instruction."""
         self.regs[A0] = value & WORD_MASK
@@ -69,26 +74,6 @@ class Waiter:
     address: int
 
 
-@dataclass(frozen=True, order=True)
-class DescriptionName:
-    """The process that made a description, and that process's running number."""
-
-    pid: int
-    num: int
-
-
-@dataclass
-class Description:
-    """An open description of the console."""
-
-    flags: int
-    owner: int
-
-    def can_write(self) -> bool:
-        """Whether it is open for writing."""
-        return self.flags & ACCESS_MODE in (1, READ_AND_WRITE)
-
-
 @dataclass
 class Descriptor:
     """What a descriptor's number refers to."""
@@ -105,7 +90,7 @@ class Process:
     memory: Memory
     parent: int = NOBODY
     host: int = 0
-    made: int = 0
+    made: int = 1
     pending: int = 0
     threads: dict[int, Thread] = field(default_factory=dict)
     descriptors: dict[int, Descriptor] = field(default_factory=dict)
@@ -131,16 +116,33 @@ class Process:
 
 
 @dataclass
+class Zombie:
+    """A process that has ended and for which its parent has not waited yet."""
+
+    number: int
+    parent: int
+    host: int
+    made: int
+    status: int
+
+
+@dataclass
 class Machine:
-    """A plain state, and what the console was given since the call began."""
+    """A plain state, what the console was given since the call began, and which calls are built.
+
+    `processes` are those that live."""
 
     next_id: int
     next_file: int
+    processes: dict[int, Process]
     descriptions: dict[DescriptionName, Description]
-    process: Process | None
+    files: dict[int, File] = field(default_factory=dict)
+    channels: dict[ChannelName, Channel] = field(default_factory=dict)
+    zombies: dict[int, Zombie] = field(default_factory=dict)
     console: bytearray = field(default_factory=bytearray)
+    built: Built = BUILT
 
-    def end_process(self) -> None:
-        """The process ends: its descriptors close, and it is gone ("Calls", 94)."""
-        self.process = None
-        self.descriptions.clear()
+    @property
+    def process(self) -> Process | None:
+        """The live process with the least number."""
+        return self.processes[min(self.processes)] if self.processes else None

@@ -4,6 +4,8 @@ import struct
 from dataclasses import dataclass, field
 from enum import IntEnum
 
+from .objects import DirectionName
+
 
 class Kind(IntEnum):
     """The kinds of records."""
@@ -105,6 +107,12 @@ def call(process: int, thread: int) -> Record:
 def delivery(process: int, thread: int, signal: int) -> Record:
     """A signal that is delivered."""
     return Record(Kind.DELIVER, x=signal, a=process, b=thread)
+
+
+def arrival(direction: DirectionName, count: int) -> Record:
+    """So many bytes of a direction that have arrived."""
+    channel = direction.channel
+    return Record(Kind.ARRIVE, x=direction.side, a=channel.pid, b=channel.num, n=count)
 
 
 def mark(kind: Kind, generation: int = 0) -> Record:
