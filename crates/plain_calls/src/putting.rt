@@ -4,7 +4,7 @@ ghost use Rattle.plain_process.specs.Put as words;
 ghost use Rattle.plain_process.specs.Threads.{new_thread};
 
 use crate::waking::end_thread;
-use plain_memory::lending::written_spans;
+use plain_memory::lending::filled_spans;
 use plain_memory::memory::put_bytes;
 use plain_process::buffers::Spans;
 use plain_process::memory::Frame;
@@ -35,7 +35,7 @@ pub fn put(
         return Ok(());
     };
     let regs = after_call(thread.regs, word_of(reply));
-    let spans = written_spans(&user.memory, request);
+    let spans = filled_spans(&user.memory, request);
     put_spans(&mut user.memory, spans, bytes);
     set_regs(&mut user.threads, t, regs);
     change_threads(alloc, user, t, request, reply)

@@ -9,7 +9,7 @@ use Rattle.std.proofs.lemmas.Option.{slice_get_within, get_or_from_slice_get}
 use Rattle.std.proofs.lemmas.List.Elements.{All-push}
 use Rattle.views.proofs.MapLaws.{true_false}
 use Rattle.sys_abi.specs.Signals.{has_signal, bit_of}
-use Rattle.sys_abi.specs.declared.signals.TheConstants.{SIGKILL}
+use Rattle.sys_abi.specs.declared.signals.TheConstants.{SIGKILL, SIGSEGV}
 use Rattle.sys_abi.specs.declared.flags.TheConstants.{SA_NODEFER}
 use Rattle.plain_process.specs.declared.regs.Regs.{Regs}
 use Rattle.plain_process.specs.declared.user_part.UserPart.{UserPart}
@@ -76,22 +76,29 @@ entered_is thread action s unready is are signal few =
       contexts = All-push (λ (c : Context). IsRegs c.regs × IsWord c.mask) thread.contexts context is.contexts (interrupted_are unready action.flags thread.regs is.regs, is.mask);
     }
 
--- what a delivery comes to
-record Entering (user : UserPart) (d : Delivery) : Type 0 where
+-- what a delivery of s comes to
+record Entering (user : UserPart) (s : ℕ) (d : Delivery) : Type 0 where
   pub each : (after : UserPart) → d ≡ Enters after → Follows user after
+  pub status : (n : ℕ) → d ≡ Kills n → IsWord s → IsWord n
 
-kills : (user : UserPart) (status : ℕ) → Entering user (Kills status)
-kills user status = record { each = λ after is. cc }
+kills : (user : UserPart) (s status : ℕ) → (IsWord s → IsWord status) → Entering user s (Kills status)
+kills user s status fits = record {
+  each = λ after is. cc;
+  status = λ n is word. let same : status ≡ n = cc in subst IsWord same (fits word);
+}
 
-ignores : (user : UserPart) → Entering user Ignores
-ignores user = record { each = λ after is. cc }
+ignores : (user : UserPart) (s : ℕ) → Entering user s Ignores
+ignores user s = record { each = λ after is. cc; status = λ n is. cc }
 
-enters : (user after : UserPart) → Follows user after → Entering user (Enters after)
-enters user after follows = record { each = λ other is. let same : after ≡ other = cc in subst (Follows user) same follows }
+enters : (user : UserPart) (s : ℕ) (after : UserPart) → Follows user after → Entering user s (Enters after)
+enters user s after follows = record {
+  each = λ other is. let same : after ≡ other = cc in subst (Follows user) same follows;
+  status = λ n is. cc;
+}
 
-or_else : (user : UserPart) (b : Bool) (first second : Delivery) → (b ≡ true → Entering user first) → (b ≡ false → Entering user second) → Entering user (cond b first second)
-or_else user true first second holds fails = holds refl
-or_else user false first second holds fails = fails refl
+or_else : (user : UserPart) (s : ℕ) (b : Bool) (first second : Delivery) → (b ≡ true → Entering user s first) → (b ≡ false → Entering user s second) → Entering user s (cond b first second)
+or_else user s true first second holds fails = holds refl
+or_else user s false first second holds fails = fails refl
 
 module _ (user : UserPart) (t s : ℕ) (unready : Bool) (is : IsUser user) where
   handler_begins : (thread : ThreadPart) → map.get user.threads t ≡ Some thread → ((action_on user s).handler == 0) ≡ false → length thread.contexts < 64 → Follows user (with_entered user t thread (action_on user s) s unready)
@@ -102,20 +109,25 @@ module _ (user : UserPart) (t s : ℕ) (unready : Bool) (is : IsUser user) where
       let first = thread_follows user is t thread _ user.memory there begun (memory_of user is) (kept_pages user.memory) in
       then_follows user (with_thread user t (entered thread (action_on user s) s unready) user.memory) _ first (no_waiter_follows _ first.user t)
 
-  handling : (thread : ThreadPart) → map.get user.threads t ≡ Some thread → Entering user (handled user t thread (action_on user s) s unready)
+  handling : (thread : ThreadPart) → map.get user.threads t ≡ Some thread → Entering user s (handled user t thread (action_on user s) s unready)
   handling thread there =
-      or_else user ((action_on user s).handler == 0) _ _ (λ default. kills user s) (λ caught.
-      or_else user (nat_lt (length thread.contexts) CONTEXT_LIMIT) _ _ (λ few. enters user _ (handler_begins thread there caught (grind (arith, nat_tests, few)))) (λ full. kills user _))
+      or_else user s ((action_on user s).handler == 0) _ _ (λ default. kills user s s (λ word. word)) (λ caught.
+      or_else user s (nat_lt (length thread.contexts) CONTEXT_LIMIT) _ _ (λ few. enters user s _ (handler_begins thread there caught (grind (arith, nat_tests, few)))) (λ full. kills user s SIGSEGV (λ word. omega arith)))
 
-  delivering : (found : Option ThreadPart) → map.get user.threads t ≡ found → Entering user (deliver_to user t s unready found)
-  delivering None there = ignores user
+  delivering : (found : Option ThreadPart) → map.get user.threads t ≡ found → Entering user s (deliver_to user t s unready found)
+  delivering None there = ignores user s
   delivering (Some thread) there =
-      or_else user ((s == SIGKILL) || (traps_with (user_step user t) s && (has_signal thread.mask s || is_ignored (action_on user s) s))) _ _ (λ last. kills user s) (λ goes_on.
-      or_else user (is_ignored (action_on user s) s) _ _ (λ ignored. ignores user) (λ heard. handling thread there))
+      or_else user s ((s == SIGKILL) || (traps_with (user_step user t) s && (has_signal thread.mask s || is_ignored (action_on user s) s))) _ _ (λ last. kills user s s (λ word. word)) (λ goes_on.
+      or_else user s (is_ignored (action_on user s) s) _ _ (λ ignored. ignores user s) (λ heard. handling thread there))
 
   pub keeps_delivery : (after : UserPart) → deliver user t s unready ≡ Enters after → Follows user after
   unfolding deliver
   keeps_delivery = (delivering (map.get user.threads t) refl).each
+
+  -- a status is a word, where the signal is
+  pub kills_with : (status : ℕ) → deliver user t s unready ≡ Kills status → IsWord s → IsWord status
+  unfolding deliver
+  kills_with = (delivering (map.get user.threads t) refl).status
 
 pub delivery_keeps_user : DeliveryKeepsUser
 delivery_keeps_user user after t s unready is goes = (keeps_delivery user t s unready is after goes).user

@@ -12,7 +12,7 @@ use Rattle.plain_process.specs.declared.instruction.Op.TheVariants.{Lui, Auipc, 
 use Rattle.plain_process.specs.declared.regs.Regs.{Regs}
 use Rattle.plain_process.specs.Memory.{Memory, load, fetch}
 use Rattle.plain_process.specs.Registers.{reg, with_reg, at_pc, next_pc}
-use Rattle.plain_process.specs.Instructions.{Effect, Next, Calls, Traps, writes, jumps, branches, loads, stores, signed, word, same, sign_extended, effect_by, effect, bits, immediate, insn_of, encoding, decoded, Format, R, I, S, B, U, J, Shift, Whole}
+use Rattle.plain_process.specs.Instructions.{Effect, Next, Calls, Traps, ILLEGAL, BREAKPOINT, MISALIGNED, FAULT, writes, jumps, branches, loads, stores, signed, word, same, sign_extended, effect_by, effect, bits, immediate, insn_of, encoding, decoded, Format, R, I, S, B, U, J, Shift, Whole}
 use Rattle.plain_process.specs.Steps.{effect_at, effect_of_word, effect_of_insn}
 use Rattle.plain_process.specs.Valid.{IsWord, IsRegs}
 use Rattle.plain_process.proofs.Giving.{Giving, mapped}
@@ -25,9 +25,10 @@ pub record IsAfter (before : Memory) (x : Regs) (m : Memory) : Type 0 where
   pub memory : IsMemory m
   pub pages : KeepsPages before m
 
--- what an effect leaves of this memory, where it goes on, is valid
+-- what an effect leaves of this memory, where it goes on, is valid; and it traps with a signal
 pub record Keeps (before : Memory) (done : Effect) : Type 0 where
   pub each : (regs : Regs) (memory : Memory) → done ≡ Next regs memory → IsAfter before regs memory
+  pub trap : (s : ℕ) → done ≡ Traps s → s < 32
 
 goes_on : (before : Memory) (regs : Regs) (memory : Memory) → IsRegs regs → IsMemory memory → KeepsPages before memory → Keeps before (Next regs memory)
 goes_on before regs memory first second third = record {
@@ -35,13 +36,17 @@ goes_on before regs memory first second third = record {
       let same_regs : regs ≡ other = cc in
       let same_memory : memory ≡ after = cc in
       record { regs = subst IsRegs same_regs first; memory = subst IsMemory same_memory second; pages = subst (KeepsPages before) same_memory third };
+  trap = λ s is. cc;
 }
 
-traps : {before : Memory} (s : ℕ) → Keeps before (Traps s)
-traps s = record { each = λ regs memory is. cc }
+traps : {before : Memory} (s : ℕ) → s < 32 → Keeps before (Traps s)
+traps s small = record {
+  each = λ regs memory is. cc;
+  trap = λ other is. let same : s ≡ other = cc in subst (λ n. n < 32) same small;
+}
 
 calls : {before : Memory} → Keeps before Calls
-calls = record { each = λ regs memory is. cc }
+calls = record { each = λ regs memory is. cc; trap = λ s is. cc }
 
 either_effect : {before : Memory} (b : Bool) {first second : Effect} → Keeps before first → Keeps before second → Keeps before (cond b first second)
 either_effect true holds other = holds
@@ -86,10 +91,10 @@ module _ (regs : Regs) (memory : Memory) (are : IsRegs regs) (before : IsMemory 
 
   keeps_jump : (rd target : ℕ) → IsWord target → Keeps memory (jumps regs memory rd target)
   keeps_jump rd target is =
-      either_effect (target % 4 == 0) (goes_on memory _ memory (regs_at _ _ (regs_with regs rd (next_pc regs) are (next_word regs)) is) before (kept_pages memory)) (traps _)
+      either_effect (target % 4 == 0) (goes_on memory _ memory (regs_at _ _ (regs_with regs rd (next_pc regs) are (next_word regs)) is) before (kept_pages memory)) (traps MISALIGNED (omega arith))
 
   keeps_branch : (taken : Bool) (target : ℕ) → IsWord target → Keeps memory (branches regs memory taken target)
-  keeps_branch taken target is = either_effect taken (either_effect (target % 4 == 0) (goes_on memory _ memory (regs_at regs target are is) before (kept_pages memory)) (traps _)) keeps_next
+  keeps_branch taken target is = either_effect taken (either_effect (target % 4 == 0) (goes_on memory _ memory (regs_at regs target are is) before (kept_pages memory)) (traps MISALIGNED (omega arith))) keeps_next
 
   write_modulo : (rd n : ℕ) → Keeps memory (writes regs memory rd (n % 2 ^ 32))
   write_modulo rd n = keeps_write rd (n % 2 ^ 32) (omega arith)
@@ -101,11 +106,11 @@ module _ (regs : Regs) (memory : Memory) (are : IsRegs regs) (before : IsMemory 
   branch_modulo taken n = keeps_branch taken (n % 2 ^ 32) (omega arith)
 
   keeps_load : (rd bound : ℕ) (extended : ℕ → ℕ) (found : Option ℕ) → Giving found (λ value. value < bound) → ((value : ℕ) → value < bound → IsWord (extended value)) → Keeps memory (loads regs memory rd extended found)
-  keeps_load rd bound extended None read fits = traps _
+  keeps_load rd bound extended None read fits = traps FAULT (omega arith)
   keeps_load rd bound extended (Some value) read fits = keeps_write rd (extended value) (fits value (read.each value refl))
 
   keeps_store : (found : Option Memory) → Giving found IsMemory → Giving found (KeepsPages memory) → Keeps memory (stores regs found)
-  keeps_store None stored keeps = traps _
+  keeps_store None stored keeps = traps FAULT (omega arith)
   keeps_store (Some after) stored keeps = goes_on memory _ after (regs_at regs _ are (next_word regs)) (stored.each after refl) (keeps.each after refl)
 
   loads_byte : (rd address : ℕ) (extended : ℕ → ℕ) → ((value : ℕ) → value < 2 ^ 8 → IsWord (extended value)) → Keeps memory (loads regs memory rd extended (load memory address 1))
@@ -164,7 +169,7 @@ module _ (regs : Regs) (memory : Memory) (are : IsRegs regs) (before : IsMemory 
   keeps_row Remu rd i a b hi ha hb = keeps_write rd _ (either_word (b == 0) a (a % b) ha (let less : a % b ≤ a = mod-le a b in omega arith))
   keeps_row Fence rd i a b hi ha hb = keeps_next
   keeps_row Ecall rd i a b hi ha hb = calls
-  keeps_row Ebreak rd i a b hi ha hb = traps _
+  keeps_row Ebreak rd i a b hi ha hb = traps BREAKPOINT (omega arith)
 
   keeps_insn : (insn : Insn) → IsWord (word insn.imm) → Keeps memory (effect insn regs memory)
   unfolding effect
@@ -192,11 +197,11 @@ decoded_word w = mapped {P = λ insn. IsWord (word insn.imm)} (λ op. insn_of op
 
 module _ (regs : Regs) (memory : Memory) (are : IsRegs regs) (before : IsMemory memory) where
   keeps_decoded : (found : Option Insn) → Giving found (λ insn. IsWord (word insn.imm)) → Keeps memory (effect_of_insn found regs memory)
-  keeps_decoded None read = traps _
+  keeps_decoded None read = traps ILLEGAL (omega arith)
   keeps_decoded (Some insn) read = keeps_insn regs memory are before insn (read.each insn refl)
 
   keeps_fetched : (found : Option ℕ) → Keeps memory (effect_of_word found regs memory)
-  keeps_fetched None = traps _
+  keeps_fetched None = traps FAULT (omega arith)
   keeps_fetched (Some w) = keeps_decoded (decoded w) (decoded_word w)
 
   pub keeps_at : Keeps memory (effect_at regs memory)

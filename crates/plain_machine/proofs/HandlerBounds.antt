@@ -20,7 +20,7 @@ use Rattle.plain_process.specs.declared.buffers.Span.{Span}
 use Rattle.plain_process.specs.Memory.{little_endian, low_bytes}
 use Rattle.plain_process.specs.Attempts.{need, found}
 use Rattle.plain_process.specs.Steps.{with_thread}
-use Rattle.plain_process.specs.Buffers.{span, writes_of, written_spans, can_write}
+use Rattle.plain_process.specs.Buffers.{span, writes_of, fills_of, written_spans, filled_spans, can_write}
 use Rattle.plain_process.specs.Put.{CanTake}
 use Rattle.plain_process.specs.Deliveries.{action_on}
 use Rattle.plain_process.specs.Rows.Handlers.{word_in, is_uncatchable, action_in, action_bytes, with_action, sigaction_row, mask_by, with_mask, sigprocmask_row, last_context, returned, sigreturn_row}
@@ -80,8 +80,8 @@ module _ (user : UserPart) (t : ℕ) (is : IsUser user) (given : List ℕ) where
       (All-append IsByte (low_bytes 4 action.handler) (low_bytes 4 action.flags) (four_are action.handler) (four_are action.flags)) (four_are action.mask)) (four_are 0)
 
   action_room : (s action old_action size : ℕ) (old : SignalAction) → list_all (can_write user.memory) (written_spans user.memory (RtSigaction s action old_action size)) ≡ true
-      → CanTake user.memory (written_spans user.memory (RtSigaction s action old_action size)) (action_bytes old)
-  unfolding writes_of
+      → CanTake user.memory (filled_spans user.memory (RtSigaction s action old_action size)) (action_bytes old)
+  unfolding writes_of fills_of
   action_room s action old_action size old can = fits_taken user.memory _ (action_bytes old) can (span_fits (old_action == 0) (span old_action 16) 16 (omega arith))
 
   pub sigaction_fits : (s action old_action size : ℕ) → Lent user.memory (RtSigaction s action old_action size) given
@@ -89,7 +89,7 @@ module _ (user : UserPart) (t : ℕ) (is : IsUser user) (given : List ℕ) where
   unfolding sigaction_row
   sigaction_fits s action old_action size lent = after (need ((size == 8) && is_signal s && ((action == 0) || not (is_uncatchable s))) EINVAL) (λ done allowed. succeeds _ (chosen (action == 0)))
     where
-      room : CanTake user.memory (written_spans user.memory (RtSigaction s action old_action size)) (action_bytes (action_on user s))
+      room : CanTake user.memory (filled_spans user.memory (RtSigaction s action old_action size)) (action_bytes (action_on user s))
       room = action_room s action old_action size (action_on user s) lent.writable
 
       chosen : (b : Bool) → IsReply user (cond b user (with_action user s (action_in given))) (RtSigaction s action old_action size) 0 (action_bytes (action_on user s))
@@ -111,8 +111,8 @@ module _ (user : UserPart) (t : ℕ) (is : IsUser user) (given : List ℕ) where
     masked mask word = let old = is.threads t thread there in record { regs = old.regs; mask = word; clear_tid = old.clear_tid; count = old.count; contexts = old.contexts }
 
     mask_room : (how set old_set size : ℕ) → list_all (can_write user.memory) (written_spans user.memory (RtSigprocmask how set old_set size)) ≡ true
-        → CanTake user.memory (written_spans user.memory (RtSigprocmask how set old_set size)) (low_bytes 4 thread.mask ++ low_bytes 4 0)
-    unfolding writes_of
+        → CanTake user.memory (filled_spans user.memory (RtSigprocmask how set old_set size)) (low_bytes 4 thread.mask ++ low_bytes 4 0)
+    unfolding writes_of fills_of
     mask_room how set old_set size can = fits_taken user.memory _ (low_bytes 4 thread.mask ++ low_bytes 4 0) can (span_fits (old_set == 0) (span old_set 8) 8 (omega arith))
 
     pub sigprocmask_fits : (how set old_set size : ℕ) → Lent user.memory (RtSigprocmask how set old_set size) given

@@ -1,49 +1,28 @@
--- Which threads a kernel part has of each process that lives, over the end of a process and a signal that is taken; and that this is what a valid state
--- says of its parts.
---     KeepsThreads before after      of those that live afterwards      SameProcesses before after      the same processes live
---     end_threads, take_threads      known_threads, valid_from      of a valid state
-use Rattle.std.proofs.Common.{◌≡◌, ℕ, Bool, true, false, cond, refl, sym, ap, ◌∙◌, arith, ⊎_elim}
+-- Which threads a kernel part has of each process that lives, over a signal that is taken; and that this is what a valid state says of its parts.
+--     SameProcesses before after      the same processes live      take_threads
+--     known_threads, valid_from      of a valid state
+use Rattle.std.proofs.Common.{◌≡◌, ℕ, Bool, true, false, cond, refl, sym, ap, ◌∙◌, arith}
 use Rattle.std.specs.Prelude.{◌==◌, not, bit_and, Option, Some, None, is_some, unwrap_or}
 use Rattle.std.specs.FinMap as map
 use Rattle.std.proofs.lemmas.Nat.{and_le_l}
-use Rattle.views.proofs.MapLaws.{get_remove_same, get_remove_other, same_or_other, true_false}
+use Rattle.views.proofs.MapLaws.{true_false}
 use Rattle.sys_abi.specs.declared.identity.VPid.{VPid}
 use Rattle.sys_abi.specs.Signals.{bit_of, has_signal, without_signal}
-use Rattle.sys_abi.proofs.OrderLaws.{vpid_total, vpid_exact}
 use Rattle.plain_machine.specs.declared.plain.Plain.{Plain}
 use Rattle.plain_machine.specs.declared.kernel.PlainKernel.{PlainKernel}
 use Rattle.plain_tables.specs.declared.process.Process.{Process}
 use Rattle.plain_process.specs.declared.user_part.UserPart.{UserPart}
 use Rattle.plain_tables.specs.Tables.{is_live_process, signals_of, with_signals, taken_from, has_thread_in}
-use Rattle.plain_machine.specs.Kernel.{is_live, after_end, at_process, after_take, has_thread}
+use Rattle.plain_machine.specs.Kernel.{is_live, at_process, after_take, has_thread}
 use Rattle.plain_machine.specs.Valid.{IsKernel, IsValid}
 use Rattle.plain_process.specs.Valid.{IsUser, Each}
 use Rattle.plain_machine.proofs.ThreadKeys.{same_there}
 use Rattle.plain_machine.proofs.ChangedProcesses.{changed_test}
 use Rattle.sys_abi.specs.Lives.{lives}
 
-pub record KeepsThreads (before after : PlainKernel) : Type 0 where
-  pub live : (q : VPid) → is_live after q ≡ true → is_live before q ≡ true
-  pub threads : (q : VPid) (u : ℕ) → is_live after q ≡ true → has_thread after q u ≡ has_thread before q u
-
 pub record SameProcesses (before after : PlainKernel) : Type 0 where
   pub live : (q : VPid) → is_live after q ≡ is_live before q
   pub threads : (q : VPid) (u : ℕ) → has_thread after q u ≡ has_thread before q u
-
--- the end of a process
-ended_other : (k : PlainKernel) (p q : VPid) → is_live (after_end k p) q ≡ true → map.get (after_end k p).processes q ≡ map.get k.processes q
-unfolding is_live after_end
-ended_other k p q alive = ⊎_elim
-    (λ here. true_false (sym alive ∙ ap (λ r. is_live_process (map.get (map.remove k.processes p) r)) here ∙ ap is_live_process (get_remove_same vpid_total vpid_exact k.processes p)))
-    (λ other. get_remove_other vpid_total vpid_exact k.processes p q other)
-    (same_or_other vpid_total vpid_exact q p)
-
-pub end_threads : (k : PlainKernel) (p : VPid) → KeepsThreads k (after_end k p)
-unfolding is_live
-end_threads k p = record {
-  live = λ q alive. ap is_live_process (sym (ended_other k p q alive)) ∙ alive;
-  threads = λ q u alive. ap (has_thread_in u) (ended_other k p q alive);
-}
 
 -- a change of one process
 pub record SameThreadsIn (before after : Process) : Type 0 where

@@ -1,5 +1,4 @@
 pub mod RunLaws
-pub mod Serving
 pub mod WordBounds
 pub mod MemoryPages
 pub mod EffectBounds
@@ -7,7 +6,17 @@ pub mod UserBounds
 pub mod Entries
 pub mod ChangedProcesses
 pub mod SignalBounds
-pub mod KernelBounds
+pub mod ProcessBounds
+pub mod WholeChanges
+pub mod WholeClosing
+pub mod WholeEnds
+pub mod WholePlaced
+pub mod WholeStarts
+pub mod WholeForks
+pub mod WholePairs
+pub mod WholeNumbered
+pub mod EndedKernels
+pub mod WholeAlone
 pub mod Trying
 pub mod CallBounds
 pub mod StepBounds
@@ -27,6 +36,8 @@ pub mod Spaces
 pub mod HandlerBounds
 pub mod LocalBounds
 pub mod KernelThreads
-pub mod AddedThreads
-pub mod ThreadBounds
-pub mod AnsweredBytes
+pub mod RowBounds
+pub mod Rows
+pub mod EachRow
+pub mod Asking
+pub mod Children

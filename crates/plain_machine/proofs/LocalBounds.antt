@@ -29,7 +29,7 @@ use Rattle.plain_machine.specs.Laws.{LocalKeepsUser}
 use Rattle.plain_machine.proofs.MemoryPages.{kept_pages}
 use Rattle.plain_machine.proofs.Trying.{Trying, succeeds, fails, after}
 use Rattle.plain_machine.proofs.Requests.{asked_is_request}
-use Rattle.plain_machine.proofs.ThreadKeys.{there_after}
+use Rattle.plain_machine.specs.RowLaws.{there_after}
 use Rattle.plain_machine.proofs.UserParts.{Follows, follows_itself, memory_of, thread_follows, waiting_follows, waiters_of, waiters_more}
 use Rattle.plain_machine.proofs.UserBounds.{waiters_are_few}
 use Rattle.plain_machine.proofs.ThreadEnds.{wake_follows, wake_counts}
@@ -106,7 +106,7 @@ module _ (user : UserPart) (is : IsUser user) where
     local_fits : (q : Request) (given : List ℕ) → IsRequest q → Lent user.memory q given → Trying (local_by user t thread q given) (FitsLocal user q)
     unfolding local_by IsRequest
     local_fits (SetTidAddress place) given words reads = set_tid_address_fits place (SetTidAddress place) words
-    local_fits (Futex address operation value timeout) given words reads = futex_fits t address operation value timeout given (Futex address operation value timeout) words (ap is_some there) awake
+    local_fits (Futex address operation value timeout) given words reads = futex_fits t address operation value timeout given (Futex address operation value timeout) words.0 (ap is_some there) awake
     local_fits SchedYield given words reads = replies user SchedYield 0 (follows_itself user is) (omega arith)
     local_fits (RtSigaction s action old_action size) given words reads = sigaction_fits user t is given s action old_action size reads
     local_fits (RtSigprocmask how set old_set size) given words reads = sigprocmask_fits user t is given thread there how set old_set size reads

@@ -6,7 +6,7 @@ use Rattle.std.proofs.lemmas.List.Elements.{All-nil}
 use Rattle.sys_abi.specs.declared.request.Request.{Request}
 use Rattle.plain_process.specs.declared.user_part.UserPart.{UserPart}
 use Rattle.plain_process.specs.Attempts.{Try, Gives, need, found}
-use Rattle.plain_process.specs.Buffers.{written_spans}
+use Rattle.plain_process.specs.Buffers.{filled_spans}
 use Rattle.plain_process.specs.Put.{CanTake}
 use Rattle.plain_process.specs.Rows.Locals.{Local, Replies, Stays}
 use Rattle.plain_process.specs.Valid.{IsWord, IsByte}
@@ -18,14 +18,14 @@ pub record IsReply (user after : UserPart) (q : Request) (value : ℕ) (bytes : 
   pub follows : Follows user after
   pub word : IsWord value
   pub are : All IsByte bytes
-  pub room : CanTake after.memory (written_spans after.memory q) bytes
+  pub room : CanTake after.memory (filled_spans after.memory q) bytes
 
 abbrev pub FitsLocal : UserPart → Request → Local → Type 0
 FitsLocal user q (Replies after value bytes) = IsReply user after q value bytes
 FitsLocal user q (Stays after) = Follows user after
 
 pub quiet_reply : (user after : UserPart) (q : Request) (value : ℕ) → Follows user after → IsWord value → IsReply user after q value []
-quiet_reply user after q value follows small = record { follows = follows; word = small; are = All-nil IsByte; room = no_bytes_taken after.memory (written_spans after.memory q) }
+quiet_reply user after q value follows small = record { follows = follows; word = small; are = All-nil IsByte; room = no_bytes_taken after.memory (filled_spans after.memory q) }
 
 -- tests
 pub needed : (b : Bool) (e : ℕ) (done : Unit {0}) → need b e ≡ Gives done → b ≡ true

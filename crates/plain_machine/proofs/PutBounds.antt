@@ -15,13 +15,14 @@ use Rattle.plain_process.specs.declared.user_part.ThreadPart.{ThreadPart}
 use Rattle.plain_process.specs.Memory.{Memory}
 use Rattle.plain_process.specs.Steps.{with_thread}
 use Rattle.plain_process.specs.declared.buffers.Span.{Span}
-use Rattle.plain_process.specs.Buffers.{reads_of, given_of, writes_of, written_spans, lent}
+use Rattle.plain_process.specs.Buffers.{reads_of, given_of, writes_of, filled_spans, lent}
 use Rattle.plain_process.specs.Put.{word_of, after_call, with_spans, added_by, added_thread, with_added, after_threads, put_by, put, put_fault, error, CanTake}
 use Rattle.plain_process.specs.Valid.{IsWord, IsByte, IsUser, IsRequest, CanAddAs, CanAdd}
 use Rattle.plain_machine.specs.Laws.{PutKeepsUser, FaultKeepsUser}
 use Rattle.plain_process.proofs.MemoryBounds.{IsMemory, kept_by_bytes}
 use Rattle.plain_machine.proofs.MemoryPages.{KeepsPages, spans_keep_pages, no_bytes_taken}
-use Rattle.plain_machine.proofs.ThreadKeys.{with_one, there_after, same_len}
+use Rattle.plain_machine.specs.RowLaws.{with_one, there_after}
+use Rattle.plain_machine.proofs.ThreadKeys.{same_len}
 use Rattle.plain_machine.proofs.UserParts.{Follows, memory_of, thread_follows}
 use Rattle.plain_machine.proofs.ThreadEnds.{HasThreads, thread_after, thread_ends, thread_begins}
 
@@ -49,16 +50,16 @@ module _ (user : UserPart) (t : ℕ) (is : IsUser user) (there : is_some (map.ge
   unchanged : HasThreads user user (λ u was. was)
   unchanged = record { user = is; threads = λ u. refl }
 
-  adds : (flags stack tls child_tid : ℕ) (found : Option ℕ) → CanAddAs user found → ((new : ℕ) → found ≡ Some new → IsWord stack × IsWord tls × IsWord child_tid)
+  adds : (flags stack parent_tid tls child_tid : ℕ) (found : Option ℕ) → CanAddAs user found → ((new : ℕ) → found ≡ Some new → IsWord flags × IsWord stack × IsWord parent_tid × IsWord tls × IsWord child_tid)
       → HasThreads user (with_added user t flags stack tls child_tid found) (with_one found)
-  adds flags stack tls child_tid None can words = unchanged
-  adds flags stack tls child_tid (Some new) can words =
-      let are = words new refl in thread_begins user t new flags stack tls child_tid is can.0 can.1 can.2 are.0 are.1 are.2 there
+  adds flags stack parent_tid tls child_tid None can words = unchanged
+  adds flags stack parent_tid tls child_tid (Some new) can words =
+      let are = words new refl in thread_begins user t new flags stack tls child_tid is can.0 can.1 can.2 are.1 are.3 are.4 there
 
   answers : (q : Request) (reply : Reply) → CanAdd user q reply → ((new : ℕ) → added_thread q reply ≡ Some new → IsRequest q) → HasThreads user (after_threads user t q reply) (there_after t q reply)
   unfolding after_threads there_after added_thread IsRequest
   answers (Exit code) reply can words = thread_ends user t is
-  answers (Clone flags stack parent_tid tls child_tid) reply can words = adds flags stack tls child_tid (added_by reply (clone_form flags)) can words
+  answers (Clone flags stack parent_tid tls child_tid) reply can words = adds flags stack parent_tid tls child_tid (added_by reply (clone_form flags)) can words
   answers _ reply can words = unchanged
 
 module _ (user : UserPart) (t : ℕ) (q : Request) (reply : Reply) (is : IsUser user) (small : IsWord (word_of reply)) (can : CanAdd user q reply) (words : (new : ℕ) → added_thread q reply ≡ Some new → IsRequest q) where
@@ -75,17 +76,17 @@ module _ (user : UserPart) (t : ℕ) (q : Request) (reply : Reply) (is : IsUser 
   put_user memory None there after keeps = is
   put_user memory (Some thread) there after keeps = (put_thread memory (Some thread) there refl after keeps).user
 
-  module _ (bytes : List ℕ) (are : All IsByte bytes) (room : CanTake user.memory (written_spans user.memory q) bytes) where
+  module _ (bytes : List ℕ) (are : All IsByte bytes) (room : CanTake user.memory (filled_spans user.memory q) bytes) where
     pub put_is : IsUser (put user t q reply bytes)
     unfolding put
     put_is =
-        let spans = written_spans user.memory q in
+        let spans = filled_spans user.memory q in
         put_user _ (map.get user.threads t) refl (spans_keep user.memory spans bytes are (memory_of user is)) (spans_keep_pages user.memory spans bytes room)
 
     pub put_has : is_some (map.get user.threads t) ≡ true → HasThreads user (put user t q reply bytes) (there_after t q reply)
     unfolding put
     put_has there =
-        let spans = written_spans user.memory q in
+        let spans = filled_spans user.memory q in
         put_thread _ (map.get user.threads t) refl there (spans_keep user.memory spans bytes are (memory_of user is)) (spans_keep_pages user.memory spans bytes room)
 
 -- an error adds nothing
@@ -105,10 +106,10 @@ module _ (user : UserPart) (t : ℕ) (q : Request) (e : ℕ) (is : IsUser user) 
   none_added new added = let none = error_adds_nothing q e in cc
 
   pub refusal_is : IsUser (put user t q (error e) [])
-  refusal_is = put_is user t q (error e) is (omega arith) can_refuse none_added [] (All-nil _) (no_bytes_taken user.memory (written_spans user.memory q))
+  refusal_is = put_is user t q (error e) is (omega arith) can_refuse none_added [] (All-nil _) (no_bytes_taken user.memory (filled_spans user.memory q))
 
   pub refusal_has : is_some (map.get user.threads t) ≡ true → HasThreads user (put user t q (error e) []) (there_after t q (error e))
-  refusal_has there = put_has user t q (error e) is (omega arith) can_refuse none_added [] (All-nil _) (no_bytes_taken user.memory (written_spans user.memory q)) there
+  refusal_has there = put_has user t q (error e) is (omega arith) can_refuse none_added [] (All-nil _) (no_bytes_taken user.memory (filled_spans user.memory q)) there
 
 -- a fault leaves the threads: no call that ends a thread has a buffer
 fault_stays : (memory : Memory) (t : ℕ) (q : Request) (e u : ℕ) (was : Bool) → lent memory q ≡ None → there_after t q (error e) u was ≡ was

@@ -31,30 +31,35 @@ or_else true first second holds other = holds
 or_else false first second other holds = holds
 
 module _ (arguments : List ℕ) (are : (i : ℕ) → IsWord (slice_index arguments i)) where
-  request_words : (number : ℕ) → AreWords (request_by number arguments)
+  request_words : (number : ℕ) → IsWord number → AreWords (request_by number arguments)
   unfolding request_by IsRequest
-  request_words number =
-      let bounds : IsWord (slice_index arguments 0) × IsWord (slice_index arguments 1) = (are 0, are 1) in
-      let places : IsWord (slice_index arguments 1) × IsWord (slice_index arguments 3) × IsWord (slice_index arguments 4) = (are 1, are 3, are 4) in
-      or_else (number == EVENTFD2) _ _ (naming _ tt) (or_else (number == DUP) _ _ (naming _ tt) (or_else (number == DUP3) _ _ (naming _ tt)
-      (or_else (number == FCNTL) _ _ (naming _ tt) (or_else (number == UNLINKAT) _ _ (naming _ tt) (or_else (number == OPENAT) _ _ (naming _ tt)
-      (or_else (number == CLOSE) _ _ (naming _ tt) (or_else (number == PIPE2) _ _ (naming _ tt) (or_else (number == LSEEK) _ _ (naming _ tt)
-      (or_else (number == READ) _ _ (naming _ tt) (or_else (number == WRITE) _ _ (naming _ tt) (or_else (number == EXIT) _ _ (naming _ tt)
-      (or_else (number == EXIT_GROUP) _ _ (naming _ tt) (or_else (number == SET_TID_ADDRESS) _ _ (naming _ (are 0)) (or_else (number == FUTEX) _ _ (naming _ (are 0))
-      (or_else (number == SCHED_YIELD) _ _ (naming _ tt) (or_else (number == KILL) _ _ (naming _ tt) (or_else (number == TGKILL) _ _ (naming _ tt)
-      (or_else (number == RT_SIGACTION) _ _ (naming _ tt) (or_else (number == RT_SIGPROCMASK) _ _ (naming _ tt) (or_else (number == RT_SIGRETURN) _ _ (naming _ tt)
-      (or_else (number == GETPID) _ _ (naming _ tt) (or_else (number == GETPPID) _ _ (naming _ tt) (or_else (number == GETTID) _ _ (naming _ tt)
-      (or_else (number == SOCKET) _ _ (naming _ tt) (or_else (number == SOCKETPAIR) _ _ (naming _ tt) (or_else (number == BIND) _ _ (naming _ tt)
-      (or_else (number == LISTEN) _ _ (naming _ tt) (or_else (number == ACCEPT) _ _ (naming _ tt) (or_else (number == CONNECT) _ _ (naming _ tt)
-      (or_else (number == GETSOCKNAME) _ _ (naming _ tt) (or_else (number == GETPEERNAME) _ _ (naming _ tt) (or_else (number == SETSOCKOPT) _ _ (naming _ tt)
-      (or_else (number == SHUTDOWN) _ _ (naming _ tt) (or_else (number == BRK) _ _ (naming _ (are 0)) (or_else (number == MUNMAP) _ _ (naming _ bounds)
-      (or_else (number == CLONE) _ _ (naming _ places) (or_else (number == MMAP) _ _ (naming _ (are 1)) (or_else (number == WAIT4) _ _ (naming _ tt) (naming _ tt)))))))))))))))))))))))))))))))))))))))
+  request_words number small =
+      let one : IsWord (slice_index arguments 0) = are 0 in
+      let two : IsWord (slice_index arguments 0) × IsWord (slice_index arguments 1) = (are 0, are 1) in
+      let three : IsWord (slice_index arguments 0) × IsWord (slice_index arguments 1) × IsWord (slice_index arguments 2) = (are 0, are 1, are 2) in
+      let four : IsWord (slice_index arguments 0) × IsWord (slice_index arguments 1) × IsWord (slice_index arguments 2) × IsWord (slice_index arguments 3) = (are 0, are 1, are 2, are 3) in
+      let five : IsWord (slice_index arguments 0) × IsWord (slice_index arguments 1) × IsWord (slice_index arguments 2) × IsWord (slice_index arguments 3) × IsWord (slice_index arguments 4) = (are 0, are 1, are 2, are 3, are 4) in
+      let six : IsWord (slice_index arguments 0) × IsWord (slice_index arguments 1) × IsWord (slice_index arguments 2) × IsWord (slice_index arguments 3) × IsWord (slice_index arguments 4) × IsWord (slice_index arguments 5) = (are 0, are 1, are 2, are 3, are 4, are 5) in
+      or_else (number == EVENTFD2) _ _ (naming _ two) (or_else (number == DUP) _ _ (naming _ one) (or_else (number == DUP3) _ _ (naming _ three) (
+      or_else (number == FCNTL) _ _ (naming _ three) (or_else (number == UNLINKAT) _ _ (naming _ three) (or_else (number == OPENAT) _ _ (naming _ four) (
+      or_else (number == CLOSE) _ _ (naming _ one) (or_else (number == PIPE2) _ _ (naming _ two) (or_else (number == LSEEK) _ _ (naming _ three) (
+      or_else (number == READ) _ _ (naming _ three) (or_else (number == WRITE) _ _ (naming _ three) (or_else (number == EXIT) _ _ (naming _ one) (
+      or_else (number == EXIT_GROUP) _ _ (naming _ one) (or_else (number == SET_TID_ADDRESS) _ _ (naming _ one) (or_else (number == FUTEX) _ _ (naming _ four) (
+      or_else (number == SCHED_YIELD) _ _ (naming _ tt) (or_else (number == KILL) _ _ (naming _ two) (or_else (number == TGKILL) _ _ (naming _ three) (
+      or_else (number == RT_SIGACTION) _ _ (naming _ four) (or_else (number == RT_SIGPROCMASK) _ _ (naming _ four) (or_else (number == RT_SIGRETURN) _ _ (naming _ tt) (
+      or_else (number == GETPID) _ _ (naming _ tt) (or_else (number == GETPPID) _ _ (naming _ tt) (or_else (number == GETTID) _ _ (naming _ tt) (
+      or_else (number == SOCKET) _ _ (naming _ three) (or_else (number == SOCKETPAIR) _ _ (naming _ four) (or_else (number == BIND) _ _ (naming _ three) (
+      or_else (number == LISTEN) _ _ (naming _ two) (or_else (number == ACCEPT) _ _ (naming _ three) (or_else (number == CONNECT) _ _ (naming _ three) (
+      or_else (number == GETSOCKNAME) _ _ (naming _ three) (or_else (number == GETPEERNAME) _ _ (naming _ three) (or_else (number == SETSOCKOPT) _ _ (naming _ five) (
+      or_else (number == SHUTDOWN) _ _ (naming _ two) (or_else (number == BRK) _ _ (naming _ one) (or_else (number == MUNMAP) _ _ (naming _ two) (
+      or_else (number == CLONE) _ _ (naming _ five) (or_else (number == MMAP) _ _ (naming _ six) (or_else (number == WAIT4) _ _ (naming _ four) (
+      naming _ small)))))))))))))))))))))))))))))))))))))))
 
 request_of_words : (regs : List ℕ) → All IsWord regs → IsRequest (request_of regs)
 request_of_words regs are =
     let arguments = slice_index regs 10 ∷ slice_index regs 11 ∷ slice_index regs 12 ∷ slice_index regs 13 ∷ slice_index regs 14 ∷ slice_index regs 15 ∷ [] in
     let all : All IsWord arguments = All-from_recursion IsWord arguments (word 10, (word 11, (word 12, (word 13, (word 14, (word 15, tt)))))) in
-    (request_words arguments (λ i. word_of_list arguments i all) (slice_index regs 17)).words
+    (request_words arguments (λ i. word_of_list arguments i all) (slice_index regs 17) (word 17)).words
   where
     word : (i : ℕ) → IsWord (slice_index regs i)
     word i = word_of_list regs i are

@@ -60,7 +60,7 @@ only_entry {X} t q v found is =
     let none : map.get (map.empty {X = X} {R = nat_cmp}) q ≡ None = map.get-empty nat_cmp q in
     only (eq_by_cmp nat_cmp q t) v found (ap (cond (eq_by_cmp nat_cmp q t) (Some v)) (sym none) ∙ sym (map.get-insert nat_cmp_total map.empty t v q) ∙ is)
 
-only_key : {X : Type 0} (t q : ℕ) (v found : X) → map.get (map.insert (map.empty {R = nat_cmp}) t v) q ≡ Some found → q ≡ t
+pub only_key : {X : Type 0} (t q : ℕ) (v found : X) → map.get (map.insert (map.empty {R = nat_cmp}) t v) q ≡ Some found → q ≡ t
 only_key {X} t q v found is = ⊎_elim
     (λ here. here)
     (λ other. let none : map.get (map.empty {X = X} {R = nat_cmp}) q ≡ None = map.get-empty nat_cmp q in

@@ -1,9 +1,9 @@
 -- Each record leads from a valid state to a valid one.
-use Rattle.std.proofs.Common.{◌≡◌, ◌≢◌, ℕ, ◌+◌, ◌≤◌, Bool, true, false, cond, List, length, refl, sym, ap, subst, ◌∙◌, arith, ⊎_elim}
+use Rattle.std.proofs.Common.{◌≡◌, ◌≢◌, ℕ, ◌+◌, ◌^◌, ◌<◌, ◌≤◌, Bool, true, false, cond, List, length, refl, sym, ap, subst, ◌∙◌, arith, ⊎_elim}
 use Rattle.std.specs.Prelude.{◌&&◌, nat_le, Option, Some, None, is_some}
 use Rattle.std.specs.FinMap as map
 use Rattle.std.proofs.lemmas.Bool.Decides.{nat_tests}
-use Rattle.views.proofs.MapLaws.{get_insert_same, get_insert_other, get-retain, same_or_other}
+use Rattle.views.proofs.MapLaws.{get_insert_same, get_insert_other, get-retain, same_or_other, true_false}
 use Rattle.sys_abi.specs.declared.identity.VPid.{VPid}
 use Rattle.sys_abi.specs.declared.identity.Dir.{Dir}
 use Rattle.sys_abi.specs.declared.record.Record.{Record}
@@ -12,36 +12,44 @@ use Rattle.sys_abi.specs.declared.request.Request.{Request}
 use Rattle.sys_abi.specs.Orders.{vpid_cmp}
 use Rattle.sys_abi.specs.Requests.{is_local}
 use Rattle.sys_abi.specs.Signals.{has_signal}
-use Rattle.sys_abi.proofs.OrderLaws.{vpid_total, vpid_exact, dir_total, dir_exact}
+use Rattle.sys_abi.proofs.OrderLaws.{vpid_total, vpid_exact}
 use Rattle.plain_machine.specs.declared.plain.Plain.{Plain}
 use Rattle.plain_machine.specs.declared.kernel.PlainKernel.{PlainKernel}
 use Rattle.plain_tables.specs.declared.channel.Direction.{Direction}
 use Rattle.plain_process.specs.declared.user_part.UserPart.{UserPart}
 use Rattle.plain_process.specs.declared.user_part.ThreadPart.{ThreadPart}
 use Rattle.plain_machine.specs.Attempts.{Served}
-use Rattle.plain_machine.specs.Kernel.{is_live, has_thread, after_end, after_take}
+use Rattle.plain_machine.specs.Kernel.{is_live, has_thread, after_take}
+use Rattle.plain_machine.specs.Ends.{ended}
 use Rattle.plain_process.specs.Steps.{UserStep, Stepped, Asks, Trapped, Waits, NoThread, user_step, user_steps}
 use Rattle.plain_process.specs.Buffers.{lent}
-use Rattle.plain_process.specs.Put.{put}
+use Rattle.plain_process.specs.Put.{made_by, put}
+use Rattle.plain_process.specs.Threads.{child_of}
+use Rattle.plain_tables.specs.Tables.{pid}
 use Rattle.plain_process.specs.Deliveries.{Delivery, Enters, Ignores, Kills, traps_with}
 use Rattle.plain_machine.specs.Serve.{serve}
-use Rattle.plain_machine.specs.Records.{Outcome, outcome, QUANTUM, quiet, with_user, living, user_ends, if_ends, is_unready, ended_by_signal, delivered, deliverable, with_arrived, outcome_of_user, outcome_of_call, outcome_of_ask, outcome_of_lent, outcome_of_serve, outcome_of_pending, outcome_of_signal, outcome_of_arrival}
-use Rattle.plain_machine.specs.Valid.{IsKernel, IsDirection, IsValid}
+use Rattle.plain_machine.specs.Records.{Users, with_child, users_after, Outcome, outcome, QUANTUM, quiet, with_user, living, user_ends, if_ends, is_unready, ended_by_signal, delivered, deliverable, with_arrived, outcome_of_user, outcome_of_call, outcome_of_ask, outcome_of_lent, outcome_of_serve, outcome_of_pending, outcome_of_signal, outcome_of_arrival}
+use Rattle.plain_machine.specs.Valid.{IsKernel, IsValid}
 use Rattle.plain_process.specs.Valid.{IsUser, Each}
 use Rattle.plain_machine.specs.Laws.{StepKeepsValid}
 use Rattle.plain_process.proofs.Giving.{Giving, gives, nothing, where_, either, then_, mapped}
-use Rattle.plain_machine.proofs.Requests.{asked_is_request}
-use Rattle.plain_machine.proofs.ThreadKeys.{there_after}
+use Rattle.plain_machine.specs.RowLaws.{there_after, IsAsked, IsServed, IsMade}
 use Rattle.plain_machine.proofs.UserParts.{Follows}
-use Rattle.plain_machine.proofs.UserBounds.{keeps_steps}
+use Rattle.plain_machine.proofs.UserBounds.{keeps_steps, trap_is_small}
 use Rattle.plain_machine.proofs.PutBounds.{put_has, fault_follows}
-use Rattle.plain_machine.proofs.DeliveryBounds.{keeps_delivery}
+use Rattle.plain_machine.proofs.DeliveryBounds.{keeps_delivery, kills_with}
 use Rattle.plain_machine.proofs.LocalBounds.{asks_there, keeps_local}
-use Rattle.plain_machine.proofs.KernelBounds.{retained, end_keeps, take_keeps}
-use Rattle.plain_machine.proofs.CallBounds.{serve_answers}
-use Rattle.plain_machine.proofs.KernelThreads.{end_threads, take_threads, user_lives, known_threads, valid_from}
-use Rattle.plain_machine.proofs.AddedThreads.{serve_adds}
-use Rattle.plain_machine.proofs.ThreadBounds.{lived_before, serve_threads}
+use Rattle.plain_tables.proofs.Entries.{retained}
+use Rattle.plain_machine.proofs.SignalBounds.{signal_small}
+use Rattle.plain_machine.proofs.WholeChanges.{whole_take, whole_arrival}
+use Rattle.plain_machine.proofs.WholeEnds.{whole_ended}
+use Rattle.plain_machine.proofs.EndedKernels.{kernel_ended}
+use Rattle.plain_machine.proofs.CallBounds.{lent_writable}
+use Rattle.plain_machine.proofs.KernelThreads.{take_threads, user_lives, known_threads, valid_from}
+use Rattle.plain_machine.proofs.ThreadEnds.{HasThreads}
+use Rattle.plain_machine.proofs.Asking.{stands_asked, serve_adds}
+use Rattle.plain_machine.proofs.Children.{child_is}
+use Rattle.plain_machine.proofs.EachRow.{each_is_served}
 
 abbrev Valid : Option Outcome → Type 0
 Valid found = Giving found (λ o. IsValid o.state)
@@ -87,16 +95,19 @@ living_valid users next kernel are there agree =
     live_parts q false alive = refl
 
 -- deliveries
-ended_valid : (g : Plain) (p : VPid) → IsValid g → IsValid (ended_by_signal g p)
-ended_valid g p is =
-    let keeps = end_threads g.kernel p in
-    living_valid g.users (after_end g.kernel p) (end_keeps g.kernel p is.kernel) is.users (λ q alive. is.alive q ∙ keeps.live q alive)
-    (λ q user found alive u. known_threads g q user is found u ∙ sym (keeps.threads q u alive))
+ended_valid : (g : Plain) (p : VPid) (status : ℕ) → IsValid g → is_live g.kernel p ≡ true → status < 2 ^ 32 → IsValid (ended_by_signal g p status)
+ended_valid g p status is alive word =
+    let over = kernel_ended g.kernel p status is.kernel alive in
+    let other : (q : VPid) → is_live (ended g.kernel p status) q ≡ true → q ≢ p = λ q lives same. true_false (sym lives ∙ ap (is_live (ended g.kernel p status)) same ∙ over.gone) in
+    living_valid g.users (ended g.kernel p status) (whole_ended g.kernel p status is.kernel alive word) is.users
+    (λ q lives. is.alive q ∙ sym (over.live q (other q lives)) ∙ lives)
+    (λ q user found lives u. known_threads g q user is found u ∙ sym (over.threads q u (other q lives)))
 
-delivered_valid : (g : Plain) (p : VPid) (user : UserPart) (d : Delivery) → IsValid g → map.get g.users p ≡ Some user → ((after : UserPart) → d ≡ Enters after → Follows user after) → IsValid (delivered g p d)
-delivered_valid g p user (Enters after) is there enters = user_follows g p user after is there (enters after refl)
-delivered_valid g p user Ignores is there enters = is
-delivered_valid g p user (Kills status) is there enters = ended_valid g p is
+delivered_valid : (g : Plain) (p : VPid) (user : UserPart) (d : Delivery) → IsValid g → map.get g.users p ≡ Some user → ((after : UserPart) → d ≡ Enters after → Follows user after)
+    → ((status : ℕ) → d ≡ Kills status → status < 2 ^ 32) → IsValid (delivered g p d)
+delivered_valid g p user (Enters after) is there enters kills = user_follows g p user after is there (enters after refl)
+delivered_valid g p user Ignores is there enters kills = is
+delivered_valid g p user (Kills status) is there enters kills = ended_valid g p status is (user_lives g p user is there) (kills status refl)
 
 abbrev taken : Plain → VPid → ℕ → ℕ → Plain
 taken g p t s = record { kernel = after_take g.kernel p t s; users = g.users }
@@ -122,22 +133,70 @@ module _ (g : Plain) (is : IsValid g) where
 
   -- calls
   module _ (p : VPid) (t : ℕ) (user : UserPart) (q : Request) (there : map.get g.users p ≡ Some user) (asks : user_step user t ≡ Asks q) where
-    valid_served : (given : List ℕ) (served : Served) → lent user.memory q ≡ Some given → serve g.kernel p t q given ≡ Some served
-        → IsValid (living (record { kernel = served.kernel; users = map.insert g.users p (put user t q served.reply served.bytes) }))
-    valid_served given served reads goes =
-        let good = is.users p user there in
-        let alive = user_lives g p user is there in
-        let fit = (serve_threads g.kernel p t is.kernel alive q given).each served goes in
-        let answer = serve_answers g.kernel user p t q given served is.kernel good reads goes in
-        let after = put user t q served.reply served.bytes in
-        let done = put_has user t q served.reply good answer.reply (serve_adds g user p t q given served is there goes) (λ new added. asked_is_request user t q good asks) served.bytes answer.bytes answer.room
-        (asks_there user t q asks) in
-        living_valid (map.insert g.users p after) served.kernel fit.kernel
-        (each_user (λ r u. IsUser u) g.users p after done.user (λ r u other found. is.users r u found))
-        (λ r now. put_there g p user after there r ∙ is.alive r ∙ lived_before g.kernel p t q served alive fit r now)
-        (each_user (λ r v. is_live served.kernel r ≡ true → Agrees served.kernel r v) g.users p after
-        (λ now u. done.threads u ∙ ap (there_after t q served.reply u) (known_threads g p user is there u) ∙ sym (fit.here u now))
-        (λ r v other found now u. known_threads g r v is found u ∙ sym (fit.elsewhere r u other)))
+    module _ (given : List ℕ) (served : Served) (reads : lent user.memory q ≡ Some given) (goes : serve g.kernel p t q given ≡ Some served) where
+      asked : IsAsked g.kernel p t q given
+      asked = stands_asked g user p t q given is there asks reads
+
+      law : IsServed g.kernel p t q given served
+      law = each_is_served g.kernel p t q given served asked goes
+
+      abbrev next_pid : VPid
+      next_pid = pid g.kernel.next_id
+
+      abbrev answered : UserPart
+      answered = put user t q served.reply served.bytes
+
+      after_has : HasThreads user answered (there_after t q served.reply)
+      after_has =
+          put_has user t q served.reply (is.users p user there) law.answer.reply (serve_adds g user p q served.reply is there law.adds) (λ new added. asked.request) served.bytes law.answer.bytes
+          (law.answer.room user.memory reads) (asks_there user t q asks)
+
+      -- of the processes that were there
+      abbrev parts : Users
+      parts = map.insert g.users p answered
+
+      users_are : Each parts (λ r u. IsUser u)
+      users_are = each_user (λ r u. IsUser u) g.users p answered after_has.user (λ r u other found. is.users r u found)
+
+      lived : (r : VPid) → r ≢ next_pid → is_live served.kernel r ≡ true → is_live g.kernel r ≡ true
+      lived r new now = ⊎_elim
+          (λ here. subst (λ x. is_live g.kernel x ≡ true) (sym here) asked.alive)
+          (λ other. sym (law.live r other new) ∙ now)
+          (same_or_other vpid_total vpid_exact r p)
+
+      users_there : (r : VPid) → r ≢ next_pid → is_live served.kernel r ≡ true → is_some (map.get parts r) ≡ true
+      users_there r new now = put_there g p user answered there r ∙ is.alive r ∙ lived r new now
+
+      users_agree : (r : VPid) (v : UserPart) → map.get parts r ≡ Some v → r ≢ next_pid → is_live served.kernel r ≡ true → Agrees served.kernel r v
+      users_agree = each_user (λ r v. r ≢ next_pid → is_live served.kernel r ≡ true → Agrees served.kernel r v) g.users p answered
+          (λ new now u. after_has.threads u ∙ ap (there_after t q served.reply u) (known_threads g p user is there u) ∙ sym (law.here u now))
+          (λ r v other found new now u. known_threads g r v is found u ∙ sym (law.elsewhere r u other new))
+
+      abbrev child_part : UserPart
+      child_part = child_of user t g.kernel.next_id q
+
+      child_there : (r : VPid) → is_live served.kernel r ≡ true → is_some (map.get (map.insert parts next_pid child_part) r) ≡ true
+      child_there r now = ⊎_elim
+          (λ here. subst (λ k. is_some (map.get (map.insert parts next_pid child_part) k) ≡ true) (sym here) (ap is_some (get_insert_same vpid_total vpid_exact parts next_pid child_part)))
+          (λ other. ap is_some (get_insert_other vpid_total vpid_exact parts next_pid child_part r other) ∙ users_there r other now)
+          (same_or_other vpid_total vpid_exact r next_pid)
+
+      valid_with : (made : Option ℕ) → made_by q served.reply ≡ made → IsMade g.kernel served.kernel made → IsValid (living (record { kernel = served.kernel; users = with_child parts user t q g.kernel.next_id made }))
+      valid_with None none nobody =
+          let new : (r : VPid) → is_live served.kernel r ≡ true → r ≢ next_pid = λ r now same. true_false (sym now ∙ ap (is_live served.kernel) same ∙ nobody) in
+          living_valid parts served.kernel law.kernel users_are (λ r now. users_there r (new r now) now) (λ r v found now. users_agree r v found (new r now) now)
+      valid_with (Some number) makes made =
+          let last = is.kernel.numbers.last_id in
+          let born = child_is user t g.kernel.next_id q served.reply number (is.users p user there) asked.request (omega arith) (asks_there user t q asks)
+          ((lent_writable user.memory q).each given reads) makes in
+          living_valid (map.insert parts next_pid child_part) served.kernel law.kernel
+          (each_user (λ r u. IsUser u) parts next_pid child_part born.user (λ r u other found. users_are r u found))
+          child_there
+          (λ r v found now. each_user (λ r v. is_live served.kernel r ≡ true → Agrees served.kernel r v) parts next_pid child_part
+          (λ now u. born.threads u ∙ sym (made.2 u)) (λ r v other found now. users_agree r v found other now) r v found now)
+
+      valid_served : IsValid (living (record { kernel = served.kernel; users = users_after g p t user q served }))
+      valid_served = valid_with (made_by q served.reply) refl law.made
 
     valid_serve : (given : List ℕ) (served : Option Served) → lent user.memory q ≡ Some given → serve g.kernel p t q given ≡ served → Valid (outcome_of_serve g p t user q served)
     valid_serve given None reads goes = nothing
@@ -164,44 +223,26 @@ module _ (g : Plain) (is : IsValid g) where
   valid_pending p t s user None there = nothing
   valid_pending p t s user (Some thread) there =
       either (traps_with (user_step user t) s)
-      (λ traps. gives (quiet _) (delivered_valid g p user _ is there (keeps_delivery user t s false (is.users p user there))))
+      (λ traps.
+      let signal = trap_is_small user t s (is.users p user there) traps in
+      gives (quiet _) (delivered_valid g p user _ is there (keeps_delivery user t s false (is.users p user there))
+      (λ status kills. kills_with user t s false (is.users p user there) status kills (omega arith))))
       (λ other. where_ (has_signal (deliverable g.kernel p t thread) s) (λ pending.
-      gives (quiet _) (delivered_valid (taken g p t s) p user _ (taken_valid g p t s is (take_keeps g.kernel p is.kernel t s)) there
-      (keeps_delivery user t s (is_unready g p t user (user_step user t)) (is.users p user there)))))
+      let signal = signal_small (deliverable g.kernel p t thread) s pending in
+      let unready = is_unready g p t user (user_step user t) in
+      gives (quiet _) (delivered_valid (taken g p t s) p user _ (taken_valid g p t s is (whole_take g.kernel p is.kernel t s)) there
+      (keeps_delivery user t s unready (is.users p user there))
+      (λ status kills. kills_with user t s unready (is.users p user there) status kills (omega arith)))))
 
   valid_signal : (p : VPid) (t s : ℕ) (found : Option UserPart) → map.get g.users p ≡ found → Valid (outcome_of_signal g p t s found)
   valid_signal p t s None there = nothing
   valid_signal p t s (Some user) there = valid_pending p t s user (map.get user.threads t) there
 
   -- arrivals
-  arrived : (direction : Direction) (n : ℕ) → IsDirection direction → direction.arrived + n ≤ length direction.left
-      → IsDirection (record { left = direction.left; arrived = direction.arrived + n; ended = direction.ended; unread = direction.unread })
-  arrived direction n old fits = record { arrived = fits; size = old.size }
-
-  each_direction : (dir : Dir) (new : Direction) → IsDirection new → Each (map.insert g.kernel.directions dir new) (λ d direction. IsDirection direction)
-  each_direction dir new fits d direction found = ⊎_elim
-      (λ here.
-      let there : map.get (map.insert g.kernel.directions dir new) dir ≡ Some direction = subst (λ k. map.get (map.insert g.kernel.directions dir new) k ≡ Some direction) here found in
-      let same : new ≡ direction = let put = get_insert_same dir_total dir_exact g.kernel.directions dir new in cc in
-      subst IsDirection same fits)
-      (λ other. is.kernel.directions d direction (sym (get_insert_other dir_total dir_exact g.kernel.directions dir new d other) ∙ found))
-      (same_or_other dir_total dir_exact d dir)
-
   valid_arrived : (dir : Dir) (direction : Direction) (n : ℕ) → map.get g.kernel.directions dir ≡ Some direction → direction.arrived + n ≤ length direction.left → IsValid (with_arrived g dir direction n)
   unfolding is_live
   valid_arrived dir direction n there fits = record {
-    kernel = record {
-      first_id = is.kernel.first_id;
-      last_id = is.kernel.last_id;
-      count = is.kernel.count;
-      processes = is.kernel.processes;
-      made = is.kernel.made;
-      makers = is.kernel.makers;
-      hosts = is.kernel.hosts;
-      descriptors = λ at descriptor found. let old = is.kernel.descriptors at descriptor found in record { number = old.number; alive = old.alive; described = old.described };
-      descriptions = is.kernel.descriptions;
-      directions = each_direction dir _ (arrived direction n (is.kernel.directions dir direction there) fits);
-    };
+    kernel = whole_arrival g.kernel dir direction n is.kernel there fits;
     users = is.users;
     alive = is.alive;
     threads = is.threads;

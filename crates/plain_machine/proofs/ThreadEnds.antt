@@ -24,7 +24,8 @@ use Rattle.plain_process.proofs.MemoryBounds.{IsMemory, kept_by_store}
 use Rattle.plain_machine.proofs.MemoryPages.{KeepsPages, kept_pages, store_keeps}
 use Rattle.plain_machine.proofs.WordBounds.{either_word}
 use Rattle.plain_machine.proofs.EffectBounds.{regs_at, regs_with, next_word}
-use Rattle.plain_machine.proofs.ThreadKeys.{without_one, with_one, there_without, there_with}
+use Rattle.plain_machine.specs.RowLaws.{without_one, with_one}
+use Rattle.plain_machine.proofs.ThreadKeys.{there_without, there_with}
 use Rattle.plain_machine.proofs.UserParts.{Follows, follows_itself, then_follows, memory_of, written_follows, thread_follows, no_waiter_follows, thread_less, thread_more}
 use Rattle.sys_abi.specs.Flags.{has_flag}
 
@@ -151,7 +152,7 @@ regs_with_if : (b : Bool) (regs : Regs) (i value : ℕ) → IsRegs regs → IsWo
 regs_with_if true regs i value are small = regs_with regs i value are small
 regs_with_if false regs i value are small = are
 
-new_regs_are : (regs : Regs) (flags stack tls : ℕ) → IsRegs regs → IsWord stack → IsWord tls → IsRegs (new_regs regs flags stack tls)
+pub new_regs_are : (regs : Regs) (flags stack tls : ℕ) → IsRegs regs → IsWord stack → IsWord tls → IsRegs (new_regs regs flags stack tls)
 new_regs_are regs flags stack tls are first second =
     regs_with _ A0 0 (regs_with_if (has_flag flags CLONE_SETTLS) _ TP tls (regs_with_if (not (stack == 0)) regs SP stack are first) second) (omega arith)
 

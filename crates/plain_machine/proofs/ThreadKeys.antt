@@ -1,5 +1,4 @@
 -- Which threads are there: after one more and without one, and how many they are.
---     there_after t q reply u was      whether the thread u is there after the answer of a call of t, where it was there before or wasn't
 --     same_len      maps with the same keys have as many entries
 use Rattle.std.proofs.Common.{◌≡◌, ℕ, Bool, true, false, cond, length, refl, sym, ap, subst, ◌∙◌, ⊎_elim}
 use Rattle.std.specs.Prelude.{Option, Some, None, is_some, option_map}
@@ -10,21 +9,7 @@ use Rattle.std.proofs.lemmas.List.{length-map}
 use Rattle.views.specs.Maps.{map_values}
 use Rattle.views.proofs.MapLaws.{get_insert_same, get_insert_other, same_or_other, true_false}
 use Rattle.views.proofs.MapValues.{get-map_values, entries-map_values}
-use Rattle.sys_abi.specs.declared.request.Request.{Request}
-use Rattle.sys_abi.specs.declared.request.Request.TheVariants.{Exit}
-use Rattle.sys_abi.specs.declared.reply.Reply.{Reply}
-use Rattle.plain_process.specs.Put.{added_thread}
-
-abbrev pub without_one : ℕ → ℕ → Bool → Bool
-without_one t u was = cond (eq_by_cmp nat_cmp u t) false was
-
-abbrev pub with_one : Option ℕ → ℕ → Bool → Bool
-with_one None u was = was
-with_one (Some new) u was = cond (eq_by_cmp nat_cmp u new) true was
-
-unfoldable pub there_after : ℕ → Request → Reply → ℕ → Bool → Bool
-there_after t (Exit code) reply u was = without_one t u was
-there_after t q reply u was = with_one (added_thread q reply) u was
+use Rattle.plain_machine.specs.RowLaws.{without_one, with_one}
 
 none_or_same : {X : Type 0} (b : Bool) (found : Option X) → is_some (cond b None found) ≡ cond b false (is_some found)
 none_or_same true found = refl

@@ -1,16 +1,18 @@
 -- A process's part stays valid, with the same threads, over the steps of its threads; and no more threads wait than there are.
---     keeps_steps, user_steps_keep_user      steps of a thread      waiters_are_few
+--     keeps_steps, user_steps_keep_user      steps of a thread      trap_is_small      it traps with a signal      waiters_are_few
 use Rattle.std.proofs.Common.{◌≡◌, ◌≢◌, ℕ, zero, suc, ◌-◌, ◌<◌, ◌≤◌, Bool, true, false, cond, List, [], ◌∷◌, length, refl, sym, ap, ◌∙◌, arith, ⊎_elim}
 use Rattle.std.specs.Prelude.{Option, Some, None, is_some, All, AllPairs}
 use Rattle.std.specs.Ordering.{nat_cmp}
 use Rattle.std.specs.Cmp.{nat_cmp_total}
 use Rattle.std.specs.FinMap as map
 use Rattle.std.proofs.lemmas.Bool.{cases_lt}
+use Rattle.std.proofs.lemmas.Bool.Decides.{nat_tests}
 use Rattle.views.proofs.MapLaws.{get_remove_other, true_false}
 use Rattle.plain_process.specs.declared.user_part.UserPart.{UserPart}
 use Rattle.plain_process.specs.declared.user_part.ThreadPart.{ThreadPart}
 use Rattle.plain_process.specs.declared.user_part.Waiter.{Waiter}
 use Rattle.plain_process.specs.Instructions.{Effect, Next, Calls, Traps}
+use Rattle.plain_process.specs.Deliveries.{traps_with}
 use Rattle.plain_process.specs.Steps.{effect_at, UserStep, Waits, waits, with_regs, step_by, step_of, user_step, stepped, user_steps}
 use Rattle.plain_process.specs.Valid.{IsUser}
 use Rattle.plain_machine.specs.Laws.{UserStepsKeepUser, WaitersAreFew}
@@ -48,6 +50,28 @@ keeps_steps (suc n) user t is = then_ (user_steps n user t) {f = λ before. step
 
 pub user_steps_keep_user : UserStepsKeepUser
 user_steps_keep_user n user after t is goes = ((keeps_steps n user t is).each after goes).user
+
+-- traps
+trap_of : (user : UserPart) (t s : ℕ) (thread : ThreadPart) (done : Effect) → Keeps user.memory done → traps_with (step_by user t thread done) s ≡ true → s < 32
+trap_of user t s thread (Next regs memory) keeps with_it = true_false (sym with_it)
+trap_of user t s thread Calls keeps with_it = true_false (sym with_it)
+trap_of user t s thread (Traps trap) keeps with_it =
+    let same : trap ≡ s = grind (arith, nat_tests, with_it) in
+    let small = keeps.trap trap refl in
+    omega arith
+
+trap_unless : (b : Bool) (s : ℕ) (next : UserStep) → (traps_with next s ≡ true → s < 32) → traps_with (cond b Waits next) s ≡ true → s < 32
+trap_unless true s next holds with_it = true_false (sym with_it)
+trap_unless false s next holds with_it = holds with_it
+
+trap_thread : (user : UserPart) (t s : ℕ) (found : Option ThreadPart) → IsUser user → map.get user.threads t ≡ found → traps_with (step_of user t found) s ≡ true → s < 32
+trap_thread user t s None is there with_it = true_false (sym with_it)
+trap_thread user t s (Some thread) is there with_it =
+    trap_unless (waits user t) s _ (trap_of user t s thread (effect_at thread.regs user.memory) (keeps_at thread.regs user.memory (is.threads t thread there).regs (memory_of user is))) with_it
+
+pub trap_is_small : (user : UserPart) (t s : ℕ) → IsUser user → traps_with (user_step user t) s ≡ true → s < 32
+unfolding user_step
+trap_is_small user t s is with_it = trap_thread user t s (map.get user.threads t) is refl with_it
 
 -- who waits: distinct threads
 some_entry : (threads : map.FinMap nat_cmp ThreadPart) (t : ℕ) → is_some (map.get threads t) ≡ true → 0 < map.len threads

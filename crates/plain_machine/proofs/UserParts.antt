@@ -24,7 +24,8 @@ use Rattle.plain_process.specs.Start.{RETURN_PAGE, return_frame}
 use Rattle.plain_process.specs.Valid.{IsWord, IsThread, IsAction, IsWaiter, IsHeap, IsUser, Each}
 use Rattle.plain_process.proofs.MemoryBounds.{IsMemory}
 use Rattle.plain_machine.proofs.MemoryPages.{KeepsPages, same_pages}
-use Rattle.plain_machine.proofs.ThreadKeys.{with_one, there_with, same_there}
+use Rattle.plain_machine.specs.RowLaws.{with_one}
+use Rattle.plain_machine.proofs.ThreadKeys.{there_with, same_there}
 
 pub record IsSpace (memory : Memory) (break_start break_end : ℕ) : Type 0 where
   pub pages : IsMemory memory
@@ -81,7 +82,7 @@ pub waiters_of : (user : UserPart) → IsUser user → AreWaiters user.threads u
 waiters_of user is = record { each = is.waiters; apart = is.waiters_apart }
 
 -- memory whose bytes are written
-space_written : (before after : Memory) (break_start break_end : ℕ) → IsSpace before break_start break_end → IsMemory after → KeepsPages before after → IsSpace after break_start break_end
+pub space_written : (before after : Memory) (break_start break_end : ℕ) → IsSpace before break_start break_end → IsMemory after → KeepsPages before after → IsSpace after break_start break_end
 space_written before after break_start break_end is pages keeps = record {
   pages = pages;
   return_page = keeps.closed RETURN_PAGE return_frame is.return_page refl;

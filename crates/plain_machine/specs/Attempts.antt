@@ -1,6 +1,7 @@
 -- What a call's row comes to.
 --     Served           what a call that was served leaves and gives
---     settled k m      what the row says of the kernel part k: an error leaves it as it is, and nothing where the call waits
+--     settled k m      what the row says of the kernel part k: an error leaves it as it is, and nothing where
+--                      the call waits
 use Rattle.std.specs.Prelude.{ℕ, List, [], Option, Some, None}
 use Rattle.sys_abi.specs.declared.reply.Reply.{Reply}
 use Rattle.sys_abi.specs.declared.reply.Reply.TheVariants.{Value, Error}
@@ -18,7 +19,8 @@ abbrev pub replied : PlainKernel → ℕ → Try Served
 replied k value = Gives (record { kernel = k; reply = Value value; bytes = []; console = [] })
 
 abbrev pub replied_on_console : PlainKernel → ℕ → List ℕ → Try Served
-replied_on_console k value console = Gives (record { kernel = k; reply = Value value; bytes = []; console = console })
+replied_on_console k value console =
+    Gives (record { kernel = k; reply = Value value; bytes = []; console = console })
 
 abbrev pub refused : PlainKernel → ℕ → Served
 refused k e = record { kernel = k; reply = Error (record { 0 = e }); bytes = []; console = [] }

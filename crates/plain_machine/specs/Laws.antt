@@ -1,5 +1,5 @@
 -- Laws of runs, each of which the contract of `run_laws` promises.
-use Rattle.std.specs.Prelude.{◌≡◌, ◌≢◌, ◌<◌, ◌≤◌, ℕ, Bool, true, List, [], ◌∷◌, ◌++◌, length, Option, Some, None, All}
+use Rattle.std.specs.Prelude.{◌≡◌, ◌≢◌, ◌<◌, ◌≤◌, ℕ, Bool, true, List, [], ◌∷◌, ◌++◌, length, Option, Some, None, is_some, All}
 use Rattle.std.specs.FinMap as map
 use Rattle.sys_abi.specs.declared.identity.VPid.{VPid}
 use Rattle.sys_abi.specs.declared.reply.Reply.{Reply}
@@ -14,10 +14,11 @@ use Rattle.plain_tables.specs.Tables.{pid}
 use Rattle.plain_machine.specs.Attempts.{Served}
 use Rattle.plain_process.specs.Steps.{Asks, user_step, user_steps}
 use Rattle.plain_process.specs.Deliveries.{Enters, deliver}
-use Rattle.plain_process.specs.Buffers.{lent, written_spans}
-use Rattle.plain_process.specs.Put.{word_of, put, put_fault, CanTake}
+use Rattle.plain_process.specs.Buffers.{lent, filled_spans}
+use Rattle.plain_process.specs.Put.{word_of, added_thread, put, put_fault, CanTake}
 use Rattle.plain_process.specs.Local.{local_row}
-use Rattle.plain_machine.specs.Serve.{serve}
+use Rattle.plain_machine.specs.Serve.{serve, is_ready, front_of}
+use Rattle.plain_machine.specs.RowLaws.{IsAsked, IsServed, MayAdd}
 use Rattle.plain_machine.specs.Records.{Outcome, outcome, step}
 use Rattle.plain_machine.specs.Runs.{run, console}
 use Rattle.elf32.specs.Pages.{page_count}
@@ -25,7 +26,7 @@ use Rattle.elf32.specs.Programs.{program_of, IsWellPlaced}
 use Rattle.plain_process.specs.Start.{Launched, start_user}
 use Rattle.plain_machine.specs.Start.{NamedFile, start, PROGRAM_LIMIT}
 use Rattle.plain_process.specs.Valid.{IsWord, IsByte, IsUser, IsRequest, CanAdd}
-use Rattle.plain_machine.specs.Valid.{IsKernel, IsValid}
+use Rattle.plain_machine.specs.Valid.{IsValid, AreNamed}
 use Rattle.plain_process.specs.Launches.{IsLaunched}
 
 -- the process that a record is of
@@ -40,9 +41,9 @@ abbrev pub RecordIsLocal : Type 0
 RecordIsLocal =
     (g next : Plain) (r : Record) (q : VPid) → step g r ≡ Some next → subject r ≢ Some q → q ≢ pid g.kernel.next_id → is_live next.kernel q ≡ true → map.get next.users q ≡ map.get g.users q
 
--- a start is valid, whatever the named files
+-- a start is valid
 abbrev pub StartIsValid : Type 0
-StartIsValid = (jobs : List Launched) (files : List NamedFile) → length jobs ≤ PROGRAM_LIMIT → All IsLaunched jobs → IsValid (start jobs files)
+StartIsValid = (jobs : List Launched) (files : List NamedFile) → length jobs ≤ PROGRAM_LIMIT → All IsLaunched jobs → AreNamed files → IsValid (start jobs files)
 
 -- each step from a valid state leads to a valid one
 abbrev pub StepKeepsValid : Type 0
@@ -64,7 +65,8 @@ UserStepsKeepUser = (n : ℕ) (user after : UserPart) (t : ℕ) → IsUser user 
 abbrev pub PutKeepsUser : Type 0
 PutKeepsUser =
     (user : UserPart) (t : ℕ) (q : Request) (reply : Reply) (bytes : List ℕ) → IsUser user → IsRequest q → IsWord (word_of reply) → All IsByte bytes
-    → CanTake user.memory (written_spans user.memory q) bytes → CanAdd user q reply → IsUser (put user t q reply bytes)
+    → CanTake user.memory (filled_spans user.memory q) bytes → CanAdd user q reply
+    → IsUser (put user t q reply bytes)
 
 abbrev pub FaultKeepsUser : Type 0
 FaultKeepsUser = (user : UserPart) (t : ℕ) (q : Request) → IsUser user → IsUser (put_fault user t q)
@@ -82,16 +84,24 @@ AskedIsRequest = (user : UserPart) (t : ℕ) (q : Request) → IsUser user → u
 abbrev pub WaitersAreFew : Type 0
 WaitersAreFew = (user : UserPart) → IsUser user → length user.waiters ≤ map.len user.threads
 
--- what a call's row answers is a word, and its bytes can be written where the answer puts them
-pub record IsAnswer (user : UserPart) (q : Request) (served : Served) : Type 0 where
-  pub reply : IsWord (word_of served.reply)
-  pub bytes : All IsByte served.bytes
-  pub room : CanTake user.memory (written_spans user.memory q) served.bytes
+-- each call that a thread of a valid kernel part asks for is served as the one law of rows says
+abbrev pub EachIsServed : Type 0
+EachIsServed =
+    (k : PlainKernel) (p : VPid) (t : ℕ) (q : Request) (given : List ℕ) (served : Served)
+    → IsAsked k p t q given → serve k p t q given ≡ Some served → IsServed k p t q given served
 
-abbrev pub ServeAnswers : Type 0
-ServeAnswers =
-    (k : PlainKernel) (user : UserPart) (p : VPid) (t : ℕ) (q : Request) (given : List ℕ) (served : Served) → IsKernel k → IsUser user → lent user.memory q ≡ Some given
-    → serve k p t q given ≡ Some served → IsAnswer user q served
+-- the first bytes that a call reads tell whether it waits
+abbrev pub ReadyByFront : Type 0
+ReadyByFront =
+    (k : PlainKernel) (p : VPid) (t : ℕ) (q : Request) (given : List ℕ)
+    → is_some (serve k p t q given) ≡ is_ready k p t q (front_of given)
+
+-- a thread of a valid state that stands at a call asks for it as that law wants
+abbrev pub StandsAsked : Type 0
+StandsAsked =
+    (g : Plain) (user : UserPart) (p : VPid) (t : ℕ) (q : Request) (given : List ℕ) → IsValid g
+    → map.get g.users p ≡ Some user → user_step user t ≡ Asks q → lent user.memory q ≡ Some given
+    → IsAsked g.kernel p t q given
 
 -- one more record at a trace's end
 abbrev pub RunOfOneMore : Type 0
@@ -104,5 +114,6 @@ ConsoleOfOneMore =
 -- what a call that a valid state serves answers may add a thread
 abbrev pub ServeAdds : Type 0
 ServeAdds =
-    (g : Plain) (user : UserPart) (p : VPid) (t : ℕ) (q : Request) (given : List ℕ) (served : Served) → IsValid g → map.get g.users p ≡ Some user
-    → serve g.kernel p t q given ≡ Some served → CanAdd user q served.reply
+    (g : Plain) (user : UserPart) (p : VPid) (q : Request) (reply : Reply) → IsValid g
+    → map.get g.users p ≡ Some user
+    → MayAdd g.kernel p (added_thread q reply) → CanAdd user q reply

@@ -7,5 +7,10 @@ pub mod Runs
 pub mod Start
 pub mod Tests
 pub mod Valid
+pub mod Kernels
+pub mod KernelLaws
+pub mod Channels
+pub mod Closing
+pub mod Ends
+pub mod RowLaws
 pub mod Laws
-pub mod Answers

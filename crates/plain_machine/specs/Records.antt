@@ -1,4 +1,5 @@
--- One record from a plain state: which state follows and what goes to the console, or nothing where the record is no step of that state.
+-- One record from a plain state: which state follows and what goes to the console, or nothing where the record
+-- is no step of that state.
 --     outcome g r      both      step g r      the state alone
 use Rattle.std.specs.Prelude.{◌==◌, ◌&&◌, ◌||◌, ℕ, ◌+◌, Bool, true, false, not, nat_le, List, [], length, Option, Some, None, is_some, option_and_then, if◌then◌else◌}
 use Rattle.std.specs.Option.{option_map}
@@ -8,6 +9,7 @@ use Rattle.sys_abi.specs.declared.identity.Dir.{Dir}
 use Rattle.sys_abi.specs.declared.record.Record.{Record}
 use Rattle.sys_abi.specs.declared.record.Record.TheVariants.{User, Call, Deliver, Arrive, Cut, Drained, Refilled, Complete, Refused, Lapsed}
 use Rattle.sys_abi.specs.declared.request.Request.{Request}
+use Rattle.sys_abi.specs.Orders.{vpid_cmp}
 use Rattle.sys_abi.specs.Requests.{is_local}
 use Rattle.sys_abi.specs.Signals.{has_signal, without_signals}
 use Rattle.plain_machine.specs.declared.plain.Plain.{Plain}
@@ -16,10 +18,13 @@ use Rattle.plain_machine.specs.declared.kernel.PlainKernel.{PlainKernel}
 use Rattle.plain_process.specs.declared.user_part.UserPart.{UserPart}
 use Rattle.plain_process.specs.declared.user_part.ThreadPart.{ThreadPart}
 use Rattle.plain_machine.specs.Attempts.{Served}
-use Rattle.plain_machine.specs.Kernel.{is_live, after_end, pending, after_take}
+use Rattle.plain_machine.specs.Kernel.{is_live, pending, after_take}
+use Rattle.plain_machine.specs.Ends.{ended}
 use Rattle.plain_process.specs.Steps.{UserStep, Asks, Trapped, Waits, user_step, user_steps}
 use Rattle.plain_process.specs.Buffers.{lent}
-use Rattle.plain_process.specs.Put.{put, put_fault}
+use Rattle.plain_process.specs.Put.{made_by, put, put_fault}
+use Rattle.plain_process.specs.Threads.{child_of}
+use Rattle.plain_tables.specs.Tables.{pid}
 use Rattle.plain_process.specs.Local.{local_row}
 use Rattle.plain_process.specs.Deliveries.{Delivery, Enters, Ignores, Kills, deliver, traps_with}
 use Rattle.plain_machine.specs.Serve.{serve}
@@ -56,20 +61,35 @@ if_ends g p t n user = if user_ends n t user then Some (quiet (with_user g p use
 
 abbrev pub outcome_of_user : Plain → VPid → ℕ → ℕ → Option UserPart → Option Outcome
 outcome_of_user g p t n None = None
-outcome_of_user g p t n (Some user) = if nat_le 1 n && nat_le n QUANTUM then option_and_then (if_ends g p t n) (user_steps n user t) else None
+outcome_of_user g p t n (Some user) =
+    if nat_le 1 n && nat_le n QUANTUM then option_and_then (if_ends g p t n) (user_steps n user t) else None
+
+abbrev pub Users : Type 0
+Users = map.FinMap vpid_cmp UserPart
+
+-- with the child that an answer makes, under the next number: its part comes of the caller's before that
+abbrev pub with_child : Users → UserPart → ℕ → Request → ℕ → Option ℕ → Users
+with_child users user t q next None = users
+with_child users user t q next (Some number) = map.insert users (pid next) (child_of user t next q)
+
+abbrev pub users_after : Plain → VPid → ℕ → UserPart → Request → Served → Users
+users_after g p t user q served =
+    with_child (map.insert g.users p (put user t q served.reply served.bytes)) user t q g.kernel.next_id
+    (made_by q served.reply)
 
 abbrev pub outcome_of_serve : Plain → VPid → ℕ → UserPart → Request → Option Served → Option Outcome
 outcome_of_serve g p t user q None = None
 outcome_of_serve g p t user q (Some served) =
     Some (record {
-      state = living (record { kernel = served.kernel; users = map.insert g.users p (put user t q served.reply served.bytes) });
+      state = living (record { kernel = served.kernel; users = users_after g p t user q served });
       console = served.console;
     })
 
 abbrev pub outcome_of_lent : Plain → VPid → ℕ → UserPart → Request → Option (List ℕ) → Option Outcome
 outcome_of_lent g p t user q None = Some (quiet (with_user g p (put_fault user t q)))
 outcome_of_lent g p t user q (Some given) =
-    if is_local q then Some (quiet (with_user g p (local_row user t q))) else outcome_of_serve g p t user q (serve g.kernel p t q given)
+    if is_local q then Some (quiet (with_user g p (local_row user t q))) else
+    outcome_of_serve g p t user q (serve g.kernel p t q given)
 
 abbrev pub outcome_of_ask : Plain → VPid → ℕ → UserPart → UserStep → Option Outcome
 outcome_of_ask g p t user (Asks q) = outcome_of_lent g p t user q (lent user.memory q)
@@ -92,13 +112,13 @@ is_unready g p t user Waits = true
 is_unready g p t user (Asks q) = waits_at g p t q (lent user.memory q)
 is_unready g p t user _ = false
 
-abbrev pub ended_by_signal : Plain → VPid → Plain
-ended_by_signal g p = living (record { kernel = after_end g.kernel p; users = g.users })
+abbrev pub ended_by_signal : Plain → VPid → ℕ → Plain
+ended_by_signal g p status = living (record { kernel = ended g.kernel p status; users = g.users })
 
 abbrev pub delivered : Plain → VPid → Delivery → Plain
 delivered g p (Enters user) = with_user g p user
 delivered g p Ignores = g
-delivered g p (Kills status) = ended_by_signal g p
+delivered g p (Kills status) = ended_by_signal g p status
 
 -- the pending signals that the thread's mask lets through
 abbrev pub deliverable : PlainKernel → VPid → ℕ → ThreadPart → ℕ
@@ -110,7 +130,8 @@ outcome_of_pending g p t s user None = None
 outcome_of_pending g p t s user (Some thread) =
     if traps_with (user_step user t) s then Some (quiet (delivered g p (deliver user t s false))) else
     if has_signal (deliverable g.kernel p t thread) s then
-    Some (quiet (delivered (record { kernel = after_take g.kernel p t s; users = g.users }) p (deliver user t s (is_unready g p t user (user_step user t)))))
+    Some (quiet (delivered (record { kernel = after_take g.kernel p t s; users = g.users }) p
+    (deliver user t s (is_unready g p t user (user_step user t)))))
     else None
 
 abbrev pub outcome_of_signal : Plain → VPid → ℕ → ℕ → Option UserPart → Option Outcome
@@ -120,7 +141,12 @@ outcome_of_signal g p t s (Some user) = outcome_of_pending g p t s user (map.get
 abbrev pub with_arrived : Plain → Dir → Direction → ℕ → Plain
 with_arrived g dir direction n = record {
   kernel = record g.kernel {
-    directions = map.insert g.kernel.directions dir (record { left = direction.left; arrived = direction.arrived + n; ended = direction.ended; unread = direction.unread });
+    directions = map.insert g.kernel.directions dir (record {
+      left = direction.left;
+      arrived = direction.arrived + n;
+      ended = direction.ended;
+      unread = direction.unread;
+    });
   };
   users = g.users;
 }
@@ -128,7 +154,9 @@ with_arrived g dir direction n = record {
 abbrev pub outcome_of_arrival : Plain → Dir → ℕ → Option Direction → Option Outcome
 outcome_of_arrival g dir n None = None
 outcome_of_arrival g dir n (Some direction) =
-    if nat_le 1 n && nat_le (direction.arrived + n) (length direction.left) then Some (quiet (with_arrived g dir direction n)) else None
+    if nat_le 1 n && nat_le (direction.arrived + n) (length direction.left) then
+    Some (quiet (with_arrived g dir direction n))
+    else None
 
 unfoldable pub outcome : Plain → Record → Option Outcome
 outcome g (User p t n) = outcome_of_user g p t.0 n (map.get g.users p)

@@ -1,4 +1,13 @@
-pub mod Write
-pub mod End
-pub mod Send
+pub mod Channels
 pub mod Clone
+pub mod Connections
+pub mod Counters
+pub mod Descriptors
+pub mod End
+pub mod Files
+pub mod Numbers
+pub mod Read
+pub mod Send
+pub mod Sockets
+pub mod Wait
+pub mod Write

@@ -1,6 +1,6 @@
 -- The start of a job: each program in a process of its own, with the console on 0, 1 and 2.
 --     start jobs files      the plain state of programs in the order of the words and of named files
-use Rattle.std.specs.Prelude.{ℕ, ◌+◌, ◌-◌, false, List, [], ◌∷◌}
+use Rattle.std.specs.Prelude.{ℕ, ◌+◌, false, List, [], ◌∷◌}
 use Rattle.std.specs.FinMap as map
 use Rattle.sys_abi.specs.declared.identity.DescId.{DescId}
 use Rattle.sys_abi.specs.Orders.{vpid_cmp}
@@ -13,6 +13,7 @@ use Rattle.plain_tables.specs.declared.description.Description.{Description}
 use Rattle.plain_tables.specs.declared.description.Descriptor.{Descriptor}
 use Rattle.plain_machine.specs.declared.kernel.PlainKernel.{PlainKernel}
 use Rattle.plain_machine.specs.declared.plain.Plain.{Plain}
+pub use Rattle.plain_tables.specs.Tables.{FIRST_PID, NOBODY}
 use Rattle.plain_tables.specs.Tables.{pid, slot}
 use Rattle.plain_process.specs.Start.{Launched, start_user}
 
@@ -23,14 +24,6 @@ pub record NamedFile : Type 0 where
 -- a job has at most so many programs
 abbrev pub PROGRAM_LIMIT : ℕ
 PROGRAM_LIMIT = 128
-
--- processes are numbered from here on
-abbrev pub FIRST_PID : ℕ
-FIRST_PID = 40000
-
--- the parent of a process that nobody waits for
-abbrev pub NOBODY : ℕ
-NOBODY = 1
 
 -- the console description of a process is number 0 of its own
 abbrev pub console_of : ℕ → DescId
@@ -49,7 +42,10 @@ unfoldable pub with_process : PlainKernel → ℕ → ℕ → PlainKernel
 with_process k p host = record k {
   processes = map.insert k.processes (pid p) (start_process p);
   makers = map.insert k.makers (pid p) (record { host = host; made = 1 });
-  descriptors = map.insert (map.insert (map.insert k.descriptors (slot (pid p) 0) (console_descriptor p)) (slot (pid p) 1) (console_descriptor p)) (slot (pid p) 2) (console_descriptor p);
+  descriptors = map.insert (map.insert (map.insert k.descriptors
+      (slot (pid p) 0) (console_descriptor p))
+      (slot (pid p) 1) (console_descriptor p))
+      (slot (pid p) 2) (console_descriptor p);
   descriptions = map.insert k.descriptions (console_of p) console_description;
   next_id = p + 1;
 }
@@ -90,7 +86,8 @@ start_kernel jobs files = with_processes (with_files empty_kernel files) FIRST_P
 
 unfoldable pub with_users : map.FinMap vpid_cmp UserPart → ℕ → List Launched → map.FinMap vpid_cmp UserPart
 with_users users p [] = users
-with_users users p (launched ∷ rest) = with_users (map.insert users (pid p) (start_user launched.program launched.arguments p)) (p + 1) rest
+with_users users p (launched ∷ rest) =
+    with_users (map.insert users (pid p) (start_user launched.program launched.arguments p)) (p + 1) rest
 
 unfoldable pub start : List Launched → List NamedFile → Plain
 start jobs files = record { kernel = start_kernel jobs files; users = with_users map.empty FIRST_PID jobs }

@@ -1,4 +1,5 @@
--- Tests on a plain state: has it ended, what is it once all bytes have arrived, can nothing go on, and what would no image hold.
+-- Tests on a plain state: has it ended, what is it once all bytes have arrived, can nothing go on, and what
+-- would no image hold.
 use Rattle.std.specs.Prelude.{◌≡◌, Bool, true, false, List, [], ◌∷◌, not, length, Option, Some, None}
 use Rattle.std.specs.Option.{option_map}
 use Rattle.std.specs.List.{list_any, filter_map}
@@ -27,11 +28,19 @@ abbrev pub ended : Plain → Bool
 ended g = not (has_life g.kernel)
 
 abbrev pub all_arrived : Direction → Direction
-all_arrived direction = record { left = direction.left; arrived = length direction.left; ended = direction.ended; unread = direction.unread }
+all_arrived direction = record {
+  left = direction.left;
+  arrived = length direction.left;
+  ended = direction.ended;
+  unread = direction.unread;
+}
 
 -- the state once all bytes have arrived
 unfoldable pub full_arrive : Plain → Plain
-full_arrive g = record { kernel = record g.kernel { directions = map_values all_arrived g.kernel.directions }; users = g.users }
+full_arrive g = record {
+  kernel = record g.kernel { directions = map_values all_arrived g.kernel.directions };
+  users = g.users;
+}
 
 abbrev pub is_work : Record → Bool
 is_work (User p t n) = true
@@ -56,7 +65,8 @@ unsupported_kind _ = None
 
 abbrev pub unsupported_by : Slot → Option Description → Option UnsupportedAt
 unsupported_by at None = None
-unsupported_by at (Some description) = option_map (λ kind. record { slot = at; kind = kind }) (unsupported_kind description.object)
+unsupported_by at (Some description) =
+    option_map (λ kind. record { slot = at; kind = kind }) (unsupported_kind description.object)
 
 abbrev pub unsupported_entry : PlainKernel → Slot × Descriptor → Option UnsupportedAt
 unsupported_entry k entry = unsupported_by entry.0 (map.get k.descriptions entry.1.desc)

@@ -1,10 +1,10 @@
 ghost use Rattle.std.specs.Prelude.{◌≡◌, IfOk};
 
+use id_maps::{ByAddress, ByConn, ByDesc, ByDir, ByName, ByPid, BySlot};
 use plain_tables::channel::{Channel, Direction, Listening};
 use plain_tables::description::{Description, Descriptor};
 use plain_tables::process::{Maker, Process};
 use std::alloc::{AllocError, Global};
-use sys_abi::{ByAddress, ByConn, ByDesc, ByDir, ByName, ByPid, BySlot};
 use views::duplicate::Duplicate;
 use views::list_of::ListOf;
 use views::number_map::NumberMap;

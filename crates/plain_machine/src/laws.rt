@@ -1,4 +1,5 @@
-ghost use Rattle.plain_machine.specs.Laws.{RecordIsLocal, StartIsValid, StepKeepsValid, RunOfOneMore, ConsoleOfOneMore, ReadIsLaunched, StartIsUser, UserStepsKeepUser, PutKeepsUser, FaultKeepsUser, LocalKeepsUser, DeliveryKeepsUser, AskedIsRequest, WaitersAreFew, ServeAnswers, ServeAdds};
+ghost use Rattle.plain_machine.specs.Laws.{RecordIsLocal, StartIsValid, StepKeepsValid, RunOfOneMore, ConsoleOfOneMore, ReadIsLaunched, StartIsUser, UserStepsKeepUser, PutKeepsUser, FaultKeepsUser, LocalKeepsUser, DeliveryKeepsUser, AskedIsRequest, WaitersAreFew, StandsAsked, EachIsServed, ReadyByFront, ServeAdds};
+ghost use Rattle.plain_machine.specs.KernelLaws.{StartIsKernel, TakeKeeps, RaiseKeeps, RaiseForAllKeeps, NextThreadKeeps, ThreadEndKeeps, EndKeeps, ForkKeeps, CloseKeeps, AgainKeeps, PlacedKeeps, NumberedKeeps, PairKeeps, ArrivalKeeps};
 
 /// The laws of runs, for proofs about traces. It does nothing.
 pub fn run_laws()
@@ -18,6 +19,28 @@ pub fn run_laws()
     ensures user_delivery { DeliveryKeepsUser }
     ensures user_asks { AskedIsRequest }
     ensures waiters { WaitersAreFew }
-    ensures answers { ServeAnswers }
+
+    // Of the calls that the kernel serves.
+    ensures asked { StandsAsked }
+    ensures served { EachIsServed }
+    ensures ready { ReadyByFront }
     ensures adds { ServeAdds }
+{}
+
+/// What each word of change keeps of a whole kernel part, for proofs about calls. It does nothing.
+pub fn kernel_laws()
+    ensures start { StartIsKernel }
+    ensures take { TakeKeeps }
+    ensures raise { RaiseKeeps }
+    ensures raise_for_all { RaiseForAllKeeps }
+    ensures next_thread { NextThreadKeeps }
+    ensures thread_end { ThreadEndKeeps }
+    ensures end { EndKeeps }
+    ensures fork { ForkKeeps }
+    ensures close { CloseKeeps }
+    ensures again { AgainKeeps }
+    ensures placed { PlacedKeeps }
+    ensures numbered { NumberedKeeps }
+    ensures pair { PairKeeps }
+    ensures arrival { ArrivalKeeps }
 {}

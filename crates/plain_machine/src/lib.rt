@@ -3,30 +3,33 @@
 //!
 //! A plain state has a kernel part and, for each live process, a user part. A record is one event; `step` says which
 //! state follows, `run` folds it over a trace, and `console` collects what was written. `specs/` has these definitions, a
-//! file a notion, each with the manual page of Linux that it is modelled on; those that speak of a process's part alone are
+//! file a notion, each with the manual page of Linux that it is modelled on, a row of a call in the file of
+//! its family in `specs/Rows/`; those that speak of a process's part alone are
 //! `plain_process`'s.
 //!
-//! Proved: `PlainKernel::serve` is the rows of the calls; `run_laws` has the laws: a start is valid, each step keeps valid,
-//! a process's part stays fit over its steps and its calls' answers, a record of one process leaves every other process's
-//! part, and a run and its console take one more record at a trace's end. The rows of write, exit_group, exit, tgkill and
-//! clone of a thread are built, and each other call that the kernel serves answers ENOSYS. Not claimed: that any hardware or
-//! kernel behaves so.
+//! Proved: each look-up and each change of a kernel part is the word of its name, the end of a process with all
+//! that goes with it. `kernel_laws` has what each word keeps of a valid kernel part. `run_laws` has the laws of
+//! runs: a start is valid, each step keeps valid, a process's part stays fit over its steps and its calls'
+//! answers, each call that a valid state serves leaves and answers what one law says, the first 16 bytes that a
+//! call reads tell whether it waits, a record of one process leaves every other process's part, and a run and
+//! its console take one more record at a trace's end. The rows of write, exit, exit_group, kill, tgkill,
+//! getpid, getppid and clone of a thread are built, and each other call that the kernel serves answers ENOSYS.
+//! Not claimed: that any hardware or kernel behaves so.
 #![tactic(auto)]
 
-mod cloning;
+pub mod closing;
 pub mod end;
 pub mod kernel;
 pub mod laws;
 pub mod look_ups;
 pub mod pending;
 pub mod plain;
-mod send;
-pub mod serve;
 pub mod start;
+pub mod threads;
 
 pub use kernel::PlainKernel;
-pub use laws::run_laws;
+pub use laws::{kernel_laws, run_laws};
 pub use plain::Plain;
-pub use serve::Answer;
-pub use start::{FIRST_PID, NOBODY};
+pub use plain_tables::NOBODY;
+pub use start::FIRST_PID;
 pub use sys_abi::Life;

@@ -2,7 +2,7 @@ ghost use Rattle.std.specs.Prelude.{◌≡◌, true};
 ghost use Rattle.plain_machine.specs.Kernel as words;
 
 use crate::kernel::PlainKernel;
-use plain_tables::pending::{raise_at, take_at};
+use plain_tables::pending::{raise_at, raise_for_all_at, take_at};
 use sys_abi::{Signal, Tid, VPid};
 
 impl PlainKernel {
@@ -27,10 +27,18 @@ impl PlainKernel {
 
     /// Makes the signal pending for a thread that is there. Takes no memory.
     #[tactic(auto, unfolding(crate::specs::Kernel::after_raise))]
-    pub(crate) fn raise(&mut self, p: VPid, t: Tid, s: Signal)
+    pub fn raise(&mut self, p: VPid, t: Tid, s: Signal)
         requires { words.has_thread self.old p t.0 ≡ true }
         ensures { self.new ≡ words.after_raise self.old p t.0 s.0 }
     {
         raise_at(&mut self.processes, p, t.0, s);
+    }
+
+    /// Makes the signal pending for a process that is there. Takes no memory.
+    #[tactic(auto, unfolding(crate::specs::Kernel::after_raise_for_all))]
+    pub fn raise_for_all(&mut self, p: VPid, s: Signal)
+        ensures { self.new ≡ words.after_raise_for_all self.old p s.0 }
+    {
+        raise_for_all_at(&mut self.processes, p, s);
     }
 }

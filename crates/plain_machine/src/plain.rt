@@ -1,7 +1,7 @@
 use crate::kernel::PlainKernel;
+use id_maps::ByPid;
 use plain_process::user_part::UserPart;
 use std::alloc::{AllocError, Global};
-use sys_abi::ByPid;
 use views::duplicate::Duplicate;
 
 /// A plain state: the kernel part, and the user part of each live process.

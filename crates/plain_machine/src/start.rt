@@ -4,20 +4,19 @@ ghost use Rattle.plain_tables.specs.Tables.{pid, slot};
 ghost use Rattle.plain_machine.specs.Start as words;
 
 use crate::kernel::PlainKernel;
+use id_maps::{ByAddress, ByConn, ByDesc, ByDir, ByName, ByPid, BySlot};
+use plain_tables::NOBODY;
 use plain_tables::description::{Description, Descriptor, Object};
 use plain_tables::process::{Maker, Process};
 use std::alloc::{AllocError, Global};
 use sys_abi::flags::O_RDWR;
-use sys_abi::{ByAddress, ByConn, ByDesc, ByDir, ByName, ByPid, BySlot, DescId, Life, Slot, VPid};
+use sys_abi::{DescId, Life, Slot, VPid};
 use views::duplicate::Duplicate;
 use views::list_of::ListOf;
 use views::number_map::NumberMap;
 
 /// The number of the first process.
 pub const FIRST_PID: u32 = 40_000;
-
-/// The parent of a process that nobody waits for.
-pub const NOBODY: u32 = 1;
 
 impl PlainKernel {
     /// The kernel part with no process and no file, which holds no memory yet.

@@ -4,7 +4,7 @@ ghost use Rattle.sys_abi.specs.declared.transfer.TheConstants.{TRANSFER_LIMIT};
 ghost use Rattle.plain_process.specs.Buffers as words;
 
 use crate::memory::{byte_at, bytes_at, has_bytes, load};
-use plain_process::buffers::{Source, Span, Spans, length_place, reads_of, writes_of};
+use plain_process::buffers::{Source, Span, Spans, fills_of, length_place, reads_of, writes_of};
 use plain_process::memory::{Frame, Right};
 use std::alloc::{AllocError, Global};
 use sys_abi::Request;
@@ -80,6 +80,13 @@ pub fn written_spans(memory: &NumberMap<Frame>, request: &Request) -> Spans
     ensures { words.listed result ≡ words.written_spans memory.now request.now }
 {
     writes_of(request, size_of(memory, request))
+}
+
+/// The spans that the call's answer fills.
+pub fn filled_spans(memory: &NumberMap<Frame>, request: &Request) -> Spans
+    ensures { words.listed result ≡ words.filled_spans memory.now request.now }
+{
+    fills_of(request, size_of(memory, request))
 }
 
 fn can_write(memory: &NumberMap<Frame>, at: Option<Span>) -> bool

@@ -1,6 +1,7 @@
 -- The buffers of a call: which bytes it reads from its process's memory, and which its answer may write there.
 -- Source: `man 2` of each call; a length is cut to 65,536, and a path ends with its first zero byte, within 256 bytes.
 --     reads_of q      what the call reads      writes_of q size      what its answer may write, where size is the length of the address that it writes
+--     fills_of q size      what of that its answer fills in its own process
 --     lent memory q   the bytes that it reads, none where some buffer isn't readable or writable as needed (EFAULT)
 use Rattle.std.specs.Prelude.{◌==◌, ◌||◌, ℕ, zero, suc, ◌+◌, ◌≤◌, min, Bool, List, [], ◌∷◌, ◌++◌, Option, Some, None, is_some, unwrap_or, option_and_then, if◌then◌else◌}
 use Rattle.std.specs.Option.{option_map}
@@ -9,6 +10,9 @@ use Rattle.sys_abi.specs.declared.request.Request.{Request}
 use Rattle.sys_abi.specs.declared.request.Request.TheVariants.{Unlinkat, Openat, Pipe2, Read, Write, Futex, RtSigaction, RtSigprocmask, Socketpair, Bind, Accept, Connect, Getsockname, Getpeername, Clone, Wait4}
 use Rattle.sys_abi.specs.declared.flags.TheConstants.{CLONE_PARENT_SETTID, CLONE_CHILD_SETTID}
 use Rattle.sys_abi.specs.declared.transfer.TheConstants.{TRANSFER_LIMIT}
+use Rattle.sys_abi.specs.declared.cloning.CloneForm.{CloneForm}
+use Rattle.sys_abi.specs.declared.cloning.CloneForm.TheVariants.{Fork}
+use Rattle.sys_abi.specs.Clones.{clone_form}
 use Rattle.plain_process.specs.declared.memory.Right.TheVariants.{Read as ToRead, Write as ToWrite}
 use Rattle.plain_process.specs.declared.buffers.Span.{Span}
 use Rattle.plain_process.specs.declared.buffers.Source.{Source}
@@ -34,7 +38,8 @@ abbrev pub is_wait : ℕ → Bool
 is_wait operation = (operation == 0) || (operation == 128)
 
 unfoldable pub reads_of : Request → Source
-reads_of (Futex address operation value timeout) = if is_wait operation then Bytes (span address 4) else Nothing
+reads_of (Futex address operation value timeout) =
+    if is_wait operation then Bytes (span address 4) else Nothing
 reads_of (RtSigaction signal action old_action size) = unless_zero action (Bytes (span action 16))
 reads_of (RtSigprocmask how set old_set size) = unless_zero set (Bytes (span set 8))
 reads_of (Unlinkat directory path flags) = Text path
@@ -54,7 +59,8 @@ text_from rest (Some byte) = if byte == 0 then Some (0 ∷ []) else option_map (
 
 unfoldable pub text_at : Memory → ℕ → ℕ → Option (List ℕ)
 text_at memory address zero = Some []
-text_at memory address (suc most) = text_from (text_at memory (address + 1) most) (byte_at memory ToRead address)
+text_at memory address (suc most) =
+    text_from (text_at memory (address + 1) most) (byte_at memory ToRead address)
 
 -- how many bytes a path has at most, its zero byte included
 abbrev pub PATH_LIMIT : ℕ
@@ -95,7 +101,9 @@ span_if wanted address = if wanted then span address 4 ∷ [] else []
 
 -- where clone writes the new number
 abbrev pub thread_spans : ℕ → ℕ → ℕ → List Span
-thread_spans flags parent_tid child_tid = span_if (has_flag flags CLONE_PARENT_SETTID) parent_tid ++ span_if (has_flag flags CLONE_CHILD_SETTID) child_tid
+thread_spans flags parent_tid child_tid =
+    span_if (has_flag flags CLONE_PARENT_SETTID) parent_tid
+    ++ span_if (has_flag flags CLONE_CHILD_SETTID) child_tid
 
 unfoldable pub writes_of : Request → ℕ → List Span
 writes_of (RtSigaction signal action old_action size) length = span_unless_zero old_action 16
@@ -109,6 +117,16 @@ writes_of (Getpeername fd address place) length = address_spans address place le
 writes_of (Clone flags stack parent_tid tls child_tid) length = thread_spans flags parent_tid child_tid
 writes_of (Wait4 pid status options usage) length = span_unless_zero status 4
 writes_of _ length = []
+
+-- a fork's answer fills the parent's place alone: the child's number stands in the child's memory
+abbrev pub clone_fills : ℕ → ℕ → ℕ → Option CloneForm → List Span
+clone_fills flags parent_tid child_tid (Some Fork) = span_if (has_flag flags CLONE_PARENT_SETTID) parent_tid
+clone_fills flags parent_tid child_tid _ = thread_spans flags parent_tid child_tid
+
+unfoldable pub fills_of : Request → ℕ → List Span
+fills_of (Clone flags stack parent_tid tls child_tid) length =
+    clone_fills flags parent_tid child_tid (clone_form flags)
+fills_of q length = writes_of q length
 
 -- the spans of a pair of optional ones
 abbrev pub optional : Option Span → List Span
@@ -124,6 +142,10 @@ can_write memory at = is_some (bytes_at memory ToWrite at.address at.length)
 -- the spans that the answer may write
 abbrev pub written_spans : Memory → Request → List Span
 written_spans memory q = writes_of q (size_of memory q)
+
+-- the spans that the answer fills
+abbrev pub filled_spans : Memory → Request → List Span
+filled_spans memory q = fills_of q (size_of memory q)
 
 abbrev pub if_writable : Memory → Request → List ℕ → Option (List ℕ)
 if_writable memory q given = if list_all (can_write memory) (written_spans memory q) then Some given else None

@@ -33,12 +33,16 @@ action_on user s = unwrap_or (slice_get user.actions (s - 1)) default_action
 
 -- handler 1 ignores it, and so does the default of the signals that tell of children, urgent data and windows
 abbrev pub is_ignored : SignalAction → ℕ → Bool
-is_ignored action s = (action.handler == 1) || ((action.handler == 0) && ((s == SIGCHLD) || (s == SIGURG) || (s == SIGWINCH)))
+is_ignored action s =
+    (action.handler == 1)
+    || ((action.handler == 0) && ((s == SIGCHLD) || (s == SIGURG) || (s == SIGWINCH)))
 
 -- a call that the handler interrupts answers EINTR, unless it is to begin again
 abbrev pub interrupted : Bool → ℕ → Regs → Regs
 interrupted is_unready flags regs =
-    if is_unready && not_restarted flags then at_pc (with_reg regs A0 (word_of (error EINTR))) (next_pc regs) else regs
+    if is_unready && not_restarted flags then
+    at_pc (with_reg regs A0 (word_of (error EINTR))) (next_pc regs)
+    else regs
   where
     not_restarted : ℕ → Bool
     not_restarted flags = if has_flag flags SA_RESTART then false else true
@@ -54,7 +58,8 @@ handler_regs regs s handler =
 
 abbrev pub handler_mask : ℕ → SignalAction → ℕ → ℕ
 handler_mask mask action s =
-    let blocked = bit_or mask action.mask in if has_flag action.flags SA_NODEFER then blocked else with_signal blocked s
+    let blocked = bit_or mask action.mask in
+    if has_flag action.flags SA_NODEFER then blocked else with_signal blocked s
 
 -- how many contexts a thread saves at most
 abbrev pub CONTEXT_LIMIT : ℕ
@@ -65,18 +70,23 @@ entered thread action s is_unready = record {
   regs = handler_regs thread.regs s action.handler;
   mask = handler_mask thread.mask action s;
   clear_tid = thread.clear_tid;
-  contexts = thread.contexts ++ record { regs = interrupted is_unready action.flags thread.regs; mask = thread.mask } ∷ [];
+  contexts =
+      thread.contexts
+      ++ record { regs = interrupted is_unready action.flags thread.regs; mask = thread.mask } ∷ [];
 }
 
 -- it waits no more
 abbrev pub with_entered : UserPart → ℕ → ThreadPart → SignalAction → ℕ → Bool → UserPart
 with_entered user t thread action s is_unready =
-    with_waiters (with_thread user t (entered thread action s is_unready) user.memory) (without_waiter t user.waiters)
+    with_waiters (with_thread user t (entered thread action s is_unready) user.memory)
+    (without_waiter t user.waiters)
 
 abbrev pub handled : UserPart → ℕ → ThreadPart → SignalAction → ℕ → Bool → Delivery
 handled user t thread action s is_unready =
     if action.handler == 0 then Kills s else
-    if nat_lt (length thread.contexts) CONTEXT_LIMIT then Enters (with_entered user t thread action s is_unready) else Kills SIGSEGV
+    if nat_lt (length thread.contexts) CONTEXT_LIMIT then
+    Enters (with_entered user t thread action s is_unready)
+    else Kills SIGSEGV
 
 -- a trap can't be put off: where its signal is masked or ignored it ends the process
 abbrev pub delivery : UserPart → ℕ → ThreadPart → SignalAction → ℕ → Bool → Bool → Delivery
@@ -90,7 +100,8 @@ traps_with _ s = false
 
 abbrev pub deliver_to : UserPart → ℕ → ℕ → Bool → Option ThreadPart → Delivery
 deliver_to user t s is_unready None = Ignores
-deliver_to user t s is_unready (Some thread) = delivery user t thread (action_on user s) s (traps_with (user_step user t) s) is_unready
+deliver_to user t s is_unready (Some thread) =
+    delivery user t thread (action_on user s) s (traps_with (user_step user t) s) is_unready
 
 unfoldable pub deliver : UserPart → ℕ → ℕ → Bool → Delivery
 deliver user t s is_unready = deliver_to user t s is_unready (map.get user.threads t)

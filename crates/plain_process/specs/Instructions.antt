@@ -31,7 +31,8 @@ pub record Encoding : Type 0 where
   pub funct7 : ℕ
 
 abbrev pub as_encoding : Format → ℕ → ℕ → ℕ → Encoding
-as_encoding format opcode funct3 funct7 = record { format = format; opcode = opcode; funct3 = funct3; funct7 = funct7 }
+as_encoding format opcode funct3 funct7 =
+    record { format = format; opcode = opcode; funct3 = funct3; funct7 = funct7 }
 
 unfoldable pub encoding : Op → Encoding
 encoding Lui = as_encoding U 0x37 0 0
@@ -101,8 +102,10 @@ match_of op = (encoding op).opcode + 2 ^ 12 * (encoding op).funct3 + 2 ^ 25 * (e
 
 abbrev pub rows : List Op
 rows =
-    Lui ∷ Auipc ∷ Jal ∷ Jalr ∷ Beq ∷ Bne ∷ Blt ∷ Bge ∷ Bltu ∷ Bgeu ∷ Lb ∷ Lh ∷ Lw ∷ Lbu ∷ Lhu ∷ Sb ∷ Sh ∷ Sw ∷ Addi ∷ Slti ∷ Sltiu ∷ Xori ∷ Ori ∷ Andi ∷ Slli ∷ Srli ∷ Srai
-    ∷ Add ∷ Sub ∷ Sll ∷ Slt ∷ Sltu ∷ Xor ∷ Srl ∷ Sra ∷ Or ∷ And ∷ Mul ∷ Mulh ∷ Mulhsu ∷ Mulhu ∷ Div ∷ Divu ∷ Rem ∷ Remu ∷ Fence ∷ Ecall ∷ Ebreak ∷ []
+    Lui ∷ Auipc ∷ Jal ∷ Jalr ∷ Beq ∷ Bne ∷ Blt ∷ Bge ∷ Bltu ∷ Bgeu ∷ Lb ∷ Lh ∷ Lw ∷ Lbu ∷ Lhu ∷ Sb ∷ Sh ∷ Sw
+    ∷ Addi ∷ Slti ∷ Sltiu ∷ Xori ∷ Ori ∷ Andi ∷ Slli ∷ Srli ∷ Srai
+    ∷ Add ∷ Sub ∷ Sll ∷ Slt ∷ Sltu ∷ Xor ∷ Srl ∷ Sra ∷ Or ∷ And
+    ∷ Mul ∷ Mulh ∷ Mulhsu ∷ Mulhu ∷ Div ∷ Divu ∷ Rem ∷ Remu ∷ Fence ∷ Ecall ∷ Ebreak ∷ []
 
 abbrev pub has_match : ℕ → Op → Bool
 has_match w op = bit_and w (mask_of op) == match_of op
@@ -122,9 +125,11 @@ unfoldable pub immediate : Format → ℕ → ℕ
 immediate R w = 0
 immediate I w = sign_extended 12 (bits 20 12 w)
 immediate S w = sign_extended 12 (2 ^ 5 * bits 25 7 w + bits 7 5 w)
-immediate B w = sign_extended 13 (2 ^ 12 * bits 31 1 w + 2 ^ 11 * bits 7 1 w + 2 ^ 5 * bits 25 6 w + 2 * bits 8 4 w)
+immediate B w =
+    sign_extended 13 (2 ^ 12 * bits 31 1 w + 2 ^ 11 * bits 7 1 w + 2 ^ 5 * bits 25 6 w + 2 * bits 8 4 w)
 immediate U w = 2 ^ 12 * bits 12 20 w
-immediate J w = sign_extended 21 (2 ^ 20 * bits 31 1 w + 2 ^ 12 * bits 12 8 w + 2 ^ 11 * bits 20 1 w + 2 * bits 21 10 w)
+immediate J w =
+    sign_extended 21 (2 ^ 20 * bits 31 1 w + 2 ^ 12 * bits 12 8 w + 2 ^ 11 * bits 20 1 w + 2 * bits 21 10 w)
 immediate Shift w = bits 20 5 w
 immediate Whole w = 0
 
@@ -184,10 +189,12 @@ abbrev pub goes_to : Regs → Memory → ℕ → Effect
 goes_to regs memory target = if target % 4 == 0 then Next (at_pc regs target) memory else Traps MISALIGNED
 
 abbrev pub jumps : Regs → Memory → ℕ → ℕ → Effect
-jumps regs memory rd target = if target % 4 == 0 then Next (at_pc (with_reg regs rd (next_pc regs)) target) memory else Traps MISALIGNED
+jumps regs memory rd target =
+    if target % 4 == 0 then Next (at_pc (with_reg regs rd (next_pc regs)) target) memory else Traps MISALIGNED
 
 abbrev pub branches : Regs → Memory → Bool → ℕ → Effect
-branches regs memory taken target = if taken then goes_to regs memory target else Next (at_pc regs (next_pc regs)) memory
+branches regs memory taken target =
+    if taken then goes_to regs memory target else Next (at_pc regs (next_pc regs)) memory
 
 abbrev pub loads : Regs → Memory → ℕ → (ℕ → ℕ) → Option ℕ → Effect
 loads regs memory rd extended None = Traps FAULT
@@ -222,8 +229,10 @@ effect_by Jal rd i a b regs memory = jumps regs memory rd ((regs.pc + i) % 2 ^ 3
 effect_by Jalr rd i a b regs memory = jumps regs memory rd (2 * ((a + i) % 2 ^ 32 / 2))
 effect_by Beq rd i a b regs memory = branches regs memory (a == b) ((regs.pc + i) % 2 ^ 32)
 effect_by Bne rd i a b regs memory = branches regs memory (not (a == b)) ((regs.pc + i) % 2 ^ 32)
-effect_by Blt rd i a b regs memory = branches regs memory (int_lt (signed a) (signed b)) ((regs.pc + i) % 2 ^ 32)
-effect_by Bge rd i a b regs memory = branches regs memory (not (int_lt (signed a) (signed b))) ((regs.pc + i) % 2 ^ 32)
+effect_by Blt rd i a b regs memory =
+    branches regs memory (int_lt (signed a) (signed b)) ((regs.pc + i) % 2 ^ 32)
+effect_by Bge rd i a b regs memory =
+    branches regs memory (not (int_lt (signed a) (signed b))) ((regs.pc + i) % 2 ^ 32)
 effect_by Bltu rd i a b regs memory = branches regs memory (nat_lt a b) ((regs.pc + i) % 2 ^ 32)
 effect_by Bgeu rd i a b regs memory = branches regs memory (not (nat_lt a b)) ((regs.pc + i) % 2 ^ 32)
 effect_by Lb rd i a b regs memory = loads regs memory rd (sign_extended 8) (load memory ((a + i) % 2 ^ 32) 1)
@@ -257,13 +266,16 @@ effect_by Mul rd i a b regs memory = writes regs memory rd (a * b % 2 ^ 32)
 effect_by Mulh rd i a b regs memory = writes regs memory rd (shifted_down (signed a *ℤ signed b) 32)
 effect_by Mulhsu rd i a b regs memory = writes regs memory rd (shifted_down (signed a *ℤ pos b) 32)
 effect_by Mulhu rd i a b regs memory = writes regs memory rd (a * b / 2 ^ 32)
-effect_by Div rd i a b regs memory = writes regs memory rd (if b == 0 then 2 ^ 32 - 1 else word (int_div (signed a) (signed b)))
+effect_by Div rd i a b regs memory =
+    writes regs memory rd (if b == 0 then 2 ^ 32 - 1 else word (int_div (signed a) (signed b)))
 effect_by Divu rd i a b regs memory = writes regs memory rd (if b == 0 then 2 ^ 32 - 1 else a / b)
-effect_by Rem rd i a b regs memory = writes regs memory rd (if b == 0 then a else word (int_rem (signed a) (signed b)))
+effect_by Rem rd i a b regs memory =
+    writes regs memory rd (if b == 0 then a else word (int_rem (signed a) (signed b)))
 effect_by Remu rd i a b regs memory = writes regs memory rd (if b == 0 then a else a % b)
 effect_by Fence rd i a b regs memory = Next (at_pc regs (next_pc regs)) memory
 effect_by Ecall rd i a b regs memory = Calls
 effect_by Ebreak rd i a b regs memory = Traps BREAKPOINT
 
 unfoldable pub effect : Insn → Regs → Memory → Effect
-effect insn regs memory = effect_by insn.op insn.rd (word insn.imm) (reg regs insn.rs1) (reg regs insn.rs2) regs memory
+effect insn regs memory =
+    effect_by insn.op insn.rd (word insn.imm) (reg regs insn.rs1) (reg regs insn.rs2) regs memory

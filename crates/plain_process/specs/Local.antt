@@ -20,22 +20,31 @@ use Rattle.plain_process.specs.Rows.Mappings.{brk_row, munmap_row, mmap_row}
 
 -- set_tid_address(place) (`man 2 set_tid_address`)
 abbrev pub with_clear_tid : ThreadPart → ℕ → ThreadPart
-with_clear_tid thread place = record { regs = thread.regs; mask = thread.mask; clear_tid = place; contexts = thread.contexts }
+with_clear_tid thread place = record {
+  regs = thread.regs;
+  mask = thread.mask;
+  clear_tid = place;
+  contexts = thread.contexts;
+}
 
 unfoldable pub set_tid_address_row : UserPart → ℕ → ThreadPart → ℕ → Try Local
-set_tid_address_row user t thread place = local_reply (with_thread user t (with_clear_tid thread place) user.memory) t
+set_tid_address_row user t thread place =
+    local_reply (with_thread user t (with_clear_tid thread place) user.memory) t
 
 unfoldable pub local_by : UserPart → ℕ → ThreadPart → Request → List ℕ → Try Local
 local_by user t thread (SetTidAddress place) given = set_tid_address_row user t thread place
-local_by user t thread (Futex address operation value timeout) given = futex_row user t given address operation value timeout
+local_by user t thread (Futex address operation value timeout) given =
+    futex_row user t given address operation value timeout
 local_by user t thread SchedYield given = local_reply user 0
 local_by user t thread (RtSigaction s action old_action size) given = sigaction_row user given s action size
-local_by user t thread (RtSigprocmask how set old_set size) given = sigprocmask_row user t thread given how set size
+local_by user t thread (RtSigprocmask how set old_set size) given =
+    sigprocmask_row user t thread given how set size
 local_by user t thread RtSigreturn given = sigreturn_row user t thread
 local_by user t thread Gettid given = local_reply user t
 local_by user t thread (Brk address) given = brk_row user address
 local_by user t thread (Munmap address length) given = munmap_row user address length
-local_by user t thread (Mmap address length protection flags fd offset) given = mmap_row user length protection flags
+local_by user t thread (Mmap address length protection flags fd offset) given =
+    mmap_row user length protection flags
 local_by user t thread _ given = Fails ENOSYS
 
 -- an error changes nothing but the thread's registers

@@ -22,7 +22,8 @@ allows Execute rights = rights % 2 == 1
 
 abbrev pub byte_in : Right → ℕ → Option Frame → Option ℕ
 byte_in right offset None = None
-byte_in right offset (Some frame) = if allows right frame.rights then Some (slice_index frame.page offset) else None
+byte_in right offset (Some frame) =
+    if allows right frame.rights then Some (slice_index frame.page offset) else None
 
 unfoldable pub byte_at : Memory → Right → ℕ → Option ℕ
 byte_at memory right address = byte_in right (address % 4096) (map.get memory (address / 4096))
@@ -33,14 +34,17 @@ followed_by _ _ = None
 
 unfoldable pub bytes_at : Memory → Right → ℕ → ℕ → Option (List ℕ)
 bytes_at memory right address zero = Some []
-bytes_at memory right address (suc n) = followed_by (bytes_at memory right address n) (byte_at memory right (address + n))
+bytes_at memory right address (suc n) =
+    followed_by (bytes_at memory right address n) (byte_at memory right (address + n))
 
 abbrev pub with_byte_in : Memory → ℕ → ℕ → ℕ → Option Frame → Memory
 with_byte_in memory page offset byte None = memory
-with_byte_in memory page offset byte (Some frame) = map.insert memory page (record { rights = frame.rights; page = slice_set frame.page offset byte })
+with_byte_in memory page offset byte (Some frame) =
+    map.insert memory page (record { rights = frame.rights; page = slice_set frame.page offset byte })
 
 unfoldable pub with_byte : Memory → ℕ → ℕ → Memory
-with_byte memory address byte = with_byte_in memory (address / 4096) (address % 4096) byte (map.get memory (address / 4096))
+with_byte memory address byte =
+    with_byte_in memory (address / 4096) (address % 4096) byte (map.get memory (address / 4096))
 
 unfoldable pub with_bytes : Memory → ℕ → List ℕ → Memory
 with_bytes memory address [] = memory
@@ -64,7 +68,10 @@ fetch memory address = option_map little_endian (bytes_at memory Execute address
 
 -- the bytes are written where each of them may be, and else none is
 abbrev pub store_bytes : Memory → ℕ → List ℕ → Option Memory
-store_bytes memory address bytes = if is_some (bytes_at memory Write address (length bytes)) then Some (with_bytes memory address bytes) else None
+store_bytes memory address bytes =
+    if is_some (bytes_at memory Write address (length bytes)) then
+    Some (with_bytes memory address bytes)
+    else None
 
 abbrev pub store : Memory → ℕ → ℕ → ℕ → Option Memory
 store memory address size value = store_bytes memory address (low_bytes size value)

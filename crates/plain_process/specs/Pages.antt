@@ -39,4 +39,5 @@ abbrev pub first_free : Memory → ℕ → ℕ → ℕ → Option ℕ
 first_free memory count start places = find (λ page. is_free memory page count) (range_with_len start places)
 
 unfoldable pub free_run : Memory → ℕ → Option ℕ
-free_run memory count = first_free memory count (MAPPING_START / 4096) (MAPPING_END / 4096 - MAPPING_START / 4096 + 1 - count)
+free_run memory count =
+    first_free memory count (MAPPING_START / 4096) (MAPPING_END / 4096 - MAPPING_START / 4096 + 1 - count)

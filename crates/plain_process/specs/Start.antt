@@ -35,7 +35,8 @@ page_of bytes = take 4096 (bytes ++ replicate 4096 0)
 unfoldable pub with_pages : Memory → ℕ → ℕ → ℕ → List ℕ → Memory
 with_pages memory first zero rights content = memory
 with_pages memory first (suc n) rights content =
-    map.insert (with_pages memory first n rights content) (first + n) (record { rights = rights; page = page_of (drop (4096 * n) content) })
+    map.insert (with_pages memory first n rights content) (first + n)
+    (record { rights = rights; page = page_of (drop (4096 * n) content) })
 
 -- segments: those bytes of the file, then zeros up to the size in memory
 abbrev pub is_in : ℕ → Segment → Bool
@@ -50,15 +51,20 @@ segment_byte segments address = byte_of_segment address (find (is_in address) se
 
 unfoldable pub segment_bytes : List Segment → ℕ → ℕ → List ℕ
 segment_bytes segments address zero = []
-segment_bytes segments address (suc n) = segment_bytes segments address n ++ segment_byte segments (address + n) ∷ []
+segment_bytes segments address (suc n) =
+    segment_bytes segments address n ++ segment_byte segments (address + n) ∷ []
 
 abbrev pub segment_page : List Segment → ℕ → Frame
-segment_page segments number = record { rights = page_rights segments number; page = segment_bytes segments (4096 * number) 4096 }
+segment_page segments number =
+    record { rights = page_rights segments number; page = segment_bytes segments (4096 * number) 4096 }
 
 -- of the pages below n, those that some of the segments touch
 unfoldable pub segment_pages : List Segment → ℕ → Memory
 segment_pages segments zero = map.empty
-segment_pages segments (suc n) = if is_touched segments n then map.insert (segment_pages segments n) n (segment_page segments n) else segment_pages segments n
+segment_pages segments (suc n) =
+    if is_touched segments n then
+    map.insert (segment_pages segments n) n (segment_page segments n)
+    else segment_pages segments n
 
 abbrev pub highest_end : List Segment → ℕ
 highest_end segments = fold (λ highest segment. max highest (segment.vaddr + segment.memsz)) 0 segments
@@ -108,7 +114,8 @@ unfoldable pub start_stack : List ℕ → List ℕ
 start_stack arguments =
     let words = words_bytes (start_words (argument_places arguments)) in
     let sp = start_sp arguments in
-    replicate (sp - STACK_START) 0 ++ words ++ replicate (strings_start arguments - (sp + length words)) 0 ++ arguments
+    replicate (sp - STACK_START) 0 ++ words
+    ++ replicate (strings_start arguments - (sp + length words)) 0 ++ arguments
 
 -- the page to which a signal handler returns: li a7, 139; ecall
 abbrev pub RETURN_PAGE : ℕ
@@ -132,11 +139,13 @@ PROGRAM_PAGES = 2 ^ 18
 unfoldable pub start_memory : Program → List ℕ → Memory
 start_memory program arguments =
     let program_pages = segment_pages program.segments PROGRAM_PAGES in
-    with_pages (with_pages program_pages STACK_PAGE STACK_PAGES 6 (start_stack arguments)) RETURN_PAGE 1 5 return_code
+    with_pages (with_pages program_pages STACK_PAGE STACK_PAGES 6 (start_stack arguments))
+    RETURN_PAGE 1 5 return_code
 
 -- sp is x2
 unfoldable pub start_regs : Program → List ℕ → Regs
-start_regs program arguments = record { x = slice_set (replicate 32 0) 2 (start_sp arguments); pc = program.entry }
+start_regs program arguments =
+    record { x = slice_set (replicate 32 0) 2 (start_sp arguments); pc = program.entry }
 
 abbrev pub start_thread : Regs → ThreadPart
 start_thread regs = record { regs = regs; mask = 0; clear_tid = 0; contexts = [] }

@@ -36,7 +36,9 @@ running_after (Traps s) = None
 
 unfoldable pub instructions : ℕ → Regs → Memory → Option Running
 instructions zero regs memory = Some (record { regs = regs; memory = memory })
-instructions (suc n) regs memory = option_and_then (λ before. running_after (effect_at before.regs before.memory)) (instructions n regs memory)
+instructions (suc n) regs memory =
+    option_and_then (λ before. running_after (effect_at before.regs before.memory))
+    (instructions n regs memory)
 
 -- where a thread of a process stands: its next instruction goes on, asks for a call or traps; it waits on a word; or there is no such thread
 pub data UserStep : Type 0 where
@@ -50,7 +52,12 @@ abbrev pub waits : UserPart → ℕ → Bool
 waits user t = list_any (λ waiter. waiter.tid == t) user.waiters
 
 abbrev pub with_regs : ThreadPart → Regs → ThreadPart
-with_regs thread regs = record { regs = regs; mask = thread.mask; clear_tid = thread.clear_tid; contexts = thread.contexts }
+with_regs thread regs = record {
+  regs = regs;
+  mask = thread.mask;
+  clear_tid = thread.clear_tid;
+  contexts = thread.contexts;
+}
 
 abbrev pub with_thread : UserPart → ℕ → ThreadPart → Memory → UserPart
 with_thread user t thread memory = record {
@@ -69,7 +76,8 @@ step_by user t thread (Traps s) = Trapped s
 
 abbrev pub step_of : UserPart → ℕ → Option ThreadPart → UserStep
 step_of user t None = NoThread
-step_of user t (Some thread) = if waits user t then Waits else step_by user t thread (effect_at thread.regs user.memory)
+step_of user t (Some thread) =
+    if waits user t then Waits else step_by user t thread (effect_at thread.regs user.memory)
 
 unfoldable pub user_step : UserPart → ℕ → UserStep
 user_step user t = step_of user t (map.get user.threads t)

@@ -8,16 +8,17 @@
 --     new_thread ..                     the thread that a clone makes of its caller
 --     with_new_thread ..                with it, where the caller's call has its answer
 --     with_called_thread user t new q   with it, where the caller still stands at the call q
+--     child_of user t new q             the part of the child that the call q makes of a process whose thread t stands there
 use Rattle.std.specs.Prelude.{◌==◌, ℕ, zero, suc, ◌+◌, Bool, not, List, [], ◌∷◌, ◌++◌, filter, find, Option, Some, None, unwrap_or, if◌then◌else◌}
 use Rattle.std.specs.FinMap as map
-use Rattle.sys_abi.specs.declared.flags.TheConstants.{CLONE_CHILD_CLEARTID, CLONE_SETTLS}
+use Rattle.sys_abi.specs.declared.flags.TheConstants.{CLONE_CHILD_CLEARTID, CLONE_CHILD_SETTID, CLONE_SETTLS}
 use Rattle.sys_abi.specs.declared.request.Request.{Request}
 use Rattle.sys_abi.specs.declared.request.Request.TheVariants.{Clone}
 use Rattle.plain_process.specs.declared.regs.Regs.{Regs}
 use Rattle.plain_process.specs.declared.user_part.UserPart.{UserPart}
 use Rattle.plain_process.specs.declared.user_part.ThreadPart.{ThreadPart}
 use Rattle.plain_process.specs.declared.user_part.Waiter.{Waiter}
-use Rattle.plain_process.specs.Memory.{store}
+use Rattle.plain_process.specs.Memory.{Memory, store, low_bytes, with_bytes}
 use Rattle.plain_process.specs.Registers.{A0, SP, TP, with_reg, at_pc, next_pc}
 use Rattle.plain_process.specs.Steps.{with_regs, with_thread}
 use Rattle.sys_abi.specs.Flags.{has_flag}
@@ -64,7 +65,8 @@ wake (suc n) address user = wake_one address (wake n address user)
 -- the end of a thread
 
 abbrev pub without_thread : UserPart → ℕ → UserPart
-without_thread user t = record user { threads = map.remove user.threads t; waiters = without_waiter t user.waiters }
+without_thread user t =
+    record user { threads = map.remove user.threads t; waiters = without_waiter t user.waiters }
 
 -- a word that can't be written stays
 abbrev pub with_cleared : UserPart → ℕ → UserPart
@@ -87,7 +89,9 @@ with_reg_if wanted regs i value = if wanted then with_reg regs i value else regs
 
 abbrev pub new_regs : Regs → ℕ → ℕ → ℕ → Regs
 new_regs regs flags stack tls =
-    with_reg (with_reg_if (has_flag flags CLONE_SETTLS) (with_reg_if (not (stack == 0)) regs SP stack) TP tls) A0 0
+    with_reg
+    (with_reg_if (has_flag flags CLONE_SETTLS) (with_reg_if (not (stack == 0)) regs SP stack) TP tls)
+    A0 0
 
 abbrev pub new_thread : ThreadPart → ℕ → ℕ → ℕ → ℕ → ThreadPart
 new_thread caller flags stack tls child_tid = record {
@@ -99,10 +103,12 @@ new_thread caller flags stack tls child_tid = record {
 
 abbrev pub with_new_thread_by : UserPart → ℕ → ℕ → ℕ → ℕ → ℕ → Option ThreadPart → UserPart
 with_new_thread_by user new flags stack tls child_tid None = user
-with_new_thread_by user new flags stack tls child_tid (Some caller) = with_thread user new (new_thread caller flags stack tls child_tid) user.memory
+with_new_thread_by user new flags stack tls child_tid (Some caller) =
+    with_thread user new (new_thread caller flags stack tls child_tid) user.memory
 
 unfoldable pub with_new_thread : UserPart → ℕ → ℕ → ℕ → ℕ → ℕ → ℕ → UserPart
-with_new_thread user t new flags stack tls child_tid = with_new_thread_by user new flags stack tls child_tid (map.get user.threads t)
+with_new_thread user t new flags stack tls child_tid =
+    with_new_thread_by user new flags stack tls child_tid (map.get user.threads t)
 
 -- the same, where the caller still stands at the call
 abbrev pub with_called_thread_by : UserPart → ℕ → ℕ → ℕ → ℕ → ℕ → Option ThreadPart → UserPart
@@ -114,3 +120,30 @@ unfoldable pub with_called_thread : UserPart → ℕ → ℕ → Request → Use
 with_called_thread user t new (Clone flags stack parent_tid tls child_tid) =
     with_called_thread_by user new flags stack tls child_tid (map.get user.threads t)
 with_called_thread user t new _ = user
+
+-- a fork's child: its one thread goes on as its caller would, but with the answer 0, with the caller's mask and contexts; no thread waits; its number stands
+-- in its memory where the flags ask for that
+abbrev pub child_thread : ThreadPart → ℕ → ℕ → ℕ → ℕ → ThreadPart
+child_thread caller flags stack tls child_tid = record {
+  regs = new_regs (after_call caller 0).regs flags stack tls;
+  mask = caller.mask;
+  clear_tid = if has_flag flags CLONE_CHILD_CLEARTID then child_tid else 0;
+  contexts = caller.contexts;
+}
+
+abbrev pub child_memory : Memory → ℕ → ℕ → ℕ → Memory
+child_memory memory flags child_tid new =
+    if has_flag flags CLONE_CHILD_SETTID then with_bytes memory child_tid (low_bytes 4 new) else memory
+
+abbrev pub child_by : UserPart → ℕ → ℕ → ℕ → ℕ → ℕ → Option ThreadPart → UserPart
+child_by user new flags stack tls child_tid None = user
+child_by user new flags stack tls child_tid (Some caller) = record user {
+  memory = child_memory user.memory flags child_tid new;
+  threads = map.insert map.empty new (child_thread caller flags stack tls child_tid);
+  waiters = [];
+}
+
+unfoldable pub child_of : UserPart → ℕ → ℕ → Request → UserPart
+child_of user t new (Clone flags stack parent_tid tls child_tid) =
+    child_by user new flags stack tls child_tid (map.get user.threads t)
+child_of user t new _ = user

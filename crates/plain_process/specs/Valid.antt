@@ -7,7 +7,7 @@ use Rattle.std.specs.Ordering.{nat_cmp}
 use Rattle.std.specs.declared.cmp.Ordering.{Ordering}
 use Rattle.std.specs.FinMap as map
 use Rattle.sys_abi.specs.declared.request.Request.{Request}
-use Rattle.sys_abi.specs.declared.request.Request.TheVariants.{SetTidAddress, Futex, Brk, Munmap, Mmap, Clone}
+use Rattle.sys_abi.specs.declared.request.Request.TheVariants.{Eventfd2, Dup, Dup3, Fcntl, Unlinkat, Openat, Close, Pipe2, Lseek, Read, Write, Exit, ExitGroup, SetTidAddress, Futex, Kill, Tgkill, RtSigaction, RtSigprocmask, Socket, Socketpair, Bind, Listen, Accept, Connect, Getsockname, Getpeername, Setsockopt, Shutdown, Brk, Munmap, Clone, Mmap, Wait4, Unknown}
 use Rattle.sys_abi.specs.declared.reply.Reply.{Reply}
 use Rattle.plain_process.specs.declared.memory.Frame.{Frame}
 use Rattle.plain_process.specs.declared.regs.Regs.{Regs}
@@ -62,7 +62,8 @@ pub record IsWaiter (threads : map.FinMap nat_cmp ThreadPart) (waiter : Waiter) 
 -- of the pages from the break's start to below 0x40000000 those are there that hold a byte below the break, and no others
 abbrev pub IsHeap : Memory → ℕ → ℕ → Type 0
 IsHeap memory break_start break_end =
-    (place : ℕ) → break_start ≤ 4096 * place → place < 0x40000 → is_some (map.get memory place) ≡ nat_lt (4096 * place) break_end
+    (place : ℕ) → break_start ≤ 4096 * place → place < 0x40000
+    → is_some (map.get memory place) ≡ nat_lt (4096 * place) break_end
 
 pub record IsUser (user : UserPart) : Type 0 where
   pub pages : map.len user.memory ≤ 2048
@@ -82,12 +83,41 @@ pub record IsUser (user : UserPart) : Type 0 where
 
 -- what a call names are words: it was read off registers
 unfoldable pub IsRequest : Request → Type 0
+IsRequest (Eventfd2 value flags) = IsWord value × IsWord flags
+IsRequest (Dup fd) = IsWord fd
+IsRequest (Dup3 fd to flags) = IsWord fd × IsWord to × IsWord flags
+IsRequest (Fcntl fd command argument) = IsWord fd × IsWord command × IsWord argument
+IsRequest (Unlinkat directory path flags) = IsWord directory × IsWord path × IsWord flags
+IsRequest (Openat directory path flags mode) = IsWord directory × IsWord path × IsWord flags × IsWord mode
+IsRequest (Close fd) = IsWord fd
+IsRequest (Pipe2 fds flags) = IsWord fds × IsWord flags
+IsRequest (Lseek fd offset whence) = IsWord fd × IsWord offset × IsWord whence
+IsRequest (Read fd buffer count) = IsWord fd × IsWord buffer × IsWord count
+IsRequest (Write fd buffer count) = IsWord fd × IsWord buffer × IsWord count
+IsRequest (Exit code) = IsWord code
+IsRequest (ExitGroup code) = IsWord code
 IsRequest (SetTidAddress place) = IsWord place
-IsRequest (Futex address operation value timeout) = IsWord address
+IsRequest (Futex address operation value timeout) = IsWord address × IsWord operation × IsWord value × IsWord timeout
+IsRequest (Kill pid signal) = IsWord pid × IsWord signal
+IsRequest (Tgkill pid tid signal) = IsWord pid × IsWord tid × IsWord signal
+IsRequest (RtSigaction signal action old_action size) = IsWord signal × IsWord action × IsWord old_action × IsWord size
+IsRequest (RtSigprocmask how set old_set size) = IsWord how × IsWord set × IsWord old_set × IsWord size
+IsRequest (Socket domain socket_type protocol) = IsWord domain × IsWord socket_type × IsWord protocol
+IsRequest (Socketpair domain socket_type protocol fds) = IsWord domain × IsWord socket_type × IsWord protocol × IsWord fds
+IsRequest (Bind fd address length) = IsWord fd × IsWord address × IsWord length
+IsRequest (Listen fd backlog) = IsWord fd × IsWord backlog
+IsRequest (Accept fd address length) = IsWord fd × IsWord address × IsWord length
+IsRequest (Connect fd address length) = IsWord fd × IsWord address × IsWord length
+IsRequest (Getsockname fd address length) = IsWord fd × IsWord address × IsWord length
+IsRequest (Getpeername fd address length) = IsWord fd × IsWord address × IsWord length
+IsRequest (Setsockopt fd level name value length) = IsWord fd × IsWord level × IsWord name × IsWord value × IsWord length
+IsRequest (Shutdown fd how) = IsWord fd × IsWord how
 IsRequest (Brk address) = IsWord address
 IsRequest (Munmap address length) = IsWord address × IsWord length
-IsRequest (Mmap address length protection flags fd offset) = IsWord length
-IsRequest (Clone flags stack parent_tid tls child_tid) = IsWord stack × IsWord tls × IsWord child_tid
+IsRequest (Clone flags stack parent_tid tls child_tid) = IsWord flags × IsWord stack × IsWord parent_tid × IsWord tls × IsWord child_tid
+IsRequest (Mmap address length protection flags fd offset) = IsWord address × IsWord length × IsWord protection × IsWord flags × IsWord fd × IsWord offset
+IsRequest (Wait4 pid status options usage) = IsWord pid × IsWord status × IsWord options × IsWord usage
+IsRequest (Unknown number) = IsWord number
 IsRequest q = Unit {0}
 
 -- where an answer adds a thread, its number is free, and there is room for one more

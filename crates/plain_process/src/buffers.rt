@@ -1,9 +1,9 @@
 ghost use Rattle.std.specs.Prelude.{◌≡◌, ◌∷◌, []};
 ghost use Rattle.plain_process.specs.Buffers as buffers;
 
-use sys_abi::Request;
 use sys_abi::flags::{CLONE_CHILD_SETTID, CLONE_PARENT_SETTID};
 use sys_abi::transfer::TRANSFER_LIMIT;
+use sys_abi::{CloneForm, Request, clone_form};
 
 /// So many bytes of a process's memory, from an address on.
 #[derive(Clone, Copy, Debug, PartialEq, Eq)]
@@ -195,5 +195,33 @@ pub fn writes_of(request: &Request, size: u32) -> Spans
         } => thread_spans(flags, parent_tid, child_tid),
         Request::Wait4 { status, .. } => one_unless_zero(status, 4),
         _ => NO_SPANS,
+    }
+}
+
+fn clone_fills(flags: u32, parent_tid: u32, child_tid: u32, form: Option<CloneForm>) -> Spans
+    ensures { buffers.listed result ≡ buffers.clone_fills flags parent_tid child_tid form }
+{
+    match form {
+        Some(CloneForm::Fork) => Spans {
+            first: span_if(flags / CLONE_PARENT_SETTID % 2 == 1, parent_tid),
+            second: None,
+        },
+        _ => thread_spans(flags, parent_tid, child_tid),
+    }
+}
+
+/// What the call's answer fills of that, in its own process.
+#[tactic(auto, unfolding(crate::specs::Buffers::fills_of))]
+pub fn fills_of(request: &Request, size: u32) -> Spans
+    ensures { buffers.listed result ≡ buffers.fills_of request.now size }
+{
+    match *request {
+        Request::Clone {
+            flags,
+            parent_tid,
+            child_tid,
+            ..
+        } => clone_fills(flags, parent_tid, child_tid, clone_form(flags)),
+        _ => writes_of(request, size),
     }
 }

@@ -2,13 +2,17 @@ ghost use Rattle.std.specs.Prelude.{◌≡◌, ◌≤◌, ◌+◌, ◌&&◌, nat
 ghost use Rattle.std.specs.FinMap as map;
 ghost use Rattle.sys_abi.specs.declared.transfer.TheConstants.{TRANSFER_LIMIT};
 ghost use Rattle.plain_process.specs.Buffers.{lent};
+ghost use Rattle.plain_process.specs.Put.{made_by};
+ghost use Rattle.plain_process.specs.Put.{put as put_words};
 ghost use Rattle.plain_machine.specs.Records as words;
 ghost use Rattle.plain_machine.specs.Serve.{serve};
 ghost use Rattle.plain_process.specs.Steps.{user_step};
 ghost use Rattle.plain_process.specs.Delivered.{delivery_told};
 ghost use Rattle.plain_replay.specs.Replays.{after_told, state_of};
 
+use id_maps::ByPid;
 use plain_calls::delivering::{deliver, look, traps_with};
+use plain_calls::forking::{child_of, made_by};
 use plain_calls::local::local_row;
 use plain_calls::putting::{put, put_fault};
 use plain_machine::kernel::PlainKernel;
@@ -16,11 +20,12 @@ use plain_machine::plain::Plain;
 use plain_memory::lending::lent;
 use plain_process::memory::Frame;
 use plain_process::user_part::UserPart;
+use plain_rows::Answer;
 use plain_steps::steps::{UserStep, user_step, user_steps};
 use plain_tables::channel::Direction;
 use std::alloc::{AllocError, Global};
 use sys_abi::signals::{has_signal, without_signals};
-use sys_abi::{Delivered, Dir, Record, Request, Signal, Tid, VPid, is_local};
+use sys_abi::{Delivered, Dir, Record, Reply, Request, Signal, Tid, VPid, is_local};
 use views::duplicate::Duplicate;
 use views::number_map::NumberMap;
 
@@ -132,7 +137,7 @@ fn answer(
         g.users.insert(p, Box::into_inner(user))?;
         return Ok(true);
     }
-    serve(alloc, g, p, t, user, request, given.as_slice())
+    serve(alloc, g, p, t, &user, request, given.as_slice())
 }
 
 /// Has the kernel part serve a call of a thread of this part, where `given` are the bytes that the call reads.
@@ -141,28 +146,67 @@ fn serve(
     g: &mut Plain,
     p: VPid,
     t: Tid,
-    user: Box<UserPart>,
+    user: &UserPart,
     request: &Request,
     given: &[u8],
 ) -> Result<bool, AllocError>
     requires { length given.now ≤ TRANSFER_LIMIT }
-    ensures { IfOk result (λ is_step. state_of (words.outcome_of_serve g.old p t.0 user.value request.now (serve g.old.kernel p t.0 request.now given.now)) ≡ after_told is_step g.new) }
+    ensures { IfOk result (λ is_step. state_of (words.outcome_of_serve g.old p t.0 user.now request.now (serve g.old.kernel p t.0 request.now given.now)) ≡ after_told is_step g.new) }
 {
-    let mut user = user;
-    let Some(answer) = g.kernel.serve(alloc, p, t, request, given)? else {
+    let next = g.kernel.next_id;
+    let Some(answer) = plain_rows::serve(&mut g.kernel, alloc, p, t, request, given)? else {
         return Ok(false);
     };
+    let after = answered(alloc, user, t, request, &answer)?;
+    g.users.insert(p, Box::into_inner(after))?;
+    add_child(alloc, &mut g.users, user, t, next, request, answer.reply)?;
+    keep_living(g);
+    Ok(true)
+}
+
+/// The part after an answer.
+fn answered(
+    alloc: Global,
+    user: &UserPart,
+    t: Tid,
+    request: &Request,
+    answer: &Answer,
+) -> Result<Box<UserPart>, AllocError>
+    requires { length answer.now.bytes ≤ TRANSFER_LIMIT }
+    ensures { IfOk result (λ after. after.value ≡ put_words user.now t.0 request.now answer.now.reply answer.now.bytes) }
+{
+    let mut after = copied(alloc, user)?;
     put(
         alloc,
-        &mut user,
+        &mut after,
         t,
         request,
         answer.reply,
         answer.bytes.as_slice(),
     )?;
-    g.users.insert(p, Box::into_inner(user))?;
-    keep_living(g);
-    Ok(true)
+    Ok(after)
+}
+
+/// Adds the part of the child that an answer makes, if it makes one, under the number that was next before the call.
+fn add_child(
+    alloc: Global,
+    users: &mut ByPid<UserPart>,
+    user: &UserPart,
+    t: Tid,
+    next: u32,
+    request: &Request,
+    reply: Reply,
+) -> Result<(), AllocError>
+    ensures { IfOk result (λ done. users.new ≡ words.with_child users.old user.now t.0 request.now next (made_by request.now reply)) }
+{
+    match made_by(request, reply) {
+        None => Ok(()),
+        Some(_) => {
+            let child = child_of(alloc, user, t, next, request)?;
+            users.insert(VPid(next), Box::into_inner(child))?;
+            Ok(())
+        }
+    }
 }
 
 /// Delivers a signal to a thread.
@@ -185,7 +229,7 @@ fn deliver_signal(
     let mask = thread.mask;
     if traps_with(alloc, &user, t, s)? {
         let told = deliver(alloc, &mut user, t, s, false)?;
-        settle(g, p, user, told)?;
+        settle(alloc, g, p, user, told)?;
         return Ok(true);
     }
     if !has_signal(without_signals(g.kernel.pending(p, t), mask), s) {
@@ -194,12 +238,18 @@ fn deliver_signal(
     let is_unready = is_unready(alloc, g, p, t, &user)?;
     g.kernel.take(p, t, s);
     let told = deliver(alloc, &mut user, t, s, is_unready)?;
-    settle(g, p, user, told)?;
+    settle(alloc, g, p, user, told)?;
     Ok(true)
 }
 
 /// What a delivery does to the state, where `user` is the part after it.
-fn settle(g: &mut Plain, p: VPid, user: Box<UserPart>, told: Delivered) -> Result<(), AllocError>
+fn settle(
+    alloc: Global,
+    g: &mut Plain,
+    p: VPid,
+    user: Box<UserPart>,
+    told: Delivered,
+) -> Result<(), AllocError>
     ensures { IfOk result (λ done. g.new ≡ words.delivered g.old p (delivery_told told user.value)) }
 {
     match told {
@@ -208,8 +258,8 @@ fn settle(g: &mut Plain, p: VPid, user: Box<UserPart>, told: Delivered) -> Resul
             Ok(())
         }
         Delivered::Ignored => Ok(()),
-        Delivered::Kills(_) => {
-            g.kernel.end_process(p);
+        Delivered::Kills(status) => {
+            g.kernel.end_process(alloc, p, status);
             keep_living(g);
             Ok(())
         }
@@ -266,7 +316,7 @@ fn waits_with(
     ensures { IfOk result (λ waits. waits ≡ not (is_some (serve k.now p t.0 request.now given.now))) }
 {
     let mut kernel = Box::new(alloc, k.duplicate(alloc)?)?;
-    match kernel.serve(alloc, p, t, request, given)? {
+    match plain_rows::serve(&mut kernel, alloc, p, t, request, given)? {
         Some(_) => Ok(false),
         None => Ok(true),
     }

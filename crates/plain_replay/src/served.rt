@@ -38,7 +38,7 @@ pub fn serve_slowly(
     ensures { IfOk result (λ served. serve k.now p t.0 request.now given.now ≡ served_told served) }
 {
     let mut kernel = Box::new(alloc, k.duplicate(alloc)?)?;
-    let Some(answer) = kernel.serve(alloc, p, t, request, given)? else {
+    let Some(answer) = plain_rows::serve(&mut kernel, alloc, p, t, request, given)? else {
         return Ok(Served::NotReady);
     };
     let console = shown(alloc, answer.is_shown, given)?;

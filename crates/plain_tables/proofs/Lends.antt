@@ -1,11 +1,9 @@
 -- What a borrow of one entry of a map leaves.
-use Rattle.std.proofs.Common.{◌≡◌, ap}
+use Rattle.std.proofs.Common.{◌≡◌, Ordering, ap}
 use Rattle.std.specs.Prelude.{Some}
 use Rattle.std.specs.FinMap as map
-use Rattle.sys_abi.specs.declared.identity.VPid.{VPid}
-use Rattle.plain_tables.specs.declared.process.Process.{Process}
-use Rattle.plain_tables.specs.Tables.{Processes, changed_by, changed_at}
+use Rattle.plain_tables.specs.Tables.{changed_by, changed_at}
 
-pub changed-found : (processes : Processes) (p : VPid) (change : Process → Process) (process : Process) → Some process ≡ map.get processes p
-    → map.insert processes p (change process) ≡ changed_at processes p change
-changed-found processes p change process is = ap (changed_by processes p change) is
+pub changed-found : {K X : Type 0} {R : K → K → Ordering} (m : map.FinMap R X) (k : K) (change : X → X) (v : X) → Some v ≡ map.get m k
+    → map.insert m k (change v) ≡ changed_at m k change
+changed-found m k change v is = ap (changed_by m k change) is

@@ -1,1 +1,5 @@
 pub mod Tables
+pub mod Objects
+pub mod Valid
+pub mod Closing
+pub mod Ends

@@ -1,18 +1,33 @@
 -- Words on the tables of a kernel part, and on what stands in them: look-ups, and changes.
--- Source: `man 2 open` (descriptors and open descriptions), `man 2 credentials` (processes), `man 7 signal` (pending signals).
-use Rattle.std.specs.Prelude.{◌==◌, ℕ, Bool, false, ◌||◌, ◌%◌, bit_or, Option, Some, None, is_some, unwrap_or, if◌then◌else◌}
+-- Source: `man 2 open` (descriptors and open descriptions), `man 2 credentials` (processes), `man 7 signal`
+-- (pending signals).
+use Rattle.std.specs.Prelude.{◌==◌, ℕ, ◌+◌, Bool, false, ◌||◌, ◌%◌, bit_or, List, Option, Some, None, is_some, unwrap_or, if◌then◌else◌}
 use Rattle.std.specs.List.{list_any}
-use Rattle.std.specs.Ordering.{eq_by_cmp}
+use Rattle.std.specs.Ordering.{nat_cmp, eq_by_cmp}
+use Rattle.std.specs.declared.cmp.Ordering.{Ordering}
 use Rattle.std.specs.FinMap as map
 use Rattle.sys_abi.specs.declared.identity.VPid.{VPid}
 use Rattle.sys_abi.specs.declared.identity.DescId.{DescId}
 use Rattle.sys_abi.specs.declared.identity.Slot.{Slot}
-use Rattle.sys_abi.specs.Orders.{vpid_cmp, desc_cmp, slot_cmp}
+use Rattle.sys_abi.specs.Orders.{vpid_cmp, desc_cmp, slot_cmp, conn_cmp, dir_cmp, address_cmp}
+use Rattle.sys_abi.specs.Names.{name_cmp}
 use Rattle.sys_abi.specs.Signals.{has_signal, with_signal, without_signal}
 use Rattle.plain_tables.specs.declared.process.Process.{Process}
 use Rattle.plain_tables.specs.declared.process.Maker.{Maker}
 use Rattle.plain_tables.specs.declared.description.Descriptor.{Descriptor}
+use Rattle.plain_tables.specs.declared.description.Description.{Description}
+use Rattle.plain_tables.specs.declared.channel.Channel.{Channel}
+use Rattle.plain_tables.specs.declared.channel.Direction.{Direction}
+use Rattle.plain_tables.specs.declared.channel.Listening.{Listening}
 use Rattle.sys_abi.specs.Lives.{lives}
+
+-- processes are numbered from here on
+abbrev pub FIRST_PID : ℕ
+FIRST_PID = 40000
+
+-- the parent of a process that nobody waits for
+abbrev pub NOBODY : ℕ
+NOBODY = 1
 
 abbrev pub pid : ℕ → VPid
 pid number = record { 0 = number }
@@ -52,22 +67,61 @@ with_signals process t signals = record process { threads = map.insert process.t
 
 abbrev pub taken_from : ℕ → ℕ → Process → Process
 taken_from t s process =
-    if has_signal (signals_of t process) s then with_signals process t (without_signal (signals_of t process) s) else
+    if has_signal (signals_of t process) s
+    then with_signals process t (without_signal (signals_of t process) s) else
     record process { pending = without_signal process.pending s }
 
 abbrev pub raised_at : ℕ → ℕ → Process → Process
 raised_at t s process = with_signals process t (with_signal (signals_of t process) s)
 
+-- for all threads of the process
+abbrev pub raised_for_all : ℕ → Process → Process
+raised_for_all s process = record process { pending = with_signal process.pending s }
+
 abbrev pub Processes : Type 0
 Processes = map.FinMap vpid_cmp Process
 
-abbrev pub changed_by : Processes → VPid → (Process → Process) → Option Process → Processes
-changed_by processes p change None = processes
-changed_by processes p change (Some process) = map.insert processes p (change process)
+abbrev pub Makers : Type 0
+Makers = map.FinMap vpid_cmp Maker
 
--- the processes with a change of one of them, if it is there
-abbrev pub changed_at : Processes → VPid → (Process → Process) → Processes
-changed_at processes p change = changed_by processes p change (map.get processes p)
+abbrev pub Descriptors : Type 0
+Descriptors = map.FinMap slot_cmp Descriptor
+
+abbrev pub Descriptions : Type 0
+Descriptions = map.FinMap desc_cmp Description
+
+-- the number of the file of each name
+abbrev pub Names : Type 0
+Names = map.FinMap name_cmp ℕ
+
+abbrev pub Files : Type 0
+Files = map.FinMap nat_cmp (List ℕ)
+
+abbrev pub Channels : Type 0
+Channels = map.FinMap conn_cmp Channel
+
+abbrev pub Directions : Type 0
+Directions = map.FinMap dir_cmp Direction
+
+abbrev pub Listeners : Type 0
+Listeners = map.FinMap address_cmp Listening
+
+-- the messages that wait at each open end of a datagram pair
+abbrev pub Inboxes : Type 0
+Inboxes = map.FinMap desc_cmp (List (List ℕ))
+
+-- a map with a change of what stands at one key, if anything does
+abbrev pub changed_by : {K X : Type 0} {R : K → K → Ordering} → map.FinMap R X → K → (X → X) → Option X
+    → map.FinMap R X
+changed_by m k change None = m
+changed_by m k change (Some v) = map.insert m k (change v)
+
+abbrev pub changed_at : {K X : Type 0} {R : K → K → Ordering} → map.FinMap R X → K → (X → X) → map.FinMap R X
+changed_at m k change = changed_by m k change (map.get m k)
+
+-- the process is there and has not ended
+abbrev pub lives_in : Processes → VPid → Bool
+lives_in processes p = is_live_process (map.get processes p)
 
 -- threads
 
@@ -79,13 +133,17 @@ abbrev pub has_thread_in : ℕ → Option Process → Bool
 has_thread_in t None = false
 has_thread_in t (Some process) = is_some (map.get process.threads t)
 
-abbrev pub without_thread : ℕ → Process → Process
-without_thread t process = record process { threads = map.remove process.threads t }
+abbrev pub without_thread_entry : ℕ → Process → Process
+without_thread_entry t process = record process { threads = map.remove process.threads t }
 
-abbrev pub with_thread : ℕ → Process → Process
-with_thread t process = with_signals process t 0
+abbrev pub with_thread_entry : ℕ → Process → Process
+with_thread_entry t process = with_signals process t 0
 
 -- both are there, and on one host (`man 2 kill`)
 abbrev pub same_host : Option Maker → Option Maker → Bool
 same_host (Some a) (Some b) = a.host == b.host
 same_host _ _ = false
+
+-- a process that has made n things more
+abbrev pub counted : ℕ → Maker → Maker
+counted n maker = record { host = maker.host; made = maker.made + n }

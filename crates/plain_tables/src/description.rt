@@ -1,8 +1,9 @@
 ghost use Rattle.std.specs.Prelude.{◌≡◌};
 ghost use Rattle.plain_tables.specs.Tables as words;
 
+use id_maps::BySlot;
 use std::alloc::{AllocError, Global};
-use sys_abi::{BySlot, ConnId, DescId, VirtAddr};
+use sys_abi::{ConnId, DescId, VirtAddr};
 use views::duplicate::Duplicate;
 
 /// What an open description stands for.

@@ -1,17 +1,23 @@
 //! What stands in the tables of a kernel part, on plain data: processes, descriptors, open descriptions, channels.
 //!
-//! `specs/Tables.antt` has the words on them, each over the table that it speaks of. Source: `man 2 open`, `man 2
-//! credentials`, `man 7 signal`.
+//! `specs/` has the words on them, each over the table that it speaks of: `Tables` and `Objects` those on what stands
+//! there, `Closing` and `Ends` those on closes and on the ends of processes, and in `specs/Valid/` what holds of the
+//! tables of every kernel part, a topic a record over its own tables. Source: `man 2 open`, `man 2 credentials`,
+//! `man 7 signal`.
 //!
-//! Proved: each function is the word of its name, and what may want memory leaves its table as it was where there is none.
+//! Proved: each function is the word of its name, and what may want memory leaves its table as it was where there is none;
+//! `proofs/` has what each word keeps of each topic.
 #![tactic(auto)]
 
 pub mod channel;
+pub mod closing;
 pub mod description;
+pub mod ends;
 pub mod pending;
 pub mod process;
 pub mod threads;
 
 pub use channel::{Channel, ChannelEnd, ChannelKind, Direction, Listening};
 pub use description::{Description, Descriptor, Object};
+pub use ends::NOBODY;
 pub use process::{Maker, Process};

@@ -3,8 +3,9 @@ ghost use Rattle.std.specs.FinMap as map;
 ghost use Rattle.plain_tables.specs.Tables as words;
 
 use crate::process::Process;
+use id_maps::ByPid;
 use sys_abi::signals::{has_signal, with_signal, without_signal};
-use sys_abi::{ByPid, Signal, VPid};
+use sys_abi::{Signal, VPid};
 use views::number_map::NumberMap;
 
 impl Process {
@@ -36,6 +37,12 @@ impl Process {
         let signals = with_signal(self.signals_of(t), s);
         set_signals(&mut self.threads, t, signals);
     }
+
+    fn raise_for_all(&mut self, s: Signal)
+        ensures { self.new ≡ words.raised_for_all s.0 self.old }
+    {
+        self.pending = with_signal(self.pending, s);
+    }
 }
 
 /// Puts other signals in the place of those that are pending for a thread.
@@ -64,5 +71,14 @@ pub fn raise_at(processes: &mut ByPid<Process>, p: VPid, t: u32, s: Signal)
 {
     if let Some(process) = processes.get_mut(p) {
         process.raise(t, s);
+    }
+}
+
+/// Makes the signal pending for a process that is there. Takes no memory.
+pub fn raise_for_all_at(processes: &mut ByPid<Process>, p: VPid, s: Signal)
+    ensures { processes.new ≡ words.changed_at processes.old p (words.raised_for_all s.0) }
+{
+    if let Some(process) = processes.get_mut(p) {
+        process.raise_for_all(s);
     }
 }

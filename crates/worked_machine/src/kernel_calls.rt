@@ -1,10 +1,11 @@
 use crate::asserting::{bytes, counts, replies, same, says};
-use plain_machine::{Answer, FIRST_PID, PlainKernel};
+use plain_machine::{FIRST_PID, NOBODY, PlainKernel};
 use plain_replay::{Served, serve_slowly};
+use plain_rows::{Answer, is_ready, serve};
 use std::alloc::{AllocError, Global};
 use std::process::Abort;
 use std::test::Fail;
-use sys_abi::errors::EBADF;
+use sys_abi::errors::{EBADF, EINVAL, ESRCH};
 use sys_abi::{Errno, Reply, Request, Signal, Tid, VPid};
 use views::list_of::ListOf;
 
@@ -81,7 +82,7 @@ fn has(rt: &impl Abort, kernel: &PlainKernel, want: [usize; 4]) {
 
 /// What a call of a thread of the first process answers.
 fn answer(alloc: Global, kernel: &mut PlainKernel, t: Tid, call: &Request) -> Result<Answer, Fail> {
-    Ok(kernel.serve(alloc, FIRST, t, call, b"")?.ok_or("waits")?)
+    Ok(serve(kernel, alloc, FIRST, t, call, b"")?.ok_or("waits")?)
 }
 
 #[test]
@@ -93,7 +94,7 @@ fn end_of_a_process(rt: HostRuntime) -> Result<(), Fail> {
     replies(&rt, ended.reply, Reply::Value(0));
     says(&rt, kernel.is_live(FIRST), false);
     has(&rt, &kernel, [1, 1, 3, 1]);
-    kernel.end_process(VPid(FIRST_PID + 1));
+    kernel.end_process(alloc, VPid(FIRST_PID + 1), 0);
     says(&rt, kernel.has_life(), false);
     has(&rt, &kernel, [0, 0, 0, 0]);
     Ok(())
@@ -135,6 +136,13 @@ const CLONE: Request = Request::Clone {
 
 const EXIT: Request = Request::Exit { code: 0 };
 
+const WAIT: Request = Request::Wait4 {
+    pid: FIRST_PID,
+    status: 0,
+    options: 0,
+    usage: 0,
+};
+
 #[test]
 fn thread_begins_and_ends(rt: HostRuntime) -> Result<(), Fail> {
     let alloc = rt.alloc();
@@ -165,5 +173,60 @@ fn signal_to_a_thread(rt: HostRuntime) -> Result<(), Fail> {
     same(&rt, kernel.pending(FIRST, THREAD), 0x200);
     kernel.take(FIRST, THREAD, Signal(10));
     same(&rt, kernel.pending(FIRST, THREAD), 0);
+    Ok(())
+}
+
+/// What a kill of a process answers.
+fn kill(alloc: Global, kernel: &mut PlainKernel, pid: u32, signal: u32) -> Result<Reply, Fail> {
+    let call = Request::Kill { pid, signal };
+    Ok(answer(alloc, kernel, THREAD, &call)?.reply)
+}
+
+#[test]
+fn signal_to_a_process(rt: HostRuntime) -> Result<(), Fail> {
+    let alloc = rt.alloc();
+    let mut kernel = kernel(alloc)?;
+    kernel.add_process(alloc, FIRST_PID + 1, 4)?;
+    replies(
+        &rt,
+        kill(alloc, &mut kernel, FIRST_PID, 12)?,
+        Reply::Value(0),
+    );
+    same(&rt, kernel.pending(FIRST, Tid(7)), 0x800);
+    replies(
+        &rt,
+        kill(alloc, &mut kernel, FIRST_PID, 0)?,
+        Reply::Value(0),
+    );
+    same(&rt, kernel.pending(FIRST, THREAD), 0x800);
+    replies(
+        &rt,
+        kill(alloc, &mut kernel, FIRST_PID, 19)?,
+        Reply::Error(Errno(EINVAL)),
+    );
+    replies(
+        &rt,
+        kill(alloc, &mut kernel, FIRST_PID + 1, 9)?,
+        Reply::Error(Errno(ESRCH)),
+    );
+    Ok(())
+}
+
+#[test]
+fn numbers_of_a_process(rt: HostRuntime) -> Result<(), Fail> {
+    let alloc = rt.alloc();
+    let mut kernel = kernel(alloc)?;
+    let own = answer(alloc, &mut kernel, THREAD, &Request::Getpid)?;
+    replies(&rt, own.reply, Reply::Value(FIRST_PID));
+    let parent = answer(alloc, &mut kernel, THREAD, &Request::Getppid)?;
+    replies(&rt, parent.reply, Reply::Value(NOBODY));
+    Ok(())
+}
+
+#[test]
+fn no_call_waits(rt: HostRuntime) -> Result<(), Fail> {
+    let kernel = kernel(rt.alloc())?;
+    says(&rt, is_ready(&kernel, FIRST, THREAD, &WAIT, &[0; 16]), true);
+    says(&rt, is_ready(&kernel, FIRST, THREAD, &EXIT, &[0; 16]), true);
     Ok(())
 }

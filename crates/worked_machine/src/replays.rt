@@ -1,12 +1,13 @@
 use crate::asserting::same;
 use crate::process::{THREAD, regs_of, with_program};
+use id_maps::ByPid;
 use plain_machine::{Plain, PlainKernel};
 use plain_process::Regs;
 use plain_replay::{ReplayFault, replay};
 use std::alloc::{AllocError, Global};
 use std::process::Abort;
 use std::test::Fail;
-use sys_abi::{ByPid, Record, VPid};
+use sys_abi::{Record, VPid};
 
 /// Its thread runs to the call.
 const RUNS: Record = Record::User {

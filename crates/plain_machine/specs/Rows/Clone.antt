@@ -1,5 +1,5 @@
--- clone(flags, stack, parent_tid, tls, child_tid) (`man 2 clone`): a thread gets the next number, which is written where the flags ask for it. No process
--- makes a child yet.
+-- clone(flags, stack, parent_tid, tls, child_tid) (`man 2 clone`): a thread gets the next number, which is
+-- written where the flags ask for it. No process makes a child yet.
 use Rattle.std.specs.Prelude.{◌&&◌, ℕ, ◌-◌, ◌^◌, nat_lt, List, [], ◌++◌, Option, Some, None, Bool, if◌then◌else◌}
 use Rattle.sys_abi.specs.declared.identity.VPid.{VPid}
 use Rattle.sys_abi.specs.declared.reply.Reply.TheVariants.{Value}
@@ -27,10 +27,17 @@ number_if wanted number = if wanted then low_bytes 4 number else []
 
 -- the new number, for each place that the flags name
 abbrev pub number_bytes : ℕ → ℕ → List ℕ
-number_bytes flags number = number_if (has_flag flags CLONE_PARENT_SETTID) number ++ number_if (has_flag flags CLONE_CHILD_SETTID) number
+number_bytes flags number =
+    number_if (has_flag flags CLONE_PARENT_SETTID) number
+    ++ number_if (has_flag flags CLONE_CHILD_SETTID) number
 
 abbrev pub cloned : PlainKernel → VPid → ℕ → Served
-cloned k p flags = record { kernel = with_next_thread k p; reply = Value k.next_id; bytes = number_bytes flags k.next_id; console = [] }
+cloned k p flags = record {
+  kernel = with_next_thread k p;
+  reply = Value k.next_id;
+  bytes = number_bytes flags k.next_id;
+  console = [];
+}
 
 unfoldable pub clone_thread : PlainKernel → VPid → ℕ → Try Served
 clone_thread k p flags = do

@@ -1,14 +1,14 @@
--- exit_group(code), exit(code) (`man 2 exit_group`, `man 2 exit`): the process ends, or the thread does. No call makes a process yet, so nobody waits
--- for a status.
+-- exit_group(code), exit(code) (`man 2 exit_group`, `man 2 exit`): the process ends with the status that the
+-- code gives, or the thread does.
 use Rattle.std.specs.Prelude.{ℕ}
 use Rattle.sys_abi.specs.declared.identity.VPid.{VPid}
 use Rattle.plain_machine.specs.declared.kernel.PlainKernel.{PlainKernel}
 use Rattle.plain_process.specs.Attempts.{Try}
 use Rattle.plain_machine.specs.Attempts.{Served, replied}
-use Rattle.plain_machine.specs.Kernel.{after_end, after_thread_end}
+use Rattle.plain_machine.specs.Ends.{exit_status, ended, thread_ended}
 
-unfoldable pub exit_group_row : PlainKernel → VPid → Try Served
-exit_group_row k p = replied (after_end k p) 0
+unfoldable pub exit_group_row : PlainKernel → VPid → ℕ → Try Served
+exit_group_row k p code = replied (ended k p (exit_status code)) 0
 
-unfoldable pub exit_row : PlainKernel → VPid → ℕ → Try Served
-exit_row k p t = replied (after_thread_end k p t) 0
+unfoldable pub exit_row : PlainKernel → VPid → ℕ → ℕ → Try Served
+exit_row k p t code = replied (thread_ended k p t (exit_status code)) 0

@@ -23,10 +23,12 @@ abbrev pub is_uncatchable : ℕ → Bool
 is_uncatchable s = (s == SIGKILL) || (s == SIGSTOP)
 
 abbrev pub action_in : List ℕ → SignalAction
-action_in given = record { handler = word_in given 0; flags = word_in given 4; mask = blockable (word_in given 8) }
+action_in given =
+    record { handler = word_in given 0; flags = word_in given 4; mask = blockable (word_in given 8) }
 
 abbrev pub action_bytes : SignalAction → List ℕ
-action_bytes action = low_bytes 4 action.handler ++ low_bytes 4 action.flags ++ low_bytes 4 action.mask ++ low_bytes 4 0
+action_bytes action =
+    low_bytes 4 action.handler ++ low_bytes 4 action.flags ++ low_bytes 4 action.mask ++ low_bytes 4 0
 
 abbrev pub with_action : UserPart → ℕ → SignalAction → UserPart
 with_action user s action = record user { actions = slice_set user.actions (s - 1) action }
@@ -34,7 +36,9 @@ with_action user s action = record user { actions = slice_set user.actions (s - 
 unfoldable pub sigaction_row : UserPart → List ℕ → ℕ → ℕ → ℕ → Try Local
 sigaction_row user given s action size = do
   need ((size == 8) && is_signal s && ((action == 0) || not (is_uncatchable s))) EINVAL
-  local_reply_with (if action == 0 then user else with_action user s (action_in given)) 0 (action_bytes (action_on user s))
+  local_reply_with
+      (if action == 0 then user else with_action user s (action_in given))
+      0 (action_bytes (action_on user s))
 
 -- how: 0 blocks, 1 unblocks, 2 sets
 abbrev pub mask_by : ℕ → ℕ → ℕ → ℕ
@@ -43,13 +47,19 @@ mask_by how mask set =
     if how == 1 then without_signals mask (blockable set) else blockable set
 
 abbrev pub with_mask : ThreadPart → ℕ → ThreadPart
-with_mask thread mask = record { regs = thread.regs; mask = mask; clear_tid = thread.clear_tid; contexts = thread.contexts }
+with_mask thread mask = record {
+  regs = thread.regs;
+  mask = mask;
+  clear_tid = thread.clear_tid;
+  contexts = thread.contexts;
+}
 
 unfoldable pub sigprocmask_row : UserPart → ℕ → ThreadPart → List ℕ → ℕ → ℕ → ℕ → Try Local
 sigprocmask_row user t thread given how set size = do
   need ((size == 8) && nat_le how 2) EINVAL
   local_reply_with
-      (if set == 0 then user else with_thread user t (with_mask thread (mask_by how thread.mask (word_in given 0))) user.memory)
+      (if set == 0 then user else
+      with_thread user t (with_mask thread (mask_by how thread.mask (word_in given 0))) user.memory)
       0 (low_bytes 4 thread.mask ++ low_bytes 4 0)
 
 abbrev pub last_context : List Context → Option Context

@@ -25,14 +25,23 @@ is_break user address =
 
 abbrev pub with_break : UserPart → ℕ → UserPart
 with_break user address =
-    record user { memory = heap_to user.memory (pages_of user.break_end) (pages_of address); break_end = address }
+    record user {
+      memory = heap_to user.memory (pages_of user.break_end) (pages_of address);
+      break_end = address;
+    }
 
 unfoldable pub brk_row : UserPart → ℕ → Try Local
-brk_row user address = if is_break user address then local_reply (with_break user address) address else local_reply user user.break_end
+brk_row user address =
+    if is_break user address then
+    local_reply (with_break user address) address
+    else local_reply user user.break_end
 
 unfoldable pub munmap_row : UserPart → ℕ → ℕ → Try Local
 munmap_row user address length = do
-  need ((address % 4096 == 0) && not (length == 0) && nat_le MAPPING_START address && nat_le (address + length) MAPPING_END) EINVAL
+  need
+      ((address % 4096 == 0) && not (length == 0)
+      && nat_le MAPPING_START address && nat_le (address + length) MAPPING_END)
+      EINVAL
   local_reply (with_memory user (without_pages user.memory (address / 4096) (pages_of length))) 0
 
 -- protection bits 1, 2, 4 are to read, to write, to execute; rights are 4, 2, 1
@@ -50,4 +59,6 @@ unfoldable pub mmap_row : UserPart → ℕ → ℕ → ℕ → Try Local
 mmap_row user length protection flags = do
   need ((flags == MAP_FLAGS) && not (length == 0) && nat_lt protection 8) EINVAL
   page ← found (room_for user.memory (pages_of length)) ENOMEM
-  local_reply (with_memory user (with_pages user.memory page (pages_of length) (rights_of protection) [])) (4096 * page)
+  local_reply
+      (with_memory user (with_pages user.memory page (pages_of length) (rights_of protection) []))
+      (4096 * page)

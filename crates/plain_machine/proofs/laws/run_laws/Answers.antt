@@ -6,8 +6,8 @@ use Rattle.plain_machine.proofs.PutBounds.{put_keeps_user, fault_keeps_user}
 use Rattle.plain_machine.proofs.LocalBounds.{local_keeps_user}
 use Rattle.plain_machine.proofs.DeliveryBounds.{delivery_keeps_user}
 use Rattle.plain_machine.proofs.Requests.{asked_is_request}
-use Rattle.plain_machine.proofs.CallBounds.{serve_answers}
-use Rattle.plain_machine.proofs.AddedThreads.{serve_adds}
+use Rattle.plain_machine.proofs.Asking.{stands_asked, serve_adds}
+use Rattle.plain_machine.proofs.EachRow.{each_is_served, ready_by_front}
 use Rattle.plain_machine.proofs.RunLaws.{run_of_one_more, console_of_one_more}
 use Rattle.plain_machine.proofs.Locality.{record_is_local}
 use Rattle.plain_machine.proofs.laws.run_laws.Goals as goal
@@ -54,8 +54,14 @@ returns-clause-user_asks c = asked_is_request
 pub returns-clause-waiters : goal.returns-clause-waiters
 returns-clause-waiters c = waiters_are_few
 
-pub returns-clause-answers : goal.returns-clause-answers
-returns-clause-answers c = serve_answers
+pub returns-clause-asked : goal.returns-clause-asked
+returns-clause-asked c = stands_asked
+
+pub returns-clause-served : goal.returns-clause-served
+returns-clause-served c = each_is_served
+
+pub returns-clause-ready : goal.returns-clause-ready
+returns-clause-ready c = ready_by_front
 
 pub returns-clause-adds : goal.returns-clause-adds
 returns-clause-adds c = serve_adds

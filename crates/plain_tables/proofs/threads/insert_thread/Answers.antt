@@ -2,7 +2,7 @@ use Rattle.std.proofs.Common.{sym, ap, ◌∙◌}
 use Rattle.std.specs.FinMap as map
 use Rattle.views.proofs.MapLaws.{insert_same}
 use Rattle.sys_abi.proofs.OrderLaws.{vpid_total, vpid_exact}
-use Rattle.plain_tables.specs.Tables.{with_thread}
+use Rattle.plain_tables.specs.Tables.{with_thread_entry}
 use Rattle.plain_tables.proofs.Lends.{changed-found}
 use Rattle.plain_tables.proofs.threads.insert_thread.Goals as goal
 use Rattle.views.proofs.Outcomes.{on_some, on_ok_then, on_err_then}
@@ -10,7 +10,7 @@ use Rattle.views.proofs.Outcomes.{on_some, on_ok_then, on_err_then}
 pub returns-in-Some-clause-ok : goal.returns-in-Some-clause-ok
 returns-in-Some-clause-ok c = on_ok_then c.add_thread.result c.add_thread.ensures.ok (λ is.
     on_some c.in-Some.is (c.get_mut.follows.holds c.add_thread.new.self) ∙ ap (map.insert c.args.processes.now c.args.p) is
-    ∙ changed-found c.args.processes.now c.args.p (with_thread c.args.t) c.in-Some.process.now c.in-Some.ensures.value)
+    ∙ changed-found c.args.processes.now c.args.p (with_thread_entry c.args.t) c.in-Some.process.now c.in-Some.ensures.value)
 
 pub returns-in-Some-clause-err : goal.returns-in-Some-clause-err
 returns-in-Some-clause-err c = on_err_then c.add_thread.result c.add_thread.ensures.err (λ same.

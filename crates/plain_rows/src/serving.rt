@@ -1,0 +1,140 @@
+ghost use Rattle.std.specs.Prelude.{◌≡◌, ◌≤◌, ℕ, List, None, is_some, length, IfOk, IfSome};
+ghost use Rattle.sys_abi.specs.declared.transfer.TheConstants.{TRANSFER_LIMIT};
+ghost use Rattle.plain_machine.specs.Serve as words;
+ghost use Rattle.plain_rows.specs.Answers.{answer_told, attempt_told, KeepsUnlessGives};
+
+use crate::answer::{Answer, Attempt, RowResult, settled};
+use crate::channels::{pipe2, socketpair};
+use crate::clone::clone;
+use crate::connections::{accept, connect, is_accept_ready, is_connect_ready};
+use crate::counters::eventfd2;
+use crate::descriptors::{close, dup, dup3, fcntl};
+use crate::end::{exit, exit_group};
+use crate::files::{lseek, openat, unlinkat};
+use crate::numbers::{getpid, getppid};
+use crate::read::{is_read_ready, read};
+use crate::send::{kill, tgkill};
+use crate::sockets::{bind, getpeername, getsockname, listen, setsockopt, shutdown, socket};
+use crate::wait::{is_wait4_ready, wait4};
+use crate::write::{is_write_ready, write};
+use plain_machine::PlainKernel;
+use std::alloc::{AllocError, Global};
+use sys_abi::errors::ENOSYS;
+use sys_abi::{Given, Request, Tid, VPid};
+
+/// Serves a call of a thread, where `given` are the bytes that the call reads. It answers None where the call waits, and
+/// then the kernel part is as before. After want of memory it may be any.
+pub fn serve(
+    kernel: &mut PlainKernel,
+    alloc: Global,
+    p: VPid,
+    t: Tid,
+    request: &Request,
+    given: &[u8],
+) -> Result<Option<Answer>, AllocError>
+    requires { length given.now ≤ TRANSFER_LIMIT }
+    ensures ok { IfOk result (λ answer.
+        words.serve kernel.old p t.0 request.now given.now ≡ answer_told kernel.new given.now answer) }
+    ensures waits { IfOk result (λ answer. answer ≡ None → kernel.new ≡ kernel.old) }
+    ensures short { IfOk result (λ answer. IfSome answer (λ answer. length answer.bytes ≤ TRANSFER_LIMIT)) }
+{
+    let attempt = row(kernel, alloc, p, t, request, given)?;
+    Ok(settled(alloc, attempt))
+}
+
+/// Whether a call of a thread doesn't wait, by the first 16 bytes that it reads, with zeros where it reads fewer.
+pub fn is_ready(kernel: &PlainKernel, p: VPid, t: Tid, request: &Request, front: &Given) -> bool
+    ensures { (given : List ℕ) → words.front_of given ≡ front.now
+        → is_some (words.serve kernel.now p t.0 request.now given) ≡ result }
+{
+    is_ready_by_row(kernel, p, t, request, front)
+}
+
+#[tactic(auto, unfolding(plain_machine::specs::Serve::is_ready))]
+fn is_ready_by_row(kernel: &PlainKernel, p: VPid, t: Tid, request: &Request, front: &Given) -> bool
+    ensures { result ≡ words.is_ready kernel.now p t.0 request.now front.now }
+{
+    match *request {
+        Request::Read { fd, count, .. } => is_read_ready(kernel, p, fd, count),
+        Request::Write { fd, count, .. } => is_write_ready(kernel, p, fd, count, front),
+        Request::Accept { fd, .. } => is_accept_ready(kernel, p, fd),
+        Request::Connect { fd, length, .. } => is_connect_ready(kernel, p, fd, length, front),
+        Request::Wait4 { pid, options, .. } => is_wait4_ready(kernel, p, pid, options),
+        _ => true,
+    }
+}
+
+/// The row of the call: each arm is one call.
+#[tactic(auto, unfolding(plain_machine::specs::Serve::row))]
+fn row(
+    kernel: &mut PlainKernel,
+    alloc: Global,
+    p: VPid,
+    t: Tid,
+    request: &Request,
+    given: &[u8],
+) -> RowResult
+    requires { length given.now ≤ TRANSFER_LIMIT }
+    ensures row { IfOk result (λ attempt.
+        words.row kernel.old p t.0 request.now given.now ≡ attempt_told kernel.new given.now attempt) }
+    ensures kept { IfOk result (λ attempt. KeepsUnlessGives attempt kernel.old kernel.new) }
+{
+    match *request {
+        Request::Eventfd2 { value, flags } => eventfd2(kernel, alloc, p, value, flags),
+        Request::Dup { fd } => dup(kernel, alloc, p, fd),
+        Request::Dup3 { fd, to, flags } => dup3(kernel, alloc, p, fd, to, flags),
+        Request::Fcntl {
+            fd,
+            command,
+            argument,
+        } => fcntl(kernel, alloc, p, fd, command, argument),
+        Request::Unlinkat {
+            directory,
+            flags,
+            ..
+        } => unlinkat(kernel, alloc, p, directory, flags, given),
+        Request::Openat {
+            directory,
+            flags,
+            ..
+        } => openat(kernel, alloc, p, directory, flags, given),
+        Request::Close { fd } => close(kernel, alloc, p, fd),
+        Request::Pipe2 { flags, .. } => pipe2(kernel, alloc, p, flags),
+        Request::Lseek { fd, offset, whence } => lseek(kernel, alloc, p, fd, offset, whence),
+        Request::Read { fd, count, .. } => read(kernel, alloc, p, fd, count),
+        Request::Write { fd, count, .. } => write(kernel, alloc, p, t, fd, count, given),
+        Request::Exit { code } => Ok(exit(kernel, alloc, p, t, code)),
+        Request::ExitGroup { code } => Ok(exit_group(kernel, alloc, p, code)),
+        Request::Kill { pid, signal } => Ok(kill(kernel, alloc, p, pid, signal)),
+        Request::Tgkill { pid, tid, signal } => Ok(tgkill(kernel, alloc, p, pid, tid, signal)),
+        Request::Getpid => Ok(getpid(kernel, alloc, p)),
+        Request::Getppid => Ok(getppid(kernel, alloc, p)),
+        Request::Socket {
+            domain,
+            socket_type,
+            protocol,
+        } => socket(kernel, alloc, p, domain, socket_type, protocol),
+        Request::Socketpair {
+            domain,
+            socket_type,
+            protocol,
+            ..
+        } => socketpair(kernel, alloc, p, domain, socket_type, protocol),
+        Request::Bind { fd, length, .. } => bind(kernel, alloc, p, fd, length, given),
+        Request::Listen { fd, backlog } => listen(kernel, alloc, p, fd, backlog),
+        Request::Accept { fd, address, .. } => accept(kernel, alloc, p, fd, address, given),
+        Request::Connect { fd, length, .. } => connect(kernel, alloc, p, fd, length, given),
+        Request::Getsockname { fd, .. } => getsockname(kernel, alloc, p, fd, given),
+        Request::Getpeername { fd, .. } => getpeername(kernel, alloc, p, fd, given),
+        Request::Setsockopt { fd, .. } => setsockopt(kernel, alloc, p, fd),
+        Request::Shutdown { fd, how } => shutdown(kernel, alloc, p, fd, how),
+        Request::Clone { flags, .. } => clone(kernel, alloc, p, flags),
+        Request::Wait4 {
+            pid,
+            options,
+            usage,
+            ..
+        } => wait4(kernel, alloc, p, pid, options, usage),
+        _ => Ok(Attempt::fails(ENOSYS)),
+    }
+}
