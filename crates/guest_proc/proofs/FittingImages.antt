@@ -16,15 +16,16 @@ use Rattle.plain_process.specs.declared.memory.Frame.{Frame}
 use Rattle.plain_process.specs.declared.user_part.UserPart.{UserPart}
 use Rattle.plain_process.specs.Start.{RETURN_PAGE, return_bytes, return_frame}
 use Rattle.plain_process.specs.Valid.{Each, IsFrame, IsThread, IsUser}
-use Rattle.image_codec.specs.declared.page_image.PageImage.{PageImage}
-use Rattle.image_codec.specs.declared.thread_image.ThreadImage.{ThreadImage}
-use Rattle.image_codec.specs.declared.process_image.ProcImage.{ProcImage}
-use Rattle.image_codec.specs.Texts.{EachFrom}
-use Rattle.image_codec.specs.UserParts.{page_entry, thread_entry}
-use Rattle.image_codec.specs.ProcessTests.{is_number, is_among, BREAK_LIMIT, is_heap_page, is_free_of_break, is_above_page, is_page_number, is_page_content, return_content, has_page, has_pages, has_heap}
-use Rattle.image_codec.specs.ProcessImages.{IsPage, IsWaiter, IsThreadImage, is_whole, threads_of, IsImage, HasImage}
-use Rattle.image_codec.proofs.DistinctWaiters.{waiters_fit}
-use Rattle.image_codec.proofs.OneProcess.{keys_there, part_keys}
+use Rattle.image_process.specs.declared.page_image.PageImage.{PageImage}
+use Rattle.image_process.specs.declared.thread_image.ThreadImage.{ThreadImage}
+use Rattle.image_process.specs.declared.process_image.ProcImage.{ProcImage}
+use Rattle.image_format.specs.Texts.{EachFrom}
+use Rattle.image_process.specs.UserParts.{page_entry, thread_entry}
+use Rattle.image_process.specs.ProcessTests.{is_number, is_listed, BREAK_LIMIT, is_heap_page, is_free_of_break, is_above_page, is_page_number, is_page_content, return_content, has_page, has_pages, has_heap}
+use Rattle.image_process.specs.ProcessImages.{is_whole_process}
+use Rattle.image_process.specs.ProcessFits.{IsPage, IsWaiter, IsThreadImage, threads_of, IsImage, HasImage}
+use Rattle.image_process.proofs.DistinctWaiters.{waiters_fit}
+use Rattle.image_process.proofs.ThreadKeys.{keys_there, part_keys}
 use Rattle.guest_proc.proofs.Images.{front, back, rising, past_front, lt_true}
 use Rattle.plain_process.proofs.StartPages.{all_tail}
 
@@ -223,10 +224,10 @@ threads_fit tids before (t ∷ threads) all are = (
 )
 
 -- a thread of the part is one of its image
-among_threads : (image : ProcImage) (user : UserPart) (t : ℕ) → each thread_entry image.threads ≡ map.entries user.threads → is_some (map.get user.threads t) ≡ is_among (threads_of image) t
+among_threads : (image : ProcImage) (user : UserPart) (t : ℕ) → each thread_entry image.threads ≡ map.entries user.threads → is_some (map.get user.threads t) ≡ is_listed (threads_of image) t
 among_threads image user t same =
     ap is_some (map.get-entries user.threads t) ∙ ap (λ es. is_some (map.find nat_cmp t es)) (sym same) ∙ keys_there (each thread_entry image.threads) t
-    ∙ ap (λ numbers. is_among numbers t) (part_keys image.threads)
+    ∙ ap (λ numbers. is_listed numbers t) (part_keys image.threads)
 
 waiters_fit_all : (image : ProcImage) (user : UserPart) → IsUser user → each thread_entry image.threads ≡ map.entries user.threads → image.waiters ≡ user.waiters → EachFrom (IsWaiter (threads_of image)) [] image.waiters
 waiters_fit_all image user is threads same =
@@ -245,7 +246,7 @@ as_long : {A B : Type 0} (f : A → B) (xs : List A) (ys : List B) → each f xs
 as_long f xs ys is = sym (length-map xs f) ∙ ap length is
 
 pub image_fits : (image : ProcImage) (user : UserPart) → IsImageOf image user → IsUser user → 1 ≤ map.len user.threads → HasImage image
-unfolding is_whole
+unfolding is_whole_process
 image_fits image user of is some =
     let start = of.break_start in
     let end = of.break_end in

@@ -17,9 +17,9 @@ use Rattle.plain_process.specs.Memory.{Memory}
 use Rattle.plain_process.specs.declared.user_part.UserPart.{UserPart}
 use Rattle.plain_process.specs.declared.user_part.ThreadPart.{ThreadPart}
 use Rattle.plain_process.specs.declared.user_part.Waiter.{Waiter}
-use Rattle.image_codec.specs.declared.page_image.PageImage.{PageImage}
-use Rattle.image_codec.specs.declared.process_image.ProcImage.{ProcImage}
-use Rattle.image_codec.specs.UserParts.{page_entry, thread_entry, user_of}
+use Rattle.image_process.specs.declared.page_image.PageImage.{PageImage}
+use Rattle.image_process.specs.declared.process_image.ProcImage.{ProcImage}
+use Rattle.image_process.specs.UserParts.{page_entry, thread_entry, user_of}
 use Rattle.views.proofs.MapLaws.{key_tied, other_key}
 
 -- the map of a map's entries is that map

@@ -15,7 +15,7 @@ use Rattle.plain_process.specs.declared.user_part.ThreadPart.{ThreadPart}
 use Rattle.plain_process.specs.declared.user_part.SignalAction.{SignalAction}
 use Rattle.plain_process.specs.Memory.{Memory as Pages, bytes_at, low_bytes}
 use Rattle.plain_process.specs.Attempts.{Try, Fails}
-use Rattle.plain_process.specs.Buffers.{lent, given_of, if_writable, can_write, written_spans, writes_of, is_wait}
+use Rattle.plain_process.specs.Buffers.{lent, given_of, if_writable, can_write, written_spans, filled_spans, writes_of, fills_of, is_wait}
 use Rattle.plain_process.specs.Put.{CanTake, added_thread}
 use Rattle.plain_process.specs.Local.{local_by}
 use Rattle.plain_process.specs.Rows.Locals.{Local}
@@ -41,7 +41,7 @@ retold told other before after attempt (Refused e) row = row
 retold told other before after attempt Memory row = row
 
 without_bytes : (m : Pages) (q : Request) (value : ℕ) → added_thread q (ToValue value) ≡ None → FitsReply m q value []
-without_bytes m q value none = record { room = takes_nothing m (written_spans m q); threads = none }
+without_bytes m q value none = record { room = takes_nothing m (filled_spans m q); threads = none }
 
 abbrev same_call : (before after : GuestPart) (t : ℕ) (q named : Request) (result told : Result LocalAnswer LocalFault) → q ≡ named → result ≡ told
     → MakesCall before after t named told → MakesCall before after t q result
@@ -109,7 +109,7 @@ fits_span m address false bytes writable = one (is_some (bytes_at m Write addres
 
 pub sigaction_fits : (before after : Pages) (q : Request) (signal address old size : ℕ) (action : SignalAction) → q ≡ RtSigaction signal address old size → after ≡ before
     → is_some (lent before q) ≡ true → FitsReply after (RtSigaction signal address old size) 0 (action_bytes action)
-unfolding writes_of added_thread
+unfolding fills_of writes_of added_thread
 sigaction_fits before after q signal address old size action same kept there =
     subst (λ m. FitsReply m (RtSigaction signal address old size) 0 (action_bytes action)) (sym kept) (record {
       room = fits_span before old (old == 0) (action_bytes action) (lent_writable before (RtSigaction signal address old size) (subst (λ c. is_some (lent before c) ≡ true) same there));
@@ -118,7 +118,7 @@ sigaction_fits before after q signal address old size action same kept there =
 
 pub sigprocmask_fits : (before after : Pages) (q : Request) (how address old size mask : ℕ) → q ≡ RtSigprocmask how address old size → after ≡ before
     → is_some (lent before q) ≡ true → FitsReply after (RtSigprocmask how address old size) 0 (low_bytes 4 mask ++ low_bytes 4 0)
-unfolding writes_of added_thread
+unfolding fills_of writes_of added_thread
 sigprocmask_fits before after q how address old size mask same kept there =
     subst (λ m. FitsReply m (RtSigprocmask how address old size) 0 (low_bytes 4 mask ++ low_bytes 4 0)) (sym kept) (record {
       room = fits_span before old (old == 0) (low_bytes 4 mask ++ low_bytes 4 0)

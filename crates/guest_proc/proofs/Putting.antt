@@ -10,7 +10,7 @@ use Rattle.sys_abi.specs.declared.request.Request.{Request}
 use Rattle.sys_abi.specs.declared.reply.Reply.{Reply}
 use Rattle.plain_process.specs.declared.user_part.UserPart.{UserPart}
 use Rattle.plain_process.specs.declared.user_part.ThreadPart.{ThreadPart}
-use Rattle.plain_process.specs.Buffers.{written_spans}
+use Rattle.plain_process.specs.Buffers.{filled_spans}
 use Rattle.plain_process.specs.Put.{after_call, added_thread, after_threads, put, put_by, with_spans, word_of}
 use Rattle.plain_process.specs.Valid.{CanAdd, CanAddAs}
 use Rattle.guest_proc.specs.Guests.{GuestPart, HasThread, with_user, with_threads}
@@ -50,10 +50,10 @@ can_add user t q reply change there can = by_added (added_thread q reply) can
 
 abbrev pub answered : UserPart → ℕ → Request → ℕ → List ℕ → UserPart
 answered user t q word bytes =
-    with_threads (with_memory user (with_spans user.memory (written_spans user.memory q) bytes)) (changed user.threads t (λ thread. after_call thread word))
+    with_threads (with_memory user (with_spans user.memory (filled_spans user.memory q) bytes)) (changed user.threads t (λ thread. after_call thread word))
 
 missing_by : (user : UserPart) (t : ℕ) (q : Request) (reply : Reply) (bytes : List ℕ) (found : Option ThreadPart) → is_some found ≡ false
-    → user ≡ put_by user t q reply (with_spans user.memory (written_spans user.memory q) bytes) found
+    → user ≡ put_by user t q reply (with_spans user.memory (filled_spans user.memory q) bytes) found
 missing_by user t q reply bytes None missing = refl
 missing_by user t q reply bytes (Some thread) missing = cc
 
@@ -62,8 +62,8 @@ unfolding put
 put_missing user t q reply bytes missing = missing_by user t q reply bytes (map.get user.threads t) missing
 
 there_by : (user : UserPart) (t : ℕ) (q : Request) (reply : Reply) (bytes : List ℕ) (found : Option ThreadPart) → is_some found ≡ true
-    → after_threads (with_threads (with_memory user (with_spans user.memory (written_spans user.memory q) bytes)) (changed_by user.threads t (λ thread. after_call thread (word_of reply)) found)) t q reply
-    ≡ put_by user t q reply (with_spans user.memory (written_spans user.memory q) bytes) found
+    → after_threads (with_threads (with_memory user (with_spans user.memory (filled_spans user.memory q) bytes)) (changed_by user.threads t (λ thread. after_call thread (word_of reply)) found)) t q reply
+    ≡ put_by user t q reply (with_spans user.memory (filled_spans user.memory q) bytes) found
 there_by user t q reply bytes None there = cc
 there_by user t q reply bytes (Some thread) there = refl
 
@@ -74,7 +74,7 @@ put_there user t q reply bytes there = there_by user t q reply bytes (map.get us
 
 -- the same, by the two changes that lead there
 pub answered_by : (old first next : GuestPart) (t : ℕ) (q : Request) (reply : Reply) (word : ℕ) (bytes : List ℕ)
-    → first ≡ with_user old (with_memory old.user (with_spans old.user.memory (written_spans old.user.memory q) bytes)) → word ≡ word_of reply
+    → first ≡ with_user old (with_memory old.user (with_spans old.user.memory (filled_spans old.user.memory q) bytes)) → word ≡ word_of reply
     → next ≡ with_user first (with_threads first.user (changed first.user.threads t (λ thread. after_call thread word))) → next.user ≡ answered old.user t q (word_of reply) bytes
 answered_by old first next t q reply word bytes is_first is_word is_next =
     ap (λ (g : GuestPart). g.user) is_next ∙ ap (λ (g : GuestPart). with_threads g.user (changed g.user.threads t (λ thread. after_call thread word))) is_first

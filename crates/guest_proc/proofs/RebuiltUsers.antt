@@ -18,17 +18,21 @@ use Rattle.plain_process.specs.declared.user_part.Waiter.{Waiter}
 use Rattle.plain_process.specs.Memory.{Memory}
 use Rattle.plain_process.specs.Start.{RETURN_PAGE, return_bytes, return_frame}
 use Rattle.plain_process.specs.Valid.{Each, IsByte, IsWord, IsFrame, IsThread, IsWaiter, IsHeap, IsUser}
-use Rattle.image_codec.specs.declared.page_image.PageImage.{PageImage}
-use Rattle.image_codec.specs.declared.thread_image.ThreadImage.{ThreadImage}
-use Rattle.image_codec.specs.declared.process_image.ProcImage.{ProcImage}
-use Rattle.image_codec.specs.Format.{bytes_of, n8, n32}
-use Rattle.image_codec.specs.Texts.{EachFrom}
-use Rattle.image_codec.specs.UserParts.{page_entry, thread_entry, user_of}
-use Rattle.image_codec.specs.ProcessTests.{BREAK_LIMIT, is_heap_page, is_free_of_break, is_above_page, is_page_number, is_page_content, return_content, has_page, has_pages, has_heap, has_return_page, heap_pages, is_among, is_context_count}
-use Rattle.image_codec.specs.ProcessImages.{IsPage, IsThreadImage, ThreadWords, WaiterWords, SpellsProcess, PROCESS_MAGIC, list_text, page_text, action_text, waiter_text, thread_text, process_text, is_whole}
-use Rattle.image_codec.proofs.DistinctWaiters.{waiters_among, waiters_apart}
-use Rattle.image_codec.proofs.OneProcess.{parts_there}
-use Rattle.image_codec.proofs.Owners.{same_tids}
+use Rattle.image_process.specs.declared.page_image.PageImage.{PageImage}
+use Rattle.image_process.specs.declared.thread_image.ThreadImage.{ThreadImage}
+use Rattle.image_process.specs.declared.process_image.ProcImage.{ProcImage}
+use Rattle.image_format.specs.Format.{number_text, n8, n32}
+use Rattle.image_format.specs.Texts.{EachFrom}
+use Rattle.image_process.specs.UserParts.{page_entry, thread_entry, user_of}
+use Rattle.image_process.specs.ProcessTests.{BREAK_LIMIT, is_heap_page, is_free_of_break, is_above_page, is_page_number, is_page_content, return_content, has_page, has_pages, has_heap, has_return_page, heap_pages, is_listed, is_context_count}
+use Rattle.image_process.specs.ProcessImages.{SpellsProcess, PROCESS_MAGIC, is_whole_process}
+use Rattle.image_process.specs.ProcessFits.{IsPage, IsThreadImage, ThreadWords, WaiterWords}
+use Rattle.image_process.specs.ProcessTexts.{list_text, page_text, action_text, waiter_text, thread_text}
+use Rattle.image_process.specs.ProcessTexts.{process_text}
+use Rattle.image_process.proofs.DistinctWaiters.{waiters_among, waiters_apart}
+use Rattle.image_process.proofs.ThreadKeys.{parts_there}
+use Rattle.image_process.proofs.ProcessFiles.{text_of}
+use Rattle.image_process.proofs.Owners.{same_tids}
 use Rattle.guest_proc.proofs.FittingImages.{page_there, image_few, from_eq, from_le, from_lt, and_first, and_second, first_of}
 use Rattle.plain_process.proofs.StartPages.{all_tail}
 
@@ -46,17 +50,17 @@ unfolding page_text
 pages_bytes [] are = All-nil _
 pages_bytes (p ∷ pages) are =
     All-cons (λ page. All IsByte page.frame.page) p pages
-    (right_of IsByte (bytes_of n32 p.number ++ bytes_of n8 p.frame.rights) p.frame.page (left_of IsByte ((bytes_of n32 p.number ++ bytes_of n8 p.frame.rights) ++ p.frame.page) (flat_map page_text pages) are))
-    (pages_bytes pages (right_of IsByte ((bytes_of n32 p.number ++ bytes_of n8 p.frame.rights) ++ p.frame.page) (flat_map page_text pages) are))
+    (right_of IsByte (number_text n32 p.number ++ number_text n8 p.frame.rights) p.frame.page (left_of IsByte ((number_text n32 p.number ++ number_text n8 p.frame.rights) ++ p.frame.page) (flat_map page_text pages) are))
+    (pages_bytes pages (right_of IsByte ((number_text n32 p.number ++ number_text n8 p.frame.rights) ++ p.frame.page) (flat_map page_text pages) are))
 
 listed_bytes : (pages : List PageImage) → All IsByte (list_text page_text pages) → All (λ page. All IsByte page.frame.page) pages
 unfolding list_text
-listed_bytes pages are = pages_bytes pages (right_of IsByte (bytes_of n32 (length pages)) (flat_map page_text pages) are)
+listed_bytes pages are = pages_bytes pages (right_of IsByte (number_text n32 (length pages)) (flat_map page_text pages) are)
 
 pub text_pages : (p : ProcImage) → All IsByte (process_text p) → All (λ page. All IsByte page.frame.page) p.pages
 unfolding process_text
 text_pages p are =
-    let head = ((PROCESS_MAGIC ++ bytes_of n32 p.pid.0) ++ bytes_of n32 p.break_start) ++ bytes_of n32 p.break_end in
+    let head = ((PROCESS_MAGIC ++ number_text n32 p.pid.0) ++ number_text n32 p.break_start) ++ number_text n32 p.break_end in
     let pages = list_text page_text p.pages in
     let actions = flat_map action_text p.actions in
     let waiters = list_text waiter_text p.waiters in
@@ -201,26 +205,27 @@ given_threads tids before (t ∷ threads) are words =
     (given_threads tids (before ++ t ∷ []) threads are.1 (all_tail ThreadWords t threads words))
 
 -- who waits is one of the threads
-given_waiter : (threads : List ThreadImage) (waiter : Waiter) → is_among (each (λ (t : ThreadImage). t.tid) threads) waiter.tid ≡ true → WaiterWords waiter → IsWaiter (map.from_entries (each thread_entry threads)) waiter
+given_waiter : (threads : List ThreadImage) (waiter : Waiter) → is_listed (each (λ (t : ThreadImage). t.tid) threads) waiter.tid ≡ true → WaiterWords waiter → IsWaiter (map.from_entries (each thread_entry threads)) waiter
 given_waiter threads waiter there words = record { thread = parts_there threads waiter.tid ∙ there; address = words.address }
 
 pub rebuilt_user : (pid : Option ℕ) (tids text : List ℕ) (p : ProcImage) → SpellsProcess pid tids text p → All IsByte text → IsUser (user_of p)
-unfolding user_of is_whole
+unfolding user_of is_whole_process
 rebuilt_user pid tids text p spells bytes =
-    let fields = spells.keeps.fields in
-    let words = spells.words in
+    let spelled = text_of pid tids text p spells in
+    let fields = spelled.keeps.fields in
+    let words = spelled.words in
     let whole : p.break_start % 4096 ≡ 0 = from_eq (p.break_start % 4096) 0 (and_first (p.break_start % 4096 == 0) (nat_le p.break_start BREAK_LIMIT) fields.break_start) in
     let order : p.break_start ≤ p.break_end = from_le p.break_start p.break_end (and_first (nat_le p.break_start p.break_end) (nat_le p.break_end BREAK_LIMIT) fields.break_end) in
     let limit : p.break_end ≤ BREAK_LIMIT = from_le p.break_end BREAK_LIMIT (and_second (nat_le p.break_start p.break_end) (nat_le p.break_end BREAK_LIMIT) fields.break_end) in
-    let are = given_pages p.break_start p.break_end [] p.pages fields.pages (text_pages p (subst (All IsByte) spells.text_is bytes)) in
-    let heap = and_first (has_heap p.break_start p.break_end p.pages) (has_return_page p.pages) spells.keeps.whole in
-    let back = and_second (has_heap p.break_start p.break_end p.pages) (has_return_page p.pages) spells.keeps.whole in
+    let are = given_pages p.break_start p.break_end [] p.pages fields.pages (text_pages p (subst (All IsByte) spelled.text_is bytes)) in
+    let heap = and_first (has_heap p.break_start p.break_end p.pages) (has_return_page p.pages) spelled.keeps.whole in
+    let back = and_second (has_heap p.break_start p.break_end p.pages) (has_return_page p.pages) spelled.keeps.whole in
     let threads = given_threads tids [] p.threads fields.threads words.threads in
     let page_total = no_more_than (each page_entry p.pages) in
     let thread_total = no_more_than (each thread_entry p.threads) in
-    let pages_few : length p.pages ≤ 2048 = image_few pid tids p spells.keeps in
+    let pages_few : length p.pages ≤ 2048 = image_few pid tids p spelled.keeps in
     let threads_few : length p.threads ≤ 64 = from_le (length p.threads) 64 (and_second (nat_le 1 (length p.threads)) (nat_le (length p.threads) 64) (and_first _ (length tids == length p.threads) fields.thread_count)) in
-    let waiting = subst (λ (numbers : List ℕ). All (λ (waiter : Waiter). is_among numbers waiter.tid ≡ true) p.waiters) (same_tids pid tids p spells.keeps) (waiters_among tids p.waiters fields.waiters) in
+    let waiting = subst (λ (numbers : List ℕ). All (λ (waiter : Waiter). is_listed numbers waiter.tid ≡ true) p.waiters) (same_tids pid tids p spelled.keeps) (waiters_among tids p.waiters fields.waiters) in
     let page_size = length-map p.pages page_entry in
     let thread_size = length-map p.threads thread_entry in
     record {

@@ -14,7 +14,7 @@ use Rattle.plain_process.specs.declared.user_part.SignalAction.{SignalAction}
 use Rattle.plain_process.specs.declared.user_part.ThreadPart.{ThreadPart}
 use Rattle.plain_process.specs.declared.user_part.UserPart.{UserPart}
 use Rattle.plain_process.specs.Memory.{Memory as Pages, low_bytes}
-use Rattle.plain_process.specs.Buffers.{lent, written_spans}
+use Rattle.plain_process.specs.Buffers.{lent, filled_spans}
 use Rattle.plain_process.specs.Put.{CanTake, added_thread}
 use Rattle.plain_process.specs.Local.{local_by}
 use Rattle.plain_process.specs.Attempts.{Try, Fails, Gives}
@@ -52,7 +52,7 @@ DoesRow told before after attempt (Err Memory) = after ≡ before
 
 -- the answer's bytes can be written where the call asked for them, and it adds no thread
 pub record FitsReply (memory : Pages) (q : Request) (value : ℕ) (bytes : List ℕ) : Type 0 where
-  pub room : CanTake memory (written_spans memory q) bytes
+  pub room : CanTake memory (filled_spans memory q) bytes
   pub threads : added_thread q (ToValue value) ≡ None
 
 abbrev pub FitsAnswer : Pages → Request → LocalAnswer → Type 0

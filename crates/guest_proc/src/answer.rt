@@ -1,13 +1,13 @@
 ghost use Rattle.std.specs.Prelude.{◌≡◌, ◌-◌, ◌≤◌, None, is_some, IfSome, IfNone};
 ghost use Rattle.std.specs.FinMap as map;
-ghost use Rattle.plain_process.specs.Buffers.{written_spans};
+ghost use Rattle.plain_process.specs.Buffers.{filled_spans};
 ghost use Rattle.plain_process.specs.Put.{added_thread, after_threads, put, with_spans};
 ghost use Rattle.plain_process.specs.Valid.{CanAdd};
 ghost use Rattle.guest_proc.specs.Guests.{HasThread, with_user};
 ghost use Rattle.guest_proc.specs.Lending.{CanTake};
 ghost use Rattle.plain_process.specs.Rows.Mappings.{with_memory};
 
-use crate::buffers::{put_answer, word_of, written_spans};
+use crate::buffers::{filled_spans, put_answer, word_of};
 use crate::guest::Guest;
 use plain_process::threads::added_thread;
 use sys_abi::{Reply, Request, Tid, Transfer};
@@ -16,7 +16,7 @@ impl Guest {
     /// The part after a call's answer. An exit's ends the thread, and a clone's may add one, into room that is there. Takes
     /// no memory.
     pub fn answer(&mut self, t: Tid, request: &Request, reply: Reply, transfer: &Transfer)
-        requires writable { CanTake self.old.user.memory (written_spans self.old.user.memory request.now) transfer.now }
+        requires writable { CanTake self.old.user.memory (filled_spans self.old.user.memory request.now) transfer.now }
         requires added { CanAdd self.old.user request.now reply }
         requires spare { IfSome (added_thread request.now reply) (λ _. 1 ≤ self.old.spare) }
         ensures user { self.new.user ≡ put self.old.user t.0 request.now reply transfer.now }
@@ -29,7 +29,7 @@ impl Guest {
 
     /// The same, where the answer's bytes are these.
     pub(crate) fn put(&mut self, t: Tid, request: &Request, reply: Reply, bytes: &[u8])
-        requires writable { CanTake self.old.user.memory (written_spans self.old.user.memory request.now) bytes.now }
+        requires writable { CanTake self.old.user.memory (filled_spans self.old.user.memory request.now) bytes.now }
         requires added { CanAdd self.old.user request.now reply }
         requires spare { IfSome (added_thread request.now reply) (λ _. 1 ≤ self.old.spare) }
         ensures user { self.new.user ≡ put self.old.user t.0 request.now reply bytes.now }
@@ -54,10 +54,10 @@ impl Guest {
 
     /// Puts the bytes where the call asked for them.
     fn put_bytes(&mut self, request: &Request, bytes: &[u8])
-        requires { CanTake self.old.user.memory (written_spans self.old.user.memory request.now) bytes.now }
-        ensures { self.new ≡ with_user self.old (with_memory self.old.user (with_spans self.old.user.memory (written_spans self.old.user.memory request.now) bytes.now)) }
+        requires { CanTake self.old.user.memory (filled_spans self.old.user.memory request.now) bytes.now }
+        ensures { self.new ≡ with_user self.old (with_memory self.old.user (with_spans self.old.user.memory (filled_spans self.old.user.memory request.now) bytes.now)) }
     {
-        let spans = written_spans(&self.ram.space, request);
+        let spans = filled_spans(&self.ram.space, request);
         put_answer(&mut self.ram.space, spans, bytes);
     }
 

@@ -8,7 +8,7 @@ ghost use Rattle.sys_abi.specs.declared.transfer.TheConstants.{TRANSFER_LIMIT};
 ghost use Rattle.guest_proc.specs.Lending.{IsSpanOf, IsTextLength, CanHold, CanTake};
 
 use guest_mem::Space;
-use plain_process::{Right, Source, Span, Spans, length_place, reads_of, writes_of};
+use plain_process::{Right, Source, Span, Spans, fills_of, length_place, reads_of, writes_of};
 use sys_abi::{Reply, Request, Transfer};
 
 /// Why a call's bytes were not lent.
@@ -98,6 +98,13 @@ pub fn written_spans(space: &Space, request: &Request) -> Spans
     ensures { buffers.listed result ≡ buffers.written_spans space.now request.now }
 {
     writes_of(request, size_of(space, request))
+}
+
+/// The spans that the call's answer fills.
+pub fn filled_spans(space: &Space, request: &Request) -> Spans
+    ensures { buffers.listed result ≡ buffers.filled_spans space.now request.now }
+{
+    fills_of(request, size_of(space, request))
 }
 
 fn put_bytes(space: &mut Space, address: u32, bytes: &[u8])

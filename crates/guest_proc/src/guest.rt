@@ -7,8 +7,9 @@ ghost use Rattle.plain_process.specs.Start.{start_user};
 ghost use Rattle.plain_process.specs.Steps.{user_step, user_steps, waits};
 ghost use Rattle.plain_process.specs.Buffers.{lent};
 ghost use Rattle.plain_process.specs.Valid.{IsByte, IsUser};
-ghost use Rattle.image_codec.specs.ProcessImages.{HasImage, SpellsProcess};
-ghost use Rattle.image_codec.specs.UserParts.{user_of, page_entry, thread_entry};
+ghost use Rattle.image_process.specs.ProcessImages.{SpellsProcess};
+ghost use Rattle.image_process.specs.ProcessFits.{HasImage};
+ghost use Rattle.image_process.specs.UserParts.{user_of, page_entry, thread_entry};
 ghost use Rattle.guest_proc.specs.Guests.{HasThread, Tells, ran_at};
 
 use crate::buffers::{LendFault, lend_from};
@@ -21,7 +22,7 @@ use crate::start::{break_of, start_actions, start_space, start_threads};
 use crate::threads::Threads;
 use crate::waiters::Waiters;
 use elf32::Program;
-use image_codec::ProcImage;
+use image_process::ProcImage;
 use plain_process::{Regs, SignalAction};
 use std::alloc::{AllocError, Global};
 use std::marker::Model;
@@ -92,7 +93,7 @@ impl Guest {
     }
 
     /// The image of the process: copies of all that its part holds, in rising order of the numbers of pages and threads.
-    #[tactic(auto, unfolding(image_codec::specs::UserParts::user_of))]
+    #[tactic(auto, unfolding(image_process::specs::UserParts::user_of))]
     pub fn image(&self, alloc: Global) -> Result<ProcImage, AllocError>
         ensures pid { IfOk result (λ image. image.pid ≡ self.now.pid) }
         ensures user { IfOk result (λ image. user_of image ≡ self.now.user) }
@@ -118,7 +119,7 @@ impl Guest {
     }
 
     /// The process of an image. The pages are taken from it as they are.
-    #[tactic(auto, unfolding(image_codec::specs::UserParts::user_of))]
+    #[tactic(auto, unfolding(image_process::specs::UserParts::user_of))]
     pub fn of_image(alloc: Global, image: ProcImage) -> Result<Guest, AllocError>
         requires numbers { All (λ page. page.number < 2 ^ 20) image.pages }
         requires few { length image.pages ≤ 2048 }

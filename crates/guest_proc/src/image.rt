@@ -1,13 +1,13 @@
 ghost use Rattle.std.specs.Prelude.{◌≡◌, ◌<◌, ◌≤◌, ◌^◌, length, map as each, All, Some, IsSome, IfOk};
 ghost use Rattle.std.specs.FinMap as map;
-ghost use Rattle.image_codec.specs.UserParts.{page_entry, thread_entry};
+ghost use Rattle.image_process.specs.UserParts.{page_entry, thread_entry};
 ghost use Rattle.guest_proc.specs.Rows.{entry_of, threads_of, IsRising};
 
 use crate::contexts::Contexts;
 use crate::load::insert_page;
 use crate::rows::{Row, put_row};
 use guest_mem::Space;
-use image_codec::{PageImage, ThreadImage};
+use image_process::{PageImage, ThreadImage};
 use plain_process::ThreadPart;
 use std::alloc::{AllocError, Global};
 use views::duplicate::Duplicate;

@@ -1,11 +1,11 @@
 ghost use Rattle.std.specs.Prelude.{◌≡◌, ◌<◌, ◌≤◌, ◌^◌, ℕ, Option, length, map as each, All, IfOk};
 ghost use Rattle.std.specs.FinMap as map;
 ghost use Rattle.plain_process.specs.Memory.{Memory, fetch};
-ghost use Rattle.image_codec.specs.UserParts.{page_entry};
+ghost use Rattle.image_process.specs.UserParts.{page_entry};
 
 use crate::image::page_images;
 use guest_mem::Space;
-use image_codec::PageImage;
+use image_process::PageImage;
 use rv_isa::{AccessFault, GuestMemory};
 use std::alloc::{AllocError, Global};
 use std::marker::Model;

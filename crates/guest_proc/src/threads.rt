@@ -2,7 +2,7 @@ ghost use Rattle.std.specs.Prelude.{◌≡◌, ◌-◌, ◌<◌, ◌≤◌, ◌�
 ghost use Rattle.std.specs.Option.{option_copied};
 ghost use Rattle.std.specs.FinMap as map;
 ghost use Rattle.views.specs.NumberMap.{is_above};
-ghost use Rattle.image_codec.specs.UserParts.{thread_entry};
+ghost use Rattle.image_process.specs.UserParts.{thread_entry};
 ghost use Rattle.plain_process.specs.Deliveries.{CONTEXT_LIMIT};
 ghost use Rattle.plain_process.specs.Local.{with_clear_tid};
 ghost use Rattle.plain_process.specs.Rows.Handlers.{last_context, with_mask};
@@ -16,7 +16,7 @@ use crate::rows::{
     Row, count, next_above, pop_context, push_context, put_row, remove_row, row_of, set_clear_tid,
     set_mask, set_regs,
 };
-use image_codec::ThreadImage;
+use image_process::ThreadImage;
 use plain_process::{Context, Regs};
 use std::alloc::{AllocError, Global};
 use std::marker::Model;

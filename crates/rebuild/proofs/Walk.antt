@@ -5,14 +5,15 @@ use Rattle.std.specs.Prelude.{◌≢◌, ◌==◌, IsTrue}
 use Rattle.std.proofs.lemmas.Bool.Decides.{nat_tests}
 use Rattle.std.proofs.lemmas.List.{drop_all}
 use Rattle.std.proofs.lemmas.List.Sums.{count_by-le-length}
-use Rattle.image_codec.specs.declared.shared.ProcessEntry.{ProcessEntry}
-use Rattle.image_codec.specs.declared.process_image.ProcImage.{ProcImage}
-use Rattle.image_codec.specs.declared.shared.Shared.{Shared}
-use Rattle.image_codec.specs.ProcessImages.{SpellsProcess, DamagedProcess, pid_at, tids_at}
-use Rattle.image_codec.specs.declared.damage.ReadFault.{ReadFault}
-use Rattle.image_codec.specs.declared.damage.ReadFault.TheVariants.{Damaged, Memory}
-use Rattle.image_codec.specs.Files.{IsRead, IsDamagedAt}
-use Rattle.image_codec.specs.SharedFormat.{SpellsShared, DamagedShared}
+use Rattle.image_shared.specs.declared.shared.ProcessEntry.{ProcessEntry}
+use Rattle.image_process.specs.declared.process_image.ProcImage.{ProcImage}
+use Rattle.image_shared.specs.declared.shared.Shared.{Shared}
+use Rattle.image_process.specs.ProcessImages.{SpellsProcess, DamagedProcess, pid_at, tids_at}
+use Rattle.image_format.specs.declared.damage.ReadFault.{ReadFault}
+use Rattle.image_format.specs.declared.damage.ReadFault.TheVariants.{Damaged, Memory}
+use Rattle.image_format.specs.Files.{IsRead, IsDamagedAt}
+use Rattle.image_shared.specs.SharedFormat.{SpellsShared, DamagedShared}
+use Rattle.image_shared.proofs.SharedLaws.{text_of}
 use Rattle.image_codec.specs.Sets.{SpellsImages, DamagedImages, SpellsFiles, DamagedFiles, live_count}
 use Rattle.rebuild.specs.declared.decode.Decoded.{Decoded}
 use Rattle.rebuild.specs.Places.{IsDamageOf}
@@ -180,7 +181,7 @@ damage_of_count files first texts shared n is h differs place = subst (λ (f : L
 pub live_count-le : (first : List ℕ) (shared : Shared) → SpellsShared first shared → live_count shared ≤ 1
 unfolding live_count
 live_count-le first shared h =
-    let one : length shared.processes ≡ 1 = is_one (length shared.processes) h.keeps.fields.process_count.1 in
+    let one : length shared.processes ≡ 1 = is_one (length shared.processes) (text_of first shared h).keeps.fields.process_count.1 in
     omega (arith, count_by-le-length (λ (process : ProcessEntry). lives process.life) shared.processes)
   where
     is_one : (n : ℕ) → IsTrue (n == 1) → n ≡ 1

@@ -1,6 +1,6 @@
 ghost use Rattle.std.specs.Prelude.{◌≡◌, ◌+◌, ◌^◌, ◌<◌, List, length, IfOk};
-ghost use Rattle.image_codec.specs.declared.process_image.ProcImage.{ProcImage};
-ghost use Rattle.image_codec.specs.Files.{IsRead};
+ghost use Rattle.image_process.specs.declared.process_image.ProcImage.{ProcImage};
+ghost use Rattle.image_format.specs.Files.{IsRead};
 ghost use Rattle.image_codec.specs.Sets.{live_count, SpellsFiles, DamagedFiles, SpellsImages, DamagedImages};
 ghost use Rattle.rebuild.specs.Places.{IsDamageOf};
 ghost use Rattle.sys_abi.specs.Lives.{lives};

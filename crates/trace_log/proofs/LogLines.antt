@@ -14,7 +14,7 @@ use Rattle.trace_log.specs.RequestLaws.{LogGrows}
 use Rattle.trace_log.specs.LogText.{line_of, kind_text, after, after_all, at_start, lines_from, log_text}
 
 -- nine pieces in a row
-nine : (a b c d e f g h i : List ℕ) → a ++ b ++ c ++ d ++ e ++ f ++ g ++ h ++ i ≡ a ++ (b ++ (c ++ (d ++ (e ++ (f ++ (g ++ (h ++ i)))))))
+nine : (a b c d e f g h i : List ℕ) → a ++ b ++ (c ++ d ++ e ++ f ++ g ++ h ++ i) ≡ a ++ (b ++ (c ++ (d ++ (e ++ (f ++ (g ++ (h ++ i)))))))
 nine a b c d e f g h i = simp append_assoc
 
 pub line_of-Complete : (so_far : Progress) (generation : ℕ) (event : Record) (line : List ℕ) → event ≡ Complete generation →

@@ -15,7 +15,7 @@ use Rattle.plain_machine.specs.Records.{step}
 use Rattle.plain_machine.specs.Tests.{full_arrive, is_work}
 use Rattle.trace_log.specs.declared.requests.Schedule.{Schedule}
 use Rattle.trace_log.specs.declared.requests.Tally.{Tally}
-use Rattle.trace_log.specs.Requests.{Requests, Phase, NoRequest, Requested, AfterCut, LeadsTo, MayStand, MayStandIn, CanBeHeld, at_start, next_requests, phase_after, phase_after_work, phase_after_mark, tally_after, asks, cut_marks, all_left, left_in}
+use Rattle.trace_log.specs.Requests.{Requests, Phase, NoRequest, Requested, AfterCut, LeadsTo, MayStand, MayStandIn, CanBeHeld, first_requests, next_requests, phase_after, phase_after_work, phase_after_mark, tally_after, asks, cut_marks, all_left, left_in}
 use Rattle.trace_log.specs.RequestLaws.{CountsWork, CountsCuts, is_cut}
 use Rattle.trace_log.proofs.RequestFronts.{gives}
 
@@ -52,7 +52,7 @@ from_zero : (a b : ℕ) → a ≡ 0 + b → a ≡ b
 from_zero a b e = omega arith
 
 pub counts_work : CountsWork
-counts_work schedule start last later trace whole = from_zero later.tally.work (count_by is_work trace) (work_in schedule start last (at_start schedule) later trace whole)
+counts_work schedule start last later trace whole = from_zero later.tally.work (count_by is_work trace) (work_in schedule start last (first_requests schedule) later trace whole)
 
 -- the marks that stand between a cut and its outcome
 abbrev pub is_between : Record → Bool
@@ -161,4 +161,4 @@ greatest_in schedule g last now later (r ∷ rest) sound whole =
     add_up _ _ _ _ _ _ (greatest_in schedule first.value last (next_requests schedule g now r) later rest (next_sound schedule g now r sound) first.holds) (greatest_after g now r sound whole.0) (count_more is_cut r rest)
 
 pub counts_cuts : CountsCuts
-counts_cuts schedule start last later trace whole = greatest_in schedule start last (at_start schedule) later trace tt whole
+counts_cuts schedule start last later trace whole = greatest_in schedule start last (first_requests schedule) later trace tt whole

@@ -12,7 +12,7 @@ use Rattle.plain_machine.specs.Tests.{full_arrive, all_arrived}
 use Rattle.views.specs.Maps.{map_values}
 use Rattle.views.proofs.MapValues.{entries-map_values}
 use Rattle.trace_log.specs.declared.requests.Schedule.{Schedule}
-use Rattle.trace_log.specs.Requests.{Requests, LeadsTo, Reaches, CanBeHeld, at_start, cut_marks, left_in, MayStand}
+use Rattle.trace_log.specs.Requests.{Requests, LeadsTo, RunsTo, CanBeHeld, first_requests, cut_marks, left_in, MayStand}
 use Rattle.trace_log.specs.RequestLaws.{CutsAreCuts, CutsDiffer, NoChannels, is_cut}
 use Rattle.trace_log.proofs.RequestFronts.{parts, runs}
 use Rattle.trace_log.proofs.RequestCounts.{stays_sound, cut_here, greatest_in}
@@ -35,13 +35,13 @@ at_most : (generation before later more : ℕ) → generation ≡ before + 1 →
 at_most generation before later more is total = omega arith
 
 at_cut : (schedule : Schedule) (start last g : Plain) (later : Requests) (front rest : List Record) (generation : ℕ) →
-    Reaches schedule start (front ++ Cut generation ∷ rest) last later → run start front ≡ Some g → AtCut schedule front rest generation g later.tally.greatest
+    RunsTo schedule start (front ++ Cut generation ∷ rest) last later → run start front ≡ Some g → AtCut schedule front rest generation g later.tally.greatest
 at_cut schedule start last g later front rest generation whole there =
-    let all = parts schedule start last (at_start schedule) later front (Cut generation ∷ rest) whole in
-    let same : all.state ≡ g = same_end all.state g (run start front) (runs schedule start all.state (at_start schedule) all.requests front all.begins) there in
-    let sound = stays_sound schedule start all.state (at_start schedule) all.requests front tt all.begins in
+    let all = parts schedule start last (first_requests schedule) later front (Cut generation ∷ rest) whole in
+    let same : all.state ≡ g = same_end all.state g (run start front) (runs schedule start all.state (first_requests schedule) all.requests front all.begins) there in
+    let sound = stays_sound schedule start all.state (first_requests schedule) all.requests front tt all.begins in
     let here = cut_here all.state all.requests generation sound (stands_here schedule all.state last all.requests later (Cut generation) rest all.ends) in
-    let count = greatest_in schedule start all.state (at_start schedule) all.requests front tt all.begins in
+    let count = greatest_in schedule start all.state (first_requests schedule) all.requests front tt all.begins in
     let total = greatest_in schedule all.state last all.requests later (Cut generation ∷ rest) sound all.ends in
     record {
       held = subst CanBeHeld same here.held;
@@ -56,7 +56,7 @@ above_opening opening count generation is = omega arith
 
 pub cuts_are_cuts : CutsAreCuts
 cuts_are_cuts schedule start last g later trace generation whole cut =
-    let at = at_cut schedule start last g later cut.front cut.rest generation (subst (λ t. Reaches schedule start t last later) cut.whole whole) cut.there in
+    let at = at_cut schedule start last g later cut.front cut.rest generation (subst (λ t. RunsTo schedule start t last later) cut.whole whole) cut.there in
     record {
       held = at.held;
       arrived = at.arrived;
@@ -102,8 +102,8 @@ one_count generation opening a b one other = omega arith
 
 pub cuts_differ : CutsDiffer
 cuts_differ schedule start last g h later trace generation whole cut other =
-    let first = at_cut schedule start last g later cut.front cut.rest generation (subst (λ t. Reaches schedule start t last later) cut.whole whole) cut.there in
-    let second = at_cut schedule start last h later other.front other.rest generation (subst (λ t. Reaches schedule start t last later) other.whole whole) other.there in
+    let first = at_cut schedule start last g later cut.front cut.rest generation (subst (λ t. RunsTo schedule start t last later) cut.whole whole) cut.there in
+    let second = at_cut schedule start last h later other.front other.rest generation (subst (λ t. RunsTo schedule start t last later) other.whole whole) other.there in
     let same = one_front generation generation cut.front other.front cut.rest other.rest (sym cut.whole ∙ other.whole)
     (one_count generation schedule.opening (count_by is_cut cut.front) (count_by is_cut other.front) first.number second.number) in
     same_end g h (run start cut.front) cut.there (ap (run start) same ∙ other.there)

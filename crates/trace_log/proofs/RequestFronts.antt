@@ -6,7 +6,7 @@ use Rattle.plain_machine.specs.declared.plain.Plain.{Plain}
 use Rattle.plain_machine.specs.Records.{step}
 use Rattle.plain_machine.specs.Runs.{run}
 use Rattle.trace_log.specs.declared.requests.Schedule.{Schedule}
-use Rattle.trace_log.specs.Requests.{Requests, LeadsTo, MayStand, at_start, next_requests}
+use Rattle.trace_log.specs.Requests.{Requests, LeadsTo, MayStand, first_requests, next_requests}
 use Rattle.trace_log.specs.RequestLaws.{GoesOnByOne, GoesOn, HasFronts, IsARun}
 
 -- the value, and what is known of it
@@ -40,7 +40,7 @@ leads_by_one schedule g next now r may is = (may, given (step g r) next (λ a. (
 
 pub goes_on_by_one : GoesOnByOne
 goes_on_by_one schedule start g next now trace r so_far may is =
-    goes_on schedule start g next (at_start schedule) now (next_requests schedule g now r) trace (r ∷ []) so_far (leads_by_one schedule g next now r may is)
+    goes_on schedule start g next (first_requests schedule) now (next_requests schedule g now r) trace (r ∷ []) so_far (leads_by_one schedule g next now r may is)
 
 -- where the front comes to, from any state
 pub record Parts (schedule : Schedule) (g : Plain) (now : Requests) (front rest : List Record) (last : Plain) (later : Requests) : Type 0 where
@@ -64,7 +64,7 @@ parts schedule g last now later (r ∷ front) rest whole =
 
 pub has_fronts : HasFronts
 has_fronts schedule start last later front rest whole =
-    let all = parts schedule start last (at_start schedule) later front rest whole in
+    let all = parts schedule start last (first_requests schedule) later front rest whole in
     record { state = all.state; requests = all.requests; front_reaches = all.begins; rest_leads = all.ends }
 
 pub runs : (schedule : Schedule) (g last : Plain) (now later : Requests) (trace : List Record) → LeadsTo schedule g now trace last later → run g trace ≡ Some last
@@ -75,4 +75,4 @@ runs schedule g last now later (r ∷ rest) whole =
     ap (option_and_then (λ next. run next rest)) first.is ∙ runs schedule first.value last (next_requests schedule g now r) later rest first.holds
 
 pub is_a_run : IsARun
-is_a_run schedule start last later trace whole = runs schedule start last (at_start schedule) later trace whole
+is_a_run schedule start last later trace whole = runs schedule start last (first_requests schedule) later trace whole

@@ -9,7 +9,7 @@ use Rattle.plain_machine.specs.Records.{step}
 use Rattle.plain_machine.specs.Runs.{run}
 use Rattle.trace_log.specs.declared.requests.Schedule.{Schedule}
 use Rattle.trace_log.specs.declared.requests.Tally.{Tally}
-use Rattle.trace_log.specs.Requests.{Requests, NoRequest, LeadsTo, MayStand, MayStandIn, IsAnswered, at_start, next_requests, phase_after, tally_after, asks, is_mark, is_multiple_of}
+use Rattle.trace_log.specs.Requests.{Requests, NoRequest, LeadsTo, MayStand, MayStandIn, IsAnswered, first_requests, next_requests, phase_after, tally_after, asks, is_mark, is_multiple_of}
 use Rattle.trace_log.specs.RequestLaws.{HasNoMarks, IsEachWithoutMarks}
 use Rattle.trace_log.proofs.RequestFronts.{Gives, gives, given}
 
@@ -50,7 +50,7 @@ no_marks schedule g last now later (r ∷ rest) none answered whole =
     (All-cons (λ x. is_mark x ≡ false) r rest plain more.0, more.1)
 
 pub has_no_marks : HasNoMarks
-has_no_marks schedule start last later trace none whole = no_marks schedule start last (at_start schedule) later trace none refl whole
+has_no_marks schedule start last later trace none whole = no_marks schedule start last (first_requests schedule) later trace none refl whole
 
 may_stand : (g : Plain) (now : Requests) (r : Record) → IsAnswered now → is_mark r ≡ false → MayStand g now r
 unfolding MayStand
@@ -79,4 +79,4 @@ without_marks schedule g last now (r ∷ rest) none answered goes plain =
     (more.0, (may_stand g now r answered here, given (step g r) first.value (λ next. LeadsTo schedule next (next_requests schedule g now r) rest last more.0) first.is more.1))
 
 pub is_each_without_marks : IsEachWithoutMarks
-is_each_without_marks schedule start last trace none goes plain = without_marks schedule start last (at_start schedule) trace none refl goes plain
+is_each_without_marks schedule start last trace none goes plain = without_marks schedule start last (first_requests schedule) trace none refl goes plain

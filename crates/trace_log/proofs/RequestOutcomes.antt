@@ -16,7 +16,7 @@ use Rattle.plain_machine.specs.Runs.{run}
 use Rattle.plain_machine.specs.Tests.{is_work}
 use Rattle.trace_log.specs.declared.requests.Schedule.{Schedule}
 use Rattle.trace_log.specs.declared.requests.Tally.{Tally}
-use Rattle.trace_log.specs.Requests.{Requests, Phase, NoRequest, Requested, AfterCut, Reaches, LeadsTo, MayStand, MayStandIn, CanBeHeld, IsAnswered, at_start, asks, is_mark, is_outcome, is_multiple_of, next_requests, phase_after, phase_after_work, tally_after}
+use Rattle.trace_log.specs.Requests.{Requests, Phase, NoRequest, Requested, AfterCut, RunsTo, LeadsTo, MayStand, MayStandIn, CanBeHeld, IsAnswered, first_requests, asks, is_mark, is_outcome, is_multiple_of, next_requests, phase_after, phase_after_work, tally_after}
 use Rattle.trace_log.specs.RequestLaws.{OutcomesFit, FitsOutcome, OnlyLastIsOpen, StaysOpen}
 use Rattle.trace_log.proofs.RequestFronts.{gives, parts, runs}
 use Rattle.trace_log.proofs.RequestSteps.{mark_stays}
@@ -150,9 +150,9 @@ first_may schedule g last now later r rest whole = whole.0
 pub outcomes_fit : OutcomesFit
 unfolding IsHeld
 outcomes_fit schedule start last g later trace r whole at =
-    let both = parts schedule start last (at_start schedule) later at.front (r ∷ at.rest) (subst (λ t. Reaches schedule start t last later) at.whole whole) in
-    let so = stays schedule start both.state (at_start schedule) both.requests at.front (record { sound = tt; held = tt }) both.begins in
-    let same = one_state both.state g (run start at.front) (runs schedule start both.state (at_start schedule) both.requests at.front both.begins) at.there in
+    let both = parts schedule start last (first_requests schedule) later at.front (r ∷ at.rest) (subst (λ t. RunsTo schedule start t last later) at.whole whole) in
+    let so = stays schedule start both.state (first_requests schedule) both.requests at.front (record { sound = tt; held = tt }) both.begins in
+    let same = one_state both.state g (run start at.front) (runs schedule start both.state (first_requests schedule) both.requests at.front both.begins) at.there in
     subst (λ h. FitsOutcome h r) same (fits both.requests.phase both.state both.requests.tally r so.sound so.held (first_may schedule both.state last both.requests later r at.rest both.ends))
 
 -- a trace leads to one place
@@ -268,8 +268,8 @@ first_of schedule g last now later r rest whole =
 pub only_last_is_open : OnlyLastIsOpen
 unfolding IsOpen
 only_last_is_open schedule start last later front mid rest r s whole makes again =
-    let both = parts schedule start again.state (at_start schedule) again.requests front (r ∷ mid) again.reaches in
-    let place = one_place schedule start both.state makes.state (at_start schedule) both.requests makes.requests front both.begins makes.reaches in
+    let both = parts schedule start again.state (first_requests schedule) again.requests front (r ∷ mid) again.reaches in
+    let place = one_place schedule start both.state makes.state (first_requests schedule) both.requests makes.requests front both.begins makes.reaches in
     let first = first_of schedule both.state again.state both.requests again.requests r mid both.ends in
     let made : (next_requests schedule both.state both.requests r).phase ≡ Requested [] =
     ap (λ h. (next_requests schedule h both.requests r).phase) place.state ∙ ap (λ n. (next_requests schedule makes.state n r).phase) place.requests ∙ makes.made in
@@ -416,4 +416,4 @@ from_none every n enough = omega arith
 
 pub stays_open : StaysOpen
 stays_open schedule start last later trace every whole is some below enough plain answered =
-    unanswered schedule every is some start last (at_start schedule) later trace refl some below whole (from_none every (count_by is_work trace) enough) plain answered
+    unanswered schedule every is some start last (first_requests schedule) later trace refl some below whole (from_none every (count_by is_work trace) enough) plain answered

@@ -13,7 +13,7 @@ use Rattle.plain_machine.specs.Runs.{run}
 use Rattle.plain_machine.specs.Tests.{is_work}
 use Rattle.trace_log.specs.declared.requests.Schedule.{Schedule}
 use Rattle.trace_log.specs.declared.requests.Tally.{Tally}
-use Rattle.trace_log.specs.Requests.{Requests, Phase, NoRequest, Requested, AfterCut, LeadsTo, MayStand, MayStandIn, MayFinish, at_start, next_requests, phase_after, tally_after, asks, is_multiple_of, made_by, cut_marks}
+use Rattle.trace_log.specs.Requests.{Requests, Phase, NoRequest, Requested, AfterCut, LeadsTo, MayStand, MayStandIn, MayFinish, first_requests, next_requests, phase_after, tally_after, asks, is_multiple_of, records_made_by, cut_marks}
 use Rattle.trace_log.specs.RequestLaws.{Begins, RequestsAtMultiples, AtMostTwo, MarksFollowCuts, FollowsCut}
 use Rattle.trace_log.proofs.RequestFronts.{gives, parts, runs}
 use Rattle.trace_log.proofs.RequestCounts.{is_between, AllBetween, marks_between, counts_work, counts_cuts}
@@ -62,13 +62,13 @@ requests_at_multiples schedule start g now trace r so_far answered work =
 -- no process has made more than two
 IsFew : Phase → Type 0
 IsFew NoRequest = Unit {0}
-IsFew (Requested since) = (p : VPid) → made_by p since ≤ 2
+IsFew (Requested since) = (p : VPid) → records_made_by p since ≤ 2
 IsFew (AfterCut still) = Unit {0}
 
-one_more : (q p : VPid) (since : List VPid) (b : Bool) → (q.0 == p.0) ≡ b → made_by q since < 2 → made_by p since ≤ 2 → length (if b then q ∷ filter (λ x. x.0 == p.0) since else filter (λ x. x.0 == p.0) since) ≤ 2
+one_more : (q p : VPid) (since : List VPid) (b : Bool) → (q.0 == p.0) ≡ b → records_made_by q since < 2 → records_made_by p since ≤ 2 → length (if b then q ∷ filter (λ x. x.0 == p.0) since else filter (λ x. x.0 == p.0) since) ≤ 2
 one_more q p since true same few least =
     let numbers : q.0 ≡ p.0 = eqb-true q.0 p.0 same in
-    let alike : made_by q since ≡ made_by p since = ap (λ n. length (filter (λ x. x.0 == n) since)) numbers in
+    let alike : records_made_by q since ≡ records_made_by p since = ap (λ n. length (filter (λ x. x.0 == n) since)) numbers in
     omega arith
 one_more q p since false other few least = least
 
@@ -102,7 +102,7 @@ stays_few schedule g last now later (r ∷ rest) few whole =
 
 pub at_most_two : AtMostTwo
 unfolding IsFew
-at_most_two schedule start last later trace since whole is = subst IsFew is (stays_few schedule start last (at_start schedule) later trace tt whole)
+at_most_two schedule start last later trace since whole is = subst IsFew is (stays_few schedule start last (first_requests schedule) later trace tt whole)
 
 -- a mark that stands between a cut and its outcome passes one of those that must come
 passes_one : (asked : Bool) (g : Plain) (mark : Record) (still : List Record) → is_between mark ≡ true → phase_after (AfterCut (mark ∷ still)) asked g mark ≡ AfterCut still
@@ -178,6 +178,6 @@ same_end g h o one other = ap (λ a. unwrap_or a g) (sym one ∙ other)
 
 pub marks_follow_cuts : MarksFollowCuts
 marks_follow_cuts schedule start last g later trace generation whole cut =
-    let all = parts schedule start last (at_start schedule) later cut.front (Cut generation ∷ cut.rest) (subst (λ t. LeadsTo schedule start (at_start schedule) t last later) cut.whole whole) in
-    let same : all.state ≡ g = same_end all.state g (run start cut.front) (runs schedule start all.state (at_start schedule) all.requests cut.front all.begins) cut.there in
+    let all = parts schedule start last (first_requests schedule) later cut.front (Cut generation ∷ cut.rest) (subst (λ t. LeadsTo schedule start (first_requests schedule) t last later) cut.whole whole) in
+    let same : all.state ≡ g = same_end all.state g (run start cut.front) (runs schedule start all.state (first_requests schedule) all.requests cut.front all.begins) cut.there in
     subst (λ a. FollowsCut generation (cut_marks a) cut.rest) same (after_cut schedule all.state last all.requests later generation cut.rest all.ends)

@@ -8,7 +8,7 @@ use Rattle.sys_abi.specs.declared.record.Cause.TheVariants.{Unsupported, DiskFau
 use Rattle.plain_machine.specs.declared.plain.Plain.{Plain}
 use Rattle.plain_machine.specs.Records.{outcome}
 use Rattle.trace_log.specs.declared.requests.Schedule.{Schedule}
-use Rattle.trace_log.specs.Requests.{Requests, Phase, NoRequest, Requested, AfterCut, MayStand, MayStandIn, made_by, next_requests, phase_after, tally_after, asks}
+use Rattle.trace_log.specs.Requests.{Requests, Phase, NoRequest, Requested, AfterCut, MayStand, MayStandIn, records_made_by, next_requests, phase_after, tally_after, asks}
 use Rattle.trace_log.specs.RequestSteps.{MarkStays, Follows, StandsAlone, Arrives, ArrivesMeanwhile, WorksMeanwhile, Lapses, IsRefusedForKind, IsFault, IsRefused, IsCutNow, PassesDrained, PassesRefilled, Completes, FailsAfterCut}
 
 pub mark_stays : MarkStays
@@ -46,13 +46,13 @@ arrives_meanwhile schedule g now since dir n is = from_phase schedule g now (Arr
 pub works_meanwhile : WorksMeanwhile
 works_meanwhile schedule g now since (User q t n) p is of few =
     let same : q ≡ p = cc in
-    from_phase schedule g now (User q t n) (Requested since) (Requested (p ∷ since)) is (subst (λ x. made_by x since < 2) (sym same) few) (λ asked. ap (λ x. Requested (x ∷ since)) same)
+    from_phase schedule g now (User q t n) (Requested since) (Requested (p ∷ since)) is (subst (λ x. records_made_by x since < 2) (sym same) few) (λ asked. ap (λ x. Requested (x ∷ since)) same)
 works_meanwhile schedule g now since (Call q t) p is of few =
     let same : q ≡ p = cc in
-    from_phase schedule g now (Call q t) (Requested since) (Requested (p ∷ since)) is (subst (λ x. made_by x since < 2) (sym same) few) (λ asked. ap (λ x. Requested (x ∷ since)) same)
+    from_phase schedule g now (Call q t) (Requested since) (Requested (p ∷ since)) is (subst (λ x. records_made_by x since < 2) (sym same) few) (λ asked. ap (λ x. Requested (x ∷ since)) same)
 works_meanwhile schedule g now since (Deliver q t s) p is of few =
     let same : q ≡ p = cc in
-    from_phase schedule g now (Deliver q t s) (Requested since) (Requested (p ∷ since)) is (subst (λ x. made_by x since < 2) (sym same) few) (λ asked. ap (λ x. Requested (x ∷ since)) same)
+    from_phase schedule g now (Deliver q t s) (Requested since) (Requested (p ∷ since)) is (subst (λ x. records_made_by x since < 2) (sym same) few) (λ asked. ap (λ x. Requested (x ∷ since)) same)
 works_meanwhile schedule g now since (Arrive dir n) p is of few = cc
 works_meanwhile schedule g now since (Cut generation) p is of few = cc
 works_meanwhile schedule g now since (Drained dir n) p is of few = cc
@@ -65,7 +65,7 @@ pub lapses : Lapses
 lapses schedule g now since is over = from_phase schedule g now Lapsed (Requested since) NoRequest is over (λ asked. refl)
 
 pub is_refused_for_kind : IsRefusedForKind
-is_refused_for_kind schedule g now since p fd kind is lives names = from_phase schedule g now (Refused (Unsupported p fd kind)) (Requested since) NoRequest is (lives, names) (λ asked. refl)
+is_refused_for_kind schedule g now since p fd kind is names = from_phase schedule g now (Refused (Unsupported p fd kind)) (Requested since) NoRequest is names (λ asked. refl)
 
 -- a statement on each fault is one on both
 at_faults : (P : Cause → Type 0) (cause : Cause) → IsFault cause → P DiskFault → P Memory → P cause

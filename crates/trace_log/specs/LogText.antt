@@ -7,6 +7,8 @@
 -- I counts the outcomes from 1, and N is the sum of the bytes drained since the outcome before.
 use Rattle.std.specs.Prelude.{ℕ, ◌+◌, List, [], ◌∷◌, ◌++◌, codes}
 use Rattle.std.specs.Fmt.{decimal}
+use Rattle.sys_abi.specs.declared.identity.VPid.{VPid}
+use Rattle.sys_abi.specs.declared.identity.Fd.{Fd}
 use Rattle.sys_abi.specs.declared.record.Record.{Record}
 use Rattle.sys_abi.specs.declared.record.Record.TheVariants.{Drained, Complete, Refused, Lapsed}
 use Rattle.sys_abi.specs.declared.record.Cause.TheVariants.{Unsupported, DiskFault, Memory}
@@ -24,15 +26,26 @@ kind_text Listener = codes "a listener"
 kind_text Datagram = codes "a datagram pair"
 kind_text Counter = codes "an event counter"
 
+-- a line about the request that has its outcome
+abbrev pub about : Progress → List ℕ → List ℕ
+about so_far text = codes "checkpoint " ++ decimal so_far.request ++ text
+
+abbrev pub complete_text : ℕ → ℕ → List ℕ
+complete_text generation drained =
+    codes " complete: generation " ++ decimal generation ++ codes ", drained " ++ decimal drained
+
+abbrev pub unsupported_text : VPid → Fd → Kind → List ℕ
+unsupported_text p fd kind =
+    codes " refused: process " ++ decimal p.0 ++ codes " descriptor " ++ decimal fd.0
+    ++ codes " is " ++ kind_text kind
+
 -- the line of a record, or nothing where it is no outcome
 unfoldable pub line_of : Progress → Record → List ℕ
-line_of so_far (Complete generation) =
-    codes "checkpoint " ++ decimal so_far.request ++ codes " complete: generation " ++ decimal generation ++ codes ", drained " ++ decimal so_far.drained ++ codes "\n"
-line_of so_far (Refused (Unsupported p fd kind)) =
-    codes "checkpoint " ++ decimal so_far.request ++ codes " refused: process " ++ decimal p.0 ++ codes " descriptor " ++ decimal fd.0 ++ codes " is " ++ kind_text kind ++ codes "\n"
-line_of so_far (Refused DiskFault) = codes "checkpoint " ++ decimal so_far.request ++ codes " refused: disk fault\n"
-line_of so_far (Refused Memory) = codes "checkpoint " ++ decimal so_far.request ++ codes " refused: memory\n"
-line_of so_far Lapsed = codes "checkpoint " ++ decimal so_far.request ++ codes " lapsed\n"
+line_of so_far (Complete generation) = about so_far (complete_text generation so_far.drained ++ codes "\n")
+line_of so_far (Refused (Unsupported p fd kind)) = about so_far (unsupported_text p fd kind ++ codes "\n")
+line_of so_far (Refused DiskFault) = about so_far (codes " refused: disk fault\n")
+line_of so_far (Refused Memory) = about so_far (codes " refused: memory\n")
+line_of so_far Lapsed = about so_far (codes " lapsed\n")
 line_of so_far _ = []
 
 -- how far things are after the record

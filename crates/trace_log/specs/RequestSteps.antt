@@ -9,12 +9,11 @@ use Rattle.sys_abi.specs.declared.record.Cause.{Cause}
 use Rattle.sys_abi.specs.declared.record.Cause.TheVariants.{Unsupported, DiskFault, Memory}
 use Rattle.sys_abi.specs.declared.record.Kind.{Kind}
 use Rattle.plain_machine.specs.declared.plain.Plain.{Plain}
-use Rattle.plain_tables.specs.Tables.{slot}
 use Rattle.plain_machine.specs.Laws.{subject}
 use Rattle.plain_machine.specs.Records.{step}
-use Rattle.plain_machine.specs.Tests.{ended, full_arrive, unsupported}
+use Rattle.plain_machine.specs.Tests.{ended, full_arrive}
 use Rattle.trace_log.specs.declared.requests.Schedule.{Schedule}
-use Rattle.trace_log.specs.Requests.{Requests, Phase, NoRequest, Requested, AfterCut, MayStand, CanBeHeld, IsAnswered, is_mark, made_by, next_requests, cut_marks}
+use Rattle.trace_log.specs.Requests.{Requests, Phase, NoRequest, Requested, AfterCut, MayStand, CanBeHeld, IsUnsupported, IsAnswered, is_mark, records_made_by, next_requests, cut_marks}
 
 -- a mark changes nothing
 abbrev pub MarkStays : Type 0
@@ -40,7 +39,7 @@ ArrivesMeanwhile =
 abbrev pub WorksMeanwhile : Type 0
 WorksMeanwhile =
     (schedule : Schedule) (g : Plain) (now : Requests) (since : List VPid) (r : Record) (p : VPid) →
-    now.phase ≡ Requested since → subject r ≡ Some p → made_by p since < 2 → Follows schedule g now r (Requested (p ∷ since))
+    now.phase ≡ Requested since → subject r ≡ Some p → records_made_by p since < 2 → Follows schedule g now r (Requested (p ∷ since))
 
 -- how it ends without a cut
 abbrev pub Lapses : Type 0
@@ -49,7 +48,7 @@ Lapses = (schedule : Schedule) (g : Plain) (now : Requests) (since : List VPid) 
 abbrev pub IsRefusedForKind : Type 0
 IsRefusedForKind =
     (schedule : Schedule) (g : Plain) (now : Requests) (since : List VPid) (p : VPid) (fd : Fd) (kind : Kind) →
-    now.phase ≡ Requested since → ended g ≡ false → unsupported g ≡ Some (record { slot = slot p fd.0; kind = kind }) → Follows schedule g now (Refused (Unsupported p fd kind)) NoRequest
+    now.phase ≡ Requested since → IsUnsupported g p fd kind → Follows schedule g now (Refused (Unsupported p fd kind)) NoRequest
 
 -- a disk fault or want of memory
 abbrev pub IsFault : Cause → Type 0

@@ -1,14 +1,16 @@
 -- How requests for checkpoints stand in a trace: when one is made, and which records may come from there to its outcome.
 --     MayStand g now r         the record may stand in a trace where the state is g and its requests have come this far
 --     next_requests            how far they have come after the record
---     Reaches                  the trace is a run whose records may all stand where they do, and it comes to this state and this far
+--     RunsTo                   the trace is a run whose records may all stand where they do, and it comes to this state and this far
 --     IsAnswered               no request is open
 --     CutAt                    the trace has the cut of a generation, and this is the state there
-use Rattle.std.specs.Prelude.{◌≡◌, ◌==◌, ◌&&◌, ℕ, ◌+◌, ◌-◌, ◌%◌, ◌^◌, ◌<◌, Bool, true, false, nat_lt, List, [], ◌∷◌, ◌++◌, filter, length, Option, Some, None, IsSomeAnd, if◌then◌else◌}
+use Rattle.std.specs.Prelude.{◌≡◌, ◌==◌, ◌&&◌, ℕ, ◌+◌, ◌-◌, ◌%◌, ◌^◌, ◌<◌, Bool, true, false, not, nat_lt, List, [], ◌∷◌, ◌++◌, filter, length, Option, Some, None, is_some, IsSomeAnd, if◌then◌else◌}
 use Rattle.std.specs.List.{filter_map}
 use Rattle.std.specs.FinMap as map
 use Rattle.sys_abi.specs.declared.identity.VPid.{VPid}
 use Rattle.sys_abi.specs.declared.identity.Dir.{Dir}
+use Rattle.sys_abi.specs.declared.identity.Fd.{Fd}
+use Rattle.sys_abi.specs.declared.record.Kind.{Kind}
 use Rattle.sys_abi.specs.declared.record.Record.{Record}
 use Rattle.sys_abi.specs.declared.record.Record.TheVariants.{User, Call, Deliver, Arrive, Cut, Drained, Refilled, Complete, Refused, Lapsed}
 use Rattle.sys_abi.specs.declared.record.Cause.TheVariants.{Unsupported, DiskFault, Memory}
@@ -62,7 +64,7 @@ asks schedule tally = is_multiple_of schedule.every tally.work && nat_lt tally.g
 
 pub data Phase : Type 0 where
   NoRequest : Phase
-  -- a request waits for all processes to be suspended, and these made the work records since, the latest first
+  -- a request waits for all processes to be suspended; these made the work records since, the latest first
   Requested : List VPid → Phase
   -- the cut was made. These marks must still come, and then the outcome
   AfterCut : List Record → Phase
@@ -72,8 +74,8 @@ pub record Requests : Type 0 where
   pub tally : Tally
   pub phase : Phase
 
-abbrev pub at_start : Schedule → Requests
-at_start schedule = record { tally = first_tally schedule; phase = NoRequest }
+abbrev pub first_requests : Schedule → Requests
+first_requests schedule = record { tally = first_tally schedule; phase = NoRequest }
 
 abbrev pub IsAnswered : Requests → Type 0
 IsAnswered now = now.phase ≡ NoRequest
@@ -90,23 +92,31 @@ unfoldable pub cut_marks : Plain → List Record
 cut_marks g = all_left Drained g ++ all_left Refilled g
 
 -- how many work records the process has made since
-abbrev pub made_by : VPid → List VPid → ℕ
-made_by p since = length (filter (λ q. q.0 == p.0) since)
+abbrev pub records_made_by : VPid → List VPid → ℕ
+records_made_by p since = length (filter (λ q. q.0 == p.0) since)
 
 -- somebody lives, and an image holds all that there is
 pub record CanBeHeld (g : Plain) : Type 0 where
   pub lives : ended g ≡ false
   pub supported : unsupported g ≡ None
 
+abbrev pub can_be_held : Plain → Bool
+can_be_held g = not (ended g) && not (is_some (unsupported g))
+
+-- somebody lives, and this is the first that no image holds
+abbrev pub IsUnsupported : Plain → VPid → Fd → Kind → Type 0
+IsUnsupported g p fd kind =
+    (ended g ≡ false) × (unsupported g ≡ Some (record { slot = slot p fd.0; kind = kind }))
+
 -- what may come while a request waits: at most two work records of each process, those that were made meanwhile included, and arrivals. Then the cut, at
 -- which all bytes have arrived, or a refusal, or that nobody lives
 abbrev pub MayAnswer : Plain → Tally → List VPid → Record → Type 0
-MayAnswer g tally since (User p t n) = made_by p since < 2
-MayAnswer g tally since (Call p t) = made_by p since < 2
-MayAnswer g tally since (Deliver p t s) = made_by p since < 2
+MayAnswer g tally since (User p t n) = records_made_by p since < 2
+MayAnswer g tally since (Call p t) = records_made_by p since < 2
+MayAnswer g tally since (Deliver p t s) = records_made_by p since < 2
 MayAnswer g tally since (Arrive dir n) = Unit {0}
-MayAnswer g tally since (Cut generation) = CanBeHeld g × (full_arrive g ≡ g) × (generation ≡ tally.greatest + 1)
-MayAnswer g tally since (Refused (Unsupported p fd kind)) = (ended g ≡ false) × (unsupported g ≡ Some (record { slot = slot p fd.0; kind = kind }))
+MayAnswer g tally since (Cut next) = CanBeHeld g × (full_arrive g ≡ g) × (next ≡ tally.greatest + 1)
+MayAnswer g tally since (Refused (Unsupported p fd kind)) = IsUnsupported g p fd kind
 MayAnswer g tally since (Refused DiskFault) = CanBeHeld g
 MayAnswer g tally since (Refused Memory) = CanBeHeld g
 MayAnswer g tally since Lapsed = ended g ≡ true
@@ -151,15 +161,19 @@ phase_after phase asked g _ = phase_after_mark phase
 
 -- g is the state before the record
 unfoldable pub next_requests : Schedule → Plain → Requests → Record → Requests
-next_requests schedule g now r = record { tally = tally_after now.tally r; phase = phase_after now.phase (asks schedule (tally_after now.tally r)) g r }
+next_requests schedule g now r =
+    let tally = tally_after now.tally r in
+    record { tally = tally; phase = phase_after now.phase (asks schedule tally) g r }
 
 -- from this state and thus far, the records are steps that may stand where they do, to that state and thus far
 unfoldable pub LeadsTo : Schedule → Plain → Requests → List Record → Plain → Requests → Type 0
 LeadsTo schedule g now [] last later = (g ≡ last) × (now ≡ later)
-LeadsTo schedule g now (r ∷ rest) last later = MayStand g now r × IsSomeAnd (step g r) (λ next. LeadsTo schedule next (next_requests schedule g now r) rest last later)
+LeadsTo schedule g now (r ∷ rest) last later =
+    MayStand g now r
+    × IsSomeAnd (step g r) (λ next. LeadsTo schedule next (next_requests schedule g now r) rest last later)
 
-abbrev pub Reaches : Schedule → Plain → List Record → Plain → Requests → Type 0
-Reaches schedule start trace last later = LeadsTo schedule start (at_start schedule) trace last later
+abbrev pub RunsTo : Schedule → Plain → List Record → Plain → Requests → Type 0
+RunsTo schedule start trace last later = LeadsTo schedule start (first_requests schedule) trace last later
 
 -- the front of the trace before the cut leads to the state
 pub record CutAt (start : Plain) (trace : List Record) (generation : ℕ) (g : Plain) : Type 0 where

@@ -6,7 +6,7 @@ ghost use Rattle.guest_proc.specs.Guests.{HasThread};
 use crate::asserts::same;
 use elf32::read_elf;
 use guest_proc::{Guest, Ran};
-use image_codec::ProcImage;
+use image_process::ProcImage;
 use plain_process::ThreadPart;
 use plain_process::threads::added_thread;
 use std::alloc::{AllocError, Global};

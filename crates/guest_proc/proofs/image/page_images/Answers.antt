@@ -1,7 +1,7 @@
 use Rattle.std.proofs.Common.{◌≡◌, map as each, sym, subst, ◌∙◌, ap}
 use Rattle.std.specs.Prelude.{◌<◌, ◌^◌, All}
 use Rattle.std.specs.FinMap as map
-use Rattle.image_codec.specs.UserParts.{page_entry}
+use Rattle.image_process.specs.UserParts.{page_entry}
 use Rattle.guest_proc.proofs.Images.{copies_none, copies_more, key_there, fewer_left, all_entries, pages_few}
 use Rattle.guest_proc.proofs.image.page_images.Goals as goal
 

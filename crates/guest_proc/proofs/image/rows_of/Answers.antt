@@ -1,6 +1,6 @@
 use Rattle.std.proofs.Common.{arith, ap, ◌∙◌}
 use Rattle.std.specs.FinMap as map
-use Rattle.image_codec.specs.UserParts.{thread_entry}
+use Rattle.image_process.specs.UserParts.{thread_entry}
 use Rattle.guest_proc.specs.Rows.{threads_of}
 use Rattle.guest_proc.proofs.Images.{taken_start, taken_more, taken_end}
 use Rattle.guest_proc.proofs.RowLaws.{no_threads, none_rising}

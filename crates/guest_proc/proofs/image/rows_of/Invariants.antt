@@ -1,6 +1,6 @@
 use Rattle.std.proofs.Common.{◌≡◌, length, map as each}
 use Rattle.std.specs.FinMap as map
-use Rattle.image_codec.specs.UserParts.{thread_entry}
+use Rattle.image_process.specs.UserParts.{thread_entry}
 use Rattle.guest_proc.specs.Rows.{threads_of, IsRising}
 use Rattle.guest_proc.proofs.Images.{with_entries}
 use Rattle.guest_proc.proofs.image.rows_of.Given as goal

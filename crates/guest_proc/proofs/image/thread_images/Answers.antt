@@ -1,6 +1,6 @@
 use Rattle.std.proofs.Common.{◌≡◌, length, take, map as each, ap, sym, ◌∙◌}
 use Rattle.std.proofs.lemmas.List.{take_all}
-use Rattle.image_codec.specs.UserParts.{thread_entry}
+use Rattle.image_process.specs.UserParts.{thread_entry}
 use Rattle.guest_proc.specs.Rows.{entries_of}
 use Rattle.guest_proc.proofs.RowLaws.{entries-rows}
 use Rattle.guest_proc.proofs.image.thread_images.Goals as goal

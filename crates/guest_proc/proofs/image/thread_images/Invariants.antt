@@ -1,5 +1,5 @@
 use Rattle.std.proofs.Common.{◌≡◌, take, map as each}
-use Rattle.image_codec.specs.UserParts.{thread_entry}
+use Rattle.image_process.specs.UserParts.{thread_entry}
 use Rattle.guest_proc.specs.Rows.{entries_of}
 use Rattle.guest_proc.proofs.image.thread_images.Given as goal
 

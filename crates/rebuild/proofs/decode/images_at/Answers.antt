@@ -1,5 +1,5 @@
 use Rattle.std.proofs.Common.{List, ◌+◌, drop, sym, subst, arith}
-use Rattle.image_codec.specs.declared.process_image.ProcImage.{ProcImage}
+use Rattle.image_process.specs.declared.process_image.ProcImage.{ProcImage}
 use Rattle.rebuild.proofs.Walk as walk
 use Rattle.rebuild.proofs.decode.images_at.Goals as goal
 

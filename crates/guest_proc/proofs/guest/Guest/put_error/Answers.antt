@@ -1,13 +1,13 @@
 use Rattle.std.proofs.Common.{◌≡◌, ◌≤◌, sym, subst}
 use Rattle.std.specs.Prelude.{IfSome, IfNone}
-use Rattle.plain_process.specs.Buffers.{written_spans}
+use Rattle.plain_process.specs.Buffers.{filled_spans}
 use Rattle.plain_process.specs.Valid.{CanAddAs}
 use Rattle.guest_proc.proofs.Taking.{takes_nothing}
 use Rattle.guest_proc.proofs.LocalAnswers.{error_adds_nothing}
 use Rattle.guest_proc.proofs.guest.Guest.put_error.Goals as goal
 
 pub put-requires-clause-writable : goal.put-requires-clause-writable
-put-requires-clause-writable c = takes_nothing c.args.self.now.user.memory (written_spans c.args.self.now.user.memory c.args.request.now)
+put-requires-clause-writable c = takes_nothing c.args.self.now.user.memory (filled_spans c.args.self.now.user.memory c.args.request.now)
 
 pub put-requires-clause-added : goal.put-requires-clause-added
 put-requires-clause-added c = subst (CanAddAs c.args.self.now.user) (sym (error_adds_nothing c.args.request.now c.args.errno)) tt
