@@ -1,9 +1,9 @@
 -- What the program answers without the top call.
 --     Greets words text        the text where the words ask for nothing but help or the version
---     Said text status ..      a sink has taken the text whole, and the answer is the status; or the sink failed
+--     Said text status answer old new      a sink has taken the text whole, and the answer is the status; or the sink failed
 use Rattle.std.specs.Prelude.{◌≡◌, ◌≢◌, ◌⊎◌, ℕ, List, [], ◌∷◌, Option, Some, None, codes}
 use Rattle.views.specs.Faults.{Rose}
-use Rattle.edge_io.specs.Sink.{appended}
+use Rattle.edge_io.specs.Sink.{SeenSink, appended}
 use Rattle.dmtcp_top.specs.declared.status.Status.{Status}
 use Rattle.dmtcp_top.specs.declared.status.Status.TheVariants.{SinkFault}
 
@@ -12,6 +12,7 @@ pub record Greets (words : List (List ℕ)) (text : Option (List ℕ)) : Type 0 
   pub version : words ≡ codes "--version" ∷ [] → text ≡ Some (codes "dmtcp 0.1.0\n")
   pub none : words ≢ codes "--help" ∷ [] → words ≢ codes "--version" ∷ [] → text ≡ None
 
--- what the sink has taken before and after, and its faults before and after
-abbrev pub Said : List ℕ → Status → Status → Option (List ℕ) → Option (List ℕ) → ℕ → ℕ → Type 0
-Said text status answer before after old new = ((answer ≡ status) × (after ≡ appended before text)) ⊎ ((answer ≡ SinkFault) × Rose old new)
+-- from what is seen of the sink before, and after
+abbrev pub Said : List ℕ → Status → Status → SeenSink → SeenSink → Type 0
+Said text status answer old new =
+    ((answer ≡ status) × (new.taken ≡ appended old.taken text)) ⊎ ((answer ≡ SinkFault) × Rose old.faults new.faults)

@@ -88,9 +88,9 @@ fn words_after_name<R: Env + Alloc<A = Global>>(rt: &R) -> io::Result<Vec<String
 /// The status where the words could not be read: those that are no text are none of the command line's.
 fn unreadable<L: Sink>(error: &io::Error, log: &mut L) -> Status
     ensures memory { error_kind error.now ≡ ErrorKind.OutOfMemory →
-        Said (codes "memory\n") Status.Memory result (L.taken log.old) (L.taken log.new) (L.faults log.old) (L.faults log.new) }
+        Said (codes "memory\n") Status.Memory result (L.seen log.old) (L.seen log.new) }
     ensures usage { error_kind error.now ≢ ErrorKind.OutOfMemory →
-        Said (codes "usage\n") Status.Usage result (L.taken log.old) (L.taken log.new) (L.faults log.old) (L.faults log.new) }
+        Said (codes "usage\n") Status.Usage result (L.seen log.old) (L.seen log.new) }
 {
     match error.kind() {
         ErrorKind::OutOfMemory => said("memory\n", Status::Memory, log),
@@ -114,7 +114,7 @@ fn greeting(words: &[String]) -> Option<&'static str>
 
 /// Puts a text on a sink: the status, where it was taken whole.
 fn said<O: Sink>(text: &str, status: Status, sink: &mut O) -> Status
-    ensures { Said text.now status result (O.taken sink.old) (O.taken sink.new) (O.faults sink.old) (O.faults sink.new) }
+    ensures { Said text.now status result (O.seen sink.old) (O.seen sink.new) }
 {
     match sink.put(text.as_bytes()) {
         Ok(()) => status,

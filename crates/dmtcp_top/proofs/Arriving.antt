@@ -1,6 +1,7 @@
 -- What an arrival changes, and what stays once all bytes have arrived.
 --     arrives_fully      the state once all bytes have arrived is the same after it
 --     arrives_quietly    nothing is written
+--     ends_on            somebody lives after it where somebody did before
 --     rests_on           nobody lives or can go on after it where nobody did before
 --     none_arrives       it is no step where all bytes have arrived
 use Rattle.std.proofs.Common.{◌≡◌, ℕ, ◌+◌, ◌≤◌, Bool, true, false, not, cond, [], Option, Some, None, inl, inr, refl, sym, ap, subst, ◌∙◌, length, arith, tests}
@@ -69,8 +70,11 @@ lives_on g dir n o goes =
     let has = has_arrived g dir n o goes in
     ap (λ (x : Outcome). has_life x.state.kernel) has.is ∙ lives_alike g dir has.direction n
 
+pub ends_on : (g : Plain) (dir : Dir) (n : ℕ) (o : Outcome) → outcome g (Arrive dir n) ≡ Some o → ended o.state ≡ ended g
+ends_on g dir n o goes = ap not (lives_on g dir n o goes)
+
 pub rests_on : (g : Plain) (dir : Dir) (n : ℕ) (o : Outcome) → outcome g (Arrive dir n) ≡ Some o → ComesToRest g → ComesToRest o.state
-rests_on g dir n o goes (inl over) = inl (ap not (lives_on g dir n o goes) ∙ over)
+rests_on g dir n o goes (inl over) = inl (ends_on g dir n o goes ∙ over)
 rests_on g dir n o goes (inr stuck) = inr (record {
   lives = lives_on g dir n o goes ∙ stuck.lives;
   still = λ r work. ap (λ h. step h r) (arrives_fully g dir n o goes) ∙ stuck.still r work;

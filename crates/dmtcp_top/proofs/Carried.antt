@@ -6,7 +6,7 @@
 use Rattle.std.proofs.Common.{◌≡◌, ℕ, suc, ◌<◌, true, List, [], ◌∷◌, Option, Some, None, sym, ap, subst, ◌∙◌, arith}
 use Rattle.std.specs.Prelude.{All, fold, IfSome, Result, Ok, Err, OnOk, OnErr, is_ok, is_err}
 use Rattle.sys_abi.specs.declared.record.Record.{Record}
-use Rattle.edge_io.specs.Inputs.{Files}
+use Rattle.edge_io.specs.Inputs.{NamedFiles}
 use Rattle.set_disk.specs.Files.{Files as Folder}
 use Rattle.trace_log.specs.declared.requests.Schedule.{Schedule}
 use Rattle.dmtcp_top.specs.declared.ending.Ending.{Ending}
@@ -18,7 +18,7 @@ use Rattle.dmtcp_top.specs.declared.settings.Setting.{Setting}
 use Rattle.dmtcp_top.specs.declared.settings.Setting.TheVariants.{Every, Records}
 use Rattle.dmtcp_top.specs.declared.settings.Settings.{Settings}
 use Rattle.dmtcp_top.specs.declared.start.Start.{Start}
-use Rattle.dmtcp_top.specs.Endings.{Arrives}
+use Rattle.dmtcp_top.specs.Endings.{IsAtEnding}
 use Rattle.dmtcp_top.specs.Jobs.{IsAsked, settings_of}
 use Rattle.dmtcp_top.specs.Loads.{Begins}
 use Rattle.dmtcp_top.specs.Machines.{plain_of}
@@ -35,24 +35,24 @@ pub from_err : {A E P : Type 0} (r : Result A E) → true ≡ is_err r → OnErr
 from_err (Ok a) err p = absurd (cc)
 from_err (Err e) err p = p
 
-module _ (words : List (List ℕ)) (files : Option Files) (folder : Option Folder) (trace : List Record) (console log : Sunk) where
-  pub refused_memory : (job : Job) → IsAsked words job → trace ≡ [] → Took console [] → Took log [] → Arrives Memory (session (given words files folder) None trace console) log
+module _ (words : List (List ℕ)) (files : Option NamedFiles) (folder : Option Folder) (trace : List Record) (console log : Sunk) where
+  pub refused_memory : (job : Job) → IsAsked words job → trace ≡ [] → Took console [] → Took log [] → IsAtEnding Memory (session (given words files folder) None trace console) log
   refused_memory (Launch name settings) asked none quiet unlogged = launch_memory_arrives words files folder trace console log none quiet unlogged name.now settings asked
   refused_memory (Restart settings) asked none quiet unlogged = restart_memory_arrives words files folder trace console log none quiet unlogged settings asked
 
-  pub begun_refused : (job : Job) (ending : Ending) → IsAsked words job → Begins (Err ending) job files folder → trace ≡ [] → Took console [] → Took log [] → Arrives ending (session (given words files folder) None trace console) log
+  pub begun_refused : (job : Job) (ending : Ending) → IsAsked words job → Begins (Err ending) job files folder → trace ≡ [] → Took console [] → Took log [] → IsAtEnding ending (session (given words files folder) None trace console) log
   begun_refused (Launch name settings) ending asked refuses none quiet unlogged = launch_refused words files folder trace console log none quiet unlogged ending name.now settings asked refuses
   begun_refused (Restart settings) ending asked refuses none quiet unlogged = restart_refused words files folder trace console log none quiet unlogged ending settings asked refuses
 
   by_job : (end : RunEnd) (start : Start) (job : Job) (room : ℕ) → IsAsked words job → Begins (Ok start) job files folder → room ≡ (settings_of job).records
-      → EndsRun end start.keeper.schedule (plain_of start.machine) room trace console log → Arrives (ending_by end (settings_of job).records) (session (given words files folder) (Some (beginning_of start)) trace console) log
+      → EndsRun end start.keeper.schedule (plain_of start.machine) room trace console log → IsAtEnding (ending_by end (settings_of job).records) (session (given words files folder) (Some (beginning_of start)) trace console) log
   by_job end start (Launch name settings) room asked begins full ends = launch_arrives words files folder trace console log end start name.now settings room asked begins full ends
   by_job end start (Restart settings) room asked begins full ends = restart_arrives words files folder trace console log end start settings room asked begins full ends
 
   pub begun_arrives : (end result : RunEnd) (start : Start) (job : Job) (room records : ℕ) → IsAsked words job → Begins (Ok start) job files folder → room ≡ records → records ≡ (settings_of job).records → result ≡ end
-      → EndsRun result start.keeper.schedule (plain_of start.machine) room trace console log → Arrives (ending_by end records) (session (given words files folder) (Some (beginning_of start)) trace console) log
+      → EndsRun result start.keeper.schedule (plain_of start.machine) room trace console log → IsAtEnding (ending_by end records) (session (given words files folder) (Some (beginning_of start)) trace console) log
   begun_arrives end result start job room records asked begins full same is ends =
-      subst (λ n. Arrives (ending_by end n) (session (given words files folder) (Some (beginning_of start)) trace console) log) (sym same)
+      subst (λ n. IsAtEnding (ending_by end n) (session (given words files folder) (Some (beginning_of start)) trace console) log) (sym same)
       (by_job end start job room asked begins (full ∙ same) (subst (λ (e : RunEnd). EndsRun e start.keeper.schedule (plain_of start.machine) room trace console log) is ends))
 
 -- options
@@ -68,7 +68,7 @@ options_every words settings options = subst (λ (s : Settings). IfSome s.every 
 scheduled : (schedule : Schedule) (every : Option ℕ) → schedule.every ≡ every → IfSome every (λ n. 0 < n) → IfSome schedule.every (λ n. 0 < n)
 scheduled schedule every is some = subst (λ o. IfSome o (λ n. 0 < n)) (sym is) some
 
-pub every_is_some : (words : List (List ℕ)) (files : Option Files) (folder : Option Folder) (start : Start) (job : Job) → IsAsked words job → Begins (Ok start) job files folder → IfSome start.keeper.schedule.every (λ every. 0 < every)
+pub every_is_some : (words : List (List ℕ)) (files : Option NamedFiles) (folder : Option Folder) (start : Start) (job : Job) → IsAsked words job → Begins (Ok start) job files folder → IfSome start.keeper.schedule.every (λ every. 0 < every)
 every_is_some words files folder start (Launch name settings) asked begins =
     scheduled start.keeper.schedule settings.every (ap (λ (s : Schedule). s.every) begins.keeper.schedule) (options_every asked.options settings asked.set)
 every_is_some words files folder start (Restart settings) asked begins =

@@ -7,6 +7,7 @@ use Rattle.sys_abi.specs.declared.record.Record.TheVariants.{User, Call, Deliver
 use Rattle.sys_abi.specs.declared.record.Cause.{Cause}
 use Rattle.sys_abi.specs.declared.record.Cause.TheVariants.{DiskFault, Memory}
 use Rattle.set_disk.specs.Files.{Files as Folder}
+use Rattle.set_disk.specs.SeenFolder.{SeenFolder}
 use Rattle.plain_machine.specs.declared.plain.Plain.{Plain}
 use Rattle.plain_machine.specs.Tests.{ended, full_arrive}
 use Rattle.trace_log.specs.declared.requests.Schedule.{Schedule}
@@ -129,36 +130,35 @@ outcome_tally tally (Call p t) marks other = absurd (cc)
 outcome_tally tally (Deliver p t s) marks other = absurd (cc)
 outcome_tally tally (Arrive dir n) marks other = absurd (cc)
 
-module _ {D : Type 0} {reads : D → Option Folder} {moment : D → ℕ} {may_leave : D → Folder → Type 0} {left_since : D → ℕ → Folder → Type 0} {faults : D → ℕ} where
-  -- one more mark, whose line the log took
-  pub marked : (schedule : Schedule) (g : Plain) (h : Plain) (due : Option Due) (keeper later : Keeper) (from to : TraceState) (sink : Sunk) (had mid has : Option (List ℕ)) (r : Record) (first disk next : D)
-      → (before : IsUnderWay reads moment may_leave left_since faults schedule g h due keeper from sink (sunk had mid) first disk) → is_mark r ≡ true → MayStand h before.running.requests r → to ≡ with_record from r
-      → later.schedule ≡ keeper.schedule → later.lines ≡ after keeper.lines r → later.tally ≡ tally_after keeper.tally r → Took (sunk mid has) (line_of keeper.lines r)
-      → later.lines.request ≤ suc keeper.lines.request → later.lines.drained ≡ 0 → IsSafe reads moment may_leave left_since faults g (from.records ++ r ∷ []) first next
-      → (after : IsUnderWay reads moment may_leave left_since faults schedule g h due later to sink (sunk had has) first next) × (after.running.requests ≡ next_requests schedule h before.running.requests r)
-  marked schedule g h due keeper later from to sink had mid has r first disk next before marks may traced scheduled lined tallied took few dry safe =
-      let running = running_mark schedule g h due from.records sink r before.running marks may in
-      let noted = noted_mark schedule h r before.running.requests keeper later from.records had mid has before.noted scheduled lined tallied took few dry in
-      let whole : IsUnderWay reads moment may_leave left_since faults schedule g h due later (with_record from r) sink (sunk had has) first next = record {
-        running = running.0;
-        noted = subst (λ (q : Requests). IsNoted schedule q later (from.records ++ r ∷ []) (sunk had has)) (sym running.1) noted;
-        safe = safe;
-      } in
-      subst (λ (t : TraceState). (after : IsUnderWay reads moment may_leave left_since faults schedule g h due later t sink (sunk had has) first next) × (after.running.requests ≡ next_requests schedule h before.running.requests r)) (sym traced) (whole, running.1)
+-- one more mark, whose line the log took
+pub marked : (schedule : Schedule) (g : Plain) (h : Plain) (due : Option Due) (keeper later : Keeper) (from to : TraceState) (sink : Sunk) (had mid has : Option (List ℕ)) (r : Record) (first disk next : SeenFolder)
+    → (before : IsUnderWay schedule g h due keeper from sink (sunk had mid) first disk) → is_mark r ≡ true → MayStand h before.running.requests r → to ≡ with_record from r
+    → later.schedule ≡ keeper.schedule → later.lines ≡ after keeper.lines r → later.tally ≡ tally_after keeper.tally r → Took (sunk mid has) (line_of keeper.lines r)
+    → later.lines.request ≤ suc keeper.lines.request → later.lines.drained ≡ 0 → IsSafe g (from.records ++ r ∷ []) first next
+    → (after : IsUnderWay schedule g h due later to sink (sunk had has) first next) × (after.running.requests ≡ next_requests schedule h before.running.requests r)
+marked schedule g h due keeper later from to sink had mid has r first disk next before marks may traced scheduled lined tallied took few dry safe =
+    let running = running_mark schedule g h due from.records sink r before.running marks may in
+    let noted = noted_mark schedule h r before.running.requests keeper later from.records had mid has before.noted scheduled lined tallied took few dry in
+    let whole : IsUnderWay schedule g h due later (with_record from r) sink (sunk had has) first next = record {
+      running = running.0;
+      noted = subst (λ (q : Requests). IsNoted schedule q later (from.records ++ r ∷ []) (sunk had has)) (sym running.1) noted;
+      safe = safe;
+    } in
+    subst (λ (t : TraceState). (after : IsUnderWay schedule g h due later t sink (sunk had has) first next) × (after.running.requests ≡ next_requests schedule h before.running.requests r)) (sym traced) (whole, running.1)
 
-  -- one more outcome, of whose line the log took a first part
-  pub broken : (schedule : Schedule) (g : Plain) (h : Plain) (due : Option Due) (keeper : Keeper) (from to : TraceState) (sink : Sunk) (had mid has : Option (List ℕ)) (r : Record) (first disk next : D)
-      → (before : IsUnderWay reads moment may_leave left_since faults schedule g h due keeper from sink (sunk had mid) first disk) → is_outcome r ≡ true → MayStand h before.running.requests r → to ≡ with_record from r
-      → TookFront (sunk mid has) (line_of keeper.lines r) → IsSafe reads moment may_leave left_since faults g (from.records ++ r ∷ []) first next
-      → IsBrokenOff reads moment may_leave left_since faults schedule g h due to sink (sunk had has) first next
-  broken schedule g h due keeper from to sink had mid has r first disk next before outcome may traced front safe =
-      let running = running_mark schedule g h due from.records sink r before.running (outcome_is_mark r outcome) may in
-      let part = part_noted before.running.requests keeper schedule r from.records had mid has before.noted outcome front in
-      let whole : IsBrokenOff reads moment may_leave left_since faults schedule g h due (with_record from r) sink (sunk had has) first next = record {
-        running = running.0;
-        lines = part.0;
-        cut = part.1.0;
-        logged = part.1.1;
-        safe = safe;
-      } in
-      subst (λ (t : TraceState). IsBrokenOff reads moment may_leave left_since faults schedule g h due t sink (sunk had has) first next) (sym traced) whole
+-- one more outcome, of whose line the log took a first part
+pub broken : (schedule : Schedule) (g : Plain) (h : Plain) (due : Option Due) (keeper : Keeper) (from to : TraceState) (sink : Sunk) (had mid has : Option (List ℕ)) (r : Record) (first disk next : SeenFolder)
+    → (before : IsUnderWay schedule g h due keeper from sink (sunk had mid) first disk) → is_outcome r ≡ true → MayStand h before.running.requests r → to ≡ with_record from r
+    → TookFront (sunk mid has) (line_of keeper.lines r) → IsSafe g (from.records ++ r ∷ []) first next
+    → IsBrokenOff schedule g h due to sink (sunk had has) first next
+broken schedule g h due keeper from to sink had mid has r first disk next before outcome may traced front safe =
+    let running = running_mark schedule g h due from.records sink r before.running (outcome_is_mark r outcome) may in
+    let part = part_noted before.running.requests keeper schedule r from.records had mid has before.noted outcome front in
+    let whole : IsBrokenOff schedule g h due (with_record from r) sink (sunk had has) first next = record {
+      running = running.0;
+      lines = part.0;
+      cut = part.1.0;
+      logged = part.1.1;
+      safe = safe;
+    } in
+    subst (λ (t : TraceState). IsBrokenOff schedule g h due t sink (sunk had has) first next) (sym traced) whole

@@ -3,11 +3,11 @@ use Rattle.std.proofs.Common.{◌≡◌, ◌≢◌, ℕ, List, [], ◌∷◌, �
 use Rattle.std.specs.Prelude.{◌↔◌, codes}
 use Rattle.std.specs.FinMap as map
 use Rattle.sys_abi.specs.declared.record.Record.{Record}
-use Rattle.edge_io.specs.Inputs.{Files}
+use Rattle.edge_io.specs.Inputs.{NamedFiles}
 use Rattle.elf32.specs.Rules.{first_fault}
 use Rattle.set_disk.specs.Files.{Files as Folder}
 use Rattle.plain_machine.specs.declared.plain.Plain.{Plain}
-use Rattle.image_codec.specs.declared.damage.Damage.{Damage}
+use Rattle.image_format.specs.declared.damage.Damage.{Damage}
 use Rattle.image_store.specs.Slots.{last as set_that_counts}
 use Rattle.dmtcp_top.specs.declared.status.Status.{Status}
 use Rattle.dmtcp_top.specs.declared.status.Status.TheVariants.{Done, Usage, InputFault, Missing, BadElf, SinkFault, DiskFault, NoSet, Damaged, Budget, Stuck, Memory}
@@ -112,7 +112,7 @@ module _ (called : Session) (line : List ℕ) where
       from Memory (inr cut, is) nothing = none_begun cut.begun nothing
 
   -- the file of the other name is the same
-  module _ (held : Files) (asked : LaunchAsked called.given) (holds : called.given.files ≡ Some held) where
+  module _ (held : NamedFiles) (asked : LaunchAsked called.given) (holds : called.given.files ≡ Some held) where
     same_input : (other : LaunchAsked called.given) (content : Option (List ℕ)) → IsInput called.given.files other.name content → map.get held asked.name ≡ content
     same_input other content input =
         ap (map.get held) (one_name called.given.words asked.name other.name asked.settings other.settings asked.words other.words) ∙ input held holds

@@ -20,7 +20,7 @@ use Rattle.plain_machine.specs.Records.{Outcome, QUANTUM, outcome, outcome_of_us
 use Rattle.plain_process.specs.Steps.{UserStep, Stepped, Asks, Trapped, Waits, NoThread, stepped, user_step, user_steps}
 use Rattle.plain_process.proofs.Giving.{Giving, gives, nothing, where_, then_}
 use Rattle.plain_process.proofs.StepsInRow.{steps_stopped}
-use Rattle.dmtcp_top.specs.Rounds.{Place, Due, Arrival, InTurn, is_turn_of, traps_in, is_due_signal, is_due_in, is_due_at, is_arrival, is_same, is_whole, missing_in}
+use Rattle.dmtcp_top.specs.Rounds.{Place, Due, Arrival, InTurn, is_turn_of, traps_in, is_due_signal, is_due_in, is_due_at, is_arrival, is_same_dir, is_all_missing, missing_in}
 use Rattle.dmtcp_top.proofs.Walks.{left_true, right_true}
 
 -- the record is of the thread whose turn it is: it runs, its call is served, or this signal is delivered to it
@@ -236,7 +236,7 @@ module _ (g : Plain) (here : Place) where
       is ∙ ap (λ n. Deliver here.p (turn_thread here) (signal n)) (one_signal g here s.0 u.0 here.signal due again) ∙ sym other
 
 -- an arrival that is due
-same_dir : (a b : Dir) → is_same a b ≡ true → a ≡ b
+same_dir : (a b : Dir) → is_same_dir a b ≡ true → a ≡ b
 same_dir a b same =
     let pid = same_number a.conn.pid.0 b.conn.pid.0 (left_true (a.conn.pid.0 == b.conn.pid.0) (a.conn.num == b.conn.num) (left_true ((a.conn.pid.0 == b.conn.pid.0) && (a.conn.num == b.conn.num)) (a.side == b.side) same)) in
     let num = same_number a.conn.num b.conn.num (right_true (a.conn.pid.0 == b.conn.pid.0) (a.conn.num == b.conn.num) (left_true ((a.conn.pid.0 == b.conn.pid.0) && (a.conn.num == b.conn.num)) (a.side == b.side) same)) in
@@ -248,8 +248,8 @@ same_dir a b same =
 
 arrives : (g : Plain) (dir : Dir) (r : Record) → is_arrival g dir r ≡ true → r ≡ Arrive dir (missing_in (map.get g.kernel.directions dir))
 arrives g dir (Arrive other n) due =
-    ap (λ d. Arrive d n) (same_dir other dir (left_true (is_same other dir) (is_whole g dir n) due))
-    ∙ ap (Arrive dir) (same_number n (missing_in (map.get g.kernel.directions dir)) (right_true (is_same other dir) (is_whole g dir n) due))
+    ap (λ d. Arrive d n) (same_dir other dir (left_true (is_same_dir other dir) (is_all_missing g dir n) due))
+    ∙ ap (Arrive dir) (same_number n (missing_in (map.get g.kernel.directions dir)) (right_true (is_same_dir other dir) (is_all_missing g dir n) due))
 arrives g dir (User p t n) due = true_false (sym due)
 arrives g dir (Call p t) due = true_false (sym due)
 arrives g dir (Deliver p t s) due = true_false (sym due)

@@ -18,11 +18,13 @@ use Rattle.plain_tables.specs.declared.description.Object.TheVariants.{Console a
 use Rattle.plain_machine.specs.Tests.{UnsupportedAt, unsupported, unsupported_entry, unsupported_by, unsupported_kind, first_of, full_arrive}
 use Rattle.trace_log.specs.Requests.{cut_marks}
 use Rattle.trace_log.proofs.RequestCuts.{no_channels}
-use Rattle.image_codec.specs.declared.shared.ObjectImage.{ObjectImage}
-use Rattle.image_codec.specs.declared.shared.ObjectImage.TheVariants.{Console, File, Stream, Socket, Listener}
-use Rattle.image_codec.specs.declared.shared.DescriptionImage.{DescriptionImage}
-use Rattle.image_codec.specs.Texts.{EachFrom}
-use Rattle.image_codec.specs.SharedFits.{DescriptionFits, kind_of}
+use Rattle.image_shared.specs.declared.shared.ObjectImage.{ObjectImage}
+use Rattle.image_shared.specs.declared.shared.ObjectImage.TheVariants.{Console, File, Stream, Socket, Listener}
+use Rattle.image_shared.specs.declared.shared.DescriptionImage.{DescriptionImage}
+use Rattle.image_format.specs.Texts.{EachFrom}
+use Rattle.image_shared.specs.declared.shared.Shared.{Shared}
+use Rattle.image_shared.specs.SharedFormat.{VERSION}
+use Rattle.image_shared.specs.SharedFits.{DescriptionFits, kind_of}
 use Rattle.image_codec.specs.KernelParts.{kernel_of, object_of, description_entry, direction_entries}
 use Rattle.image_codec.specs.KernelImages.{HasImage}
 
@@ -42,18 +44,19 @@ unfolding OfConsole
 console_entry true description rest here later = here
 console_entry false description rest here later = later
 
-consoles : (next_id : ℕ) (front descriptions : List DescriptionImage) (d : DescId) → EachFrom (DescriptionFits next_id) front descriptions → OfConsole (map.find desc_cmp d (each description_entry descriptions))
+consoles : (s : Shared) (front descriptions : List DescriptionImage) (d : DescId)
+    → EachFrom (DescriptionFits VERSION s.next_id s.files s.channels) front descriptions → OfConsole (map.find desc_cmp d (each description_entry descriptions))
 unfolding EachFrom OfConsole
-consoles next_id front [] d fits = tt
-consoles next_id front (description ∷ rest) d fits =
-    console_entry (eq_by_cmp desc_cmp d description.id) (description_entry description).1 (map.find desc_cmp d (each description_entry rest)) (console_kind description.object fits.0.kind.1) (consoles next_id (front ++ description ∷ []) rest d fits.1)
+consoles s front [] d fits = tt
+consoles s front (description ∷ rest) d fits =
+    console_entry (eq_by_cmp desc_cmp d description.id) (description_entry description).1 (map.find desc_cmp d (each description_entry rest)) (console_kind description.object fits.0.kind.1) (consoles s (front ++ description ∷ []) rest d fits.1)
 
 descriptions_are_consoles : (k : PlainKernel) (d : DescId) → HasImage k → OfConsole (map.get k.descriptions d)
 unfolding kernel_of
 descriptions_are_consoles k d (s, image) =
     let seen : map.get k.descriptions d ≡ map.find desc_cmp d (each description_entry s.descriptions) =
     ap (λ (q : PlainKernel). map.get q.descriptions d) (sym image.kernel) ∙ map.get-from_entries desc_total (each description_entry s.descriptions) d in
-    subst OfConsole (sym seen) (consoles s.next_id [] s.descriptions d image.spelled.fields.descriptions)
+    subst OfConsole (sym seen) (consoles s [] s.descriptions d image.spelled.fields.descriptions)
 
 none_by : (at : Slot) (description : Option Description) → OfConsole description → unsupported_by at description ≡ None
 unfolding OfConsole

@@ -1,9 +1,9 @@
 -- What a record of the one process leaves of the kernel part: nobody else comes to life, and there is an image again as long as the process lives.
 --     IsKept before after p      kept_itself, kept_by_end, kept_by_take, kept_by_serve
-use Rattle.std.proofs.Common.{◌≡◌, ◌≢◌, ℕ, ◌+◌, ◌≤◌, Bool, true, false, cond, ◌&&◌, List, Option, Some, None, refl, sym, ap, ◌∙◌, arith}
+use Rattle.std.proofs.Common.{◌≡◌, ◌≢◌, ℕ, ◌+◌, ◌≤◌, Bool, true, false, cond, ◌&&◌, List, Option, Some, None, refl, sym, ap, subst, ◌∙◌, arith, ⊎_elim}
 use Rattle.std.specs.Prelude.{nat_le, nat_lt}
 use Rattle.std.specs.FinMap as map
-use Rattle.views.proofs.MapLaws.{get_remove_other, get_remove_same, true_false}
+use Rattle.views.proofs.MapLaws.{same_or_other, true_false}
 use Rattle.sys_abi.specs.declared.identity.VPid.{VPid}
 use Rattle.sys_abi.specs.declared.errors.TheConstants.{EAGAIN, EBADF, EINVAL, ENOSYS, ESRCH}
 use Rattle.sys_abi.specs.declared.cloning.CloneForm.{CloneForm}
@@ -11,7 +11,7 @@ use Rattle.sys_abi.specs.declared.cloning.CloneForm.TheVariants.{Fork, Thread}
 use Rattle.sys_abi.specs.Clones.{clone_form}
 use Rattle.sys_abi.specs.Signals.{has_signal, without_signal}
 use Rattle.sys_abi.specs.declared.request.Request.{Request}
-use Rattle.sys_abi.specs.declared.request.Request.TheVariants.{Write, Exit, ExitGroup, Tgkill, Clone}
+use Rattle.sys_abi.specs.declared.request.Request.TheVariants.{Write, Exit, ExitGroup, Kill, Tgkill, Clone}
 use Rattle.sys_abi.proofs.OrderLaws.{vpid_total, vpid_exact}
 use Rattle.plain_machine.specs.declared.kernel.PlainKernel.{PlainKernel}
 use Rattle.plain_tables.specs.declared.process.Process.{Process}
@@ -19,11 +19,22 @@ use Rattle.plain_tables.specs.declared.description.Object.{Object}
 use Rattle.plain_tables.specs.declared.description.Object.TheVariants.{Console}
 use Rattle.plain_process.specs.Attempts.{Try, Fails, NotReady, Gives, need, found}
 use Rattle.plain_machine.specs.Attempts.{Served, refused, settled}
-use Rattle.plain_tables.specs.Tables.{pid, is_live_process, may_write, signals_of, with_signals, taken_from, raised_at, changed_by, without_thread, with_thread}
-use Rattle.plain_machine.specs.Kernel.{is_live, description_at, after_end, at_process, after_take, after_raise, is_neighbour, thread_count, has_thread, after_thread_end, with_next_thread}
+use Rattle.plain_tables.specs.Tables.{pid, is_live_process, may_write, signals_of, with_signals, taken_from, raised_at, raised_for_all, changed_by, without_thread_entry, with_thread_entry}
+use Rattle.plain_machine.specs.Kernel.{is_live, description_at, at_process, after_take, after_raise, after_raise_for_all, is_neighbour, thread_count, has_thread, with_next_thread}
+use Rattle.plain_machine.specs.Ends.{exit_status, ended, thread_ended}
+use Rattle.plain_machine.proofs.EndedKernels.{kernel_ended}
 use Rattle.plain_machine.specs.Rows.Write.{write_row, write_object}
 use Rattle.plain_machine.specs.Rows.End.{exit_row, exit_group_row}
-use Rattle.plain_machine.specs.Rows.Send.{is_above_zero, may_be_sent, tgkill_row}
+use Rattle.plain_machine.specs.Rows.Send.{is_above_zero, may_be_sent, kill_row, tgkill_row}
+use Rattle.plain_machine.specs.Rows.Numbers.{getpid_row, getppid_row}
+use Rattle.plain_machine.specs.Rows.Channels.{pipe2_row, socketpair_row}
+use Rattle.plain_machine.specs.Rows.Connections.{accept_row, connect_row}
+use Rattle.plain_machine.specs.Rows.Counters.{eventfd2_row}
+use Rattle.plain_machine.specs.Rows.Descriptors.{dup_row, dup3_row, fcntl_row, close_row}
+use Rattle.plain_machine.specs.Rows.Files.{openat_row, unlinkat_row, lseek_row}
+use Rattle.plain_machine.specs.Rows.Read.{read_row}
+use Rattle.plain_machine.specs.Rows.Sockets.{socket_row, bind_row, listen_row, getsockname_row, getpeername_row, setsockopt_row, shutdown_row}
+use Rattle.plain_machine.specs.Rows.Wait.{wait4_row}
 use Rattle.plain_machine.specs.Rows.Clone.{THREAD_LIMIT, LAST_ID, cloned, clone_thread, clone_by, clone_row}
 use Rattle.plain_machine.specs.Serve.{row, serve}
 use Rattle.plain_machine.specs.Valid.{IsKernel}
@@ -31,7 +42,9 @@ use Rattle.plain_process.proofs.Giving.{Giving, gives, nothing}
 use Rattle.plain_machine.proofs.Trying.{Trying, succeeds, fails, after}
 use Rattle.plain_machine.proofs.LocalReplies.{needed}
 use Rattle.plain_machine.proofs.KernelThreads.{take_threads}
-use Rattle.plain_machine.proofs.ThreadBounds.{serve_threads}
+use Rattle.plain_machine.specs.RowLaws.{IsAsked, IsMade}
+use Rattle.plain_machine.proofs.EachRow.{each_is_served}
+use Rattle.dmtcp_top.proofs.ServedCalls.{none_made}
 use Rattle.image_codec.specs.KernelImages.{HasImage}
 use Rattle.image_codec.proofs.KeptImages.{other_threads_keep_image}
 use Rattle.dmtcp_top.proofs.MachineImages.{live_process}
@@ -48,22 +61,13 @@ pub kept_itself : (k : PlainKernel) (p : VPid) → IsKept k k p
 kept_itself k p = record { others = λ q differ dead. dead; image = λ image is alive. image }
 
 -- the process ends
-ended_is_dead : (k : PlainKernel) (p : VPid) → is_live (after_end k p) p ≡ false
-unfolding after_end is_live
-ended_is_dead k p = ap is_live_process (get_remove_same vpid_total vpid_exact k.processes p)
-
-end_revives_nobody : (k : PlainKernel) (p q : VPid) → q ≢ p → is_live k q ≡ false → is_live (after_end k p) q ≡ false
-unfolding after_end is_live
-end_revives_nobody k p q differ dead = ap is_live_process (get_remove_other vpid_total vpid_exact k.processes p q differ) ∙ dead
-
-pub kept_by_end : (before k : PlainKernel) (p : VPid) → IsKept before k p → IsKept before (after_end k p) p
-kept_by_end before k p kept = record {
-  others = λ q differ dead. end_revives_nobody k p q differ (kept.others q differ dead);
-  image = λ image is alive. true_false (sym alive ∙ ended_is_dead k p);
-}
-
-end_keeps_image : (k : PlainKernel) (p : VPid) → KeepsImage k (after_end k p) p
-end_keeps_image k p = (kept_by_end k k p (kept_itself k p)).image
+pub kept_by_end : (before k : PlainKernel) (p : VPid) (status : ℕ) → IsKernel k → is_live k p ≡ true → IsKept before k p → IsKept before (ended k p status) p
+kept_by_end before k p status is alive kept =
+    let over = kernel_ended k p status is alive in
+    record {
+      others = λ q differ dead. over.live q differ ∙ kept.others q differ dead;
+      image = λ image is now. true_false (sym now ∙ over.gone);
+    }
 
 -- the threads and pending signals of a process change
 change_keeps_image : (k : PlainKernel) (p : VPid) (change : Process → Process) (next : ℕ) (process : Process) → map.get k.processes p ≡ Some process → (change process).parent ≡ process.parent → (change process).life ≡ process.life
@@ -87,7 +91,7 @@ change_keeps_image k p change next process known parent life more image is =
       listeners = refl;
       inboxes = refl;
       next_id = more;
-      limit = is.last_id;
+      limit = is.numbers.last_id;
     }) is
 
 abbrev SameAround : Process → Process → Type 0
@@ -111,7 +115,7 @@ kept_by_take k p t s alive = record {
 }
 
 -- a call that is served
-module _ (k : PlainKernel) (p : VPid) (alive : is_live k p ≡ true) where
+module _ (k : PlainKernel) (p : VPid) (whole : IsKernel k) (alive : is_live k p ≡ true) where
   abbrev Kept : Served → Type 0
   Kept served = KeepsImage k served.kernel p
 
@@ -123,9 +127,9 @@ module _ (k : PlainKernel) (p : VPid) (alive : is_live k p ≡ true) where
   settled_kept NotReady holds = nothing
   settled_kept (Gives served) holds = gives served (holds.each served refl)
 
-  write_kept : (fd : ℕ) (given : List ℕ) → Trying (write_row k p fd given) Kept
+  write_kept : (t fd count : ℕ) (given : List ℕ) → Trying (write_row k p t fd count given) Kept
   unfolding write_row write_object
-  write_kept fd given =
+  write_kept t fd count given =
       after (found (description_at k p fd) EBADF) (λ description there. after (need (may_write description.flags) EBADF) (λ allowed can. shown description.object))
     where
       shown : (object : Object) → Trying (write_object k object given) Kept
@@ -147,15 +151,32 @@ module _ (k : PlainKernel) (p : VPid) (alive : is_live k p ≡ true) where
       let lives_there : is_live k (pid number) ≡ true = grind (arith, tests) in
       succeeds _ (raise_kept (pid number) t s lives_there)))
 
-  exit_kept : (t : ℕ) → Giving (settled k (exit_row k p t)) Kept
-  unfolding exit_row after_thread_end
-  exit_kept t = gives _ (by_count (nat_le (thread_count k p) 1))
+  raise_all_kept : (q : VPid) (s : ℕ) → is_live k q ≡ true → KeepsImage k (after_raise_for_all k q s) p
+  unfolding after_raise_for_all
+  raise_all_kept q s there image is now =
+      let (process, known) = live_process k q there in
+      change_keeps_image k q (raised_for_all s) k.next_id process known refl refl (omega arith) image is
+
+  kill_kept : (number s : ℕ) → Trying (kill_row k p number s) Kept
+  unfolding kill_row is_neighbour
+  kill_kept number s =
+      after (need (is_above_zero number && may_be_sent s) EINVAL) (λ may allowed. after (need (is_neighbour k p number) ESRCH) (λ there known.
+      let tests = needed _ ESRCH there known in
+      let lives_there : is_live k (pid number) ≡ true = grind (arith, tests) in
+      succeeds _ (raise_all_kept (pid number) s lives_there)))
+
+  end_kept : (status : ℕ) → KeepsImage k (ended k p status) p
+  end_kept status = (kept_by_end k k p status whole alive (kept_itself k p)).image
+
+  exit_kept : (t code : ℕ) → Giving (settled k (exit_row k p t code)) Kept
+  unfolding exit_row thread_ended
+  exit_kept t code = gives _ (by_count (nat_le (thread_count k p) 1))
     where
-      by_count : (last : Bool) → KeepsImage k (cond last (after_end k p) (at_process k p (without_thread t))) p
-      by_count true image is now = end_keeps_image k p image is now
+      by_count : (last : Bool) → KeepsImage k (cond last (ended k p (exit_status code)) (at_process k p (without_thread_entry t))) p
+      by_count true image is now = end_kept (exit_status code) image is now
       by_count false image is now =
           let (process, known) = live_process k p alive in
-          change_keeps_image k p (without_thread t) k.next_id process known refl refl (omega arith) image is
+          change_keeps_image k p (without_thread_entry t) k.next_id process known refl refl (omega arith) image is
 
   clone_kept : (flags : ℕ) → Trying (clone_thread k p flags) Kept
   unfolding clone_thread with_next_thread
@@ -163,7 +184,7 @@ module _ (k : PlainKernel) (p : VPid) (alive : is_live k p ≡ true) where
       after (need (nat_lt (thread_count k p) THREAD_LIMIT && nat_lt k.next_id LAST_ID) EAGAIN) (λ done allowed.
       succeeds (cloned k p flags) (λ image is now.
       let (process, known) = live_process k p alive in
-      change_keeps_image k p (with_thread k.next_id) (k.next_id + 1) process known refl refl (omega arith) image is))
+      change_keeps_image k p (with_thread_entry k.next_id) (k.next_id + 1) process known refl refl (omega arith) image is))
 
   form_kept : (flags : ℕ) (form : Option CloneForm) → Trying (clone_by k p flags form) Kept
   form_kept flags None = fails EINVAL
@@ -171,16 +192,22 @@ module _ (k : PlainKernel) (p : VPid) (alive : is_live k p ≡ true) where
   form_kept flags (Some Thread) = clone_kept flags
 
   serve_kept : (t : ℕ) (q : Request) (given : List ℕ) → Giving (serve k p t q given) Kept
-  unfolding serve row exit_group_row clone_row
-  serve_kept t (Write fd buffer count) given = settled_kept (write_row k p fd given) (write_kept fd given)
-  serve_kept t (ExitGroup code) given = gives _ (end_keeps_image k p)
-  serve_kept t (Exit code) given = exit_kept t
+  unfolding serve row exit_group_row clone_row getpid_row getppid_row eventfd2_row dup_row dup3_row fcntl_row unlinkat_row openat_row close_row pipe2_row lseek_row read_row socket_row socketpair_row bind_row listen_row accept_row connect_row getsockname_row getpeername_row setsockopt_row shutdown_row wait4_row
+  serve_kept t (Write fd buffer count) given = settled_kept (write_row k p t fd count given) (write_kept t fd count given)
+  serve_kept t (ExitGroup code) given = gives _ (end_kept (exit_status code))
+  serve_kept t (Exit code) given = exit_kept t code
+  serve_kept t (Kill number s) given = settled_kept (kill_row k p number s) (kill_kept number s)
   serve_kept t (Tgkill number tid s) given = settled_kept (tgkill_row k p number tid s) (tgkill_kept number tid s)
   serve_kept t (Clone flags stack parent_tid tls child_tid) given = settled_kept (clone_row k p flags) (form_kept flags (clone_form flags))
   serve_kept t _ given = gives _ same_kernel
 
-  pub kept_by_serve : (t : ℕ) (q : Request) (given : List ℕ) (served : Served) → IsKernel k → serve k p t q given ≡ Some served → IsKept k served.kernel p
-  kept_by_serve t q given served is goes = record {
-    others = λ r differ dead. ((serve_threads k p t is alive q given).each served goes).live r differ ∙ dead;
-    image = (serve_kept t q given).each served goes;
-  }
+  pub kept_by_serve : (t : ℕ) (q : Request) (given : List ℕ) (served : Served) → IsAsked k p t q given → serve k p t q given ≡ Some served → IsKept k served.kernel p
+  kept_by_serve t q given served asked goes =
+      let law = each_is_served k p t q given served asked goes in
+      record {
+        others = λ r differ dead. ⊎_elim
+            (λ here. subst (λ s. is_live served.kernel s ≡ false) (sym here) (subst (IsMade k served.kernel) (none_made k p t q given served goes) law.made))
+            (λ other. law.live r differ other ∙ dead)
+            (same_or_other vpid_total vpid_exact r (pid k.next_id));
+        image = (serve_kept t q given).each served goes;
+      }

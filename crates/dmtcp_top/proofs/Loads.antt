@@ -13,12 +13,13 @@ use Rattle.sys_abi.specs.declared.record.Record.TheVariants.{Complete}
 use Rattle.set_disk.specs.Files.{Files as Folder}
 use Rattle.set_disk.specs.Crash.{Same}
 use Rattle.set_disk.proofs.Stretches.{joins, weakens, told_then}
+use Rattle.set_disk.specs.SeenFolder.{SeenFolder}
 use Rattle.plain_machine.specs.declared.plain.Plain.{Plain}
 use Rattle.dmtcp_top.specs.Sessions.{Beginning}
 use Rattle.trace_log.specs.Requests.{first_tally}
 use Rattle.image_store.specs.declared.set_info.SetInfo.{SetInfo}
 use Rattle.image_store.specs.Slots.{last}
-use Rattle.image_codec.specs.declared.damage.Damage.{Damage}
+use Rattle.image_format.specs.declared.damage.Damage.{Damage}
 use Rattle.image_codec.specs.Sets.{DamagedFiles}
 use Rattle.plain_process.specs.Valid.{IsByte}
 use Rattle.image_store.specs.SetDamages.{HasDamage}
@@ -40,72 +41,71 @@ use Rattle.dmtcp_top.specs.Promise.{SpellsCutOf, StaysWhole}
 nothing_there : (generation : ℕ) → Contains {X = Record} [] (Complete generation) → ⊥
 nothing_there generation there = let below = there.1 in omega arith
 
-module _ {D : Type 0} {reads : D → Option Folder} {moment : D → ℕ} {may_leave : D → Folder → Type 0} {left_since : D → ℕ → Folder → Type 0} where
-  -- what could be left after calls that change nothing could be left before them
-  left_before : (old new : D) (image : Folder) → ChangesNothing reads moment may_leave left_since old new → may_leave new image → may_leave old image
-  left_before old new image nothing left = let before = nothing.crash.now image left in subst (may_leave old) (sym before.2) before.1
+-- what could be left after calls that change nothing could be left before them
+left_before : (old new : SeenFolder) (image : Folder) → ChangesNothing old new → new.may_leave image → old.may_leave image
+left_before old new image nothing left = let before = nothing.crash.now image left in subst old.may_leave (sym before.2) before.1
 
-  opening_before : (old new : D) (image : Folder) → ChangesNothing reads moment may_leave left_since old new → IsOpening (may_leave new) image → IsOpening (may_leave old) image
-  opening_before old new image nothing opening = record { old = opening.old; could = left_before old new opening.old nothing opening.could; same = opening.same }
+opening_before : (old new : SeenFolder) (image : Folder) → ChangesNothing old new → IsOpening new.may_leave image → IsOpening old.may_leave image
+opening_before old new image nothing opening = record { old = opening.old; could = left_before old new opening.old nothing opening.could; same = opening.same }
 
-module _ {D : Type 0} {reads : D → Option Folder} {moment : D → ℕ} {may_leave : D → Folder → Type 0} {left_since : D → ℕ → Folder → Type 0} {faults : D → ℕ} where
-  pub looks_none : (d : D) → ((image : Folder) → left_since d (moment d) image → may_leave d image) → OnlyLooks reads moment may_leave left_since faults d d
-  looks_none d only_now = record {
-    nothing = record {
-      same = refl;
-      crash = record {
-        later = omega arith;
-        now = λ image left. (image, left, refl);
-        since = λ t image le left. inl left;
-        keeps = λ t image le left. left;
-      };
-    };
+pub looks_none : (d : SeenFolder) → OnlyLooks d d
+looks_none d = record {
+  nothing = record {
+    same = refl;
     crash = record {
       later = omega arith;
-      each = only_now;
-      before = λ t image le left. inl left;
+      now = λ image left. (image, left, refl);
+      since = λ t image le left. inl left;
+      keeps = λ t image le left. left;
+      wants = λ want. want;
     };
-    counts = record { later = omega arith; small = λ small. small };
-  }
+  };
+  crash = record {
+    later = omega arith;
+    each = d.only_now;
+    before = λ t image le left. inl left;
+  };
+  counts = record { later = omega arith; small = λ small. small };
+}
 
-  pub looks_then : (old mid new : D) → OnlyLooks reads moment may_leave left_since faults old mid → OnlyLooks reads moment may_leave left_since faults mid new → OnlyLooks reads moment may_leave left_since faults old new
-  looks_then old mid new first second = record {
-    nothing = record {
-      same = second.nothing.same ∙ first.nothing.same;
-      crash = passes_then Same first.nothing.crash second.nothing.crash (λ before after same. same) (λ before between after same again. again ∙ same);
-    };
-    crash = joins old mid new (may_leave old) first.crash
-        (weakens mid new (may_leave mid) (may_leave old) second.crash (λ image left. left_before old mid image first.nothing left));
-    counts = record {
-      later = let one = first.counts.later in let two = second.counts.later in omega arith;
-      small = λ small. second.counts.small (first.counts.small small);
-    };
-  }
+pub looks_then : (old mid new : SeenFolder) → OnlyLooks old mid → OnlyLooks mid new → OnlyLooks old new
+looks_then old mid new first second = record {
+  nothing = record {
+    same = second.nothing.same ∙ first.nothing.same;
+    crash = passes_then Same first.nothing.crash second.nothing.crash (λ before after same. same) (λ before between after same again. again ∙ same);
+  };
+  crash = joins old mid new old.may_leave first.crash
+      (weakens mid new mid.may_leave old.may_leave second.crash (λ image left. left_before old mid image first.nothing left));
+  counts = record {
+    later = let one = first.counts.later in let two = second.counts.later in omega arith;
+    small = λ small. second.counts.small (first.counts.small small);
+  };
+}
 
-  pub whole_unbegun : (trace : List Record) (old new : D) → trace ≡ [] → OnlyLooks reads moment may_leave left_since faults old new → StaysWhole reads moment may_leave left_since faults None trace old new
-  whole_unbegun trace old new none looks = subst (λ records. StaysWhole reads moment may_leave left_since faults None records old new) (sym none) (record {
-    crash = λ files is. weakens old new (may_leave old) (λ image. IsOpening (may_leave old) image ⊎ SpellsCutOf None [] image) looks.crash
-        (λ image left. inl (record { old = image; could = left; same = refl }));
-    complete = λ files is generation image there left. absurd (nothing_there generation there);
-    counted = inl (let later = looks.counts.later in omega arith);
-  })
+pub whole_unbegun : (trace : List Record) (old new : SeenFolder) → trace ≡ [] → OnlyLooks old new → StaysWhole None trace old new
+whole_unbegun trace old new none looks = subst (λ records. StaysWhole None records old new) (sym none) (record {
+  crash = λ files is. weakens old new old.may_leave (λ image. IsOpening old.may_leave image ⊎ SpellsCutOf None [] image) looks.crash
+      (λ image left. inl (record { old = image; could = left; same = refl }));
+  complete = λ files is generation image there left. absurd (nothing_there generation there);
+  counted = inl (let later = looks.counts.later in omega arith);
+})
 
-  pub whole_begun : (begun : Beginning) (trace : List Record) (old mid new : D) → OnlyLooks reads moment may_leave left_since faults old mid → IsSafe reads moment may_leave left_since faults begun.state trace mid new → StaysWhole reads moment may_leave left_since faults (Some begun) trace old new
-  whole_begun begun trace old mid new looks safe = record {
-    crash = λ files is. joins old mid new (λ image. IsOpening (may_leave old) image ⊎ SpellsCutOf (Some begun) trace image)
-        (weakens old mid (may_leave old) (λ image. IsOpening (may_leave old) image ⊎ SpellsCutOf (Some begun) trace image) looks.crash (λ image left. inl (record { old = image; could = left; same = refl })))
-        (weakens mid new (λ image. IsOpening (may_leave mid) image ⊎ SpellsCut begun.state trace image) (λ image. IsOpening (may_leave old) image ⊎ SpellsCutOf (Some begun) trace image) (safe.crash files (looks.nothing.same ∙ is)) good);
-    complete = λ files is. safe.complete files (looks.nothing.same ∙ is);
-    counted = counted safe.counted;
-  }
-    where
-      good : (image : Folder) → IsOpening (may_leave mid) image ⊎ SpellsCut begun.state trace image → IsOpening (may_leave old) image ⊎ SpellsCutOf (Some begun) trace image
-      good image (inl opening) = inl (opening_before old mid image looks.nothing opening)
-      good image (inr cut) = inr (record { begun = begun; began = refl; cut = cut })
+pub whole_begun : (begun : Beginning) (trace : List Record) (old mid new : SeenFolder) → OnlyLooks old mid → IsSafe begun.state trace mid new → StaysWhole (Some begun) trace old new
+whole_begun begun trace old mid new looks safe = record {
+  crash = λ files is. joins old mid new (λ image. IsOpening old.may_leave image ⊎ SpellsCutOf (Some begun) trace image)
+      (weakens old mid old.may_leave (λ image. IsOpening old.may_leave image ⊎ SpellsCutOf (Some begun) trace image) looks.crash (λ image left. inl (record { old = image; could = left; same = refl })))
+      (weakens mid new (λ image. IsOpening mid.may_leave image ⊎ SpellsCut begun.state trace image) (λ image. IsOpening old.may_leave image ⊎ SpellsCutOf (Some begun) trace image) (safe.crash files (looks.nothing.same ∙ is)) good);
+  complete = λ files is. safe.complete files (looks.nothing.same ∙ is);
+  counted = counted safe.counted;
+}
+  where
+    good : (image : Folder) → IsOpening mid.may_leave image ⊎ SpellsCut begun.state trace image → IsOpening old.may_leave image ⊎ SpellsCutOf (Some begun) trace image
+    good image (inl opening) = inl (opening_before old mid image looks.nothing opening)
+    good image (inr cut) = inr (record { begun = begun; began = refl; cut = cut })
 
-      counted : CountsFaults trace (faults mid) (faults new) → CountsFaults trace (faults old) (faults new)
-      counted (inl counts) = inl (let later = looks.counts.later in omega arith)
-      counted (inr full) = inr full
+    counted : CountsFaults trace mid.faults new.faults → CountsFaults trace old.faults new.faults
+    counted (inl counts) = inl (let later = looks.counts.later in omega arith)
+    counted (inr full) = inr full
 
 abbrev pub generation_of : Option SetInfo → ℕ
 generation_of info = option_map_or (λ (i : SetInfo). i.generation) info 0
@@ -117,11 +117,11 @@ next_after store none = ap (λ floor. suc (max floor (generation_of store.last))
 none_some : {A : Type 0} (o : Option A) (a : A) → o ≡ Some a → o ≡ None → ⊥
 none_some o a some none = cc
 
-pub kept : (keeper : Keeper) (settings : Settings) (store : Known) (told : Option Folder) (images : Folder → Type 0) → keeper.store ≡ Some store → keeper.tally ≡ first_tally (schedule_of settings (generation_of store.last))
-    → store.floor ≡ 0 → FitsFolder store told images → IsKept keeper told images
-kept keeper settings store told images stored tallied none fits = record {
+pub kept : (keeper : Keeper) (settings : Settings) (store : Known) (folder : SeenFolder) → keeper.store ≡ Some store → keeper.tally ≡ first_tally (schedule_of settings (generation_of store.last))
+    → store.floor ≡ 0 → FitsFolder store folder → IsKept keeper folder
+kept keeper settings store folder stored tallied none fits = record {
   fits = λ other is. let same : store ≡ other = cc in
-      (subst (λ (s : Known). FitsFolder s told images) same fits, ap next_generation (sym same) ∙ next_after store none ∙ ap suc (sym greatest));
+      (subst (λ (s : Known). FitsFolder s folder) same fits, ap next_generation (sym same) ∙ next_after store none ∙ ap suc (sym greatest));
   above = λ files is. told_then (last files) (λ info at.
       let found : store.last ≡ Some info = sym (fits files is).last ∙ at in
       let bound : keeper.tally.greatest ≡ info.generation = greatest ∙ ap generation_of found in omega arith);
@@ -148,9 +148,9 @@ one_more P zero before here (suc k) below = absurd (omega arith)
 one_more P (suc n) before here zero below = before zero (omega arith)
 one_more P (suc n) before here (suc k) below = one_more (λ m. P (suc m)) n (λ m less. before (suc m) (omega arith)) here k (omega arith)
 
-module _ (told : Option Folder) (images : Folder → Type 0) (store : Known) (info : SetInfo) (known : store.last ≡ Some info) (fits : FitsFolder store told images) where
+module _ (folder : SeenFolder) (store : Known) (info : SetInfo) (known : store.last ≡ Some info) (fits : FitsFolder store folder) where
   -- the set that counts is the one that the store knows
-  found_set : (files : Folder) → told ≡ Some files → last_set files ≡ Some (set_of files info)
+  found_set : (files : Folder) → folder.files ≡ Some files → last_set files ≡ Some (set_of files info)
   unfolding last_set
   found_set files is = ap (option_map (set_of files)) ((fits files is).last ∙ known)
 
@@ -158,8 +158,8 @@ module _ (told : Option Folder) (images : Folder → Type 0) (store : Known) (in
   unfolding set_of
   slot_is files = refl
 
-  pub damage_found : (damage : Damage) → ForSome told (λ files. HasDamage (last_set files) damage) → IfSome told (λ files. SpoilsSet files info.slot damage)
-  damage_found damage damaged = told_then told (λ files is.
+  pub damage_found : (damage : Damage) → ForSome folder.files (λ files. HasDamage (last_set files) damage) → IfSome folder.files (λ files. SpoilsSet files info.slot damage)
+  damage_found damage damaged = told_then folder.files (λ files is.
       let found = damaged files is in
       record {
         found = found.0;
@@ -168,8 +168,8 @@ module _ (told : Option Folder) (images : Folder → Type 0) (store : Known) (in
         damaged = inl found.2;
       })
 
-  pub damage_spelled : (bytes : List (List ℕ)) (damage : Damage) → ForSome told (λ files. HasSet (last_set files) info.generation bytes) → DamagedFiles bytes damage.file damage.offset → IfSome told (λ files. SpoilsSet files info.slot damage)
-  damage_spelled bytes damage has damaged = told_then told (λ files is.
+  pub damage_spelled : (bytes : List (List ℕ)) (damage : Damage) → ForSome folder.files (λ files. HasSet (last_set files) info.generation bytes) → DamagedFiles bytes damage.file damage.offset → IfSome folder.files (λ files. SpoilsSet files info.slot damage)
+  damage_spelled bytes damage has damaged = told_then folder.files (λ files is.
       let found = has files is in
       record {
         found = found.0;
@@ -178,14 +178,14 @@ module _ (told : Option Folder) (images : Folder → Type 0) (store : Known) (in
         damaged = inr (bytes, (subst (λ n. IsSet found.0 n bytes) (sym found.2.generation) found.2, damaged));
       })
 
-  pub restored : (result : Result Machine Ending) (bytes : List (List ℕ)) → ForSome told (λ files. HasSet (last_set files) info.generation bytes) → IsMachineOf result info.slot bytes → Restored result info told
+  pub restored : (result : Result Machine Ending) (bytes : List (List ℕ)) → ForSome folder.files (λ files. HasSet (last_set files) info.generation bytes) → IsMachineOf result info.slot bytes → Restored result info folder.files
   restored (Ok m) bytes has of = record {
     images = bytes;
     spelled = of.0;
-    counted = told_then told (λ files is. record { images = bytes; counts = has files is; state = of.0 });
+    counted = told_then folder.files (λ files is. record { images = bytes; counts = has files is; state = of.0 });
     ready = of.1;
   }
-  restored (Err (Damaged at damage)) bytes has of = subst (λ slot. IfSome told (λ files. SpoilsSet files slot damage)) (sym of.0) (damage_spelled bytes damage has of.1)
+  restored (Err (Damaged at damage)) bytes has of = subst (λ slot. IfSome folder.files (λ files. SpoilsSet files slot damage)) (sym of.0) (damage_spelled bytes damage has of.1)
   restored (Err Memory) bytes has of = tt
   restored (Err Done) bytes has of = absurd of
   restored (Err Usage) bytes has of = absurd of

@@ -14,14 +14,15 @@ use Rattle.plain_tables.specs.Tables.{is_live_process}
 use Rattle.plain_machine.specs.Valid.{FitsLife, SameThreads}
 use Rattle.plain_process.specs.Valid.{IsUser}
 use Rattle.plain_machine.proofs.ThreadKeys.{same_len}
-use Rattle.image_codec.specs.declared.process_image.ProcImage.{ProcImage}
-use Rattle.image_codec.specs.declared.shared.Shared.{Shared}
-use Rattle.image_codec.specs.SharedFormat.{SpellsShared}
+use Rattle.image_process.specs.declared.process_image.ProcImage.{ProcImage}
+use Rattle.image_shared.specs.declared.shared.Shared.{Shared}
+use Rattle.image_shared.specs.SharedFormat.{SpellsShared}
 use Rattle.image_codec.specs.KernelParts.{kernel_of, process_entry}
 use Rattle.image_codec.specs.KernelImages.{IsImage}
 use Rattle.image_codec.specs.OneProcess.{HasOneProcess}
-use Rattle.image_codec.specs.ProcessImages.{SpellsProcess, pid_at, tids_at, threads_of}
-use Rattle.image_codec.specs.UserParts.{user_of, thread_entry}
+use Rattle.image_process.specs.ProcessImages.{SpellsProcess, pid_at, tids_at}
+use Rattle.image_process.specs.ProcessFits.{threads_of}
+use Rattle.image_process.specs.UserParts.{user_of, thread_entry}
 use Rattle.image_codec.specs.Sets.{SpellsFiles, SpellsImages}
 use Rattle.image_codec.proofs.OneProcess.{one_of_image}
 use Rattle.image_codec.proofs.SameThreads.{same_threads_have_tids}
@@ -62,7 +63,7 @@ module _ (m : Machine) (ready : IsReady m) (alive : lives m ≡ true) where
   part_has_threads =
       let (process, known) = live_process m.kernel m.guest.pid alive in
       let lives_still : lives_in process.life ≡ true = ap is_live_process (sym known) ∙ alive in
-      let some = has_some_threads process lives_still (ready.valid.kernel.processes m.guest.pid process known).life in
+      let some = has_some_threads process lives_still (ready.valid.kernel.processes.each m.guest.pid process known).life in
       let as_many = same_len m.guest.user.threads process.threads (ready.valid.threads m.guest.pid process m.guest.user known part_is_there) in
       omega arith
 

@@ -13,8 +13,8 @@ use Rattle.guest_proc.specs.Guests.{GuestPart, delivered_by, part_after}
 use Rattle.plain_process.specs.declared.user_part.UserPart.{UserPart}
 use Rattle.plain_machine.specs.declared.plain.Plain.{Plain}
 use Rattle.plain_machine.specs.declared.kernel.PlainKernel.{PlainKernel}
-use Rattle.plain_machine.specs.declared.serve.Answer.{Answer}
-use Rattle.plain_machine.specs.Answers.{served_by}
+use Rattle.plain_rows.specs.declared.answer.Answer.{Answer}
+use Rattle.plain_rows.specs.Answers.{served_by}
 use Rattle.plain_process.specs.Steps.{Asks, user_step, waits}
 use Rattle.plain_process.specs.Buffers.{lent}
 use Rattle.plain_process.specs.Put.{put, put_fault}
@@ -27,6 +27,7 @@ use Rattle.dmtcp_top.specs.Sessions.{Sunk, sunk, Took, TookFront}
 use Rattle.dmtcp_top.specs.Machines.{single, plain_of, lives, with_record, kernel_after, CanDeliver, Takes, Breaks}
 use Rattle.dmtcp_top.proofs.Sinks.{took_nothing}
 use Rattle.dmtcp_top.proofs.Outcomes.{fault_goes, local_goes, serve_goes}
+use Rattle.dmtcp_top.proofs.ServedCalls.{none_made}
 use Rattle.dmtcp_top.proofs.Delivered.{delivered_alone, kernel_found, deliver_goes}
 
 state_is : (n : Machine) (k : PlainKernel) (p : VPid) (user : UserPart) → n.kernel ≡ k → n.guest.pid ≡ p → n.guest.user ≡ user → plain_of n ≡ single k p user
@@ -83,6 +84,7 @@ module _ (m : Machine) (k : PlainKernel) (from to : TraceState) (console : Sunk)
     (reads : lent m.guest.user.memory q ≡ Some given) (kernels : is_local q ≡ false) (serves : serve m.kernel m.guest.pid t.0 q given ≡ Some (served_by k given answer)) (noted : to ≡ with_record from (Call p t)) where
   goes : outcome (plain_of m) (Call m.guest.pid t) ≡ Some (record { state = single k m.guest.pid (put m.guest.user t.0 q answer.reply answer.bytes); console = console_of answer given })
   goes = serve_goes m.kernel m.guest.pid t m.guest.user q given (served_by k given answer) alive asks reads kernels serves
+      (none_made m.kernel m.guest.pid t.0 q given (served_by k given answer) serves)
 
   pub kernel_takes : (n : Machine) → n.kernel ≡ k → n.guest.pid ≡ m.guest.pid → n.guest.user ≡ put m.guest.user t.0 q answer.reply answer.bytes → Took console (console_of answer given) → Takes (plain_of m) (plain_of n) (Call m.guest.pid t) from to console
   kernel_takes n kernel pid part shown = record {

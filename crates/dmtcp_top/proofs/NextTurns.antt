@@ -2,6 +2,7 @@
 use Rattle.std.proofs.Common.{◌≡◌, ℕ, Bool, true, false, cond, List, [], ◌∷◌, Option, Some, None, refl, sym, ap, ◌∙◌}
 use Rattle.std.specs.Prelude.{option_map}
 use Rattle.std.specs.List.{filter_map}
+use Rattle.std.specs.Option.{option_or}
 use Rattle.std.specs.FinMap as map
 use Rattle.sys_abi.specs.declared.identity.VPid.{VPid}
 use Rattle.sys_abi.proofs.OrderLaws.{vpid_total, vpid_exact}
@@ -17,12 +18,12 @@ use Rattle.plain_process.specs.Steps.{UserStep, Stepped, Asks, Trapped, Waits, N
 use Rattle.dmtcp_top.specs.declared.machine.Machine.{Machine}
 use Rattle.dmtcp_top.specs.declared.turn.Turn.{Turn}
 use Rattle.dmtcp_top.specs.Machines.{plain_of, lives, place_of, placed, IsReady}
-use Rattle.dmtcp_top.specs.Rounds.{Place, Due, InTurn, or_else, due_signal, goes_on, turn_with, turn_of, threads_in, first_thread, first_turn, if_missing, coming, round_of, new_round, next_turn, same_turn, stands_in}
+use Rattle.dmtcp_top.specs.Rounds.{Place, Due, InTurn, due_signal, goes_on, turn_with, turn_of, threads_in, first_thread, first_turn, if_missing, coming, round_of, new_round, next_turn, same_turn, stands_in}
 use Rattle.dmtcp_top.proofs.Outcomes.{users_while_live, users_once_ended}
 use Rattle.dmtcp_top.proofs.ImagedKernels.{no_directions}
 use Rattle.dmtcp_top.proofs.Walks.{part_while_live, part_once_ended}
 
-or_none : {A : Type 0} (o : Option A) → or_else o None ≡ o
+or_none : {A : Type 0} (o : Option A) → option_or o None ≡ o
 or_none None = refl
 or_none (Some a) = refl
 
@@ -38,7 +39,7 @@ new_round_live m ready alive =
     let processes : map.keys (plain_of m).users ≡ m.guest.pid ∷ [] = ap map.keys (users_while_live m.kernel m.guest.pid m.guest.user alive) ∙ keys-single vpid_total vpid_exact m.guest.pid m.guest.user in
     ap (λ dirs. round_of (plain_of m) dirs (map.keys (plain_of m).users)) (none_coming m ready alive)
     ∙ ap (round_of (plain_of m) []) processes
-    ∙ ap (λ o. option_map InTurn (or_else (first_thread (plain_of m) m.guest.pid [] (threads_in o)) None)) (part_while_live m alive)
+    ∙ ap (λ o. option_map InTurn (option_or (first_thread (plain_of m) m.guest.pid [] (threads_in o)) None)) (part_while_live m alive)
     ∙ ap (option_map InTurn) (or_none (first_thread (plain_of m) m.guest.pid [] (map.keys m.guest.user.threads)))
 
 pub placed_is : (m : Machine) (turn : Option Turn) → placed m turn ≡ option_map InTurn (option_map (place_of m) turn)
@@ -46,10 +47,10 @@ placed_is m None = refl
 placed_is m (Some turn) = refl
 
 unfoldable next_by : Plain → VPid → List VPid → List ℕ → Option Due
-next_by g p processes threads = or_else (option_map InTurn (first_thread g p processes threads)) (or_else (option_map InTurn (first_turn g processes)) (new_round g))
+next_by g p processes threads = option_or (option_map InTurn (first_thread g p processes threads)) (option_or (option_map InTurn (first_turn g processes)) (new_round g))
 
 pub next_is : (m : Machine) (here : Place) (later : List ℕ) → here.p ≡ m.guest.pid → here.processes ≡ [] → here.threads ≡ later
-    → next_turn (plain_of m) here ≡ or_else (option_map InTurn (first_thread (plain_of m) m.guest.pid [] later)) (new_round (plain_of m))
+    → next_turn (plain_of m) here ≡ option_or (option_map InTurn (first_thread (plain_of m) m.guest.pid [] later)) (new_round (plain_of m))
 unfolding first_turn next_by
 next_is m here later p processes threads =
     ap (λ q. next_by (plain_of m) q here.processes here.threads) p
@@ -60,7 +61,7 @@ next_is m here later p processes threads =
 pub next_of : (m : Machine) (here : Place) (later : List ℕ) (turn : Turn) → here.p ≡ m.guest.pid → here.processes ≡ [] → here.threads ≡ later → Some (place_of m turn) ≡ first_thread (plain_of m) m.guest.pid [] later
     → placed m (Some turn) ≡ next_turn (plain_of m) here
 next_of m here later turn p processes threads is =
-    ap (λ o. or_else (option_map InTurn o) (new_round (plain_of m))) is ∙ sym (next_is m here later p processes threads)
+    ap (λ o. option_or (option_map InTurn o) (new_round (plain_of m))) is ∙ sym (next_is m here later p processes threads)
 
 -- once it has ended
 pub gone : (g : Plain) (p : VPid) (t : ℕ) (later : List ℕ) (processes : List VPid) → map.get g.users p ≡ None → turn_of g p t later processes ≡ None
@@ -71,7 +72,7 @@ gone g p t later processes none =
 all_gone : (g : Plain) (p : VPid) (processes : List VPid) (threads : List ℕ) → map.get g.users p ≡ None → first_thread g p processes threads ≡ None
 unfolding first_thread
 all_gone g p processes [] none = refl
-all_gone g p processes (t ∷ threads) none = ap (λ o. or_else o (first_thread g p processes threads)) (gone g p t threads processes none) ∙ all_gone g p processes threads none
+all_gone g p processes (t ∷ threads) none = ap (λ o. option_or o (first_thread g p processes threads)) (gone g p t threads processes none) ∙ all_gone g p processes threads none
 
 pub no_round : (m : Machine) → lives m ≡ false → None ≡ new_round (plain_of m)
 no_round m dead =
@@ -80,7 +81,7 @@ no_round m dead =
 pub no_next : (m : Machine) (here : Place) (later : List ℕ) → lives m ≡ false → here.p ≡ m.guest.pid → here.processes ≡ [] → here.threads ≡ later → None ≡ next_turn (plain_of m) here
 no_next m here later dead p processes threads =
     no_round m dead
-    ∙ sym (next_is m here later p processes threads ∙ ap (λ o. or_else (option_map InTurn o) (new_round (plain_of m))) (all_gone (plain_of m) m.guest.pid [] later (part_once_ended m dead)))
+    ∙ sym (next_is m here later p processes threads ∙ ap (λ o. option_or (option_map InTurn o) (new_round (plain_of m))) (all_gone (plain_of m) m.guest.pid [] later (part_once_ended m dead)))
 
 pub no_same : (m : Machine) (here : Place) (later : List ℕ) (has_run : Bool) → lives m ≡ false → here.p ≡ m.guest.pid → here.processes ≡ [] → here.threads ≡ later → None ≡ same_turn (plain_of m) here has_run
 unfolding goes_on

@@ -35,6 +35,6 @@ numbers_of m valid alive t thread is =
     let process = the_process m alive in
     let same = valid.threads m.guest.pid process.0 m.guest.user process.1 (part_while_live m alive) t in
     let there = value_at (map.get process.0.threads t) (sym same ∙ ap is_some is) in
-    let given = (valid.kernel.processes m.guest.pid process.0 process.1).threads t there.0 there.1 in
+    let given = (valid.kernel.processes.each m.guest.pid process.0 process.1).threads t there.0 there.1 in
     let least = given.0.0 in
     omega arith

@@ -3,7 +3,7 @@
 --     one_ended      one_ending, of runs that have ended
 use Rattle.std.proofs.Common.{◌≡◌, ℕ, zero, ◌-◌, ◌^◌, ◌<◌, ◌≤◌, Bool, true, false, cond, not, List, [], ◌∷◌, ◌++◌, length, take, Option, Some, None, inl, inr, refl, sym, ap, subst, ◌∙◌, arith}
 use Rattle.std.specs.Prelude.{◌⊎◌, ◌&&◌, ◌||◌, nat_lt, is_some, option_and_then, map as each, All, IfSome}
-use Rattle.std.specs.Option.{option_map}
+use Rattle.std.specs.Option.{option_map, option_map_or, option_or}
 use Rattle.std.specs.FinMap as map
 use Rattle.std.proofs.lemmas.List.{take_all}
 use Rattle.std.proofs.lemmas.List.Elements.{All-head, All-tail}
@@ -18,28 +18,28 @@ use Rattle.plain_machine.specs.declared.plain.Plain.{Plain}
 use Rattle.plain_process.specs.declared.user_part.UserPart.{UserPart}
 use Rattle.plain_machine.specs.Records.{Outcome, outcome, step, quiet}
 use Rattle.plain_machine.specs.Runs.{run, console, console_from}
-use Rattle.plain_machine.specs.Tests.{ended, full_arrive, is_work, IsStuck}
+use Rattle.plain_machine.specs.Tests.{ended, full_arrive, is_work, unsupported, IsStuck}
 use Rattle.plain_machine.specs.Valid.{IsValid}
 use Rattle.plain_machine.proofs.StepBounds.{step_keeps_valid}
 use Rattle.trace_log.specs.declared.requests.Schedule.{Schedule}
 use Rattle.trace_log.specs.declared.requests.Tally.{Tally}
 use Rattle.trace_log.specs.Requests.{Requests, Phase, NoRequest, Requested, AfterCut, asks, is_mark, is_multiple_of, next_requests, phase_after, tally_after}
-use Rattle.trace_log.proofs.RequestMarks.{has_no_marks}
-use Rattle.dmtcp_top.specs.Rounds.{Place, Due, Arrival, InTurn, Upcoming, NewRound, After, Standing, GoesInRounds, or_else, threads_in, first_thread, first_turn, coming, round_of, round_from, new_round, next_turn, same_turn, stands_in, goes_on, due_at, is_due_at, is_due, is_first_arrival, waits, moved, moved_by, then_so, standing_after, in_rounds, first_standing}
+use Rattle.trace_log.proofs.RequestMarks.{has_no_marks, is_each_without_marks}
+use Rattle.dmtcp_top.specs.Rounds.{Place, Due, Arrival, InTurn, Upcoming, NewRound, After, Standing, GoesInRounds, threads_in, first_thread, first_turn, coming, round_of, round_from, new_round, next_turn, same_turn, stands_in, goes_on, due_at, is_due_at, is_due, is_first_arrival, is_due_for_cut, request_waits, moved, moved_by, standing_after, each_is_due, first_standing}
 use Rattle.dmtcp_top.specs.declared.run_end.RunEnd.{RunEnd}
 use Rattle.dmtcp_top.specs.declared.run_end.RunEnd.TheVariants.{Done as RunDone, Budget as RunBudget, Stuck as RunStuck, SinkFault as RunSinkFault, Memory as RunMemory}
-use Rattle.dmtcp_top.specs.RunEnds.{IsRun, EndsRun}
+use Rattle.dmtcp_top.specs.RunEnds.{IsRun, RanOut, EndsRun}
 use Rattle.dmtcp_top.specs.Words.{NameNoEvery}
 use Rattle.dmtcp_top.specs.Launches.{Begun, origin, schedule_in, beginning}
 use Rattle.dmtcp_top.specs.Launches.Begun.{ByLaunch, ByRestart}
 use Rattle.dmtcp_top.specs.Sessions.{Sunk, Session, Given, Beginning, Took}
-use Rattle.dmtcp_top.specs.Ends.{Finished}
-use Rattle.dmtcp_top.specs.OneOrder.{work_in, steps_in, OneOrder, OneTrace, EndsThere, OneEnd, OneEnding, EndsSo, OneAnswer, BeginsWith, GoesOnInRounds, ComesToRest, IsAnswer}
+use Rattle.dmtcp_top.specs.Ends.{CameTo, CallGoesInRounds}
+use Rattle.dmtcp_top.specs.OneOrder.{work_in, steps_in, OneOrder, OneTrace, EndsThere, OneEnd, OneEnding, EndsSo, OneAnswer, BeganWith, RunsToEnd, no_checkpoints, ComesToRest, IsAnswer}
 use Rattle.dmtcp_top.proofs.Walks.{left_true, right_true, mark_stays}
 use Rattle.dmtcp_top.proofs.Running.{mark_is_quiet}
 use Rattle.dmtcp_top.proofs.NextTurns.{gone}
 use Rattle.dmtcp_top.proofs.AtRest.{at_rest, nobody_there}
-use Rattle.dmtcp_top.proofs.Arriving.{arrives_fully, arrives_quietly, rests_on, none_arrives}
+use Rattle.dmtcp_top.proofs.Arriving.{arrives_fully, arrives_quietly, ends_on, rests_on, none_arrives}
 use Rattle.dmtcp_top.proofs.Determined.{one_record}
 
 -- the first of the records, and the rest of them
@@ -47,12 +47,12 @@ record IsFirst (schedule : Schedule) (g : Plain) (at : Standing) (r : Record) (r
   pub o : Outcome
   pub goes : outcome g r ≡ Some o
   pub due : is_due g at r ≡ true
-  pub later : in_rounds schedule o.state (standing_after schedule g at r) rest ≡ true
+  pub later : each_is_due schedule o.state (standing_after schedule g at r) rest ≡ true
 
-first_of : (schedule : Schedule) (g : Plain) (at : Standing) (r : Record) (rest : List Record) → in_rounds schedule g at (r ∷ rest) ≡ true → IsFirst schedule g at r rest
-unfolding in_rounds
+first_of : (schedule : Schedule) (g : Plain) (at : Standing) (r : Record) (rest : List Record) → each_is_due schedule g at (r ∷ rest) ≡ true → IsFirst schedule g at r rest
+unfolding each_is_due
 first_of schedule g at r rest order = elim (outcome g r) as (λ found.
-    outcome g r ≡ found → (is_due g at r && then_so (option_map (λ (o : Outcome). o.state) found) (λ next. in_rounds schedule next (standing_after schedule g at r) rest)) ≡ true → IsFirst schedule g at r rest) [
+    outcome g r ≡ found → (is_due g at r && option_map_or (λ next. each_is_due schedule next (standing_after schedule g at r) rest) (option_map (λ (o : Outcome). o.state) found) false) ≡ true → IsFirst schedule g at r rest) [
       | None ↦ λ is e. true_false (sym (right_true (is_due g at r) false e))
       | Some o ↦ λ is e. record { o = o; goes = is; due = left_true (is_due g at r) _ e; later = right_true (is_due g at r) _ e }
     ] refl order
@@ -71,7 +71,7 @@ never_asks : (schedule : Schedule) (tally : Tally) → schedule.every ≡ None �
 unfolding asks
 never_asks schedule tally none = ap (λ o. is_multiple_of o tally.work && nat_lt tally.greatest (2 ^ 64 - 2)) none
 
-still_none : (phase : Phase) (g : Plain) (r : Record) → waits phase ≡ false → waits (phase_after phase false g r) ≡ false
+still_none : (phase : Phase) (g : Plain) (r : Record) → request_waits phase ≡ false → request_waits (phase_after phase false g r) ≡ false
 still_none NoRequest g (User p t n) free = refl
 still_none NoRequest g (Call p t) free = refl
 still_none NoRequest g (Deliver p t s) free = refl
@@ -99,19 +99,19 @@ still_none (AfterCut (mark ∷ still)) g (Complete generation) free = refl
 still_none (AfterCut (mark ∷ still)) g (Refused cause) free = refl
 still_none (AfterCut (mark ∷ still)) g Lapsed free = refl
 
-never_waits : (schedule : Schedule) (g : Plain) (now : Requests) (r : Record) → schedule.every ≡ None → waits now.phase ≡ false → waits (next_requests schedule g now r).phase ≡ false
+never_waits : (schedule : Schedule) (g : Plain) (now : Requests) (r : Record) → schedule.every ≡ None → request_waits now.phase ≡ false → request_waits (next_requests schedule g now r).phase ≡ false
 unfolding next_requests
-never_waits schedule g now r none free = ap (λ asked. waits (phase_after now.phase asked g r)) (never_asks schedule (tally_after now.tally r) none) ∙ still_none now.phase g r free
+never_waits schedule g now r none free = ap (λ asked. request_waits (phase_after now.phase asked g r)) (never_asks schedule (tally_after now.tally r) none) ∙ still_none now.phase g r free
 
 -- what is due is a mark, or due in the rounds
-due_there : (g : Plain) (at : Standing) (r : Record) → waits at.requests.phase ≡ false → is_mark r ≡ false → is_due g at r ≡ true → is_due_at g (due_at g at.upcoming) r ≡ true
+due_there : (g : Plain) (at : Standing) (r : Record) → request_waits at.requests.phase ≡ false → is_mark r ≡ false → is_due g at r ≡ true → is_due_at g (due_at g at.upcoming) r ≡ true
 due_there g at r free plain due =
-    sym (ap (λ b. b || cond (waits at.requests.phase) (is_first_arrival g (coming g) r) (is_due_at g (due_at g at.upcoming) r)) plain
-    ∙ ap (λ b. cond b (is_first_arrival g (coming g) r) (is_due_at g (due_at g at.upcoming) r)) free) ∙ due
+    sym (ap (λ b. b || cond (request_waits at.requests.phase) (is_due_for_cut g r) (is_due_at g (due_at g at.upcoming) r)) plain
+    ∙ ap (λ b. cond b (is_due_for_cut g r) (is_due_at g (due_at g at.upcoming) r)) free) ∙ due
 
-moves_there : (g : Plain) (at : Standing) (r : Record) → waits at.requests.phase ≡ false → is_mark r ≡ false → moved g at r ≡ moved_by (due_at g at.upcoming) at.upcoming r
+moves_there : (g : Plain) (at : Standing) (r : Record) → request_waits at.requests.phase ≡ false → is_mark r ≡ false → moved g at r ≡ moved_by (due_at g at.upcoming) at.upcoming r
 moves_there g at r free plain =
-    ap (λ b. cond (b || waits at.requests.phase) at.upcoming (moved_by (due_at g at.upcoming) at.upcoming r)) plain
+    ap (λ b. cond (b || request_waits at.requests.phase) at.upcoming (moved_by (due_at g at.upcoming) at.upcoming r)) plain
     ∙ ap (λ b. cond b at.upcoming (moved_by (due_at g at.upcoming) at.upcoming r)) free
 
 -- a mark is no step, and moves nobody
@@ -121,7 +121,7 @@ passed g last at r o steps marks goes later =
     let state : o.state ≡ g = ap (λ (x : Outcome). x.state) same in
     subst (λ h. Steps h at.upcoming steps last) state (subst (λ upcoming. Steps o.state upcoming steps last) (mark_stays g at r marks) later)
 
-joined : (g last : Plain) (at : Standing) (r : Record) (o : Outcome) (steps : List Record) (b : Bool) → is_mark r ≡ b → waits at.requests.phase ≡ false → outcome g r ≡ Some o → is_due g at r ≡ true → Steps o.state (moved g at r) steps last
+joined : (g last : Plain) (at : Standing) (r : Record) (o : Outcome) (steps : List Record) (b : Bool) → is_mark r ≡ b → request_waits at.requests.phase ≡ false → outcome g r ≡ Some o → is_due g at r ≡ true → Steps o.state (moved g at r) steps last
     → Steps g at.upcoming (cond (not b) (r ∷ steps) steps) last
 joined g last at r o steps true is free goes due later = passed g last at r o steps is goes later
 joined g last at r o steps false is free goes due later =
@@ -141,7 +141,7 @@ runs_none : (g : Plain) → run g [] ≡ Some g
 unfolding run
 runs_none g = refl
 
-stripped : (schedule : Schedule) (g : Plain) (at : Standing) (records : List Record) → schedule.every ≡ None → waits at.requests.phase ≡ false → in_rounds schedule g at records ≡ true → Stripped g at.upcoming records
+stripped : (schedule : Schedule) (g : Plain) (at : Standing) (records : List Record) → schedule.every ≡ None → request_waits at.requests.phase ≡ false → each_is_due schedule g at records ≡ true → Stripped g at.upcoming records
 stripped schedule g at [] none free order = record { last = g; runs = runs_none g; steps = refl }
 stripped schedule g at (r ∷ rest) none free order =
     let first = first_of schedule g at r rest order in
@@ -260,29 +260,126 @@ idle_mark (Complete generation) marks = refl
 idle_mark (Refused cause) marks = refl
 idle_mark Lapsed marks = refl
 
--- the record at the end is a step at the state where the others lead to
-last_of : (g last : Plain) (schedule : Schedule) (at : Standing) (records : List Record) (r : Record) → in_rounds schedule g at (records ++ r ∷ []) ≡ true → run g records ≡ Some last → (o : Outcome) × (outcome last r ≡ Some o)
+-- nothing more is due there
+abbrev ComesToEnd : Plain → Type 0
+ComesToEnd last = (ended last ≡ true) ⊎ (IsStuck last × (full_arrive last ≡ last))
+
+-- where nobody lives no round goes on
+nobody_left : (g : Plain) → IsValid g → ended g ≡ true → map.keys g.users ≡ []
+nobody_left g valid over = by (map.entries g.users) (each_entry vpid_total vpid_exact (λ p user. ⊥) g.users (λ p user is. none_found p user (nobody_there g p valid over) is))
+  where
+    none_found : (p : VPid) (user : UserPart) → map.get g.users p ≡ None → map.get g.users p ≡ Some user → ⊥
+    none_found p user none some = cc
+
+    by : (es : List (VPid × UserPart)) → EachEntry (λ p user. ⊥) es → each (λ (e : VPid × UserPart). e.0) es ≡ []
+    by [] none = refl
+    by (e ∷ es) none = absurd none.0
+
+no_round_from : (g : Plain) (dirs : List Dir) → map.keys g.users ≡ [] → round_from g dirs ≡ None
+no_round_from g dirs nobody = ap (round_of g dirs) nobody
+
+no_first_thread : (g : Plain) (p : VPid) (processes : List VPid) (threads : List ℕ) → ((q : VPid) → map.get g.users q ≡ None) → first_thread g p processes threads ≡ None
+unfolding first_thread
+no_first_thread g p processes [] nobody = refl
+no_first_thread g p processes (t ∷ threads) nobody = ap (λ o. option_or o (first_thread g p processes threads)) (gone g p t threads processes (nobody p)) ∙ no_first_thread g p processes threads nobody
+
+no_first_turn : (g : Plain) (processes : List VPid) → ((q : VPid) → map.get g.users q ≡ None) → first_turn g processes ≡ None
+unfolding first_turn first_thread
+no_first_turn g [] nobody = refl
+no_first_turn g (p ∷ processes) nobody = ap (λ o. option_or (first_thread g p processes (threads_in o)) (first_turn g processes)) (nobody p) ∙ no_first_turn g processes nobody
+
+no_next_turn : (g : Plain) (here : Place) → map.keys g.users ≡ [] → ((q : VPid) → map.get g.users q ≡ None) → next_turn g here ≡ None
+no_next_turn g here none nobody =
+    ap (λ o. option_or (option_map InTurn o) (option_or (option_map InTurn (first_turn g here.processes)) (new_round g))) (no_first_thread g here.p here.processes here.threads nobody)
+    ∙ ap (λ o. option_or (option_map InTurn o) (new_round g)) (no_first_turn g here.processes nobody)
+    ∙ no_round_from g (coming g) none
+
+no_same_turn : (g : Plain) (here : Place) (has_run : Bool) → map.keys g.users ≡ [] → ((q : VPid) → map.get g.users q ≡ None) → same_turn g here has_run ≡ None
+unfolding goes_on
+no_same_turn g here has_run none nobody =
+    ap (λ o. cond (goes_on g here.p here.t o) (Some (InTurn (record { p = here.p; t = here.t; signal = None; has_run = has_run; threads = here.threads; processes = here.processes }))) (next_turn g here)) (nobody here.p)
+    ∙ no_next_turn g here none nobody
+
+either_turn : (g : Plain) (here : Place) (has_run b : Bool) → map.keys g.users ≡ [] → ((q : VPid) → map.get g.users q ≡ None) → cond b (same_turn g here has_run) (next_turn g here) ≡ None
+either_turn g here has_run true none nobody = no_same_turn g here has_run none nobody
+either_turn g here has_run false none nobody = no_next_turn g here none nobody
+
+nothing_due : (g : Plain) (upcoming : Upcoming) → map.keys g.users ≡ [] → ((q : VPid) → map.get g.users q ≡ None) → due_at g upcoming ≡ None
+nothing_due g NewRound none nobody = no_round_from g (coming g) none
+nothing_due g (After (Arrival dir dirs) r) none nobody = no_round_from g dirs none
+nothing_due g (After (InTurn here) (User p t n)) none nobody = either_turn g here true (stands_in (map.get g.users here.p) here.t) none nobody
+nothing_due g (After (InTurn here) (Call p t)) none nobody = no_next_turn g here none nobody
+nothing_due g (After (InTurn here) (Deliver p t s)) none nobody = either_turn g here false (is_some here.signal) none nobody
+nothing_due g (After (InTurn here) (Arrive dir n)) none nobody = refl
+nothing_due g (After (InTurn here) (Cut generation)) none nobody = refl
+nothing_due g (After (InTurn here) (Drained dir n)) none nobody = refl
+nothing_due g (After (InTurn here) (Refilled dir n)) none nobody = refl
+nothing_due g (After (InTurn here) (Complete generation)) none nobody = refl
+nothing_due g (After (InTurn here) (Refused cause)) none nobody = refl
+nothing_due g (After (InTurn here) Lapsed) none nobody = refl
+
+-- nothing comes after an end
+no_step : {A : Type 0} (g : Plain) (upcoming : Upcoming) (r : Record) (o : Outcome) → IsValid g → ComesToEnd g → outcome g r ≡ Some o → is_mark r ≡ false → is_due_at g (due_at g upcoming) r ≡ true → A
+no_step g upcoming r o valid (inl over) goes plain due =
+    true_false (sym due ∙ ap (λ d. is_due_at g d r) (nothing_due g upcoming (nobody_left g valid over) (λ q. nobody_there g q valid over)))
+no_step {A} g upcoming r o valid (inr stuck) goes plain due = by (kind r)
+  where
+    by : Kind r → A
+    by (Works work) = at_rest g r o valid (inr stuck.0) work goes
+    by (Marks marks) = true_false (sym marks ∙ plain)
+    by (Arrives dir n is) = none_arrives g dir n o stuck.1 (ap (outcome g) (sym is) ∙ goes)
+
+-- the record at the end is a step at the state where the others lead to, and due there
+record IsLast (last : Plain) (r : Record) : Type 0 where
+  pub at : Standing
+  pub o : Outcome
+  pub goes : outcome last r ≡ Some o
+  pub due : is_due last at r ≡ true
+
+last_of : (g last : Plain) (schedule : Schedule) (at : Standing) (records : List Record) (r : Record) → each_is_due schedule g at (records ++ r ∷ []) ≡ true → run g records ≡ Some last → IsLast last r
 last_of g last schedule at [] r order runs =
     let first = first_of schedule g at r [] order in
-    subst (λ h. (o : Outcome) × (outcome h r ≡ Some o)) (some_same g last (sym (runs_none g) ∙ runs)) (first.o, first.goes)
+    subst (λ h. IsLast h r) (some_same g last (sym (runs_none g) ∙ runs)) (record { at = at; o = first.o; goes = first.goes; due = first.due })
 last_of g last schedule at (x ∷ rest) r order runs =
     let first = first_of schedule g at x (rest ++ r ∷ []) order in
     last_of first.o.state last schedule (standing_after schedule g at x) rest r first.later (sym (runs_further g x first.o rest first.goes) ∙ runs)
 
-pub ends_there : EndsThere
-ends_there schedule g last records r valid runs over order =
-    let end = last_of g last schedule (first_standing schedule) records r order runs in
-    by end.0 end.1 (kind r)
+-- where nobody lives only a mark is due
+none_for_cut : (g : Plain) (r : Record) → ended g ≡ true → is_due_for_cut g r ≡ false
+none_for_cut g r over = ap (λ b. not b && not (is_some (unsupported g)) && is_first_arrival g (coming g) r) over
+
+none_due : (g : Plain) (at : Standing) (r : Record) → IsValid g → ended g ≡ true → is_mark r ≡ false → is_due g at r ≡ false
+none_due g at r valid over plain =
+    ap (λ b. b || cond (request_waits at.requests.phase) (is_due_for_cut g r) (is_due_at g (due_at g at.upcoming) r)) plain ∙ by (request_waits at.requests.phase)
   where
-    by : (o : Outcome) → outcome last r ≡ Some o → Kind r → (is_work r ≡ false) × (full_arrive last ≡ last → is_mark r ≡ true)
-    by o goes (Works work) = at_rest last r o (run_keeps_valid g last records valid runs) over work goes
-    by o goes (Arrives dir n is) = (ap is_work is, λ all. none_arrives last dir n o all (ap (outcome last) (sym is) ∙ goes))
-    by o goes (Marks marks) = (idle_mark r marks, λ all. marks)
+    by : (b : Bool) → cond b (is_due_for_cut g r) (is_due_at g (due_at g at.upcoming) r) ≡ false
+    by true = none_for_cut g r over
+    by false = ap (λ d. is_due_at g d r) (nothing_due g at.upcoming (nobody_left g valid over) (λ q. nobody_there g q valid over))
+
+pub ends_there : EndsThere
+ends_there schedule g last records r valid runs over order = by (kind r)
+  where
+    end : IsLast last r
+    end = last_of g last schedule (first_standing schedule) records r order runs
+
+    there : IsValid last
+    there = run_keeps_valid g last records valid runs
+
+    still : is_mark r ≡ false → (dir : Dir) (n : ℕ) → r ≡ Arrive dir n → (ended last ≡ true) ⊎ (full_arrive last ≡ last) → is_mark r ≡ true
+    still plain dir n is (inl nobody) = true_false (sym end.due ∙ none_due last end.at r there nobody plain)
+    still plain dir n is (inr all) = none_arrives last dir n end.o all (ap (outcome last) (sym is) ∙ end.goes)
+
+    by : Kind r → (is_work r ≡ false) × ((ended last ≡ true) ⊎ (full_arrive last ≡ last) → is_mark r ≡ true)
+    by (Works work) = at_rest last r end.o there over work end.goes
+    by (Arrives dir n is) = (ap is_work is, still (ap is_mark is) dir n is)
+    by (Marks marks) = (idle_mark r marks, λ all. marks)
 
 -- once nobody lives or can go on only arrivals come
 record OnlyArrives (g final : Plain) (b : List Record) : Type 0 where
   pub works : work_in b ≡ []
   pub shown : console g b ≡ []
+  pub lives : ended final ≡ ended g
+  pub none : ended g ≡ true → g ≡ final
   pub state : full_arrive g ≡ full_arrive final
 
 nothing_shown : (g : Plain) → console g [] ≡ []
@@ -294,7 +391,13 @@ unfolding console
 shows g r o rest goes = ap (console_from (λ next. console next rest)) goes
 
 only_arrives : (g final : Plain) (upcoming : Upcoming) (b : List Record) → Steps g upcoming b final → IsValid g → ComesToRest g → OnlyArrives g final b
-only_arrives g final upcoming [] steps valid over = record { works = refl; shown = nothing_shown g; state = ap full_arrive steps }
+only_arrives g final upcoming [] steps valid over = record {
+  works = refl;
+  shown = nothing_shown g;
+  lives = sym (ap ended steps);
+  none = λ nobody. steps;
+  state = ap full_arrive steps;
+}
 only_arrives g final upcoming (y ∷ b) steps valid over = by (kind y) (λ kept rests. only_arrives steps.0.state final (moved_by (due_at g upcoming) upcoming y) b steps.4 kept rests)
   where
     by : Kind y → (IsValid steps.0.state → ComesToRest steps.0.state → OnlyArrives steps.0.state final b) → OnlyArrives g final (y ∷ b)
@@ -306,6 +409,8 @@ only_arrives g final upcoming (y ∷ b) steps valid over = by (kind y) (λ kept 
         record {
           works = ap (λ w. cond w (y ∷ work_in b) (work_in b)) (ap is_work is) ∙ more.works;
           shown = shows g y steps.0 b steps.1 ∙ ap (λ l. l ++ console steps.0.state b) (arrives_quietly g dir n steps.0 goes) ∙ more.shown;
+          lives = more.lives ∙ ends_on g dir n steps.0 goes;
+          none = λ nobody. no_step g upcoming y steps.0 valid (inl nobody) steps.1 steps.2 steps.3;
           state = sym (arrives_fully g dir n steps.0 goes) ∙ more.state;
         }
 
@@ -313,15 +418,26 @@ only_arrives g final upcoming (y ∷ b) steps valid over = by (kind y) (λ kept 
 record SameEnd (g last final : Plain) (a b : List Record) : Type 0 where
   pub works : work_in a ≡ work_in b
   pub shown : console g a ≡ console g b
+  pub same : ended last ≡ true → last ≡ final
   pub state : full_arrive last ≡ full_arrive final
 
 same_end : (g last final : Plain) (upcoming : Upcoming) (a b : List Record) → Steps g upcoming a last → Steps g upcoming b final → IsValid g → ComesToRest last → ComesToRest final → SameEnd g last final a b
 same_end g last final upcoming [] b first second valid over too =
     let only = only_arrives g final upcoming b second valid (subst ComesToRest (sym first) over) in
-    record { works = sym only.works; shown = nothing_shown g ∙ sym only.shown; state = ap full_arrive (sym first) ∙ only.state }
+    record {
+      works = sym only.works;
+      shown = nothing_shown g ∙ sym only.shown;
+      same = λ nobody. sym first ∙ only.none (ap ended first ∙ nobody);
+      state = ap full_arrive (sym first) ∙ only.state;
+    }
 same_end g last final upcoming (x ∷ a) [] first second valid over too =
     let only = only_arrives g last upcoming (x ∷ a) first valid (subst ComesToRest (sym second) too) in
-    record { works = only.works; shown = only.shown ∙ sym (nothing_shown g); state = sym only.state ∙ ap full_arrive second }
+    record {
+      works = only.works;
+      shown = only.shown ∙ sym (nothing_shown g);
+      same = λ nobody. sym (only.none (sym only.lives ∙ nobody)) ∙ second;
+      state = sym only.state ∙ ap full_arrive second;
+    }
 same_end g last final upcoming (x ∷ a) (y ∷ b) first second valid over too =
     let both = alike g last final upcoming x y a b first second in
     let kept = step_keeps_valid g both.o.state x valid (ap (option_map (λ (o : Outcome). o.state)) both.goes) in
@@ -329,6 +445,7 @@ same_end g last final upcoming (x ∷ a) (y ∷ b) first second valid over too =
     record {
       works = ap (λ r. work_in (r ∷ a)) both.same ∙ ap (λ l. cond (is_work y) (y ∷ l) l) more.works;
       shown = shows g x both.o a both.goes ∙ ap (λ l. both.o.console ++ l) more.shown ∙ sym (shows g x both.o b both.goes) ∙ ap (λ r. console g (r ∷ b)) both.same;
+      same = more.same;
       state = more.state;
     }
 
@@ -339,7 +456,7 @@ steps_show g r o rest steps true is goes later =
     let same : o ≡ quiet g = some_same o (quiet g) (sym goes ∙ mark_is_quiet g r is) in
     shows g r o rest goes ∙ ap (λ l. o.console ++ l) later ∙ ap (λ (x : Outcome). x.console ++ console x.state steps) same
 
-shown_by_steps : (schedule : Schedule) (g : Plain) (at : Standing) (records : List Record) → in_rounds schedule g at records ≡ true → console g records ≡ console g (steps_in records)
+shown_by_steps : (schedule : Schedule) (g : Plain) (at : Standing) (records : List Record) → each_is_due schedule g at records ≡ true → console g records ≡ console g (steps_in records)
 shown_by_steps schedule g at [] order = refl
 shown_by_steps schedule g at (r ∷ rest) order =
     let first = first_of schedule g at r rest order in
@@ -367,6 +484,7 @@ one_end schedule other g last final a b none none_too valid first second runs al
     record {
       work = sym (work_of_steps a) ∙ same.works ∙ work_of_steps b;
       shown = shown_by_steps schedule g (first_standing schedule) a first ∙ same.shown ∙ sym (shown_by_steps other g (first_standing other) b second);
+      same = same.same;
       state = same.state;
     }
 
@@ -412,81 +530,12 @@ ended_run RunStuck schedule g room a shown log answer ends order = record { last
 ended_run RunSinkFault schedule g room a shown log answer ends order = absurd answer
 ended_run RunMemory schedule g room a shown log answer ends order = absurd answer
 
--- nothing more is due there
-abbrev ComesToEnd : Plain → Type 0
-ComesToEnd last = (ended last ≡ true) ⊎ (IsStuck last × (full_arrive last ≡ last))
-
 ends_or_full : (end : RunEnd) (last : Plain) (count room : ℕ) → EndsAt end last count room → ComesToEnd last ⊎ (count ≡ room)
 ends_or_full RunDone last count room there = inl (inl there)
 ends_or_full RunBudget last count room there = inr there.1
 ends_or_full RunStuck last count room there = inl (inr (there.0, there.1))
 ends_or_full RunSinkFault last count room there = absurd there
 ends_or_full RunMemory last count room there = absurd there
-
--- where nobody lives no round goes on
-nobody_left : (g : Plain) → IsValid g → ended g ≡ true → map.keys g.users ≡ []
-nobody_left g valid over = by (map.entries g.users) (each_entry vpid_total vpid_exact (λ p user. ⊥) g.users (λ p user is. none_found p user (nobody_there g p valid over) is))
-  where
-    none_found : (p : VPid) (user : UserPart) → map.get g.users p ≡ None → map.get g.users p ≡ Some user → ⊥
-    none_found p user none some = cc
-
-    by : (es : List (VPid × UserPart)) → EachEntry (λ p user. ⊥) es → each (λ (e : VPid × UserPart). e.0) es ≡ []
-    by [] none = refl
-    by (e ∷ es) none = absurd none.0
-
-no_round_from : (g : Plain) (dirs : List Dir) → map.keys g.users ≡ [] → round_from g dirs ≡ None
-no_round_from g dirs nobody = ap (round_of g dirs) nobody
-
-no_first_thread : (g : Plain) (p : VPid) (processes : List VPid) (threads : List ℕ) → ((q : VPid) → map.get g.users q ≡ None) → first_thread g p processes threads ≡ None
-unfolding first_thread
-no_first_thread g p processes [] nobody = refl
-no_first_thread g p processes (t ∷ threads) nobody = ap (λ o. or_else o (first_thread g p processes threads)) (gone g p t threads processes (nobody p)) ∙ no_first_thread g p processes threads nobody
-
-no_first_turn : (g : Plain) (processes : List VPid) → ((q : VPid) → map.get g.users q ≡ None) → first_turn g processes ≡ None
-unfolding first_turn first_thread
-no_first_turn g [] nobody = refl
-no_first_turn g (p ∷ processes) nobody = ap (λ o. or_else (first_thread g p processes (threads_in o)) (first_turn g processes)) (nobody p) ∙ no_first_turn g processes nobody
-
-no_next_turn : (g : Plain) (here : Place) → map.keys g.users ≡ [] → ((q : VPid) → map.get g.users q ≡ None) → next_turn g here ≡ None
-no_next_turn g here none nobody =
-    ap (λ o. or_else (option_map InTurn o) (or_else (option_map InTurn (first_turn g here.processes)) (new_round g))) (no_first_thread g here.p here.processes here.threads nobody)
-    ∙ ap (λ o. or_else (option_map InTurn o) (new_round g)) (no_first_turn g here.processes nobody)
-    ∙ no_round_from g (coming g) none
-
-no_same_turn : (g : Plain) (here : Place) (has_run : Bool) → map.keys g.users ≡ [] → ((q : VPid) → map.get g.users q ≡ None) → same_turn g here has_run ≡ None
-unfolding goes_on
-no_same_turn g here has_run none nobody =
-    ap (λ o. cond (goes_on g here.p here.t o) (Some (InTurn (record { p = here.p; t = here.t; signal = None; has_run = has_run; threads = here.threads; processes = here.processes }))) (next_turn g here)) (nobody here.p)
-    ∙ no_next_turn g here none nobody
-
-either_turn : (g : Plain) (here : Place) (has_run b : Bool) → map.keys g.users ≡ [] → ((q : VPid) → map.get g.users q ≡ None) → cond b (same_turn g here has_run) (next_turn g here) ≡ None
-either_turn g here has_run true none nobody = no_same_turn g here has_run none nobody
-either_turn g here has_run false none nobody = no_next_turn g here none nobody
-
-nothing_due : (g : Plain) (upcoming : Upcoming) → map.keys g.users ≡ [] → ((q : VPid) → map.get g.users q ≡ None) → due_at g upcoming ≡ None
-nothing_due g NewRound none nobody = no_round_from g (coming g) none
-nothing_due g (After (Arrival dir dirs) r) none nobody = no_round_from g dirs none
-nothing_due g (After (InTurn here) (User p t n)) none nobody = either_turn g here true (stands_in (map.get g.users here.p) here.t) none nobody
-nothing_due g (After (InTurn here) (Call p t)) none nobody = no_next_turn g here none nobody
-nothing_due g (After (InTurn here) (Deliver p t s)) none nobody = either_turn g here false (is_some here.signal) none nobody
-nothing_due g (After (InTurn here) (Arrive dir n)) none nobody = refl
-nothing_due g (After (InTurn here) (Cut generation)) none nobody = refl
-nothing_due g (After (InTurn here) (Drained dir n)) none nobody = refl
-nothing_due g (After (InTurn here) (Refilled dir n)) none nobody = refl
-nothing_due g (After (InTurn here) (Complete generation)) none nobody = refl
-nothing_due g (After (InTurn here) (Refused cause)) none nobody = refl
-nothing_due g (After (InTurn here) Lapsed) none nobody = refl
-
--- nothing comes after an end
-no_step : {A : Type 0} (g : Plain) (upcoming : Upcoming) (r : Record) (o : Outcome) → IsValid g → ComesToEnd g → outcome g r ≡ Some o → is_mark r ≡ false → is_due_at g (due_at g upcoming) r ≡ true → A
-no_step g upcoming r o valid (inl over) goes plain due =
-    true_false (sym due ∙ ap (λ d. is_due_at g d r) (nothing_due g upcoming (nobody_left g valid over) (λ q. nobody_there g q valid over)))
-no_step {A} g upcoming r o valid (inr stuck) goes plain due = by (kind r)
-  where
-    by : Kind r → A
-    by (Works work) = at_rest g r o valid (inr stuck.0) work goes
-    by (Marks marks) = true_false (sym marks ∙ plain)
-    by (Arrives dir n is) = none_arrives g dir n o stuck.1 (ap (outcome g) (sym is) ∙ goes)
 
 -- from the same place nothing is longer than what comes to an end
 none_longer : (b : List Record) → length {A = Record} [] ≤ length b
@@ -536,25 +585,27 @@ pub one_ending : OneEnding
 one_ending schedule other g room a b first second shown log also more valid none none_too answer answer_too ends ends_too order order_too =
     one_ended schedule other g room a b first second valid none none_too (ended_run first schedule g room a shown log answer ends order) (ended_run second other g room b also more answer_too ends_too order_too)
 
-ends_as : (schedule other : Schedule) (g last : Plain) (room more : ℕ) (a b : List Record) (end : RunEnd) → IsValid g → schedule.every ≡ None → other.every ≡ None → IsRun schedule g more a last → GoesInRounds schedule g a → ended last ≡ true → length a ≤ room
-    → EndedRun end other g room b → (end ≡ RunMemory) ⊎ ((end ≡ RunDone) × (b ≡ a))
-ends_as schedule other g last room more a b end valid none none_too is order over fits ended_too =
-    let fitting : IsRun schedule g room a last = record { steps = is.steps; requests = is.requests; reaches = is.reaches; fits = fits } in
-    let both = one_ended schedule other g room a b RunDone end valid none none_too (record { last = last; is = fitting; order = order; there = over }) ended_too in
+-- the rounds to an end are a run
+pub run_to_end : (g : Plain) (room : ℕ) (records : List Record) → RunsToEnd g room records → EndedRun RunDone no_checkpoints g room records
+run_to_end g room records to =
+    let reached = is_each_without_marks no_checkpoints g to.last records refl to.steps to.unmarked in
+    let is : IsRun no_checkpoints g room records to.last = record { steps = to.steps; requests = reached.0; reaches = reached.1; fits = to.fits } in
+    record { last = to.last; is = is; order = to.order; there = to.over }
+
+ends_as : (schedule : Schedule) (g : Plain) (room : ℕ) (records trace : List Record) (end : RunEnd) → IsValid g → schedule.every ≡ None → RunsToEnd g room records → EndedRun end schedule g room trace → (end ≡ RunMemory) ⊎ ((end ≡ RunDone) × (trace ≡ records))
+ends_as schedule g room records trace end valid none to ended_too =
+    let both = one_ended no_checkpoints schedule g room records trace RunDone end valid refl none (run_to_end g room records to) ended_too in
     inr (sym both.0, sym both.1)
 
 pub ends_so : EndsSo
-ends_so schedule other g last room more a b RunDone shown log valid none none_too is order over fits ends order_too whole =
-    ends_as schedule other g last room more a b RunDone valid none none_too is order over fits (ended_run RunDone other g room b shown log tt ends order_too)
-ends_so schedule other g last room more a b RunBudget shown log valid none none_too is order over fits ends order_too whole =
-    ends_as schedule other g last room more a b RunBudget valid none none_too is order over fits (ended_run RunBudget other g room b shown log tt ends order_too)
-ends_so schedule other g last room more a b RunStuck shown log valid none none_too is order over fits ends order_too whole =
-    ends_as schedule other g last room more a b RunStuck valid none none_too is order over fits (ended_run RunStuck other g room b shown log tt ends order_too)
-ends_so schedule other g last room more a b RunSinkFault shown log valid none none_too is order over fits ends order_too whole = absurd (whole refl)
-ends_so schedule other g last room more a b RunMemory shown log valid none none_too is order over fits ends order_too whole = inl refl
+ends_so schedule g room records trace RunDone shown log valid none to ends order whole = ends_as schedule g room records trace RunDone valid none to (ended_run RunDone schedule g room trace shown log tt ends order)
+ends_so schedule g room records trace RunBudget shown log valid none to ends order whole = ends_as schedule g room records trace RunBudget valid none to (ended_run RunBudget schedule g room trace shown log tt ends order)
+ends_so schedule g room records trace RunStuck shown log valid none to ends order whole = ends_as schedule g room records trace RunStuck valid none to (ended_run RunStuck schedule g room trace shown log tt ends order)
+ends_so schedule g room records trace RunSinkFault shown log valid none to ends order whole = absurd (whole refl)
+ends_so schedule g room records trace RunMemory shown log valid none to ends order whole = inl refl
 
 -- a call began as its run did
-pub order_of : (session : Session) (begun : Begun session.given) → session.left.start ≡ Some (beginning begun) → GoesOnInRounds session → GoesInRounds (schedule_in begun) (origin begun) session.left.trace
+pub order_of : (session : Session) (begun : Begun session.given) → session.left.start ≡ Some (beginning begun) → CallGoesInRounds session → GoesInRounds (schedule_in begun) (origin begun) session.left.trace
 order_of session begun start order = subst (λ (o : Option Beginning). IfSome o (λ b. GoesInRounds b.schedule b.state session.left.trace)) start order
 
 -- words without `--every` make no requests
@@ -577,9 +628,9 @@ record IsOver (session : Session) (g : Plain) : Type 0 where
   pub over : ended last ≡ true
   pub shown : Took session.left.console (console g session.left.trace)
 
-is_over : (session : Session) (g : Plain) → NameNoEvery session.given.words → BeginsWith session g → Finished session → GoesOnInRounds session → IsOver session g
+is_over : (session : Session) (g : Plain) → NameNoEvery session.given.words → BeganWith session g → CameTo RanOut session → CallGoesInRounds session → IsOver session g
 is_over session g names began is order =
-    subst (IsOver session) (subst (λ (o : Option Beginning). IfSome o (λ b. b.state ≡ g)) is.start began) (record {
+    subst (IsOver session) (some_same (origin is.begun) g (sym (ap (option_map (λ (b : Beginning). b.state)) is.start) ∙ began)) (record {
       schedule = schedule_in is.begun;
       none = no_requests session.given is.begun names;
       valid = valid_origin session.given is.begun;

@@ -1,11 +1,12 @@
--- Restarts from one set, without checkpoints, answer one and leave one trace.
---     one_restart
-use Rattle.std.proofs.Common.{◌≡◌, ℕ, List, [], ◌∷◌, get_or, Option, Some, refl, sym, ap, subst, ◌∙◌, arith}
-use Rattle.std.specs.Prelude.{All, codes, fold, IfSome}
+-- Restarts from one set, without checkpoints, answer one and leave one trace, which is that of the rounds from the set's state to their end.
+--     one_restart, restart_ends_so
+use Rattle.std.proofs.Common.{◌≡◌, ℕ, List, [], ◌∷◌, get_or, Option, Some, None, inl, inr, refl, sym, ap, subst, ◌∙◌, arith}
+use Rattle.std.specs.Prelude.{◌⊎◌, All, codes, fold, IfSome}
 use Rattle.std.specs.Fmt.{decimal}
 use Rattle.std.specs.Str.Parse.{digits_value}
 use Rattle.std.proofs.lemmas.Fmt.{decimal_is_IsNumeral}
 use Rattle.std.proofs.lemmas.List.Elements.{All-head, All-tail}
+use Rattle.sys_abi.specs.declared.record.Record.{Record}
 use Rattle.plain_machine.specs.declared.plain.Plain.{Plain}
 use Rattle.plain_machine.specs.Valid.{IsValid}
 use Rattle.set_disk.specs.Files.{Files as Folder}
@@ -15,17 +16,17 @@ use Rattle.dmtcp_top.specs.declared.settings.Setting.{Setting}
 use Rattle.dmtcp_top.specs.declared.settings.Setting.TheVariants.{Every, Records}
 use Rattle.dmtcp_top.specs.declared.settings.Settings.{Settings}
 use Rattle.dmtcp_top.specs.declared.status.Status.{Status}
-use Rattle.dmtcp_top.specs.declared.status.Status.TheVariants.{Done, Budget, Stuck}
+use Rattle.dmtcp_top.specs.declared.status.Status.TheVariants.{Done, Budget, Stuck, Memory}
 use Rattle.dmtcp_top.specs.Words.{IsCount, count_of, words_of_all, with_setting, defaults, IsRestart}
 use Rattle.dmtcp_top.specs.Sessions.{Sunk, Session}
 use Rattle.dmtcp_top.specs.Sets.{SpellsSet}
 use Rattle.dmtcp_top.specs.Launches.{Begun, origin, settings_in, opening_in, schedule_of}
 use Rattle.dmtcp_top.specs.Launches.Begun.{ByLaunch, ByRestart}
-use Rattle.dmtcp_top.specs.Ends.{Ends}
-use Rattle.dmtcp_top.specs.OneOrder.{Answers, GoesOnInRounds, OneRestart}
+use Rattle.dmtcp_top.specs.Ends.{Ends, RunsOn, IsDecided, CallGoesInRounds}
+use Rattle.dmtcp_top.specs.OneOrder.{Answers, OneRestart, RestartEndsSo, RunsToEnd, no_checkpoints}
 use Rattle.dmtcp_top.proofs.Decisions.{not_both}
 use Rattle.dmtcp_top.proofs.RoundTrips.{one_state}
-use Rattle.dmtcp_top.proofs.OneOrder.{EndedRun, one_ended, order_of, valid_origin}
+use Rattle.dmtcp_top.proofs.OneOrder.{EndedRun, one_ended, order_of, run_to_end, valid_origin}
 
 -- the words of a restart have one setting
 one_number : (k n : ℕ) → IsCount k → IsCount n → decimal k ≡ decimal n → k ≡ n
@@ -101,7 +102,7 @@ module _ (files : Folder) (generation : ℕ) (g : Plain) (settings : Settings) (
         subst IsValid at.0 (valid_origin session.given begun),
       )
 
-  restart_run : (status : Status) (log : Sunk) → Answers status → Ends status session log → GoesOnInRounds session → EndsAs (end_of status)
+  restart_run : (status : Status) (log : Sunk) → Answers status → Ends status session log → CallGoesInRounds session → EndsAs (end_of status)
   restart_run Done log answers ends order =
       let is = ends.reached.0 in begun_here RunDone is.begun (record { last = is.run.shown.state; is = is.run.shown.run; order = order_of session is.begun is.start order; there = is.run.nobody })
   restart_run Budget log answers ends order =
@@ -131,3 +132,24 @@ one_restart files generation g settings a b first second log other spells none a
     let two = restart_run files generation g settings spells b asks_too folder_too second other answers_too ends_too order_too in
     let same = one_ended (schedule_of settings one.0) (schedule_of settings two.0) g settings.records a.left.trace b.left.trace (end_of first) (end_of second) one.2 none none one.1 two.1 in
     (one_status first second answers answers_too same.0, same.1)
+
+module _ (files : Folder) (generation : ℕ) (g : Plain) (settings : Settings) (records : List Record) (session : Session) (log : Sunk) (spells : SpellsSet files generation g) (folder : session.given.folder ≡ Some files)
+    (asks : IsRestart session.given.words settings) (none : settings.every ≡ None) (to : RunsToEnd g settings.records records) (order : CallGoesInRounds session) where
+  abbrev DoesSo : Status → Type 0
+  DoesSo status = (status ≡ Done) × (session.left.trace ≡ records)
+
+  does_so : (status : Status) → Answers status → Ends status session log → DoesSo status
+  does_so status answers ends =
+      let one = restart_run files generation g settings spells session asks folder status log answers ends order in
+      let same = one_ended no_checkpoints (schedule_of settings one.0) g settings.records records session.left.trace RunDone (end_of status) one.2 refl none (run_to_end g settings.records records to) one.1 in
+      (one_status status Done answers tt (sym same.0), sym same.1)
+
+  by_status : (status : Status) → Ends status session log → RunsOn status → (status ≡ Memory) ⊎ DoesSo status
+  by_status status ends (inl is) = inr (does_so status (subst Answers (sym is) tt) ends)
+  by_status status ends (inr (inl is)) = inr (does_so status (subst Answers (sym is) tt) ends)
+  by_status status ends (inr (inr (inl is))) = inr (does_so status (subst Answers (sym is) tt) ends)
+  by_status status ends (inr (inr (inr is))) = inl is
+
+pub restart_ends_so : RestartEndsSo
+restart_ends_so files generation g settings records session status log spells folder asks none to ends order decided =
+    by_status files generation g settings records session log spells folder asks none to order status ends (decided.restarts files generation g (record { settings = settings; words = asks }) folder spells)

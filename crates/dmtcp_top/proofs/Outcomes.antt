@@ -17,10 +17,10 @@ use Rattle.plain_machine.specs.Attempts.{Served}
 use Rattle.plain_machine.specs.Kernel.{is_live}
 use Rattle.plain_process.specs.Steps.{Asks, user_step, user_steps}
 use Rattle.plain_process.specs.Buffers.{lent}
-use Rattle.plain_process.specs.Put.{put, put_fault}
+use Rattle.plain_process.specs.Put.{made_by, put, put_fault}
 use Rattle.plain_process.specs.Local.{local_row}
 use Rattle.plain_machine.specs.Serve.{serve}
-use Rattle.plain_machine.specs.Records.{Outcome, outcome, quiet, living, stands, with_user, if_ends, outcome_of_user, outcome_of_call, outcome_of_ask, outcome_of_lent, outcome_of_serve}
+use Rattle.plain_machine.specs.Records.{with_child, Outcome, outcome, quiet, living, stands, with_user, if_ends, outcome_of_user, outcome_of_call, outcome_of_ask, outcome_of_lent, outcome_of_serve}
 use Rattle.dmtcp_top.specs.Machines.{only, single}
 
 retain_nothing : (keep : VPid → Bool) → map.retain_keys (map.empty {X = UserPart} {R = vpid_cmp}) keep ≡ map.empty
@@ -81,9 +81,10 @@ local_goes k p t user q given alive asks reads local =
     ∙ ap (λ b. cond b (Some (quiet (with_user (single k p user) p (local_row user t.0 q)))) (outcome_of_serve (single k p user) p t.0 user q (serve k p t.0 q given))) local
     ∙ ap (λ g. Some (quiet g)) (with_user_is k p user (local_row user t.0 q) alive)
 
-pub serve_goes : (k : PlainKernel) (p : VPid) (t : Tid) (user : UserPart) (q : Request) (given : List ℕ) (served : Served) → is_live k p ≡ true → user_step user t.0 ≡ Asks q → lent user.memory q ≡ Some given → is_local q ≡ false → serve k p t.0 q given ≡ Some served → outcome (single k p user) (Call p t) ≡ Some (record { state = single served.kernel p (put user t.0 q served.reply served.bytes); console = served.console })
-serve_goes k p t user q given served alive asks reads kernels serves =
+pub serve_goes : (k : PlainKernel) (p : VPid) (t : Tid) (user : UserPart) (q : Request) (given : List ℕ) (served : Served) → is_live k p ≡ true → user_step user t.0 ≡ Asks q → lent user.memory q ≡ Some given → is_local q ≡ false → serve k p t.0 q given ≡ Some served → made_by q served.reply ≡ None → outcome (single k p user) (Call p t) ≡ Some (record { state = single served.kernel p (put user t.0 q served.reply served.bytes); console = served.console })
+serve_goes k p t user q given served alive asks reads kernels serves none =
     asked k p t user q alive asks ∙ ap (outcome_of_lent (single k p user) p t.0 user q) reads
     ∙ ap (λ b. cond b (Some (quiet (with_user (single k p user) p (local_row user t.0 q)))) (outcome_of_serve (single k p user) p t.0 user q (serve k p t.0 q given))) kernels
     ∙ ap (outcome_of_serve (single k p user) p t.0 user q) serves
+    ∙ ap (λ made. let o : Outcome = record { state = living (record { kernel = served.kernel; users = with_child (map.insert (single k p user).users p (put user t.0 q served.reply served.bytes)) user t.0 q k.next_id made }); console = served.console } in Some o) none
     ∙ ap (λ (m : map.FinMap vpid_cmp UserPart). let o : Outcome = record { state = living (record { kernel = served.kernel; users = m }); console = served.console } in Some o) (replaced k p user (put user t.0 q served.reply served.bytes) alive)

@@ -1,6 +1,7 @@
 -- Which turn a thread of the one process has, as the driver looks at it.
 use Rattle.std.proofs.Common.{◌≡◌, ℕ, Bool, true, false, cond, List, [], ◌∷◌, Option, Some, None, refl, sym, ap, ◌∙◌}
 use Rattle.std.specs.Prelude.{is_some, option_map}
+use Rattle.std.specs.Option.{option_or}
 use Rattle.std.specs.FinMap as map
 use Rattle.sys_abi.specs.declared.identity.VPid.{VPid}
 use Rattle.sys_abi.specs.Signals.{lowest_signal, without_signals}
@@ -14,7 +15,7 @@ use Rattle.plain_machine.specs.Kernel.{pending}
 use Rattle.plain_process.specs.Steps.{UserStep, Stepped, Asks, Trapped, Waits, NoThread, waits, effect_at, step_by, step_of, user_step}
 use Rattle.dmtcp_top.specs.declared.machine.Machine.{Machine}
 use Rattle.dmtcp_top.specs.Machines.{plain_of, lives}
-use Rattle.dmtcp_top.specs.Rounds.{Place, or_else, signal_for, due_signal, goes_on_at, goes_on, turn_with, turn_of, first_thread}
+use Rattle.dmtcp_top.specs.Rounds.{Place, signal_for, due_signal, goes_on_at, goes_on, turn_with, turn_of, first_thread}
 use Rattle.dmtcp_top.proofs.GoingCalls.{call_goes}
 use Rattle.dmtcp_top.proofs.Walks.{part_while_live}
 
@@ -90,11 +91,11 @@ signal_due m t set mask alive pends is = masked m t set mask (map.get m.guest.us
 -- the first of the threads
 pub passed_over : (g : Plain) (p : VPid) (t : ℕ) (later : List ℕ) → turn_of g p t later [] ≡ None → first_thread g p [] (t ∷ later) ≡ first_thread g p [] later
 unfolding first_thread
-passed_over g p t later none = ap (λ o. or_else o (first_thread g p [] later)) none
+passed_over g p t later none = ap (λ o. option_or o (first_thread g p [] later)) none
 
 pub found_first : (g : Plain) (p : VPid) (t : ℕ) (later : List ℕ) (place : Place) → turn_of g p t later [] ≡ Some place → first_thread g p [] (t ∷ later) ≡ Some place
 unfolding first_thread
-found_first g p t later place is = ap (λ o. or_else o (first_thread g p [] later)) is
+found_first g p t later place is = ap (λ o. option_or o (first_thread g p [] later)) is
 
 pub none_first : (g : Plain) (p : VPid) → first_thread g p [] [] ≡ None
 unfolding first_thread

@@ -23,15 +23,18 @@ use Rattle.plain_process.specs.Deliveries.{Delivery, Enters, Ignores, Kills, del
 use Rattle.plain_machine.specs.Serve.{serve}
 use Rattle.plain_machine.specs.Records.{Outcome, QUANTUM, outcome, user_ends, if_ends, is_unready, delivered, deliverable, outcome_of_user, outcome_of_call, outcome_of_ask, outcome_of_lent, outcome_of_serve, outcome_of_pending, outcome_of_signal}
 use Rattle.plain_machine.specs.Valid.{IsKernel, IsValid}
+use Rattle.plain_machine.proofs.WholeChanges.{whole_take}
+use Rattle.plain_machine.proofs.KernelThreads.{take_threads}
 use Rattle.plain_machine.specs.Laws.{subject}
 use Rattle.plain_process.proofs.Giving.{Giving, gives, nothing, where_, either, then_}
+use Rattle.plain_machine.proofs.Asking.{stands_asked}
 use Rattle.plain_machine.proofs.StepBounds.{step_keeps_valid}
 use Rattle.dmtcp_top.specs.declared.machine.Machine.{Machine}
 use Rattle.dmtcp_top.specs.Sessions.{Sunk}
 use Rattle.dmtcp_top.specs.Machines.{lives, plain_of, IsReady, IsSame, Takes}
 use Rattle.dmtcp_top.proofs.KeptKernels.{IsKept, kept_itself, kept_by_end, kept_by_take, kept_by_serve}
 
-module _ (g : Plain) (p : VPid) (is : IsKernel g.kernel) (alive : is_live g.kernel p ≡ true) where
+module _ (g : Plain) (p : VPid) (is : IsValid g) (alive : is_live g.kernel p ≡ true) where
   abbrev Kept : Option Outcome → Type 0
   Kept found = Giving found (λ o. IsKept g.kernel o.state.kernel p)
 
@@ -43,37 +46,38 @@ module _ (g : Plain) (p : VPid) (is : IsKernel g.kernel) (alive : is_live g.kern
   kept_user t n (Some user) = where_ (nat_le 1 n && nat_le n QUANTUM) (λ counted.
       then_ (user_steps n user t) {f = if_ends g p t n} (λ after goes. where_ (user_ends n t after) (λ ends. gives _ same)))
 
-  kept_serve : (t : ℕ) (user : UserPart) (q : Request) (given : List ℕ) (served : Option Served) → serve g.kernel p t q given ≡ served → Kept (outcome_of_serve g p t user q served)
-  kept_serve t user q given None goes = nothing
-  kept_serve t user q given (Some served) goes = gives _ (kept_by_serve g.kernel p alive t q given served is goes)
+  module _ (t : ℕ) (user : UserPart) (there : map.get g.users p ≡ Some user) where
+    kept_serve : (q : Request) (given : List ℕ) (served : Option Served) → user_step user t ≡ Asks q → lent user.memory q ≡ Some given → serve g.kernel p t q given ≡ served → Kept (outcome_of_serve g p t user q served)
+    kept_serve q given None asks reads goes = nothing
+    kept_serve q given (Some served) asks reads goes = gives _ (kept_by_serve g.kernel p is.kernel alive t q given served (stands_asked g user p t q given is there asks reads) goes)
 
-  kept_lent : (t : ℕ) (user : UserPart) (q : Request) (given : Option (List ℕ)) → Kept (outcome_of_lent g p t user q given)
-  kept_lent t user q None = gives _ same
-  kept_lent t user q (Some given) = either (is_local q) (λ alone. gives _ same) (λ global. kept_serve t user q given (serve g.kernel p t q given) refl)
+    kept_lent : (q : Request) (given : Option (List ℕ)) → user_step user t ≡ Asks q → lent user.memory q ≡ given → Kept (outcome_of_lent g p t user q given)
+    kept_lent q None asks reads = gives _ same
+    kept_lent q (Some given) asks reads = either (is_local q) (λ alone. gives _ same) (λ global. kept_serve q given (serve g.kernel p t q given) asks reads refl)
 
-  kept_ask : (t : ℕ) (user : UserPart) (at : UserStep) → Kept (outcome_of_ask g p t user at)
-  kept_ask t user (Asks q) = kept_lent t user q (lent user.memory q)
-  kept_ask t user (Stepped after) = nothing
-  kept_ask t user (Trapped s) = nothing
-  kept_ask t user Waits = nothing
-  kept_ask t user NoThread = nothing
+    kept_ask : (at : UserStep) → user_step user t ≡ at → Kept (outcome_of_ask g p t user at)
+    kept_ask (Asks q) asks = kept_lent q (lent user.memory q) asks refl
+    kept_ask (Stepped after) asks = nothing
+    kept_ask (Trapped s) asks = nothing
+    kept_ask Waits asks = nothing
+    kept_ask NoThread asks = nothing
 
-  kept_call : (t : ℕ) (found : Option UserPart) → Kept (outcome_of_call g p t found)
-  kept_call t None = nothing
-  kept_call t (Some user) = kept_ask t user (user_step user t)
+  kept_call : (t : ℕ) (found : Option UserPart) → map.get g.users p ≡ found → Kept (outcome_of_call g p t found)
+  kept_call t None there = nothing
+  kept_call t (Some user) there = kept_ask t user there (user_step user t) refl
 
-  kept_delivered : (k : PlainKernel) (d : Delivery) → IsKept g.kernel k p → IsKept g.kernel (delivered (record { kernel = k; users = g.users }) p d).kernel p
-  kept_delivered k (Enters after) kept = kept
-  kept_delivered k Ignores kept = kept
-  kept_delivered k (Kills status) kept = kept_by_end g.kernel k p kept
+  kept_delivered : (k : PlainKernel) (d : Delivery) → IsKernel k → is_live k p ≡ true → IsKept g.kernel k p → IsKept g.kernel (delivered (record { kernel = k; users = g.users }) p d).kernel p
+  kept_delivered k (Enters after) whole lives kept = kept
+  kept_delivered k Ignores whole lives kept = kept
+  kept_delivered k (Kills status) whole lives kept = kept_by_end g.kernel k p status whole lives kept
 
   kept_pending : (t s : ℕ) (user : UserPart) (found : Option ThreadPart) → Kept (outcome_of_pending g p t s user found)
   kept_pending t s user None = nothing
   kept_pending t s user (Some thread) =
       either (traps_with (user_step user t) s)
-      (λ traps. gives _ (kept_delivered g.kernel (deliver user t s false) same))
+      (λ traps. gives _ (kept_delivered g.kernel (deliver user t s false) is.kernel alive same))
       (λ other. where_ (has_signal (deliverable g.kernel p t thread) s) (λ pending.
-      gives _ (kept_delivered (after_take g.kernel p t s) (deliver user t s (is_unready g p t user (user_step user t))) (kept_by_take g.kernel p t s alive))))
+      gives _ (kept_delivered (after_take g.kernel p t s) (deliver user t s (is_unready g p t user (user_step user t))) (whole_take g.kernel p is.kernel t s) ((take_threads g.kernel p t s).live p ∙ alive) (kept_by_take g.kernel p t s alive))))
 
   kept_signal : (t s : ℕ) (found : Option UserPart) → Kept (outcome_of_signal g p t s found)
   kept_signal t s None = nothing
@@ -83,13 +87,13 @@ module _ (g : Plain) (p : VPid) (is : IsKernel g.kernel) (alive : is_live g.kern
   outcome_keeps : (r : Record) → subject r ≡ Some p → Kept (outcome g r)
   unfolding outcome
   outcome_keeps (User q t n) own = let here : p ≡ q = cc in subst (λ x. Giving (outcome_of_user g x t.0 n (map.get g.users x)) (λ o. IsKept g.kernel o.state.kernel p)) here (kept_user t.0 n (map.get g.users p))
-  outcome_keeps (Call q t) own = let here : p ≡ q = cc in subst (λ x. Giving (outcome_of_call g x t.0 (map.get g.users x)) (λ o. IsKept g.kernel o.state.kernel p)) here (kept_call t.0 (map.get g.users p))
+  outcome_keeps (Call q t) own = let here : p ≡ q = cc in subst (λ x. Giving (outcome_of_call g x t.0 (map.get g.users x)) (λ o. IsKept g.kernel o.state.kernel p)) here (kept_call t.0 (map.get g.users p) refl)
   outcome_keeps (Deliver q t s) own = let here : p ≡ q = cc in subst (λ x. Giving (outcome_of_signal g x t.0 s.0 (map.get g.users x)) (λ o. IsKept g.kernel o.state.kernel p)) here (kept_signal t.0 s.0 (map.get g.users p))
   outcome_keeps _ own = absurd (cc)
 
 pub ready_after : (m n : Machine) (r : Record) (from to : TraceState) (console : Sunk) → subject r ≡ Some m.guest.pid → IsReady m → lives m ≡ true → IsSame m n → Takes (plain_of m) (plain_of n) r from to console → IsReady n
 ready_after m n r from to console own ready alive same takes =
-    let kept = (outcome_keeps (plain_of m) m.guest.pid ready.valid.kernel alive r own).each _ takes.outcome in
+    let kept = (outcome_keeps (plain_of m) m.guest.pid ready.valid alive r own).each _ takes.outcome in
     let valid : IsValid (plain_of n) = step_keeps_valid (plain_of m) (plain_of n) r ready.valid (ap (option_map (λ (o : Outcome). o.state)) takes.outcome) in
     record {
       single = record { alone = λ q differ. let apart : q ≢ m.guest.pid = λ is. differ (is ∙ sym same.pid) in kept.others q apart (ready.single.alone q apart) };

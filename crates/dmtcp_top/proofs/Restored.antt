@@ -16,15 +16,16 @@ use Rattle.plain_process.specs.declared.user_part.UserPart.{UserPart}
 use Rattle.plain_machine.specs.Kernel.{is_live}
 use Rattle.plain_process.specs.Valid.{IsByte, IsUser}
 use Rattle.plain_machine.specs.Valid.{IsValid, SameThreads}
-use Rattle.image_codec.specs.declared.process_image.ProcImage.{ProcImage}
-use Rattle.image_codec.specs.declared.shared.Shared.{Shared}
-use Rattle.image_codec.specs.SharedFits.{IsShared}
+use Rattle.image_process.specs.declared.process_image.ProcImage.{ProcImage}
+use Rattle.image_shared.specs.declared.shared.Shared.{Shared}
+use Rattle.image_shared.specs.SharedFits.{IsShared}
 use Rattle.image_codec.specs.KernelParts.{kernel_of, process_entry}
 use Rattle.image_codec.specs.KernelImages.{HasImage}
 use Rattle.image_codec.specs.OneProcess.{HasOneProcess}
-use Rattle.image_codec.specs.ProcessImages.{SpellsProcess, pid_at, tids_at}
-use Rattle.image_codec.specs.UserParts.{user_of}
+use Rattle.image_process.specs.ProcessImages.{SpellsProcess, pid_at, tids_at}
+use Rattle.image_process.specs.UserParts.{user_of}
 use Rattle.image_codec.specs.Sets.{SpellsFiles, SpellsImages, IsStateOf, user_entry}
+use Rattle.image_shared.proofs.SharedLaws.{text_of}
 use Rattle.image_codec.proofs.OneProcess.{one_of_image}
 use Rattle.image_codec.proofs.ImageKernels.{image_is_kernel}
 use Rattle.image_codec.proofs.SameThreads.{images_have_same_threads}
@@ -59,7 +60,8 @@ one_image : (files : List (List ℕ)) (s : Shared) (images : List ProcImage) →
 unfolding SpellsFiles
 one_image [] s images bytes spells = absurd spells
 one_image (first ∷ texts) s images bytes spells =
-    image_of_texts s texts images spells.0.keeps (spells.1 ∙ (one_of_image s spells.0.keeps).files) (all_tail (λ file. All IsByte file) first texts bytes) spells.2
+    let shared = (text_of first s spells.0).keeps in
+    image_of_texts s texts images shared (spells.1 ∙ (one_of_image s shared).files) (all_tail (λ file. All IsByte file) first texts bytes) spells.2
 
 pub the_image : (s : Shared) (images : List ProcImage) → (files : List (List ℕ)) × (All (λ file. All IsByte file) files × SpellsFiles files s images) → IsOneImage s images
 the_image s images (files, (bytes, spells)) = one_image files s images bytes spells

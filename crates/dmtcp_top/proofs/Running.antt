@@ -3,6 +3,7 @@ use Rattle.std.proofs.Common.{◌≡◌, ℕ, suc, ◌+◌, ◌-◌, ◌<◌, �
 use Rattle.std.specs.Prelude.{◌⊎◌}
 use Rattle.std.specs.Option.{option_map}
 use Rattle.std.proofs.lemmas.List.{length-append}
+use Rattle.std.proofs.Math.Seq.{take-append-add}
 use Rattle.sys_abi.specs.declared.record.Record.{Record}
 use Rattle.sys_abi.specs.declared.record.Record.TheVariants.{User, Call, Deliver, Arrive, Cut, Drained, Refilled, Complete, Refused, Lapsed}
 use Rattle.edge_io.specs.Sink.{appended}
@@ -10,7 +11,7 @@ use Rattle.trace_log.specs.declared.requests.Schedule.{Schedule}
 use Rattle.trace_log.specs.declared.requests.Tally.{Tally}
 use Rattle.trace_log.specs.declared.log_lines.Progress.{Progress}
 use Rattle.trace_log.specs.Trace.{TraceState}
-use Rattle.trace_log.specs.Requests.{Requests, Reaches, LeadsTo, MayStand, MayStandIn, NoRequest, is_mark, is_outcome, at_start, next_requests, tally_after, one_more_work}
+use Rattle.trace_log.specs.Requests.{Requests, RunsTo, LeadsTo, MayStand, MayStandIn, NoRequest, is_mark, is_outcome, first_requests, next_requests, tally_after, one_more_work}
 use Rattle.trace_log.specs.LogText.{at_start as log_start, after, after_all, line_of, log_text}
 use Rattle.trace_log.proofs.RequestFronts.{goes_on_by_one, runs}
 use Rattle.trace_log.proofs.LogLines.{log_grows}
@@ -23,10 +24,11 @@ use Rattle.plain_machine.proofs.RunLaws.{console_of_one_more}
 use Rattle.dmtcp_top.specs.declared.keeper.Keeper.{Keeper}
 use Rattle.dmtcp_top.specs.Sessions.{Sunk, sunk, Took, TookFront, TookThen}
 use Rattle.dmtcp_top.specs.Machines.{Notes, Spoils}
-use Rattle.dmtcp_top.specs.Rounds.{Place, Due, InTurn, Upcoming, NewRound, After, Standing, due_at, new_round, first_standing, in_rounds, GoesInRounds}
+use Rattle.dmtcp_top.specs.Rounds.{Place, Due, InTurn, Upcoming, NewRound, After, Standing, due_at, new_round, first_standing, each_is_due, GoesInRounds}
 use Rattle.dmtcp_top.specs.Running.{walk, IsRunning, IsNoted}
-use Rattle.dmtcp_top.specs.RunEnds.{IsRun, Shown, CutShort, CutLines, RanOut, FilledUp, GotStuck}
-use Rattle.dmtcp_top.proofs.Sinks.{took_nothing, took_both, took_then}
+use Rattle.dmtcp_top.specs.RunEnds.{IsRun, Shown, ShownInPart, RanOut, FilledUp, GotStuck}
+use Rattle.dmtcp_top.specs.Pace.{ConsoleStops, CutLines}
+use Rattle.dmtcp_top.proofs.Sinks.{took_nothing, took_both, took_then, took_front, took_more}
 use Rattle.dmtcp_top.proofs.Walks.{pushed, work_is_due, work_moves, mark_is_due, mark_stays}
 
 pub work_no_mark : (r : Record) → is_work r ≡ true → is_mark r ≡ false
@@ -107,9 +109,9 @@ abbrev standing_of : Upcoming → Requests → Standing
 standing_of upcoming requests = record { upcoming = upcoming; requests = requests }
 
 unfoldable pub running_start : (schedule : Schedule) (h : Plain) (taken : Option (List ℕ)) → IsRunning schedule h h (new_round h) [] (sunk taken taken)
-unfolding console in_rounds walk LeadsTo
+unfolding console each_is_due walk LeadsTo
 running_start schedule h taken = record {
-  requests = at_start schedule;
+  requests = first_requests schedule;
   reaches = (refl, refl);
   order = refl;
   upcoming = NewRound;
@@ -124,10 +126,10 @@ unfolding console
 console_of_one h r o goes = ap (console_from (λ next. [])) goes ∙ append-nil o.console
 
 pub steps_of : (schedule : Schedule) (g : Plain) (h : Plain) (due : Option Due) (records : List Record) (sink : Sunk) (running : IsRunning schedule g h due records sink) → run g records ≡ Some h
-steps_of schedule g h due records sink running = runs schedule g h (at_start schedule) running.requests records running.reaches
+steps_of schedule g h due records sink running = runs schedule g h (first_requests schedule) running.requests records running.reaches
 
 -- one more record that leads to a state, due where it comes
-one_more : (schedule : Schedule) (g next : Plain) (h : Plain) (due : Option Due) (records : List Record) (sink : Sunk) (r : Record) (running : IsRunning schedule g h due records sink) → MayStand h running.requests r → step h r ≡ Some next → Reaches schedule g (records ++ r ∷ []) next (next_requests schedule h running.requests r)
+one_more : (schedule : Schedule) (g next : Plain) (h : Plain) (due : Option Due) (records : List Record) (sink : Sunk) (r : Record) (running : IsRunning schedule g h due records sink) → MayStand h running.requests r → step h r ≡ Some next → RunsTo schedule g (records ++ r ∷ []) next (next_requests schedule h running.requests r)
 one_more schedule g next h due records sink r running may goes = goes_on_by_one schedule g h next running.requests records r running.reaches may goes
 
 pub running_notes : (schedule : Schedule) (g : Plain) (h k : Plain) (here : Place) (next : Option Due) (from to : TraceState) (had mid has : Option (List ℕ)) (running : IsRunning schedule g h (Some (InTurn here)) from.records (sunk had mid)) → running.requests.phase ≡ NoRequest → (notes : Notes h k here next from to (sunk mid has))
@@ -225,7 +227,7 @@ running_shown schedule g h due records sink room running fits = record { state =
 
 -- one more record, of whose bytes the console took a first part
 pub running_spoils : (schedule : Schedule) (g : Plain) (h : Plain) (here : Place) (from to : TraceState) (room : ℕ) (had mid has : Option (List ℕ)) (running : IsRunning schedule g h (Some (InTurn here)) from.records (sunk had mid)) → running.requests.phase ≡ NoRequest → (spoils : Spoils h here from to (sunk mid has)) → length from.records + 1 ≤ room
-    → CutShort schedule g room to.records (sunk had has) × GoesInRounds schedule g to.records
+    → ShownInPart schedule g room to.records (sunk had has) × ConsoleStops g to.records (sunk had has) × GoesInRounds schedule g to.records
 running_spoils schedule g h here from to room had mid has running free spoils fits =
     let r = spoils.noted in
     let broke = spoils.broke in
@@ -240,23 +242,28 @@ running_spoils schedule g h here from to room had mid has running free spoils fi
     let enough : length (from.records ++ r ∷ []) ≤ room = omega (arith, length-append from.records (r ∷ [])) in
     let shows : TookThen (sunk had has) (console g from.records) (console h (r ∷ [])) =
     subst (TookThen (sunk had has) (console g from.records)) (sym (console_of_one h r o broke.outcome)) (took_then had mid has (console g from.records) broke.bytes running.shown broke.shown) in
-    let whole : CutShort schedule g room (from.records ++ r ∷ []) (sunk had has) = record {
+    let part : TookFront (sunk had has) (console g (from.records ++ r ∷ [])) =
+    subst (TookFront (sunk had has)) (sym (console_of_one_more g h from.records r o steps broke.outcome)) (took_more had mid has (console g from.records) broke.bytes running.shown broke.shown) in
+    let shown : ShownInPart schedule g room (from.records ++ r ∷ []) (sunk had has) = record {
+      state = broke.state;
+      run = record {
+        steps = runs schedule g broke.state (first_requests schedule) (next_requests schedule h running.requests r) (from.records ++ r ∷ []) reached;
+        requests = next_requests schedule h running.requests r;
+        reaches = reached;
+        fits = enough;
+      };
+      console = part;
+    } in
+    let stops : ConsoleStops g (from.records ++ r ∷ []) (sunk had has) = record {
       front = from.records;
       last = r;
       whole = refl;
       work = spoils.own.work;
       before = h;
       there = steps;
-      state = broke.state;
-      run = record {
-        steps = runs schedule g broke.state (at_start schedule) (next_requests schedule h running.requests r) (from.records ++ r ∷ []) reached;
-        requests = next_requests schedule h running.requests r;
-        reaches = reached;
-        fits = enough;
-      };
-      console = shows;
+      shown = shows;
     } in
-    subst (λ (t : TraceState). CutShort schedule g room t.records (sunk had has) × GoesInRounds schedule g t.records) (sym broke.trace) (whole, pushed_one.order)
+    subst (λ (t : TraceState). ShownInPart schedule g room t.records (sunk had has) × ConsoleStops g t.records (sunk had has) × GoesInRounds schedule g t.records) (sym broke.trace) (shown, stops, pushed_one.order)
 
 -- the log of a work record that was cut off
 pub spoils_log : (schedule : Schedule) (requests : Requests) (keeper : Keeper) (h : Plain) (here : Place) (from to : TraceState) (sink log : Sunk) → IsNoted schedule requests keeper from.records log → (spoils : Spoils h here from to sink) → Took log (log_text to.records)
@@ -264,6 +271,17 @@ spoils_log schedule requests keeper h here from to sink log noted spoils =
     let r = spoils.noted in
     let same : log_text (from.records ++ r ∷ []) ≡ log_text from.records = log_grows from.records r ∙ ap (λ line. log_text from.records ++ line) (no_line (after_all log_start from.records) r (work_no_mark r spoils.own.work)) ∙ append-nil (log_text from.records) in
     subst (λ (t : TraceState). Took log (log_text t.records)) (sym spoils.broke.trace) (noted.logged ∙ ap (appended log.before) (sym same))
+
+-- lines that are cut off are a first part of all
+pub cut_front : (trace : List Record) (lines : List ℕ) (log : Sunk) → CutLines trace lines → Took log lines → TookFront log (log_text trace)
+cut_front trace lines log cut took =
+    let line = line_of (after_all log_start cut.front) cut.last in
+    let all : log_text trace ≡ log_text cut.front ++ line = ap log_text cut.whole ∙ log_grows cut.front cut.last in
+    (length (log_text cut.front) + cut.count, took ∙ ap (appended log.before) (cut.text ∙ sym (take-append-add (log_text cut.front) line cut.count) ∙ ap (take (length (log_text cut.front) + cut.count)) (sym all)))
+
+-- what is shown whole is shown in part
+pub in_part : (schedule : Schedule) (g : Plain) (room : ℕ) (trace : List Record) (sink : Sunk) → Shown schedule g room trace sink → ShownInPart schedule g room trace sink
+in_part schedule g room trace sink shown = record { state = shown.state; run = shown.run; console = took_front sink (console g trace) shown.console }
 
 -- one more record takes one from the room
 pub notes_size : (h k : Plain) (here : Place) (next : Option Due) (from to : TraceState) (sink : Sunk) (total : ℕ) → Notes h k here next from to sink → 0 < from.room → length from.records + from.room ≡ total → length to.records + to.room ≡ total

@@ -13,6 +13,7 @@ use Rattle.sys_abi.specs.declared.record.Cause.TheVariants.{DiskFault}
 use Rattle.set_disk.specs.Files.{Files as Folder}
 use Rattle.set_disk.specs.Moments.{LeavesOnly}
 use Rattle.set_disk.proofs.Stretches.{joins, weakens, told_then}
+use Rattle.set_disk.specs.SeenFolder.{SeenFolder}
 use Rattle.plain_machine.specs.declared.plain.Plain.{Plain}
 use Rattle.trace_log.specs.Requests.{CutAt}
 use Rattle.dmtcp_top.specs.Sets.{SpellsState}
@@ -152,105 +153,103 @@ pub some_there : {A : Type 0} (o p : Option A) (x : A) → is_some p ≡ is_some
 some_there o None x told is = absurd (true_false (sym (told ∙ ap is_some is)))
 some_there o (Some y) x told is = (y, refl)
 
-module _ {D : Type 0} {reads : D → Option Folder} {moment : D → ℕ} {may_leave : D → Folder → Type 0} {left_since : D → ℕ → Folder → Type 0} {faults : D → ℕ} where
-  -- before any call of the folder
-  pub safe_start : (g : Plain) (disk : D) → ((image : Folder) → left_since disk (moment disk) image → may_leave disk image) → IsSafe reads moment may_leave left_since faults g [] disk disk
-  safe_start g disk only_now = record {
-    told = refl;
-    crash = λ files is. record {
-      later = omega arith;
-      each = λ image since. inl (record { old = image; could = only_now image since; same = refl });
-      before = λ t image le since. inl since;
-    };
-    complete = λ files is generation image there left. absurd (nothing_there generation there);
-    counted = inl (omega arith);
+-- before any call of the folder
+pub safe_start : (g : Plain) (disk : SeenFolder) → IsSafe g [] disk disk
+safe_start g disk = record {
+  told = refl;
+  crash = λ files is. record {
     later = omega arith;
-  }
-    where
-      nothing_there : (generation : ℕ) → Contains {X = Record} [] (Complete generation) → ⊥
-      nothing_there generation there = let below = there.1 in omega arith
+    each = λ image since. inl (record { old = image; could = disk.only_now image since; same = refl });
+    before = λ t image le since. inl since;
+  };
+  complete = λ files is generation image there left. absurd (nothing_there generation there);
+  counted = inl (omega arith);
+  later = omega arith;
+}
+  where
+    nothing_there : (generation : ℕ) → Contains {X = Record} [] (Complete generation) → ⊥
+    nothing_there generation there = let below = there.1 in omega arith
 
-  -- the trace grows by a record that is no outcome of the store's
-  pub safe_quiet : (g : Plain) (records : List Record) (r : Record) (old new : D) → ((generation : ℕ) → Contains (r ∷ []) (Complete generation) → ⊥) → is_disk_fault r ≡ false → IsSafe reads moment may_leave left_since faults g records old new → IsSafe reads moment may_leave left_since faults g (records ++ r ∷ []) old new
-  safe_quiet g records r old new other quiet safe = record {
-    told = safe.told;
-    crash = λ files is. weakens old new (IsGood (may_leave old) g records) (IsGood (may_leave old) g (records ++ r ∷ [])) (safe.crash files is) (good_grows (may_leave old) g records r);
-    complete = λ files is. complete_quiet records r (may_leave new) other (safe.complete files is);
-    counted = counts_quiet records r (faults old) (faults new) quiet safe.counted;
-    later = safe.later;
-  }
+-- the trace grows by a record that is no outcome of the store's
+pub safe_quiet : (g : Plain) (records : List Record) (r : Record) (old new : SeenFolder) → ((generation : ℕ) → Contains (r ∷ []) (Complete generation) → ⊥) → is_disk_fault r ≡ false → IsSafe g records old new → IsSafe g (records ++ r ∷ []) old new
+safe_quiet g records r old new other quiet safe = record {
+  told = safe.told;
+  crash = λ files is. weakens old new (IsGood old.may_leave g records) (IsGood old.may_leave g (records ++ r ∷ [])) (safe.crash files is) (good_grows old.may_leave g records r);
+  complete = λ files is. complete_quiet records r new.may_leave other (safe.complete files is);
+  counted = counts_quiet records r old.faults new.faults quiet safe.counted;
+  later = safe.later;
+}
 
-  -- each image that a crash may leave now is a good one
-  pub good_now : (g : Plain) (records : List Record) (old new : D) (files image : Folder) → ((d : D) (t : ℕ) (image : Folder) → t ≤ moment d → may_leave d image → left_since d t image) → IsSafe reads moment may_leave left_since faults g records old new → reads old ≡ Some files → may_leave new image → IsGood (may_leave old) g records image
-  good_now g records old new files image counts_now safe told left =
-      let crash = safe.crash files told in crash.each image (counts_now new (moment old) image crash.later left)
+-- each image that a crash may leave now is a good one
+pub good_now : (g : Plain) (records : List Record) (old new : SeenFolder) (files image : Folder) → IsSafe g records old new → old.files ≡ Some files → new.may_leave image → IsGood old.may_leave g records image
+good_now g records old new files image safe told left =
+    let crash = safe.crash files told in crash.each image (new.counts_now old.moment image crash.later left)
 
-  -- calls that change nothing
-  pub safe_looked : (g : Plain) (records : List Record) (old mid new : D) → ((d : D) (t : ℕ) (image : Folder) → t ≤ moment d → may_leave d image → left_since d t image) → IsSafe reads moment may_leave left_since faults g records old mid
-      → ChangesNothing reads moment may_leave left_since mid new → LeavesOnly moment left_since mid new (may_leave mid) → faults mid ≤ faults new → (faults mid < 2 ^ 64 → faults new < 2 ^ 64) → IsSafe reads moment may_leave left_since faults g records old new
-  safe_looked g records old mid new counts_now safe nothing leaves later small = record {
-    told = ap is_some nothing.same ∙ safe.told;
-    crash = λ files is. joins old mid new (IsGood (may_leave old) g records) (safe.crash files is)
-        (weakens mid new (may_leave mid) (IsGood (may_leave old) g records) leaves (λ image left. good_now g records old mid files image counts_now safe is left));
-    complete = λ files is generation image there left. let before = nothing.crash.now image left in
-        subst (IsAtLeast generation) (sym before.2) (safe.complete files is generation before.0 there before.1);
-    counted = counts_later records (faults old) (faults mid) (faults new) safe.counted later small;
-    later = let first = safe.later in omega arith;
-  }
+-- calls that change nothing
+pub safe_looked : (g : Plain) (records : List Record) (old mid new : SeenFolder) → IsSafe g records old mid
+    → ChangesNothing mid new → LeavesOnly mid new mid.may_leave → mid.faults ≤ new.faults → (mid.faults < 2 ^ 64 → new.faults < 2 ^ 64) → IsSafe g records old new
+safe_looked g records old mid new safe nothing leaves later small = record {
+  told = ap is_some nothing.same ∙ safe.told;
+  crash = λ files is. joins old mid new (IsGood old.may_leave g records) (safe.crash files is)
+      (weakens mid new mid.may_leave (IsGood old.may_leave g records) leaves (λ image left. good_now g records old mid files image safe is left));
+  complete = λ files is generation image there left. let before = nothing.crash.now image left in
+      subst (IsAtLeast generation) (sym before.2) (safe.complete files is generation before.0 there before.1);
+  counted = counts_later records old.faults mid.faults new.faults safe.counted later small;
+  later = let first = safe.later in omega arith;
+}
 
-  -- a set put: each image has the set that counted, or the new one, which spells the state of the run at its cut
-  pub safe_put : (g state : Plain) (records : List Record) (generation : ℕ) (images : List (List ℕ)) (old mid new : D)
-      → ((d : D) (t : ℕ) (image : Folder) → t ≤ moment d → may_leave d image → left_since d t image) → ((d : D) (files : Folder) → reads d ≡ Some files → may_leave d files)
-      → IsSafe reads moment may_leave left_since faults g records old mid → CutAt g records generation state → SpellsState images state
-      → ForSome (reads mid) (λ files. IfSome (last files) (λ info. info.generation ≤ generation))
-      → ForSome (reads mid) (λ files. LeavesOnly moment left_since mid new (OldOrNew (last_set files) generation images)) → is_some (reads new) ≡ is_some (reads mid) → faults mid ≤ faults new → (faults mid < 2 ^ 64 → faults new < 2 ^ 64)
-      → IsSafe reads moment may_leave left_since faults g records old new
-  safe_put g state records generation images old mid new counts_now reads_left safe cut spelled above put told later small = record {
-    told = told ∙ safe.told;
-    crash = λ files is.
-        let here = some_there (reads old) (reads mid) files safe.told is in
-        let good_here = good_now g records old mid files here.0 counts_now safe is (reads_left mid here.0 here.1) in
-        joins old mid new (IsGood (may_leave old) g records) (safe.crash files is)
-        (weakens mid new (OldOrNew (last_set here.0) generation images) (IsGood (may_leave old) g records) (put here.0 here.1) (λ image either_way.
-        either either_way (λ same. good_same (may_leave old) g records here.0 image same good_here)
-        (λ has. inr (record { generation = generation; state = state; cut = cut; set = record { images = images; counts = has; state = spelled } }))));
-    complete = λ files is least image there left.
-        let here = some_there (reads old) (reads mid) files safe.told is in
-        let stretch = put here.0 here.1 in
-        let at_least = safe.complete files is least here.0 there (reads_left mid here.0 here.1) in
-        let bound = at_some (λ info. info.generation ≤ generation) (last here.0) at_least.info at_least.counts (above here.0 here.1) in
-        either (stretch.each image (counts_now new (moment mid) image stretch.later left)) (λ same. same_at_least here.0 image least same at_least)
-        (λ has. new_at_least image generation least images has (let late = at_least.late in omega arith));
-    counted = counts_later records (faults old) (faults mid) (faults new) safe.counted later small;
-    later = let first = safe.later in omega arith;
-  }
+-- a set put: each image has the set that counted, or the new one, which spells the state of the run at its cut
+pub safe_put : (g state : Plain) (records : List Record) (generation : ℕ) (images : List (List ℕ)) (old mid new : SeenFolder)
+    → IsSafe g records old mid → CutAt g records generation state → SpellsState images state
+    → ForSome mid.files (λ files. IfSome (last files) (λ info. info.generation ≤ generation))
+    → ForSome mid.files (λ files. LeavesOnly mid new (OldOrNew (last_set files) generation images)) → is_some new.files ≡ is_some mid.files → mid.faults ≤ new.faults → (mid.faults < 2 ^ 64 → new.faults < 2 ^ 64)
+    → IsSafe g records old new
+safe_put g state records generation images old mid new safe cut spelled above put told later small = record {
+  told = told ∙ safe.told;
+  crash = λ files is.
+      let here = some_there old.files mid.files files safe.told is in
+      let good_here = good_now g records old mid files here.0 safe is (mid.reads_left here.0 here.1) in
+      joins old mid new (IsGood old.may_leave g records) (safe.crash files is)
+      (weakens mid new (OldOrNew (last_set here.0) generation images) (IsGood old.may_leave g records) (put here.0 here.1) (λ image either_way.
+      either either_way (λ same. good_same old.may_leave g records here.0 image same good_here)
+      (λ has. inr (record { generation = generation; state = state; cut = cut; set = record { images = images; counts = has; state = spelled } }))));
+  complete = λ files is least image there left.
+      let here = some_there old.files mid.files files safe.told is in
+      let stretch = put here.0 here.1 in
+      let at_least = safe.complete files is least here.0 there (mid.reads_left here.0 here.1) in
+      let bound = at_some (λ info. info.generation ≤ generation) (last here.0) at_least.info at_least.counts (above here.0 here.1) in
+      either (stretch.each image (new.counts_now mid.moment image stretch.later left)) (λ same. same_at_least here.0 image least same at_least)
+      (λ has. new_at_least image generation least images has (let late = at_least.late in omega arith));
+  counted = counts_later records old.faults mid.faults new.faults safe.counted later small;
+  later = let first = safe.later in omega arith;
+}
 
-  -- the outcome of a put: complete, or refused for the disk
-  pub safe_complete : (g : Plain) (records : List Record) (generation : ℕ) (images : List (List ℕ)) (old new : D) → IsSafe reads moment may_leave left_since faults g records old new
-      → ForSome (reads old) (λ _. (image : Folder) → may_leave new image → HasSet (last_set image) generation images) → IsSafe reads moment may_leave left_since faults g (records ++ Complete generation ∷ []) old new
-  safe_complete g records generation images old new safe durable = record {
-    told = safe.told;
-    crash = λ files is. weakens old new (IsGood (may_leave old) g records) (IsGood (may_leave old) g (records ++ Complete generation ∷ [])) (safe.crash files is) (good_grows (may_leave old) g records (Complete generation));
-    complete = λ files is least image there left.
-        either (Contains-append_cases records (Complete generation ∷ []) (Complete least) there) (λ before. safe.complete files is least image before left)
-        (λ now. new_at_least image generation least images (durable files is image left) (same_generation least now));
-    counted = counts_quiet records (Complete generation) (faults old) (faults new) refl safe.counted;
-    later = safe.later;
-  }
-    where
-      same_generation : (least : ℕ) → Contains (Complete generation ∷ []) (Complete least) → least ≤ generation
-      same_generation least (zero, below, is) = let same : generation ≡ least = cc in omega arith
-      same_generation least (suc k, below, is) = absurd (omega arith)
+-- the outcome of a put: complete, or refused for the disk
+pub safe_complete : (g : Plain) (records : List Record) (generation : ℕ) (images : List (List ℕ)) (old new : SeenFolder) → IsSafe g records old new
+    → ForSome old.files (λ _. (image : Folder) → new.may_leave image → HasSet (last_set image) generation images) → IsSafe g (records ++ Complete generation ∷ []) old new
+safe_complete g records generation images old new safe durable = record {
+  told = safe.told;
+  crash = λ files is. weakens old new (IsGood old.may_leave g records) (IsGood old.may_leave g (records ++ Complete generation ∷ [])) (safe.crash files is) (good_grows old.may_leave g records (Complete generation));
+  complete = λ files is least image there left.
+      either (Contains-append_cases records (Complete generation ∷ []) (Complete least) there) (λ before. safe.complete files is least image before left)
+      (λ now. new_at_least image generation least images (durable files is image left) (same_generation least now));
+  counted = counts_quiet records (Complete generation) old.faults new.faults refl safe.counted;
+  later = safe.later;
+}
+  where
+    same_generation : (least : ℕ) → Contains (Complete generation ∷ []) (Complete least) → least ≤ generation
+    same_generation least (zero, below, is) = let same : generation ≡ least = cc in omega arith
+    same_generation least (suc k, below, is) = absurd (omega arith)
 
-  pub safe_refused : (g : Plain) (records : List Record) (old new : D) → IsSafe reads moment may_leave left_since faults g records old new → CountsFaults (records ++ Refused DiskFault ∷ []) (faults old) (faults new) → IsSafe reads moment may_leave left_since faults g (records ++ Refused DiskFault ∷ []) old new
-  safe_refused g records old new safe counted = record {
-    told = safe.told;
-    crash = λ files is. weakens old new (IsGood (may_leave old) g records) (IsGood (may_leave old) g (records ++ Refused DiskFault ∷ [])) (safe.crash files is) (good_grows (may_leave old) g records (Refused DiskFault));
-    complete = λ files is. complete_quiet records (Refused DiskFault) (may_leave new) (λ generation there. no_complete generation there) (safe.complete files is);
-    counted = counted;
-    later = safe.later;
-  }
-    where
-      no_complete : (generation : ℕ) → Contains (Refused DiskFault ∷ []) (Complete generation) → ⊥
-      no_complete generation (zero, below, is) = cc
-      no_complete generation (suc k, below, is) = omega arith
+pub safe_refused : (g : Plain) (records : List Record) (old new : SeenFolder) → IsSafe g records old new → CountsFaults (records ++ Refused DiskFault ∷ []) old.faults new.faults → IsSafe g (records ++ Refused DiskFault ∷ []) old new
+safe_refused g records old new safe counted = record {
+  told = safe.told;
+  crash = λ files is. weakens old new (IsGood old.may_leave g records) (IsGood old.may_leave g (records ++ Refused DiskFault ∷ [])) (safe.crash files is) (good_grows old.may_leave g records (Refused DiskFault));
+  complete = λ files is. complete_quiet records (Refused DiskFault) new.may_leave (λ generation there. no_complete generation there) (safe.complete files is);
+  counted = counted;
+  later = safe.later;
+}
+  where
+    no_complete : (generation : ℕ) → Contains (Refused DiskFault ∷ []) (Complete generation) → ⊥
+    no_complete generation (zero, below, is) = cc
+    no_complete generation (suc k, below, is) = omega arith

@@ -11,6 +11,7 @@ use Rattle.sys_abi.specs.declared.record.Cause.TheVariants.{Unsupported, DiskFau
 use Rattle.edge_io.specs.Sink.{appended}
 use Rattle.set_disk.specs.Files.{Files as Folder}
 use Rattle.set_disk.specs.Moments.{LeavesOnly}
+use Rattle.set_disk.specs.SeenFolder.{SeenFolder}
 use Rattle.plain_machine.specs.declared.plain.Plain.{Plain}
 use Rattle.plain_machine.specs.Tests.{ended, full_arrive}
 use Rattle.trace_log.specs.declared.requests.Schedule.{Schedule}
@@ -52,8 +53,8 @@ reopened_next store greatest floor some below = by store.last below
     by (Some info) bound = omega arith
 
 -- what the keeper knows afterwards
-pub kept_refused : (keeper later : Keeper) (told now : Option Folder) (images left : Folder → Type 0) → IsKept keeper told images → keeper.store ≡ None → later.store ≡ None → later.tally.greatest ≡ keeper.tally.greatest → now ≡ told → IsKept later now left
-kept_refused keeper later told now images left kept none gone same same_told = record {
+pub kept_refused : (keeper later : Keeper) (was now : SeenFolder) → IsKept keeper was → keeper.store ≡ None → later.store ≡ None → later.tally.greatest ≡ keeper.tally.greatest → now.files ≡ was.files → IsKept later now
+kept_refused keeper later was now kept none gone same same_told = record {
   fits = λ store is. absurd (cc);
   above = λ files is. subst (λ (n : ℕ). IfSome (last files) (λ info. info.generation ≤ n)) (sym same) (kept.above files (sym same_told ∙ is));
   floor = λ _. let floor = kept.floor none in omega arith;
@@ -66,32 +67,32 @@ raised files least most le below = by (last files) below
     by None bound = tt
     by (Some info) bound = omega arith
 
-pub kept_cut : (keeper later : Keeper) (told now : Option Folder) (images left : Folder → Type 0) → IsKept keeper told images → later.store ≡ None → later.tally.greatest ≡ suc keeper.tally.greatest → now ≡ told → IsKept later now left
-kept_cut keeper later told now images left kept gone next same_told = record {
+pub kept_cut : (keeper later : Keeper) (was now : SeenFolder) → IsKept keeper was → later.store ≡ None → later.tally.greatest ≡ suc keeper.tally.greatest → now.files ≡ was.files → IsKept later now
+kept_cut keeper later was now kept gone next same_told = record {
   fits = λ store is. absurd (cc);
   above = λ files is. raised files keeper.tally.greatest later.tally.greatest (omega arith) (kept.above files (sym same_told ∙ is));
   floor = λ _. omega arith;
 }
 
-pub kept_same : (keeper later : Keeper) (told : Option Folder) (images : Folder → Type 0) → IsKept keeper told images → later.store ≡ keeper.store → later.tally.greatest ≡ keeper.tally.greatest → IsKept later told images
-kept_same keeper later told images kept same greatest = record {
+pub kept_same : (keeper later : Keeper) (was : SeenFolder) → IsKept keeper was → later.store ≡ keeper.store → later.tally.greatest ≡ keeper.tally.greatest → IsKept later was
+kept_same keeper later was kept same greatest = record {
   fits = λ store is. let fits = kept.fits store (sym same ∙ is) in (fits.0, fits.1 ∙ ap suc (sym greatest));
   above = λ files is. subst (λ (n : ℕ). IfSome (last files) (λ info. info.generation ≤ n)) (sym greatest) (kept.above files is);
   floor = λ none. let floor = kept.floor (sym same ∙ none) in omega arith;
 }
 
-pub kept_complete : (later : Keeper) (done : Known) (generation : ℕ) (bytes : List (List ℕ)) (now : Option Folder) (left : Folder → Type 0) → later.store ≡ Some done → later.tally.greatest ≡ generation → FitsFolder done now left → next_generation done ≡ suc generation → ForSome now (λ files. HasSet (last_set files) generation bytes) → IsKept later now left
-kept_complete later done generation bytes now left has same fits next stored = record {
-  fits = λ store is. let equal : done ≡ store = cc in (subst (λ s. FitsFolder s now left) equal fits, ap next_generation (sym equal) ∙ next ∙ ap suc (sym same));
+pub kept_complete : (later : Keeper) (done : Known) (generation : ℕ) (bytes : List (List ℕ)) (now : SeenFolder) → later.store ≡ Some done → later.tally.greatest ≡ generation → FitsFolder done now → next_generation done ≡ suc generation → ForSome now.files (λ files. HasSet (last_set files) generation bytes) → IsKept later now
+kept_complete later done generation bytes now has same fits next stored = record {
+  fits = λ store is. let equal : done ≡ store = cc in (subst (λ s. FitsFolder s now) equal fits, ap next_generation (sym equal) ∙ next ∙ ap suc (sym same));
   above = λ files is. new_below files generation later.tally.greatest bytes (stored files is) (omega arith);
   floor = λ none. absurd (cc);
 }
 
-pub kept_put : (later : Keeper) (generation least : ℕ) (bytes : List (List ℕ)) (told now : Option Folder) (left : Folder → Type 0) → later.store ≡ None → later.tally.greatest ≡ generation → 0 < generation → least ≤ generation → ForSome told (λ files. IfSome (last files) (λ info. info.generation ≤ least)) → is_some now ≡ is_some told → ForSome told (λ before. ForSome now (OldOrNew (last_set before) generation bytes)) → IsKept later now left
-kept_put later generation least bytes told now left gone same some le above told_too refused = record {
+pub kept_put : (later : Keeper) (generation least : ℕ) (bytes : List (List ℕ)) (was now : SeenFolder) → later.store ≡ None → later.tally.greatest ≡ generation → 0 < generation → least ≤ generation → ForSome was.files (λ files. IfSome (last files) (λ info. info.generation ≤ least)) → is_some now.files ≡ is_some was.files → ForSome was.files (λ before. ForSome now.files (OldOrNew (last_set before) generation bytes)) → IsKept later now
+kept_put later generation least bytes was now gone same some le above told_too refused = record {
   fits = λ store is. absurd (cc);
   above = λ files is.
-      let before = some_there now told files (sym told_too) is in
+      let before = some_there now.files was.files files (sym told_too) is in
       by files before.0 (above before.0 before.1) (refused before.0 before.1 files is);
   floor = λ _. omega arith;
 }
@@ -139,137 +140,145 @@ outside Memory kind = inr refl
 outside (Unsupported p fd k) kind = absurd kind
 
 -- at the cut of a generation
-pub record AtCut {D : Type 0} (reads : D → Option Folder) (moment : D → ℕ) (may_leave : D → Folder → Type 0) (left_since : D → ℕ → Folder → Type 0) (faults : D → ℕ) (schedule : Schedule) (g : Plain) (h : Plain) (due : Option Due) (keeper : Keeper) (trace : TraceState) (sink log : Sunk) (first disk : D) (generation : ℕ) : Type 0 where
-  pub now : IsUnderWay reads moment may_leave left_since faults schedule g h due keeper trace sink log first disk
+pub record AtCut (schedule : Schedule) (g : Plain) (h : Plain) (due : Option Due) (keeper : Keeper) (trace : TraceState) (sink log : Sunk) (first disk : SeenFolder) (generation : ℕ) : Type 0 where
+  pub now : IsUnderWay schedule g h due keeper trace sink log first disk
   pub cut : now.running.requests.phase ≡ AfterCut []
   pub greatest : now.running.requests.tally.greatest ≡ generation
   pub at : CutAt g trace.records generation h
 
-module _ {D : Type 0} {reads : D → Option Folder} {moment : D → ℕ} {may_leave : D → Folder → Type 0} {left_since : D → ℕ → Folder → Type 0} {faults : D → ℕ} where
-  refusal_safe : (g : Plain) (records : List Record) (cause : Cause) (first mid next : D) → IsOutside cause → IsSafe reads moment may_leave left_since faults g records first next → CountsFaults records (faults first) (faults mid) → Counts (faults mid) (faults next) → (cause ≡ DiskFault → Rose (faults mid) (faults next)) → IsSafe reads moment may_leave left_since faults g (records ++ Refused cause ∷ []) first next
-  refusal_safe g records DiskFault first mid next kind safe counted counts rose = safe_refused g records first next safe (counts_fault records (faults first) (faults mid) (faults next) counted (rose refl) counts.later counts.small)
-  refusal_safe g records Memory first mid next kind safe counted counts rose = safe_quiet g records (Refused Memory) first next (not_complete (Refused Memory) (λ generation is. cc)) refl safe
-  refusal_safe g records (Unsupported p fd k) first mid next kind safe counted counts rose = absurd kind
+refusal_safe : (g : Plain) (records : List Record) (cause : Cause) (first mid next : SeenFolder) → IsOutside cause → IsSafe g records first next → CountsFaults records first.faults mid.faults → Counts mid.faults next.faults → (cause ≡ DiskFault → Rose mid.faults next.faults) → IsSafe g (records ++ Refused cause ∷ []) first next
+refusal_safe g records DiskFault first mid next kind safe counted counts rose = safe_refused g records first next safe (counts_fault records first.faults mid.faults next.faults counted (rose refl) counts.later counts.small)
+refusal_safe g records Memory first mid next kind safe counted counts rose = safe_quiet g records (Refused Memory) first next (not_complete (Refused Memory) (λ generation is. cc)) refl safe
+refusal_safe g records (Unsupported p fd k) first mid next kind safe counted counts rose = absurd kind
 
-  -- a request that is refused while it waits
-  pub refused_ok : (schedule : Schedule) (g : Plain) (h : Plain) (due : Option Due) (keeper later : Keeper) (from to : TraceState) (sink : Sunk) (had mid has : Option (List ℕ)) (cause : Cause) (first disk next : D)
-      → (before : IsUnderWay reads moment may_leave left_since faults schedule g h due keeper from sink (sunk had mid) first disk) → before.running.requests.phase ≡ Requested [] → CanBeHeld h → IsOutside cause
-      → to ≡ with_record from (Refused cause) → later.schedule ≡ keeper.schedule → later.lines ≡ after keeper.lines (Refused cause) → later.tally ≡ tally_after keeper.tally (Refused cause) → Took (sunk mid has) (line_of keeper.lines (Refused cause))
-      → IsSafe reads moment may_leave left_since faults g (from.records ++ Refused cause ∷ []) first next
-      → (after : IsUnderWay reads moment may_leave left_since faults schedule g h due later to sink (sunk had has) first next) × IsSettled after.running.requests to
-  refused_ok schedule g h due keeper later from to sink had mid has cause first disk next before waits held kind traced scheduled lined tallied took safe =
-      let bounds = refused_lines keeper.lines cause in
-      let done = marked schedule g h due keeper later from to sink had mid has (Refused cause) first disk next before refl (refusal_stands h before.running.requests cause waits held (outside cause kind)) traced scheduled lined tallied took
-      (subst (λ (l : Progress). l.request ≤ suc keeper.lines.request) (sym lined) bounds.0) (ap (λ (l : Progress). l.drained) lined ∙ bounds.1) safe in
-      (done.0, inl (ap (λ (q : Requests). q.phase) done.1 ∙ refusal_ends schedule h before.running.requests cause (inl waits)))
+-- what is due is what the state says
+pub at_due : {schedule : Schedule} {g h : Plain} {next due : Option Due} {keeper : Keeper} {trace : TraceState} {sink log : Sunk} {first disk : SeenFolder} → next ≡ due
+    → (after : IsUnderWay schedule g h next keeper trace sink log first disk) × IsSettled after.running.requests trace
+    → (after : IsUnderWay schedule g h due keeper trace sink log first disk) × IsSettled after.running.requests trace
+at_due {schedule} {g} {h} {next} {due} {keeper} {trace} {sink} {log} {first} {disk} is under =
+    subst (λ (d : Option Due). (after : IsUnderWay schedule g h d keeper trace sink log first disk) × IsSettled after.running.requests trace) is under
 
-  pub refused_broken : (schedule : Schedule) (g : Plain) (h : Plain) (due : Option Due) (keeper : Keeper) (from to : TraceState) (sink : Sunk) (had mid has : Option (List ℕ)) (cause : Cause) (first disk next : D)
-      → (before : IsUnderWay reads moment may_leave left_since faults schedule g h due keeper from sink (sunk had mid) first disk) → before.running.requests.phase ≡ Requested [] → CanBeHeld h → IsOutside cause
-      → to ≡ with_record from (Refused cause) → TookFront (sunk mid has) (line_of keeper.lines (Refused cause)) → IsSafe reads moment may_leave left_since faults g (from.records ++ Refused cause ∷ []) first next
-      → IsBrokenOff reads moment may_leave left_since faults schedule g h due to sink (sunk had has) first next
-  refused_broken schedule g h due keeper from to sink had mid has cause first disk next before waits held kind traced front safe =
-      broken schedule g h due keeper from to sink had mid has (Refused cause) first disk next before refl (refusal_stands h before.running.requests cause waits held (outside cause kind)) traced front safe
+pub broken_at_due : {schedule : Schedule} {g h : Plain} {next due : Option Due} {trace : TraceState} {sink log : Sunk} {first disk : SeenFolder} → next ≡ due
+    → IsBrokenOff schedule g h next trace sink log first disk → IsBrokenOff schedule g h due trace sink log first disk
+broken_at_due {schedule} {g} {h} {next} {due} {trace} {sink} {log} {first} {disk} is broken_off =
+    subst (λ (d : Option Due). IsBrokenOff schedule g h d trace sink log first disk) is broken_off
 
-  pub lapsed_ok : (schedule : Schedule) (g : Plain) (h : Plain) (due : Option Due) (keeper later : Keeper) (from to : TraceState) (sink : Sunk) (had mid has : Option (List ℕ)) (first disk : D)
-      → (before : IsUnderWay reads moment may_leave left_since faults schedule g h due keeper from sink (sunk had mid) first disk) → before.running.requests.phase ≡ Requested [] → ended h ≡ true
-      → to ≡ with_record from Lapsed → later.schedule ≡ keeper.schedule → later.lines ≡ after keeper.lines Lapsed → later.tally ≡ tally_after keeper.tally Lapsed → Took (sunk mid has) (line_of keeper.lines Lapsed)
-      → (after : IsUnderWay reads moment may_leave left_since faults schedule g h due later to sink (sunk had has) first disk) × IsSettled after.running.requests to
-  lapsed_ok schedule g h due keeper later from to sink had mid has first disk before waits over traced scheduled lined tallied took =
-      let bounds = lapsed_lines keeper.lines in
-      let done = marked schedule g h due keeper later from to sink had mid has Lapsed first disk disk before refl (lapse_stands h before.running.requests waits over) traced scheduled lined tallied took
-      (subst (λ (l : Progress). l.request ≤ suc keeper.lines.request) (sym lined) bounds.0) (ap (λ (l : Progress). l.drained) lined ∙ bounds.1)
-      (safe_quiet g from.records Lapsed first disk (not_complete Lapsed (λ generation is. cc)) refl before.safe) in
-      (done.0, inl (ap (λ (q : Requests). q.phase) done.1 ∙ lapse_ends schedule h before.running.requests waits))
+-- a request that is refused while it waits
+pub refused_ok : (schedule : Schedule) (g : Plain) (h : Plain) (due : Option Due) (keeper later : Keeper) (from to : TraceState) (sink : Sunk) (had mid has : Option (List ℕ)) (cause : Cause) (first disk next : SeenFolder)
+    → (before : IsUnderWay schedule g h due keeper from sink (sunk had mid) first disk) → before.running.requests.phase ≡ Requested [] → CanBeHeld h → IsOutside cause
+    → to ≡ with_record from (Refused cause) → later.schedule ≡ keeper.schedule → later.lines ≡ after keeper.lines (Refused cause) → later.tally ≡ tally_after keeper.tally (Refused cause) → Took (sunk mid has) (line_of keeper.lines (Refused cause))
+    → IsSafe g (from.records ++ Refused cause ∷ []) first next
+    → (after : IsUnderWay schedule g h due later to sink (sunk had has) first next) × IsSettled after.running.requests to
+refused_ok schedule g h due keeper later from to sink had mid has cause first disk next before waits held kind traced scheduled lined tallied took safe =
+    let bounds = refused_lines keeper.lines cause in
+    let done = marked schedule g h due keeper later from to sink had mid has (Refused cause) first disk next before refl (refusal_stands h before.running.requests cause waits held (outside cause kind)) traced scheduled lined tallied took
+    (subst (λ (l : Progress). l.request ≤ suc keeper.lines.request) (sym lined) bounds.0) (ap (λ (l : Progress). l.drained) lined ∙ bounds.1) safe in
+    (done.0, inl (ap (λ (q : Requests). q.phase) done.1 ∙ refusal_ends schedule h before.running.requests cause (inl waits)))
 
-  pub lapsed_broken : (schedule : Schedule) (g : Plain) (h : Plain) (due : Option Due) (keeper : Keeper) (from to : TraceState) (sink : Sunk) (had mid has : Option (List ℕ)) (first disk : D)
-      → (before : IsUnderWay reads moment may_leave left_since faults schedule g h due keeper from sink (sunk had mid) first disk) → before.running.requests.phase ≡ Requested [] → ended h ≡ true
-      → to ≡ with_record from Lapsed → TookFront (sunk mid has) (line_of keeper.lines Lapsed) → IsBrokenOff reads moment may_leave left_since faults schedule g h due to sink (sunk had has) first disk
-  lapsed_broken schedule g h due keeper from to sink had mid has first disk before waits over traced front =
-      broken schedule g h due keeper from to sink had mid has Lapsed first disk disk before refl (lapse_stands h before.running.requests waits over) traced front
-      (safe_quiet g from.records Lapsed first disk (not_complete Lapsed (λ generation is. cc)) refl before.safe)
+pub refused_broken : (schedule : Schedule) (g : Plain) (h : Plain) (due : Option Due) (keeper : Keeper) (from to : TraceState) (sink : Sunk) (had mid has : Option (List ℕ)) (cause : Cause) (first disk next : SeenFolder)
+    → (before : IsUnderWay schedule g h due keeper from sink (sunk had mid) first disk) → before.running.requests.phase ≡ Requested [] → CanBeHeld h → IsOutside cause
+    → to ≡ with_record from (Refused cause) → TookFront (sunk mid has) (line_of keeper.lines (Refused cause)) → IsSafe g (from.records ++ Refused cause ∷ []) first next
+    → IsBrokenOff schedule g h due to sink (sunk had has) first next
+refused_broken schedule g h due keeper from to sink had mid has cause first disk next before waits held kind traced front safe =
+    broken schedule g h due keeper from to sink had mid has (Refused cause) first disk next before refl (refusal_stands h before.running.requests cause waits held (outside cause kind)) traced front safe
 
-  -- the cut
-  pub cut_made : (schedule : Schedule) (g : Plain) (h : Plain) (due : Option Due) (keeper later : Keeper) (from to : TraceState) (sink : Sunk) (had mid : Option (List ℕ)) (generation : ℕ) (first disk next : D)
-      → ((d : D) (t : ℕ) (image : Folder) → t ≤ moment d → may_leave d image → left_since d t image)
-      → (before : IsUnderWay reads moment may_leave left_since faults schedule g h due keeper from sink (sunk had mid) first disk) → before.running.requests.phase ≡ Requested [] → CanBeHeld h → full_arrive h ≡ h → cut_marks h ≡ []
-      → generation ≡ suc keeper.tally.greatest → to ≡ with_record from (Cut generation) → later.schedule ≡ keeper.schedule → later.lines ≡ keeper.lines → later.tally ≡ tally_after keeper.tally (Cut generation)
-      → ChangesNothing reads moment may_leave left_since disk next → LeavesOnly moment left_since disk next (may_leave disk) → Counts (faults disk) (faults next)
-      → AtCut reads moment may_leave left_since faults schedule g h due later to sink (sunk had mid) first next generation
-  cut_made schedule g h due keeper later from to sink had mid generation first disk next counts_now before waits held arrived none is traced scheduled lined tallied nothing leaves counts =
-      let numbered : generation ≡ before.running.requests.tally.greatest + 1 = let same = ap (λ (t : Tally). t.greatest) before.noted.tallied in omega arith in
-      let looked = safe_looked g from.records first disk next counts_now before.safe nothing leaves counts.later counts.small in
-      let safe = safe_quiet g from.records (Cut generation) first next (not_complete (Cut generation) (λ n e. cc)) refl looked in
-      let silent : Took (sunk mid mid) (line_of keeper.lines (Cut generation)) = took_nothing mid ∙ ap (appended mid) (sym (no_cut_line keeper.lines generation)) in
-      let done = marked schedule g h due keeper later from to sink had mid mid (Cut generation) first disk next before refl (cut_stands h before.running.requests generation waits held arrived numbered) traced
-      scheduled (lined ∙ sym (cut_lines keeper.lines generation)) tallied silent (let same = ap (λ (l : Progress). l.request) lined in omega arith) (ap (λ (l : Progress). l.drained) lined ∙ before.noted.dry) safe in
-      record {
-        now = done.0;
-        cut = ap (λ (q : Requests). q.phase) done.1 ∙ after_cut schedule h before.running.requests generation none;
-        greatest = ap (λ (q : Requests). q.tally.greatest) done.1 ∙ next_greatest schedule h before.running.requests generation;
-        at = subst (λ (t : TraceState). CutAt g t.records generation h) (sym traced) (record { front = from.records; rest = []; whole = refl; there = steps_of schedule g h due from.records sink before.running });
-      }
+pub lapsed_ok : (schedule : Schedule) (g : Plain) (h : Plain) (due : Option Due) (keeper later : Keeper) (from to : TraceState) (sink : Sunk) (had mid has : Option (List ℕ)) (first disk : SeenFolder)
+    → (before : IsUnderWay schedule g h due keeper from sink (sunk had mid) first disk) → before.running.requests.phase ≡ Requested [] → ended h ≡ true
+    → to ≡ with_record from Lapsed → later.schedule ≡ keeper.schedule → later.lines ≡ after keeper.lines Lapsed → later.tally ≡ tally_after keeper.tally Lapsed → Took (sunk mid has) (line_of keeper.lines Lapsed)
+    → (after : IsUnderWay schedule g h due later to sink (sunk had has) first disk) × IsSettled after.running.requests to
+lapsed_ok schedule g h due keeper later from to sink had mid has first disk before waits over traced scheduled lined tallied took =
+    let bounds = lapsed_lines keeper.lines in
+    let done = marked schedule g h due keeper later from to sink had mid has Lapsed first disk disk before refl (lapse_stands h before.running.requests waits over) traced scheduled lined tallied took
+    (subst (λ (l : Progress). l.request ≤ suc keeper.lines.request) (sym lined) bounds.0) (ap (λ (l : Progress). l.drained) lined ∙ bounds.1)
+    (safe_quiet g from.records Lapsed first disk (not_complete Lapsed (λ generation is. cc)) refl before.safe) in
+    (done.0, inl (ap (λ (q : Requests). q.phase) done.1 ∙ lapse_ends schedule h before.running.requests waits))
 
-  -- the set is complete
-  pub completed_ok : (schedule : Schedule) (g : Plain) (h : Plain) (due : Option Due) (keeper later : Keeper) (from to : TraceState) (sink : Sunk) (had mid has : Option (List ℕ)) (generation : ℕ) (first disk next : D)
-      → (before : AtCut reads moment may_leave left_since faults schedule g h due keeper from sink (sunk had mid) first disk generation) → to ≡ with_record from (Complete generation) → later.schedule ≡ keeper.schedule → later.lines ≡ after keeper.lines (Complete generation)
-      → later.tally ≡ tally_after keeper.tally (Complete generation) → Took (sunk mid has) (line_of keeper.lines (Complete generation)) → IsSafe reads moment may_leave left_since faults g (from.records ++ Complete generation ∷ []) first next
-      → (after : IsUnderWay reads moment may_leave left_since faults schedule g h due later to sink (sunk had has) first next) × IsSettled after.running.requests to
-  completed_ok schedule g h due keeper later from to sink had mid has generation first disk next before traced scheduled lined tallied took safe =
-      let bounds = complete_lines keeper.lines generation in
-      let requests = before.now.running.requests in
-      let done = marked schedule g h due keeper later from to sink had mid has (Complete generation) first disk next before.now refl (complete_stands h requests generation before.cut (sym before.greatest)) traced scheduled lined tallied took
-      (subst (λ (l : Progress). l.request ≤ suc keeper.lines.request) (sym lined) bounds.0) (ap (λ (l : Progress). l.drained) lined ∙ bounds.1) safe in
-      (done.0, inl (ap (λ (q : Requests). q.phase) done.1 ∙ complete_ends schedule h requests generation before.cut))
+pub lapsed_broken : (schedule : Schedule) (g : Plain) (h : Plain) (due : Option Due) (keeper : Keeper) (from to : TraceState) (sink : Sunk) (had mid has : Option (List ℕ)) (first disk : SeenFolder)
+    → (before : IsUnderWay schedule g h due keeper from sink (sunk had mid) first disk) → before.running.requests.phase ≡ Requested [] → ended h ≡ true
+    → to ≡ with_record from Lapsed → TookFront (sunk mid has) (line_of keeper.lines Lapsed) → IsBrokenOff schedule g h due to sink (sunk had has) first disk
+lapsed_broken schedule g h due keeper from to sink had mid has first disk before waits over traced front =
+    broken schedule g h due keeper from to sink had mid has Lapsed first disk disk before refl (lapse_stands h before.running.requests waits over) traced front
+    (safe_quiet g from.records Lapsed first disk (not_complete Lapsed (λ generation is. cc)) refl before.safe)
 
-  pub completed_broken : (schedule : Schedule) (g : Plain) (h : Plain) (due : Option Due) (keeper : Keeper) (from to : TraceState) (sink : Sunk) (had mid has : Option (List ℕ)) (generation : ℕ) (first disk next : D)
-      → (before : AtCut reads moment may_leave left_since faults schedule g h due keeper from sink (sunk had mid) first disk generation) → to ≡ with_record from (Complete generation) → TookFront (sunk mid has) (line_of keeper.lines (Complete generation))
-      → IsSafe reads moment may_leave left_since faults g (from.records ++ Complete generation ∷ []) first next → IsBrokenOff reads moment may_leave left_since faults schedule g h due to sink (sunk had has) first next
-  completed_broken schedule g h due keeper from to sink had mid has generation first disk next before traced front safe =
-      broken schedule g h due keeper from to sink had mid has (Complete generation) first disk next before.now refl (complete_stands h before.now.running.requests generation before.cut (sym before.greatest)) traced front safe
+-- the cut
+pub cut_made : (schedule : Schedule) (g : Plain) (h : Plain) (due : Option Due) (keeper later : Keeper) (from to : TraceState) (sink : Sunk) (had mid : Option (List ℕ)) (generation : ℕ) (first disk next : SeenFolder)
+    → (before : IsUnderWay schedule g h due keeper from sink (sunk had mid) first disk) → before.running.requests.phase ≡ Requested [] → CanBeHeld h → full_arrive h ≡ h → cut_marks h ≡ []
+    → generation ≡ suc keeper.tally.greatest → to ≡ with_record from (Cut generation) → later.schedule ≡ keeper.schedule → later.lines ≡ keeper.lines → later.tally ≡ tally_after keeper.tally (Cut generation)
+    → ChangesNothing disk next → LeavesOnly disk next disk.may_leave → Counts disk.faults next.faults
+    → AtCut schedule g h due later to sink (sunk had mid) first next generation
+cut_made schedule g h due keeper later from to sink had mid generation first disk next before waits held arrived none is traced scheduled lined tallied nothing leaves counts =
+    let numbered : generation ≡ before.running.requests.tally.greatest + 1 = let same = ap (λ (t : Tally). t.greatest) before.noted.tallied in omega arith in
+    let looked = safe_looked g from.records first disk next before.safe nothing leaves counts.later counts.small in
+    let safe = safe_quiet g from.records (Cut generation) first next (not_complete (Cut generation) (λ n e. cc)) refl looked in
+    let silent : Took (sunk mid mid) (line_of keeper.lines (Cut generation)) = took_nothing mid ∙ ap (appended mid) (sym (no_cut_line keeper.lines generation)) in
+    let done = marked schedule g h due keeper later from to sink had mid mid (Cut generation) first disk next before refl (cut_stands h before.running.requests generation waits held arrived numbered) traced
+    scheduled (lined ∙ sym (cut_lines keeper.lines generation)) tallied silent (let same = ap (λ (l : Progress). l.request) lined in omega arith) (ap (λ (l : Progress). l.drained) lined ∙ before.noted.dry) safe in
+    record {
+      now = done.0;
+      cut = ap (λ (q : Requests). q.phase) done.1 ∙ after_cut schedule h before.running.requests generation none;
+      greatest = ap (λ (q : Requests). q.tally.greatest) done.1 ∙ next_greatest schedule h before.running.requests generation;
+      at = subst (λ (t : TraceState). CutAt g t.records generation h) (sym traced) (record { front = from.records; rest = []; whole = refl; there = steps_of schedule g h due from.records sink before.running });
+    }
 
-  -- the set is refused after the cut
-  pub late_ok : (schedule : Schedule) (g : Plain) (h : Plain) (due : Option Due) (keeper later : Keeper) (from to : TraceState) (sink : Sunk) (had mid has : Option (List ℕ)) (generation : ℕ) (cause : Cause) (first disk next : D)
-      → (before : AtCut reads moment may_leave left_since faults schedule g h due keeper from sink (sunk had mid) first disk generation) → IsOutside cause → to ≡ with_record from (Refused cause) → later.schedule ≡ keeper.schedule → later.lines ≡ after keeper.lines (Refused cause)
-      → later.tally ≡ tally_after keeper.tally (Refused cause) → Took (sunk mid has) (line_of keeper.lines (Refused cause)) → IsSafe reads moment may_leave left_since faults g (from.records ++ Refused cause ∷ []) first next
-      → (after : IsUnderWay reads moment may_leave left_since faults schedule g h due later to sink (sunk had has) first next) × IsSettled after.running.requests to
-  late_ok schedule g h due keeper later from to sink had mid has generation cause first disk next before kind traced scheduled lined tallied took safe =
-      let bounds = refused_lines keeper.lines cause in
-      let requests = before.now.running.requests in
-      let done = marked schedule g h due keeper later from to sink had mid has (Refused cause) first disk next before.now refl (late_refusal_stands h requests cause before.cut (outside cause kind)) traced scheduled lined tallied took
-      (subst (λ (l : Progress). l.request ≤ suc keeper.lines.request) (sym lined) bounds.0) (ap (λ (l : Progress). l.drained) lined ∙ bounds.1) safe in
-      (done.0, inl (ap (λ (q : Requests). q.phase) done.1 ∙ refusal_ends schedule h requests cause (inr before.cut)))
+-- the set is complete
+pub completed_ok : (schedule : Schedule) (g : Plain) (h : Plain) (due : Option Due) (keeper later : Keeper) (from to : TraceState) (sink : Sunk) (had mid has : Option (List ℕ)) (generation : ℕ) (first disk next : SeenFolder)
+    → (before : AtCut schedule g h due keeper from sink (sunk had mid) first disk generation) → to ≡ with_record from (Complete generation) → later.schedule ≡ keeper.schedule → later.lines ≡ after keeper.lines (Complete generation)
+    → later.tally ≡ tally_after keeper.tally (Complete generation) → Took (sunk mid has) (line_of keeper.lines (Complete generation)) → IsSafe g (from.records ++ Complete generation ∷ []) first next
+    → (after : IsUnderWay schedule g h due later to sink (sunk had has) first next) × IsSettled after.running.requests to
+completed_ok schedule g h due keeper later from to sink had mid has generation first disk next before traced scheduled lined tallied took safe =
+    let bounds = complete_lines keeper.lines generation in
+    let requests = before.now.running.requests in
+    let done = marked schedule g h due keeper later from to sink had mid has (Complete generation) first disk next before.now refl (complete_stands h requests generation before.cut (sym before.greatest)) traced scheduled lined tallied took
+    (subst (λ (l : Progress). l.request ≤ suc keeper.lines.request) (sym lined) bounds.0) (ap (λ (l : Progress). l.drained) lined ∙ bounds.1) safe in
+    (done.0, inl (ap (λ (q : Requests). q.phase) done.1 ∙ complete_ends schedule h requests generation before.cut))
 
-  pub late_broken : (schedule : Schedule) (g : Plain) (h : Plain) (due : Option Due) (keeper : Keeper) (from to : TraceState) (sink : Sunk) (had mid has : Option (List ℕ)) (generation : ℕ) (cause : Cause) (first disk next : D)
-      → (before : AtCut reads moment may_leave left_since faults schedule g h due keeper from sink (sunk had mid) first disk generation) → IsOutside cause → to ≡ with_record from (Refused cause) → TookFront (sunk mid has) (line_of keeper.lines (Refused cause))
-      → IsSafe reads moment may_leave left_since faults g (from.records ++ Refused cause ∷ []) first next → IsBrokenOff reads moment may_leave left_since faults schedule g h due to sink (sunk had has) first next
-  late_broken schedule g h due keeper from to sink had mid has generation cause first disk next before kind traced front safe =
-      broken schedule g h due keeper from to sink had mid has (Refused cause) first disk next before.now refl (late_refusal_stands h before.now.running.requests cause before.cut (outside cause kind)) traced front safe
+pub completed_broken : (schedule : Schedule) (g : Plain) (h : Plain) (due : Option Due) (keeper : Keeper) (from to : TraceState) (sink : Sunk) (had mid has : Option (List ℕ)) (generation : ℕ) (first disk next : SeenFolder)
+    → (before : AtCut schedule g h due keeper from sink (sunk had mid) first disk generation) → to ≡ with_record from (Complete generation) → TookFront (sunk mid has) (line_of keeper.lines (Complete generation))
+    → IsSafe g (from.records ++ Complete generation ∷ []) first next → IsBrokenOff schedule g h due to sink (sunk had has) first next
+completed_broken schedule g h due keeper from to sink had mid has generation first disk next before traced front safe =
+    broken schedule g h due keeper from to sink had mid has (Complete generation) first disk next before.now refl (complete_stands h before.now.running.requests generation before.cut (sym before.greatest)) traced front safe
 
-  -- what a crash leaves, by how the request ended
-  pub safe_open_refused : (g : Plain) (records : List Record) (cause : Cause) (first disk next : D) → ((d : D) (t : ℕ) (image : Folder) → t ≤ moment d → may_leave d image → left_since d t image)
-      → IsSafe reads moment may_leave left_since faults g records first disk → IsOutside cause → ChangesNothing reads moment may_leave left_since disk next → LeavesOnly moment left_since disk next (may_leave disk) → Counts (faults disk) (faults next)
-      → (cause ≡ DiskFault → Rose (faults disk) (faults next)) → IsSafe reads moment may_leave left_since faults g (records ++ Refused cause ∷ []) first next
-  safe_open_refused g records cause first disk next counts_now safe kind nothing leaves counts rose =
-      refusal_safe g records cause first disk next kind (safe_looked g records first disk next counts_now safe nothing leaves counts.later counts.small) safe.counted counts rose
+-- the set is refused after the cut
+pub late_ok : (schedule : Schedule) (g : Plain) (h : Plain) (due : Option Due) (keeper later : Keeper) (from to : TraceState) (sink : Sunk) (had mid has : Option (List ℕ)) (generation : ℕ) (cause : Cause) (first disk next : SeenFolder)
+    → (before : AtCut schedule g h due keeper from sink (sunk had mid) first disk generation) → IsOutside cause → to ≡ with_record from (Refused cause) → later.schedule ≡ keeper.schedule → later.lines ≡ after keeper.lines (Refused cause)
+    → later.tally ≡ tally_after keeper.tally (Refused cause) → Took (sunk mid has) (line_of keeper.lines (Refused cause)) → IsSafe g (from.records ++ Refused cause ∷ []) first next
+    → (after : IsUnderWay schedule g h due later to sink (sunk had has) first next) × IsSettled after.running.requests to
+late_ok schedule g h due keeper later from to sink had mid has generation cause first disk next before kind traced scheduled lined tallied took safe =
+    let bounds = refused_lines keeper.lines cause in
+    let requests = before.now.running.requests in
+    let done = marked schedule g h due keeper later from to sink had mid has (Refused cause) first disk next before.now refl (late_refusal_stands h requests cause before.cut (outside cause kind)) traced scheduled lined tallied took
+    (subst (λ (l : Progress). l.request ≤ suc keeper.lines.request) (sym lined) bounds.0) (ap (λ (l : Progress). l.drained) lined ∙ bounds.1) safe in
+    (done.0, inl (ap (λ (q : Requests). q.phase) done.1 ∙ refusal_ends schedule h requests cause (inr before.cut)))
 
-  pub safe_put_complete : (g state : Plain) (records : List Record) (generation : ℕ) (result : Result Known Cause) (done : Known) (first disk next : D)
-      → ((d : D) (t : ℕ) (image : Folder) → t ≤ moment d → may_leave d image → left_since d t image) → ((d : D) (files : Folder) → reads d ≡ Some files → may_leave d files)
-      → IsSafe reads moment may_leave left_since faults g records first disk → CutAt g records generation state → ForSome (reads disk) (λ files. IfSome (last files) (λ info. info.generation ≤ generation))
-      → result ≡ Ok done → IsPut reads moment may_leave left_since state generation result disk next → Counts (faults disk) (faults next) → IsSafe reads moment may_leave left_since faults g (records ++ Complete generation ∷ []) first next
-  safe_put_complete g state records generation result done first disk next counts_now reads_left safe cut above is put counts =
-      let safe_now = safe_put g state records generation put.images first disk next counts_now reads_left safe cut put.spelled above put.crash put.told counts.later counts.small in
-      let durable : ForSome (reads disk) (λ _. (image : Folder) → may_leave next image → HasSet (last_set image) generation put.images) = subst (λ (r : Result Known Cause). OnOk r (ForSome (reads disk) (λ _. (image : Folder) → may_leave next image → HasSet (last_set image) generation put.images))) is put.durable in
-      safe_complete g records generation put.images first next safe_now (λ files told. let here = some_there (reads first) (reads disk) files safe.told told in durable here.0 here.1)
+pub late_broken : (schedule : Schedule) (g : Plain) (h : Plain) (due : Option Due) (keeper : Keeper) (from to : TraceState) (sink : Sunk) (had mid has : Option (List ℕ)) (generation : ℕ) (cause : Cause) (first disk next : SeenFolder)
+    → (before : AtCut schedule g h due keeper from sink (sunk had mid) first disk generation) → IsOutside cause → to ≡ with_record from (Refused cause) → TookFront (sunk mid has) (line_of keeper.lines (Refused cause))
+    → IsSafe g (from.records ++ Refused cause ∷ []) first next → IsBrokenOff schedule g h due to sink (sunk had has) first next
+late_broken schedule g h due keeper from to sink had mid has generation cause first disk next before kind traced front safe =
+    broken schedule g h due keeper from to sink had mid has (Refused cause) first disk next before.now refl (late_refusal_stands h before.now.running.requests cause before.cut (outside cause kind)) traced front safe
 
-  pub safe_put_refused : (g state : Plain) (records : List Record) (generation : ℕ) (result : Result Known Cause) (cause : Cause) (first disk next : D)
-      → ((d : D) (t : ℕ) (image : Folder) → t ≤ moment d → may_leave d image → left_since d t image) → ((d : D) (files : Folder) → reads d ≡ Some files → may_leave d files)
-      → IsSafe reads moment may_leave left_since faults g records first disk → CutAt g records generation state → ForSome (reads disk) (λ files. IfSome (last files) (λ info. info.generation ≤ generation))
-      → IsOutside cause → IsPut reads moment may_leave left_since state generation result disk next → Counts (faults disk) (faults next) → (cause ≡ DiskFault → Rose (faults disk) (faults next))
-      → IsSafe reads moment may_leave left_since faults g (records ++ Refused cause ∷ []) first next
-  safe_put_refused g state records generation result cause first disk next counts_now reads_left safe cut above kind put counts rose =
-      refusal_safe g records cause first disk next kind (safe_put g state records generation put.images first disk next counts_now reads_left safe cut put.spelled above put.crash put.told counts.later counts.small) safe.counted counts rose
+-- what a crash leaves, by how the request ended
+pub safe_open_refused : (g : Plain) (records : List Record) (cause : Cause) (first disk next : SeenFolder)
+    → IsSafe g records first disk → IsOutside cause → ChangesNothing disk next → LeavesOnly disk next disk.may_leave → Counts disk.faults next.faults
+    → (cause ≡ DiskFault → Rose disk.faults next.faults) → IsSafe g (records ++ Refused cause ∷ []) first next
+safe_open_refused g records cause first disk next safe kind nothing leaves counts rose =
+    refusal_safe g records cause first disk next kind (safe_looked g records first disk next safe nothing leaves counts.later counts.small) safe.counted counts rose
 
-  -- no memory for the images: the folder was not called
-  pub safe_no_images : (g : Plain) (records : List Record) (first disk next : D) → IsSafe reads moment may_leave left_since faults g records first disk → next ≡ disk → IsSafe reads moment may_leave left_since faults g (records ++ Refused Memory ∷ []) first next
-  safe_no_images g records first disk next safe same =
-      subst (λ (d : D). IsSafe reads moment may_leave left_since faults g (records ++ Refused Memory ∷ []) first d) (sym same) (safe_quiet g records (Refused Memory) first disk (not_complete (Refused Memory) (λ generation is. cc)) refl safe)
+pub safe_put_complete : (g state : Plain) (records : List Record) (generation : ℕ) (result : Result Known Cause) (done : Known) (first disk next : SeenFolder)
+    → IsSafe g records first disk → CutAt g records generation state → ForSome disk.files (λ files. IfSome (last files) (λ info. info.generation ≤ generation))
+    → result ≡ Ok done → IsPut state generation result disk next → Counts disk.faults next.faults → IsSafe g (records ++ Complete generation ∷ []) first next
+safe_put_complete g state records generation result done first disk next safe cut above is put counts =
+    let safe_now = safe_put g state records generation put.images first disk next safe cut put.spelled above put.crash put.told counts.later counts.small in
+    let durable : ForSome disk.files (λ _. (image : Folder) → next.may_leave image → HasSet (last_set image) generation put.images) = subst (λ (r : Result Known Cause). OnOk r (ForSome disk.files (λ _. (image : Folder) → next.may_leave image → HasSet (last_set image) generation put.images))) is put.durable in
+    safe_complete g records generation put.images first next safe_now (λ files told. let here = some_there first.files disk.files files safe.told told in durable here.0 here.1)
+
+pub safe_put_refused : (g state : Plain) (records : List Record) (generation : ℕ) (result : Result Known Cause) (cause : Cause) (first disk next : SeenFolder)
+    → IsSafe g records first disk → CutAt g records generation state → ForSome disk.files (λ files. IfSome (last files) (λ info. info.generation ≤ generation))
+    → IsOutside cause → IsPut state generation result disk next → Counts disk.faults next.faults → (cause ≡ DiskFault → Rose disk.faults next.faults)
+    → IsSafe g (records ++ Refused cause ∷ []) first next
+safe_put_refused g state records generation result cause first disk next safe cut above kind put counts rose =
+    refusal_safe g records cause first disk next kind (safe_put g state records generation put.images first disk next safe cut put.spelled above put.crash put.told counts.later counts.small) safe.counted counts rose
+
+-- no memory for the images: the folder was not called
+pub safe_no_images : (g : Plain) (records : List Record) (first disk : SeenFolder) → IsSafe g records first disk → IsSafe g (records ++ Refused Memory ∷ []) first disk
+safe_no_images g records first disk safe =
+    safe_quiet g records (Refused Memory) first disk (not_complete (Refused Memory) (λ generation is. cc)) refl safe

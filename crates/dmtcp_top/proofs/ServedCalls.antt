@@ -1,111 +1,59 @@
--- Each served call has an answer, and gives its process at most 8 bytes.
-use Rattle.std.proofs.Common.{◌≡◌, ℕ, ◌+◌, ◌≤◌, Bool, true, false, List, ◌++◌, length, length-append, Option, Some, None, refl, subst, arith}
+-- What the law of rows says of a call of the one process: no call waits yet, and none makes a child.
+--     serve_is_some      none_made
+use Rattle.std.proofs.Common.{◌≡◌, ℕ, Bool, true, List, Option, Some, None, refl, ◌∙◌}
 use Rattle.std.specs.Prelude.{is_some}
 use Rattle.sys_abi.specs.declared.identity.VPid.{VPid}
-use Rattle.sys_abi.specs.declared.errors.TheConstants.{EAGAIN, EBADF, EINVAL, ESRCH}
-use Rattle.sys_abi.specs.declared.flags.TheConstants.{CLONE_PARENT_SETTID, CLONE_CHILD_SETTID}
 use Rattle.sys_abi.specs.declared.cloning.CloneForm.{CloneForm}
 use Rattle.sys_abi.specs.declared.cloning.CloneForm.TheVariants.{Fork, Thread}
 use Rattle.sys_abi.specs.Clones.{clone_form}
+use Rattle.sys_abi.specs.declared.reply.Reply.{Reply}
+use Rattle.sys_abi.specs.declared.reply.Reply.TheVariants.{Value, Error}
 use Rattle.sys_abi.specs.declared.request.Request.{Request}
-use Rattle.sys_abi.specs.declared.request.Request.TheVariants.{Write, Exit, ExitGroup, Tgkill, Clone}
+use Rattle.sys_abi.specs.declared.request.Request.TheVariants.{Read, Write, Accept, Connect, Clone, Wait4}
 use Rattle.plain_machine.specs.declared.kernel.PlainKernel.{PlainKernel}
-use Rattle.plain_tables.specs.declared.description.Object.{Object}
-use Rattle.plain_tables.specs.declared.description.Object.TheVariants.{Console}
-use Rattle.plain_process.specs.Attempts.{Try, Fails, NotReady, Gives, and_then, found, need}
+use Rattle.plain_process.specs.Put.{made_as, made_by}
+use Rattle.plain_process.specs.Attempts.{Try, Fails, NotReady, Gives}
 use Rattle.plain_machine.specs.Attempts.{Served, settled}
-use Rattle.plain_machine.specs.Kernel.{description_at}
-use Rattle.plain_tables.specs.Tables.{may_write}
-use Rattle.plain_machine.specs.Rows.Write.{write_row, write_object}
-use Rattle.plain_machine.specs.Rows.End.{exit_row, exit_group_row}
-use Rattle.plain_machine.specs.Rows.Send.{tgkill_row}
-use Rattle.plain_machine.specs.Rows.Clone.{number_if, number_bytes, clone_thread, clone_by, clone_row}
-use Rattle.plain_machine.specs.Serve.{row, serve}
-use Rattle.sys_abi.specs.Flags.{has_flag}
+use Rattle.plain_machine.specs.Rows.Clone.{clone_thread, clone_by, clone_row}
+use Rattle.plain_machine.specs.Rows.Connections.{is_accept_ready, is_connect_ready}
+use Rattle.plain_machine.specs.Rows.Read.{is_read_ready}
+use Rattle.plain_machine.specs.Rows.Wait.{is_wait4_ready}
+use Rattle.plain_machine.specs.Rows.Write.{is_write_ready}
+use Rattle.plain_machine.specs.Serve.{row, serve, is_ready, front_of}
+use Rattle.plain_process.proofs.Giving.{Giving, gives, nothing}
+use Rattle.plain_machine.proofs.EachRow.{ready_by_front}
 
-abbrev IsAnswered : Try Served → Type 0
-IsAnswered (Fails e) = Unit {0}
-IsAnswered NotReady = ⊥
-IsAnswered (Gives served) = length served.bytes ≤ 8
-
--- a test in front refuses, or lets the call through
-tested : (b : Bool) (e : ℕ) (next : Try Served) → IsAnswered next → IsAnswered (and_then (need b e) (λ _. next))
-unfolding and_then need
-tested true e next is = is
-tested false e next is = tt
-
-looked_up : {A : Type 0} (there : Option A) (e : ℕ) (next : A → Try Served) → ((a : A) → IsAnswered (next a)) → IsAnswered (and_then (found there e) next)
-unfolding and_then found
-looked_up None e next is = tt
-looked_up (Some a) e next is = is a
-
-no_bytes : 0 ≤ 8
-no_bytes = omega arith
-
-object_answered : (k : PlainKernel) (object : Object) (given : List ℕ) → IsAnswered (write_object k object given)
-unfolding write_object
-object_answered k Console given = no_bytes
-object_answered k _ given = tt
-
-write_answered : (k : PlainKernel) (p : VPid) (fd : ℕ) (given : List ℕ) → IsAnswered (write_row k p fd given)
-unfolding write_row
-write_answered k p fd given = looked_up (description_at k p fd) EBADF _ (λ d. tested (may_write d.flags) EBADF _ (object_answered k d.object given))
-
-tgkill_answered : (k : PlainKernel) (p : VPid) (number t s : ℕ) → IsAnswered (tgkill_row k p number t s)
-unfolding tgkill_row
-tgkill_answered k p number t s = tested _ EINVAL _ (tested _ ESRCH _ no_bytes)
-
-number_fits : (wanted : Bool) (number : ℕ) → length (number_if wanted number) ≤ 4
-number_fits true number = omega arith
-number_fits false number = omega arith
-
-numbers_fit : (flags number : ℕ) → length (number_bytes flags number) ≤ 8
-numbers_fit flags number =
-    let first = number_if (has_flag flags CLONE_PARENT_SETTID) number in
-    let second = number_if (has_flag flags CLONE_CHILD_SETTID) number in
-    let both : length (first ++ second) ≡ length first + length second = length-append first second in
-    let front : length first ≤ 4 = number_fits (has_flag flags CLONE_PARENT_SETTID) number in
-    let back : length second ≤ 4 = number_fits (has_flag flags CLONE_CHILD_SETTID) number in
-    omega arith
-
-clone_answered : (k : PlainKernel) (p : VPid) (flags : ℕ) (form : Option CloneForm) → IsAnswered (clone_by k p flags form)
-unfolding clone_thread
-clone_answered k p flags None = tt
-clone_answered k p flags (Some Fork) = tt
-clone_answered k p flags (Some Thread) = tested _ EAGAIN _ (numbers_fit flags k.next_id)
-
-row_answered : (k : PlainKernel) (p : VPid) (t : ℕ) (q : Request) (given : List ℕ) → IsAnswered (row k p t q given)
-unfolding row exit_group_row exit_row clone_row
-row_answered k p t (Write fd buffer count) given = write_answered k p fd given
-row_answered k p t (ExitGroup code) given = no_bytes
-row_answered k p t (Exit code) given = no_bytes
-row_answered k p t (Tgkill number tid s) given = tgkill_answered k p number tid s
-row_answered k p t (Clone flags stack parent_tid tls child_tid) given = clone_answered k p flags (clone_form flags)
-row_answered k p t _ given = tt
-
-abbrev IsServed : Option Served → Type 0
-IsServed None = ⊥
-IsServed (Some served) = length served.bytes ≤ 8
-
-settled_served : (k : PlainKernel) (attempt : Try Served) → IsAnswered attempt → IsServed (settled k attempt)
-settled_served k (Fails e) is = no_bytes
-settled_served k NotReady is = is
-settled_served k (Gives served) is = is
-
-serve_served : (k : PlainKernel) (p : VPid) (t : ℕ) (q : Request) (given : List ℕ) → IsServed (serve k p t q given)
-unfolding serve
-serve_served k p t q given = settled_served k (row k p t q given) (row_answered k p t q given)
-
-pub served_bytes : (k : PlainKernel) (p : VPid) (t : ℕ) (q : Request) (given : List ℕ) (served : Served) → serve k p t q given ≡ Some served → length served.bytes ≤ 8
-served_bytes k p t q given served is = subst IsServed is (serve_served k p t q given)
-
--- no call waits
-pub serve_answers : (k : PlainKernel) (p : VPid) (t : ℕ) (q : Request) (given : List ℕ) → serve k p t q given ≡ None → ⊥
-serve_answers k p t q given is = subst IsServed is (serve_served k p t q given)
+ready_yet : (k : PlainKernel) (p : VPid) (t : ℕ) (q : Request) (front : List ℕ) → is_ready k p t q front ≡ true
+unfolding is_ready is_read_ready is_write_ready is_accept_ready is_connect_ready is_wait4_ready
+ready_yet k p t (Read fd buffer count) front = refl
+ready_yet k p t (Write fd buffer count) front = refl
+ready_yet k p t (Accept fd address length) front = refl
+ready_yet k p t (Connect fd address length) front = refl
+ready_yet k p t (Wait4 number status options usage) front = refl
+ready_yet k p t _ front = refl
 
 pub serve_is_some : (k : PlainKernel) (p : VPid) (t : ℕ) (q : Request) (given : List ℕ) → is_some (serve k p t q given) ≡ true
-serve_is_some k p t q given = some_if (serve k p t q given) (serve_served k p t q given)
+serve_is_some k p t q given = ready_by_front k p t q given ∙ ready_yet k p t q (front_of given)
+
+-- no fork is built yet
+abbrev MakesNone : Option CloneForm → Served → Type 0
+MakesNone form served = made_as served.reply form ≡ None
+
+settled_makes : (k : PlainKernel) (form : Option CloneForm) (attempt : Try Served) → ((served : Served) → attempt ≡ Gives served → MakesNone form served) → Giving (settled k attempt) (MakesNone form)
+settled_makes k form (Fails e) none = gives _ refl
+settled_makes k form NotReady none = nothing
+settled_makes k form (Gives served) none = gives served (none served refl)
+
+form_makes : (k : PlainKernel) (p : VPid) (flags : ℕ) (form : Option CloneForm) → Giving (settled k (clone_by k p flags form)) (MakesNone form)
+form_makes k p flags None = gives _ refl
+form_makes k p flags (Some Fork) = gives _ refl
+form_makes k p flags (Some Thread) = settled_makes k (Some Thread) (clone_thread k p flags) (λ served is. by_reply served.reply)
   where
-    some_if : (served : Option Served) → IsServed served → is_some served ≡ true
-    some_if None is = absurd is
-    some_if (Some served) is = refl
+    by_reply : (reply : Reply) → made_as reply (Some Thread) ≡ None
+    by_reply (Value new) = refl
+    by_reply (Error e) = refl
+
+pub none_made : (k : PlainKernel) (p : VPid) (t : ℕ) (q : Request) (given : List ℕ) (served : Served) → serve k p t q given ≡ Some served → made_by q served.reply ≡ None
+unfolding serve row clone_row made_by
+none_made k p t (Clone flags stack parent_tid tls child_tid) given served is = (form_makes k p flags (clone_form flags)).each served is
+none_made k p t _ given served is = refl

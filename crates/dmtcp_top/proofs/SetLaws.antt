@@ -3,9 +3,9 @@ use Rattle.std.proofs.Common.{◌≡◌, ℕ, List, Option, Some, None, inl, inr
 use Rattle.std.specs.Prelude.{◌⊎◌, option_map}
 use Rattle.set_disk.specs.Files.{Files}
 use Rattle.plain_machine.specs.declared.plain.Plain.{Plain}
-use Rattle.image_codec.specs.declared.damage.Damage.{Damage}
-use Rattle.image_codec.specs.declared.process_image.ProcImage.{ProcImage}
-use Rattle.image_codec.specs.declared.shared.Shared.{Shared}
+use Rattle.image_format.specs.declared.damage.Damage.{Damage}
+use Rattle.image_process.specs.declared.process_image.ProcImage.{ProcImage}
+use Rattle.image_shared.specs.declared.shared.Shared.{Shared}
 use Rattle.image_codec.specs.Sets.{SpellsFiles, DamagedFiles}
 use Rattle.image_codec.proofs.SetDamages.{files_apart, one_damage_of_files}
 use Rattle.image_store.specs.Slots.{last}

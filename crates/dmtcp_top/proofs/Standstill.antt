@@ -6,7 +6,7 @@ use Rattle.std.proofs.lemmas.Nat.{and_le_r}
 use Rattle.std.proofs.Math.Nat.{eq-or-lt_of_le}
 use Rattle.std.specs.Prelude.{◌==◌, ◌&&◌, bit_and, is_some, find, option_and_then, nat_le, nat_lt, map as each}
 use Rattle.std.specs.List.{range_with_len, filter_map, cons_option}
-use Rattle.std.specs.Option.{option_map}
+use Rattle.std.specs.Option.{option_map, option_or}
 use Rattle.std.specs.Cmp.{nat_cmp_total}
 use Rattle.std.specs.FinMap as map
 use Rattle.views.specs.Maps.{map_values}
@@ -31,21 +31,21 @@ use Rattle.plain_machine.specs.Records.{Outcome, outcome, step, outcome_of_user,
 use Rattle.plain_machine.specs.Tests.{ended, is_work, all_arrived, full_arrive, has_life}
 use Rattle.plain_machine.specs.Valid.{IsValid}
 use Rattle.dmtcp_top.specs.OneOrder.{StandsStill}
-use Rattle.dmtcp_top.specs.Rounds.{Place, Due, InTurn, or_else, goes_on_at, goes_on, due_signal, signal_for, turn_with, turn_of, threads_in, first_thread, first_turn, if_missing, coming, round_of, new_round, next_turn, same_turn, after_turn, stands_in}
+use Rattle.dmtcp_top.specs.Rounds.{Place, Due, InTurn, goes_on_at, goes_on, due_signal, signal_for, turn_with, turn_of, threads_in, first_thread, first_turn, if_missing, coming, round_of, new_round, next_turn, same_turn, after_turn, stands_in}
 use Rattle.dmtcp_top.proofs.Endings.{nobody_lives}
 
 -- no turn follows
-or_first : {A : Type 0} (a b : Option A) → or_else a b ≡ None → a ≡ None
+or_first : {A : Type 0} (a b : Option A) → option_or a b ≡ None → a ≡ None
 or_first None b none = refl
 or_first (Some a) b none = absurd (cc)
 
-or_second : {A : Type 0} (a b : Option A) → or_else a b ≡ None → b ≡ None
+or_second : {A : Type 0} (a b : Option A) → option_or a b ≡ None → b ≡ None
 or_second None b none = none
 or_second (Some a) b none = absurd (cc)
 
 none_next : (g : Plain) (here : Place) → next_turn g here ≡ None → new_round g ≡ None
 none_next g here none =
-    or_second (option_map InTurn (first_turn g here.processes)) (new_round g) (or_second (option_map InTurn (first_thread g here.p here.processes here.threads)) (or_else (option_map InTurn (first_turn g here.processes)) (new_round g)) none)
+    or_second (option_map InTurn (first_turn g here.processes)) (new_round g) (or_second (option_map InTurn (first_thread g here.p here.processes here.threads)) (option_or (option_map InTurn (first_turn g here.processes)) (new_round g)) none)
 
 none_if : (g : Plain) (here place : Place) (b : Bool) → cond b (Some (InTurn place)) (next_turn g here) ≡ None → new_round g ≡ None
 none_if g here place true none = absurd (cc)
@@ -166,7 +166,7 @@ arrived_by_now g valid none =
     by : (q : Dir) (found : Option Direction) → map.get g.kernel.directions q ≡ found → option_map all_arrived found ≡ found
     by q None is = refl
     by q (Some direction) is =
-        ap (λ d. Some d) (as_it_is direction (at_entry dir_total dir_exact (λ dir d. nat_lt d.arrived (length d.left) ≡ false) g.kernel.directions q direction (all_there (map.entries g.kernel.directions) none) is) (valid.kernel.directions q direction is).arrived)
+        ap (λ d. Some d) (as_it_is direction (at_entry dir_total dir_exact (λ dir d. nat_lt d.arrived (length d.left) ≡ false) g.kernel.directions q direction (all_there (map.entries g.kernel.directions) none) is) (valid.kernel.channels.each q direction is).arrived)
 
 -- somebody has a user part
 no_users : (g : Plain) → map.keys g.users ≡ [] → (p : VPid) → map.get g.users p ≡ None

@@ -13,7 +13,8 @@ use Rattle.plain_tables.specs.declared.process.Process.{Process}
 use Rattle.plain_tables.specs.Tables.{pid, is_live_process}
 use Rattle.plain_machine.specs.Kernel.{is_live}
 use Rattle.plain_process.specs.Launches.{IsLaunched}
-use Rattle.plain_machine.specs.Valid.{IsValid}
+use Rattle.plain_machine.specs.Valid.{IsValid, AreNamed}
+use Rattle.std.proofs.lemmas.List.Elements.{All-nil}
 use Rattle.plain_machine.proofs.StartKernels.{start_is_valid}
 use Rattle.image_codec.specs.KernelImages.{HasImage}
 use Rattle.image_codec.specs.StartImages.{start_image}
@@ -48,8 +49,11 @@ abbrev one_job : Program → List ℕ → Launched
 one_job program arguments = record { host = 0; program = program; arguments = arguments }
 
 pub start_valid : (program : Program) (arguments : List ℕ) → IsLaunched (one_job program arguments) → IsValid (start (one_job program arguments ∷ []) [])
-start_valid program arguments is = start_is_valid (one_job program arguments ∷ []) [] (omega arith) (one_of (one_job program arguments) is)
+start_valid program arguments is = start_is_valid (one_job program arguments ∷ []) [] (omega arith) (one_of (one_job program arguments) is) no_files
   where
+    no_files : AreNamed []
+    no_files = record { count = omega arith; names = All-nil _; bytes = All-nil _; total = omega arith; apart = λ i j d before inside. absurd (omega arith) }
+
     one_of : (job : Launched) → IsLaunched job → All IsLaunched (job ∷ [])
     one_of job is zero x low = is
     one_of job is (suc i) x low = absurd (omega arith)

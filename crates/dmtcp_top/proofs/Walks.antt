@@ -1,6 +1,7 @@
 -- The place in the rounds after a trace, and one more record that is due there.
 use Rattle.std.proofs.Common.{◌≡◌, Bool, true, false, cond, List, [], ◌∷◌, ◌++◌, Option, Some, None, refl, sym, ap, ◌∙◌}
 use Rattle.std.specs.Prelude.{◌&&◌, ◌||◌, option_and_then}
+use Rattle.std.specs.Option.{option_map_or}
 use Rattle.std.specs.FinMap as map
 use Rattle.sys_abi.specs.declared.record.Record.{Record}
 use Rattle.sys_abi.proofs.OrderLaws.{vpid_total, vpid_exact}
@@ -14,12 +15,12 @@ use Rattle.trace_log.specs.declared.requests.Schedule.{Schedule}
 use Rattle.trace_log.specs.Requests.{NoRequest, is_mark}
 use Rattle.dmtcp_top.specs.declared.machine.Machine.{Machine}
 use Rattle.dmtcp_top.specs.Machines.{plain_of, lives}
-use Rattle.dmtcp_top.specs.Rounds.{Place, InTurn, After, Standing, coming, due_at, is_first_arrival, is_due_in, is_due_at, is_due, waits, moved, moved_by, then_so, standing_after, in_rounds}
+use Rattle.dmtcp_top.specs.Rounds.{Place, InTurn, After, Standing, due_at, is_due_for_cut, is_due_in, is_due_at, is_due, request_waits, moved, moved_by, standing_after, each_is_due}
 use Rattle.dmtcp_top.specs.Running.{walk}
 use Rattle.dmtcp_top.proofs.Outcomes.{users_while_live, users_once_ended}
 
 pub record Pushed (schedule : Schedule) (g h : Plain) (at here : Standing) (records : List Record) (r : Record) : Type 0 where
-  pub order : in_rounds schedule g at (records ++ r ∷ []) ≡ true
+  pub order : each_is_due schedule g at (records ++ r ∷ []) ≡ true
   pub ends : walk schedule g at (records ++ r ∷ []) ≡ Some (standing_after schedule h here r)
 
 pub left_true : (a b : Bool) → (a && b) ≡ true → a ≡ true
@@ -34,21 +35,21 @@ both_true : (a b : Bool) → a ≡ true → b ≡ true → (a && b) ≡ true
 both_true true b first second = second
 both_true false b first second = first
 
-pub pushed : (schedule : Schedule) (g h next : Plain) (at here : Standing) (records : List Record) (r : Record) → run g records ≡ Some h → walk schedule g at records ≡ Some here → in_rounds schedule g at records ≡ true → is_due h here r ≡ true → step h r ≡ Some next → Pushed schedule g h at here records r
-unfolding run walk in_rounds
+pub pushed : (schedule : Schedule) (g h next : Plain) (at here : Standing) (records : List Record) (r : Record) → run g records ≡ Some h → walk schedule g at records ≡ Some here → each_is_due schedule g at records ≡ true → is_due h here r ≡ true → step h r ≡ Some next → Pushed schedule g h at here records r
+unfolding run walk each_is_due
 pushed schedule g h next at here [] r runs walks order due goes =
     let same : g ≡ h = cc in
     let there : at ≡ here = cc in
     let goes_g : step g r ≡ Some next = ap (λ k. step k r) same ∙ goes in
     let due_there : is_due g at r ≡ true = ap (λ (a : Standing). is_due g a r) there ∙ ap (λ k. is_due k here r) same ∙ due in
     record {
-      order = both_true (is_due g at r) _ due_there (ap (λ o. then_so o (λ k. true)) goes_g);
+      order = both_true (is_due g at r) _ due_there (ap (λ o. option_map_or (λ k. true) o false) goes_g);
       ends = ap (λ o. option_and_then (λ k. Some (standing_after schedule g at r)) o) goes_g ∙ ap (λ (a : Standing). Some (standing_after schedule g a r)) there ∙ ap (λ k. Some (standing_after schedule k here r)) same;
     }
 pushed schedule g h next at here (x ∷ rest) r runs walks order due goes = let both = elim (step g x) as (λ o.
     option_and_then (λ k. run k rest) o ≡ Some h → option_and_then (λ k. walk schedule k (standing_after schedule g at x) rest) o ≡ Some here
-    → (is_due g at x && then_so o (λ k. in_rounds schedule k (standing_after schedule g at x) rest)) ≡ true
-    → ((is_due g at x && then_so o (λ k. in_rounds schedule k (standing_after schedule g at x) (rest ++ r ∷ []))) ≡ true)
+    → (is_due g at x && option_map_or (λ k. each_is_due schedule k (standing_after schedule g at x) rest) o false) ≡ true
+    → ((is_due g at x && option_map_or (λ k. each_is_due schedule k (standing_after schedule g at x) (rest ++ r ∷ [])) o false) ≡ true)
     × (option_and_then (λ k. walk schedule k (standing_after schedule g at x) (rest ++ r ∷ [])) o ≡ Some (standing_after schedule h here r))) [
       | None ↦ λ e f d. absurd (cc)
       | Some k ↦ λ e f d.
@@ -69,19 +70,19 @@ part_once_ended m dead =
 pub work_is_due : (g : Plain) (at : Standing) (here : Place) (r : Record) → at.requests.phase ≡ NoRequest → due_at g at.upcoming ≡ Some (InTurn here) → is_due_in g here r ≡ true → is_due g at r ≡ true
 work_is_due g at here r free there due = by (is_mark r)
   where
-    by : (b : Bool) → (b || cond (waits at.requests.phase) (is_first_arrival g (coming g) r) (is_due_at g (due_at g at.upcoming) r)) ≡ true
+    by : (b : Bool) → (b || cond (request_waits at.requests.phase) (is_due_for_cut g r) (is_due_at g (due_at g at.upcoming) r)) ≡ true
     by true = refl
-    by false = ap (λ phase. cond (waits phase) (is_first_arrival g (coming g) r) (is_due_at g (due_at g at.upcoming) r)) free ∙ ap (λ d. is_due_at g d r) there ∙ due
+    by false = ap (λ phase. cond (request_waits phase) (is_due_for_cut g r) (is_due_at g (due_at g at.upcoming) r)) free ∙ ap (λ d. is_due_at g d r) there ∙ due
 
 pub work_moves : (g : Plain) (at : Standing) (here : Place) (r : Record) → at.requests.phase ≡ NoRequest → due_at g at.upcoming ≡ Some (InTurn here) → is_mark r ≡ false → moved g at r ≡ After (InTurn here) r
 work_moves g at here r free there plain =
-    ap (λ b. cond (b || waits at.requests.phase) at.upcoming (moved_by (due_at g at.upcoming) at.upcoming r)) plain
-    ∙ ap (λ phase. cond (waits phase) at.upcoming (moved_by (due_at g at.upcoming) at.upcoming r)) free
+    ap (λ b. cond (b || request_waits at.requests.phase) at.upcoming (moved_by (due_at g at.upcoming) at.upcoming r)) plain
+    ∙ ap (λ phase. cond (request_waits phase) at.upcoming (moved_by (due_at g at.upcoming) at.upcoming r)) free
     ∙ ap (λ d. moved_by d at.upcoming r) there
 
 pub mark_is_due : (g : Plain) (at : Standing) (r : Record) → is_mark r ≡ true → is_due g at r ≡ true
-mark_is_due g at r marks = ap (λ b. b || cond (waits at.requests.phase) (is_first_arrival g (coming g) r) (is_due_at g (due_at g at.upcoming) r)) marks
+mark_is_due g at r marks = ap (λ b. b || cond (request_waits at.requests.phase) (is_due_for_cut g r) (is_due_at g (due_at g at.upcoming) r)) marks
 
 -- a mark moves nobody
 pub mark_stays : (g : Plain) (at : Standing) (r : Record) → is_mark r ≡ true → moved g at r ≡ at.upcoming
-mark_stays g at r marks = ap (λ b. cond (b || waits at.requests.phase) at.upcoming (moved_by (due_at g at.upcoming) at.upcoming r)) marks
+mark_stays g at r marks = ap (λ b. cond (b || request_waits at.requests.phase) at.upcoming (moved_by (due_at g at.upcoming) at.upcoming r)) marks

@@ -1,7 +1,8 @@
 -- What a thread's turn begins with, and when it has one.
 --     place_with m later able      the place in the rounds, where these threads follow
 --     IsAble m able                a signal is to be delivered to the thread, or it doesn't wait
---     HasTurn m turn               the same of a turn; where it has run its quantum it stands at a call or a trap
+--     HasTurn m turn               the same of a turn; where it has run its quantum it stands at a call or a
+--                                  trap
 use Rattle.std.specs.Prelude.{◌≡◌, ◌≢◌, ℕ, true, false, List, [], None, IfSome, option_map}
 use Rattle.plain_machine.specs.Records.{stands}
 use Rattle.plain_process.specs.Steps.{Waits, user_step}

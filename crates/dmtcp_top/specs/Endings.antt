@@ -1,6 +1,7 @@
 -- How a call comes to its end, before the log has its last line.
 --     status_of ending, line_of ending     its status and its last line
---     Arrives ending session log           what holds there
+--     IsAtEnding ending session log        what holds there
+--     KeepsPaceAt ending session log       how far console and log came, with a run by one thread
 --     Concludes ending status log          the status that it gets when the line has been put
 use Rattle.std.specs.Prelude.{◌≡◌, ℕ, ◌⊎◌, List, []}
 use Rattle.trace_log.specs.LogText.{log_text}
@@ -10,8 +11,8 @@ use Rattle.dmtcp_top.specs.declared.ending.Ending.{Ending}
 use Rattle.dmtcp_top.specs.declared.ending.Ending.TheVariants.{Done, Usage, InputFault, Missing, BadElf, SinkFault, DiskFault, NoSet, Damaged, Budget, Stuck, Memory}
 use Rattle.dmtcp_top.specs.Log.{done_line, usage_line, input_fault_line, missing_line, bad_program_line, disk_fault_line, no_set_line, damaged_line, budget_line, stuck_line, memory_line}
 use Rattle.dmtcp_top.specs.Sessions.{Sunk, Session, Took, TookFront}
-use Rattle.dmtcp_top.specs.RunEnds.{LinesOf}
-use Rattle.dmtcp_top.specs.Ends.{Reaches, SinkFailed}
+use Rattle.dmtcp_top.specs.Pace.{LinesOf}
+use Rattle.dmtcp_top.specs.Ends.{Reaches, SinkFailed, Stopped}
 
 abbrev pub status_of : Ending → Status
 status_of Done = IsDone
@@ -41,10 +42,18 @@ line_of (Budget records) = budget_line records
 line_of Stuck = stuck_line
 line_of Memory = memory_line
 
-abbrev pub Arrives : Ending → Session → Sunk → Type 0
-Arrives SinkFault session log = SinkFailed session log
-Arrives Memory session log = Reaches IsMemory session memory_line × ((lines : List ℕ) × (LinesOf session.left.trace lines × Took log lines))
-Arrives ending session log = Reaches (status_of ending) session (line_of ending) × Took log (log_text session.left.trace)
+abbrev pub IsAtEnding : Ending → Session → Sunk → Type 0
+IsAtEnding SinkFault session log = SinkFailed session log
+IsAtEnding Memory session log =
+    Reaches IsMemory session memory_line × TookFront log (log_text session.left.trace)
+IsAtEnding ending session log =
+    Reaches (status_of ending) session (line_of ending) × Took log (log_text session.left.trace)
+
+abbrev pub KeepsPaceAt : Ending → Session → Sunk → Type 0
+KeepsPaceAt SinkFault session log = Stopped session log
+KeepsPaceAt Memory session log = (lines : List ℕ) × (LinesOf session.left.trace lines × Took log lines)
+KeepsPaceAt _ session log = Unit {0}
 
 abbrev pub Concludes : Ending → Status → Sunk → Type 0
-Concludes ending status log = ((status ≡ status_of ending) × Took log (line_of ending)) ⊎ ((status ≡ IsSinkFault) × TookFront log (line_of ending))
+Concludes ending status log = ((status ≡ status_of ending) × Took log (line_of ending))
+    ⊎ ((status ≡ IsSinkFault) × TookFront log (line_of ending))

@@ -1,54 +1,49 @@
 -- How a call ends: for each status what holds of the trace, the console and the log, in one line.
---     Reaches status session last     the call came to this status, with which this last line belongs on the log
+--     Reaches status session last     the call came to this status, with which this last line belongs on the
+--                                     log
 --     Ends status session log         the same with what the log took
---     IsInRounds start trace          the trace goes in the order of the rounds
+--     CallKeepsPace ..                how far console and log came where a sink failed or memory was wanted
+--     CallGoesInRounds session        the trace goes in the order of the rounds
 --     FileDecides status given        what the program's file decides, where no input and no sink failed
 --     IsDecided status given          which status comes where nothing outside failed
-use Rattle.std.specs.Prelude.{◌≡◌, ◌≢◌, ℕ, ◌⊎◌, ◌↔◌, List, [], ◌++◌, Option, Some, None, IfSome}
+use Rattle.std.specs.Prelude.{◌≡◌, ◌≢◌, ℕ, ◌⊎◌, ◌↔◌, List, [], ◌++◌, take, Option, Some, None, IfSome}
 use Rattle.std.specs.FinMap as map
 use Rattle.sys_abi.specs.declared.record.Record.{Record}
 use Rattle.elf32.specs.declared.fault.ElfFault.{ElfFault}
 use Rattle.elf32.specs.Rules.{first_fault}
-use Rattle.edge_io.specs.Inputs.{Files}
+use Rattle.edge_io.specs.Inputs.{NamedFiles}
 use Rattle.set_disk.specs.Files.{Files as Folder}
 use Rattle.plain_machine.specs.declared.plain.Plain.{Plain}
-use Rattle.image_codec.specs.declared.damage.Damage.{Damage}
+use Rattle.image_format.specs.declared.damage.Damage.{Damage}
 use Rattle.image_store.specs.Slots.{last as set_that_counts}
+use Rattle.trace_log.specs.declared.requests.Schedule.{Schedule}
 use Rattle.trace_log.specs.LogText.{log_text}
 use Rattle.dmtcp_top.specs.declared.status.Status.{Status}
 use Rattle.dmtcp_top.specs.declared.status.Status.TheVariants.{Done, Usage, InputFault, Missing, BadElf, SinkFault, DiskFault, NoSet, Damaged, Budget, Stuck, Memory}
 use Rattle.dmtcp_top.specs.Words.{AskNothing}
 use Rattle.dmtcp_top.specs.Log.{done_line, usage_line, input_fault_line, missing_line, bad_program_line, disk_fault_line, no_set_line, damaged_line, budget_line, stuck_line, memory_line}
-use Rattle.dmtcp_top.specs.Sessions.{Sunk, Given, Beginning, Session, Took, TookThen, IsInput}
+use Rattle.dmtcp_top.specs.Sessions.{Sunk, Given, Beginning, Session, Took, TookFront, TookThen, IsInput}
 use Rattle.dmtcp_top.specs.Sets.{SpellsSet, SpoilsSet}
 use Rattle.dmtcp_top.specs.Launches.{LaunchAsked, RestartAsked, Begun, origin, settings_in, schedule_in, beginning}
 use Rattle.dmtcp_top.specs.Rounds.{GoesInRounds}
-use Rattle.dmtcp_top.specs.RunEnds.{RanOut, FilledUp, GotStuck, Shown, SinkFails, CutLines, LinesOf}
+use Rattle.dmtcp_top.specs.RunEnds.{RanOut, FilledUp, GotStuck, Shown, ShownInPart}
+use Rattle.dmtcp_top.specs.Pace.{CutLines, StopsAtRecord}
 
--- nobody lives at the end of the run that the trace is, and the console took what the run writes
-pub record Finished (session : Session) : Type 0 where
+-- a run was begun, and it came to this
+pub record CameTo (There : Schedule → Plain → ℕ → List Record → Sunk → Type 0) (session : Session)
+    : Type 0 where
   pub begun : Begun session.given
   pub start : session.left.start ≡ Some (beginning begun)
-  pub run : RanOut (schedule_in begun) (origin begun) (settings_in begun).records session.left.trace session.left.console
+  pub run : There (schedule_in begun) (origin begun) (settings_in begun).records
+      session.left.trace session.left.console
 
 -- the trace is full, somebody lives, and the console took what the run writes
 pub record Spent (session : Session) (last : List ℕ) : Type 0 where
   pub begun : Begun session.given
   pub start : session.left.start ≡ Some (beginning begun)
-  pub run : FilledUp (schedule_in begun) (origin begun) (settings_in begun).records session.left.trace session.left.console
+  pub run : FilledUp (schedule_in begun) (origin begun) (settings_in begun).records
+      session.left.trace session.left.console
   pub line : last ≡ budget_line (settings_in begun).records
-
--- somebody lives, nobody can go on, and the console took what the run writes
-pub record Halted (session : Session) : Type 0 where
-  pub begun : Begun session.given
-  pub start : session.left.start ≡ Some (beginning begun)
-  pub run : GotStuck (schedule_in begun) (origin begun) (settings_in begun).records session.left.trace session.left.console
-
--- memory was wanted in the run, and the console took what the run writes
-pub record Starved (session : Session) : Type 0 where
-  pub begun : Begun session.given
-  pub start : session.left.start ≡ Some (beginning begun)
-  pub run : Shown (schedule_in begun) (origin begun) (settings_in begun).records session.left.trace session.left.console
 
 -- no run was begun: the trace is empty, and the console took nothing
 pub record NotBegun (session : Session) : Type 0 where
@@ -81,7 +76,8 @@ pub record Rejected (session : Session) (last : List ℕ) : Type 0 where
 
 -- the words ask for a restart, or for a launch with checkpoints whose file is a program
 pub data NeedsStore (given : Given) : Type 0 where
-  ToLaunch : (asked : LaunchAsked given) (file : List ℕ) → asked.settings.every ≢ None → IsInput given.files asked.name (Some file) → first_fault file ≡ None → NeedsStore given
+  ToLaunch : (asked : LaunchAsked given) (file : List ℕ) → asked.settings.every ≢ None
+      → IsInput given.files asked.name (Some file) → first_fault file ≡ None → NeedsStore given
   ToRestart : RestartAsked given → NeedsStore given
 
 -- the folder of sets failed before the run
@@ -111,7 +107,7 @@ abbrev pub IsAsked : Given → Type 0
 IsAsked given = LaunchAsked given ⊎ RestartAsked given
 
 abbrev pub Reaches : Status → Session → List ℕ → Type 0
-Reaches Done session last = Finished session × (last ≡ done_line)
+Reaches Done session last = CameTo RanOut session × (last ≡ done_line)
 Reaches Usage session last = NotBegun session × AskNothing session.given.words × (last ≡ usage_line)
 Reaches InputFault session last = Unread session last
 Reaches Missing session last = Absent session last
@@ -121,8 +117,9 @@ Reaches DiskFault session last = Unopened session last
 Reaches NoSet session last = Setless session last
 Reaches Damaged session last = Spoilt session last
 Reaches Budget session last = Spent session last
-Reaches Stuck session last = Halted session × (last ≡ stuck_line)
-Reaches Memory session last = ((NotBegun session × IsAsked session.given) ⊎ Starved session) × (last ≡ memory_line)
+Reaches Stuck session last = CameTo GotStuck session × (last ≡ stuck_line)
+Reaches Memory session last =
+    ((NotBegun session × IsAsked session.given) ⊎ CameTo Shown session) × (last ≡ memory_line)
 
 -- the log took the lines of the checkpoints, and the last line
 pub record Logged (status : Status) (session : Session) (log : Sunk) : Type 0 where
@@ -130,50 +127,76 @@ pub record Logged (status : Status) (session : Session) (log : Sunk) : Type 0 wh
   pub reached : Reaches status session last
   pub took : Took log (log_text session.left.trace ++ last)
 
--- where memory was wanted the log took the lines of the checkpoints, all but for a part of the last one, and the last line
-pub record LoggedPart (status : Status) (session : Session) (log : Sunk) : Type 0 where
+-- memory was wanted: the log took the lines of the checkpoints, which may be cut off so, and the last line
+pub record LoggedPart (IsCut : List ℕ → Type 0) (session : Session) (log : Sunk) : Type 0 where
   pub last : List ℕ
-  pub reached : Reaches status session last
+  pub reached : Reaches Memory session last
   pub text : List ℕ
-  pub lines : LinesOf session.left.trace text
+  pub lines : text ≡ log_text session.left.trace ⊎ IsCut text
   pub took : Took log (text ++ last)
 
 -- the log failed at the last line, whatever the status was to be
-pub record LogFailed (session : Session) (log : Sunk) : Type 0 where
+pub record LogFailed (IsCut : List ℕ → Type 0) (session : Session) (log : Sunk) : Type 0 where
   pub status : Status
   pub last : List ℕ
   pub reached : Reaches status session last
   pub text : List ℕ
-  pub lines : text ≡ log_text session.left.trace ⊎ (status ≡ Memory) × CutLines session.left.trace text
+  pub lines : text ≡ log_text session.left.trace ⊎ (status ≡ Memory) × IsCut text
   pub took : TookThen log text last
 
--- the console or the log failed in the run
-pub record SinkFailed (session : Session) (log : Sunk) : Type 0 where
-  pub begun : Begun session.given
-  pub start : session.left.start ≡ Some (beginning begun)
-  pub run : SinkFails (schedule_in begun) (origin begun) (settings_in begun).records session.left.trace session.left.console log
+-- the console or the log failed in the run: each took a first part of what belongs to it
+abbrev pub SinkFailed : Session → Sunk → Type 0
+SinkFailed session log = CameTo ShownInPart session × TookFront log (log_text session.left.trace)
+
+-- a first part of the lines of a trace
+abbrev pub IsFrontOfLines : List Record → List ℕ → Type 0
+IsFrontOfLines trace text = (n : ℕ) × (text ≡ take n (log_text trace))
 
 abbrev pub Ends : Status → Session → Sunk → Type 0
-Ends SinkFault session log = SinkFailed session log ⊎ LogFailed session log
-Ends Memory session log = LoggedPart Memory session log
+Ends SinkFault session log =
+    SinkFailed session log ⊎ LogFailed (IsFrontOfLines session.left.trace) session log
+Ends Memory session log = LoggedPart (IsFrontOfLines session.left.trace) session log
 Ends status session log = Logged status session log
 
+-- a run was begun, and it stopped at its last record
+pub record Stopped (session : Session) (log : Sunk) : Type 0 where
+  pub begun : Beginning
+  pub start : session.left.start ≡ Some begun
+  pub there : StopsAtRecord begun.state session.left.trace session.left.console log
+
+-- where a sink failed or memory was wanted, nothing is missing but a part of what belongs to the last record
+-- or line
+abbrev pub CallKeepsPace : Status → Session → Sunk → Type 0
+CallKeepsPace SinkFault session log =
+    Stopped session log ⊎ LogFailed (CutLines session.left.trace) session log
+CallKeepsPace Memory session log = LoggedPart (CutLines session.left.trace) session log
+CallKeepsPace _ session log = Unit {0}
+
 -- where a run was begun its records come in the order of the rounds
-abbrev pub IsInRounds : Option Beginning → List Record → Type 0
-IsInRounds start trace = IfSome start (λ begun. GoesInRounds begun.schedule begun.state trace)
+abbrev pub CallGoesInRounds : Session → Type 0
+CallGoesInRounds session =
+    IfSome session.left.start (λ begun. GoesInRounds begun.schedule begun.state session.left.trace)
 
 abbrev pub RunsOn : Status → Type 0
 RunsOn status = (status ≡ Done) ⊎ (status ≡ Budget) ⊎ (status ≡ Stuck) ⊎ (status ≡ Memory)
 
--- where no input and no sink failed, whether the program's file is there and keeps the rules decides between two answers, but for want of memory
+-- where no input and no sink failed, whether the program's file is there and keeps the rules decides between
+-- two answers, but for want of memory
 pub record FileDecides (status : Status) (given : Given) : Type 0 where
-  pub missing : (held : Files) (asked : LaunchAsked given) → given.files ≡ Some held → status ≢ Memory → (status ≡ Missing) ↔ (map.get held asked.name ≡ None)
-  pub bad : (held : Files) (asked : LaunchAsked given) (file : List ℕ) → given.files ≡ Some held → map.get held asked.name ≡ Some file → status ≢ Memory
+  pub missing : (held : NamedFiles) (asked : LaunchAsked given) → given.files ≡ Some held → status ≢ Memory
+      → (status ≡ Missing) ↔ (map.get held asked.name ≡ None)
+  pub bad : (held : NamedFiles) (asked : LaunchAsked given) (file : List ℕ) → given.files ≡ Some held
+      → map.get held asked.name ≡ Some file → status ≢ Memory
       → (status ≡ BadElf) ↔ (first_fault file ≢ None)
 
--- where no input, no sink and not the folder failed, the program's file and the files of the folder decide which status comes, but for want of memory
+-- where no input, no sink and not the folder failed, the program's file and the files of the folder decide
+-- which status comes, but for want of memory
 pub record IsDecided (status : Status) (given : Given) : Type 0 where
-  pub launches : (held : Files) (asked : LaunchAsked given) (file : List ℕ) → given.files ≡ Some held → map.get held asked.name ≡ Some file → first_fault file ≡ None → RunsOn status
-  pub setless : (files : Folder) → RestartAsked given → given.folder ≡ Some files → status ≢ Memory → (status ≡ NoSet) ↔ (set_that_counts files ≡ None)
-  pub spoilt : (files : Folder) → RestartAsked given → given.folder ≡ Some files → status ≢ Memory → (status ≡ Damaged) ↔ ((slot : ℕ) × ((damage : Damage) × SpoilsSet files slot damage))
-  pub restarts : (files : Folder) (generation : ℕ) (g : Plain) → RestartAsked given → given.folder ≡ Some files → SpellsSet files generation g → RunsOn status
+  pub launches : (held : NamedFiles) (asked : LaunchAsked given) (file : List ℕ) → given.files ≡ Some held
+      → map.get held asked.name ≡ Some file → first_fault file ≡ None → RunsOn status
+  pub setless : (files : Folder) → RestartAsked given → given.folder ≡ Some files → status ≢ Memory
+      → (status ≡ NoSet) ↔ (set_that_counts files ≡ None)
+  pub spoilt : (files : Folder) → RestartAsked given → given.folder ≡ Some files → status ≢ Memory
+      → (status ≡ Damaged) ↔ ((slot : ℕ) × ((damage : Damage) × SpoilsSet files slot damage))
+  pub restarts : (files : Folder) (generation : ℕ) (g : Plain) → RestartAsked given
+      → given.folder ≡ Some files → SpellsSet files generation g → RunsOn status

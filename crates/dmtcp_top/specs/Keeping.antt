@@ -1,7 +1,8 @@
 -- What the folder of sets has come to while a run goes on, where checkpoints are asked for.
---     IsSafe ..          a crash at any moment of the call so far leaves a set that was there before or one of the run's
---     IsKept ..          what the keeper knows of the folder
---     IsPut ..           a set that was put, or tried
+--     IsSafe g records old new     a crash at any moment of the call so far leaves a set that was there
+--                                  before or one of the run's
+--     IsKept keeper folder         what the keeper knows of the folder
+--     IsPut state generation result old new     a set that was put, or tried
 use Rattle.std.specs.Prelude.{◌≡◌, ◌⊎◌, ℕ, suc, ◌+◌, ◌-◌, ◌^◌, ◌<◌, ◌≤◌, Bool, true, false, List, Option, Some, None, is_some, IfSome, Result, OnOk, OnErr}
 use Rattle.std.specs.List.{count_by, Contains}
 use Rattle.std.specs.Option.{ForSome}
@@ -15,6 +16,7 @@ use Rattle.image_store.specs.declared.store_fault.StoreFault.{StoreFault}
 use Rattle.image_store.specs.declared.store_fault.StoreFault.TheVariants as disk_failed
 use Rattle.set_disk.specs.Files.{Files as Folder}
 use Rattle.set_disk.specs.Moments.{LeavesOnly}
+use Rattle.set_disk.specs.SeenFolder.{SeenFolder}
 use Rattle.plain_machine.specs.declared.plain.Plain.{Plain}
 use Rattle.trace_log.specs.Requests.{CutAt}
 use Rattle.image_store.specs.Slots.{last}
@@ -41,7 +43,9 @@ IsGood before g records image = IsOpening before image ⊎ SpellsCut g records i
 
 -- each set that the trace says is complete stays, or a later one does
 abbrev pub KeepsComplete : List Record → (Folder → Type 0) → Type 0
-KeepsComplete records images = (generation : ℕ) (image : Folder) → Contains records (Complete generation) → images image → IsAtLeast generation image
+KeepsComplete records images =
+    (generation : ℕ) (image : Folder)
+    → Contains records (Complete generation) → images image → IsAtLeast generation image
 
 abbrev pub is_disk_fault : Record → Bool
 is_disk_fault (Refused DiskFault) = true
@@ -51,28 +55,34 @@ is_disk_fault _ = false
 abbrev pub CountsFaults : List Record → ℕ → ℕ → Type 0
 CountsFaults records old new = (old + count_by is_disk_fault records ≤ new) ⊎ (new ≡ 2 ^ 64 - 1)
 
--- what the keeper knows of the folder: its store fits, and without one the folder's set is none of a later generation
-pub record IsKept (keeper : Keeper) (told : Option Folder) (images : Folder → Type 0) : Type 0 where
-  pub fits : (store : Known) → keeper.store ≡ Some store → FitsFolder store told images × (next_generation store ≡ suc keeper.tally.greatest)
-  pub above : ForSome told (λ files. IfSome (last files) (λ info. info.generation ≤ keeper.tally.greatest))
+-- what the keeper knows of the folder: its store fits, and without one the folder's set is none of a later
+-- generation
+pub record IsKept (keeper : Keeper) (folder : SeenFolder) : Type 0 where
+  pub fits : (store : Known) → keeper.store ≡ Some store
+      → FitsFolder store folder × (next_generation store ≡ suc keeper.tally.greatest)
+  pub above : ForSome folder.files
+      (λ files. IfSome (last files) (λ info. info.generation ≤ keeper.tally.greatest))
   pub floor : keeper.store ≡ None → 0 < keeper.tally.greatest
 
-pub record IsSafe {D : Type 0} (reads : D → Option Folder) (moment : D → ℕ) (may_leave : D → Folder → Type 0) (left_since : D → ℕ → Folder → Type 0) (faults : D → ℕ) (g : Plain) (records : List Record) (old new : D) : Type 0 where
-  pub told : is_some (reads new) ≡ is_some (reads old)
-  pub crash : ForSome (reads old) (λ _. LeavesOnly moment left_since old new (IsGood (may_leave old) g records))
-  pub complete : ForSome (reads old) (λ _. KeepsComplete records (may_leave new))
-  pub counted : CountsFaults records (faults old) (faults new)
-  pub later : faults old ≤ faults new
+pub record IsSafe (g : Plain) (records : List Record) (old new : SeenFolder) : Type 0 where
+  pub told : is_some new.files ≡ is_some old.files
+  pub crash : ForSome old.files (λ _. LeavesOnly old new (IsGood old.may_leave g records))
+  pub complete : ForSome old.files (λ _. KeepsComplete records new.may_leave)
+  pub counted : CountsFaults records old.faults new.faults
+  pub later : old.faults ≤ new.faults
 
 -- a set of this generation was put, or tried, for the state
-pub record IsPut {D : Type 0} (reads : D → Option Folder) (moment : D → ℕ) (may_leave : D → Folder → Type 0) (left_since : D → ℕ → Folder → Type 0) (state : Plain) (generation : ℕ) (result : Result Known Cause) (old new : D) : Type 0 where
+pub record IsPut (state : Plain) (generation : ℕ) (result : Result Known Cause)
+    (old new : SeenFolder) : Type 0 where
   pub images : List (List ℕ)
   pub spelled : SpellsState images state
-  pub crash : ForSome (reads old) (λ files. LeavesOnly moment left_since old new (OldOrNew (last_set files) generation images))
-  pub told : is_some (reads new) ≡ is_some (reads old)
-  pub durable : OnOk result (ForSome (reads old) (λ _. (image : Folder) → may_leave new image → HasSet (last_set image) generation images))
-  pub stored : OnOk result (ForSome (reads new) (λ files. HasSet (last_set files) generation images))
-  pub refused : OnErr result (ForSome (reads old) (λ before. ForSome (reads new) (OldOrNew (last_set before) generation images)))
+  pub crash : ForSome old.files (λ files. LeavesOnly old new (OldOrNew (last_set files) generation images))
+  pub told : is_some new.files ≡ is_some old.files
+  pub durable : OnOk result (ForSome old.files
+      (λ _. (image : Folder) → new.may_leave image → HasSet (last_set image) generation images))
+  pub stored : OnOk result (ForSome new.files (λ files. HasSet (last_set files) generation images))
+  pub refused : OnErr result (ForSome old.files
+      (λ before. ForSome new.files (OldOrNew (last_set before) generation images)))
 
 -- a count of faults that goes on from call to call
 pub record Counts (old new : ℕ) : Type 0 where
@@ -85,7 +95,8 @@ IsOutside DiskFault = Unit {0}
 IsOutside Memory = Unit {0}
 IsOutside (Unsupported p fd kind) = ⊥
 
--- why a checkpoint is refused where the store refuses. It never has no set and no damage to tell when it is opened or a set is put
+-- why a checkpoint is refused where the store refuses. It never has no set and no damage to tell when it is
+-- opened or a set is put
 abbrev pub cause_told : StoreFault → Cause
 cause_told disk_failed.DiskFault = DiskFault
 cause_told disk_failed.NoSet = Memory

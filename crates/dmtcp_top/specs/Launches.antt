@@ -1,4 +1,5 @@
--- How a run begins: by a launch, whose words name the file of the program, or by a restart from the set that counts.
+-- How a run begins: by a launch, whose words name the file of the program, or by a restart from the set that
+-- counts.
 --     origin begun          the plain state with which it begins, which is a valid one
 --     schedule_in begun     when it asks for checkpoints
 --     beginning begun       both
@@ -33,7 +34,11 @@ arguments_of name = name ++ 0 ∷ []
 
 -- the plain machine with one process, which is to run the program in this file
 abbrev pub start_of : List ℕ → List ℕ → Plain
-start_of name file = start (record { host = 0; program = program_of file; arguments = arguments_of name } ∷ []) []
+start_of name file = start (record {
+  host = 0;
+  program = program_of file;
+  arguments = arguments_of name;
+} ∷ []) []
 
 -- the generation of the set that counted at the start, which nobody asks for where there are no checkpoints
 abbrev pub Opens : Option Folder → Option ℕ → ℕ → Type 0

@@ -8,6 +8,7 @@ pub mod Launches
 pub mod Rounds
 pub mod Log
 pub mod RunEnds
+pub mod Pace
 pub mod Running
 pub mod Keeping
 pub mod UnderWay

@@ -1,4 +1,5 @@
--- What beginning a run gives: a machine at its start with the keeper of its checkpoints, or how the call ends without them.
+-- What beginning a run gives: a machine at its start with the keeper of its checkpoints, or how the call ends
+-- without them.
 use Rattle.std.specs.Prelude.{◌≡◌, ◌≢◌, ℕ, List, Option, Some, None, Result, Ok, Err, IfSome, All}
 use Rattle.elf32.specs.Rules.{first_fault}
 use Rattle.elf32.specs.Programs.{program_of}
@@ -10,8 +11,9 @@ use Rattle.image_store.specs.declared.set_info.SetInfo.{SetInfo}
 use Rattle.image_store.specs.StoreStates.{Known}
 use Rattle.image_store.specs.StoreCrashes.{ChangesNothing}
 use Rattle.dmtcp_top.specs.Keeping.{Counts}
-use Rattle.edge_io.specs.Inputs.{Files}
+use Rattle.edge_io.specs.Inputs.{NamedFiles}
 use Rattle.set_disk.specs.Files.{Files as Folder}
+use Rattle.set_disk.specs.SeenFolder.{SeenFolder}
 use Rattle.image_codec.specs.Sets.{DamagedFiles}
 use Rattle.dmtcp_top.specs.Sets.{SpellsState}
 use Rattle.image_store.specs.Slots.{last}
@@ -37,7 +39,8 @@ pub record IsFresh (keeper : Keeper) (settings : Settings) (opening : ℕ) : Typ
   pub lines : keeper.lines ≡ at_start
 
 -- the machine stands at the start of the program in the file
-pub record IsLaunched (files : Option Files) (folder : Option Folder) (name : List ℕ) (settings : Settings) (start : Start) : Type 0 where
+pub record IsLaunched (files : Option NamedFiles) (folder : Option Folder) (name : List ℕ)
+    (settings : Settings) (start : Start) : Type 0 where
   pub file : List ℕ
   pub input : IsInput files name (Some file)
   pub grammar : first_fault file ≡ None
@@ -57,11 +60,13 @@ pub record IsRestarted (folder : Option Folder) (settings : Settings) (start : S
   pub keeper : IsFresh start.keeper settings generation
 
 -- how a launch ends without a machine, and why
-abbrev pub RefusesLaunch : Ending → Option Files → List ℕ → Settings → Type 0
+abbrev pub RefusesLaunch : Ending → Option NamedFiles → List ℕ → Settings → Type 0
 RefusesLaunch (InputFault who) files name settings = who.now ≡ name
 RefusesLaunch (Missing who) files name settings = (who.now ≡ name) × IsInput files name None
-RefusesLaunch (BadElf who fault) files name settings = (who.now ≡ name) × ((file : List ℕ) × (IsInput files name (Some file) × (first_fault file ≡ Some fault)))
-RefusesLaunch DiskFault files name settings = (settings.every ≢ None) × ((file : List ℕ) × (IsInput files name (Some file) × (first_fault file ≡ None)))
+RefusesLaunch (BadElf who fault) files name settings = (who.now ≡ name)
+    × ((file : List ℕ) × (IsInput files name (Some file) × (first_fault file ≡ Some fault)))
+RefusesLaunch DiskFault files name settings = (settings.every ≢ None)
+    × ((file : List ℕ) × (IsInput files name (Some file) × (first_fault file ≡ None)))
 RefusesLaunch Memory files name settings = Unit {0}
 RefusesLaunch _ files name settings = ⊥
 
@@ -73,7 +78,7 @@ RefusesRestart (Damaged slot damage) folder = IfSome folder (λ files. SpoilsSet
 RefusesRestart Memory folder = Unit {0}
 RefusesRestart _ folder = ⊥
 
-abbrev pub Launches : Result Start Ending → Option Files → Option Folder → List ℕ → Settings → Type 0
+abbrev pub Launches : Result Start Ending → Option NamedFiles → Option Folder → List ℕ → Settings → Type 0
 Launches (Ok start) files folder name settings = IsLaunched files folder name settings start
 Launches (Err ending) files folder name settings = RefusesLaunch ending files name settings
 
@@ -82,7 +87,7 @@ Restarts (Ok start) folder settings = IsRestarted folder settings start
 Restarts (Err ending) folder settings = RefusesRestart ending folder
 
 -- what beginning a run gives
-abbrev pub Begins : Result Start Ending → Job → Option Files → Option Folder → Type 0
+abbrev pub Begins : Result Start Ending → Job → Option NamedFiles → Option Folder → Type 0
 Begins result (Launch name settings) files folder = Launches result files folder name.now settings
 Begins result (Restart settings) files folder = Restarts result folder settings
 
@@ -93,22 +98,26 @@ IsQuiet (Restart settings) = ⊥
 
 -- it can be launched with every list of arguments
 abbrev pub IsGoodProgram : Program → Type 0
-IsGoodProgram program = (arguments : List ℕ) → All IsByte arguments → CanLaunch (record { host = 0; program = program; arguments = arguments })
+IsGoodProgram program = (arguments : List ℕ) → All IsByte arguments
+    → CanLaunch (record { host = 0; program = program; arguments = arguments })
 
 -- the program that a file describes, or why it describes none
 abbrev pub IsProgramIn : Result Program Ending → List ℕ → List ℕ → Type 0
-IsProgramIn (Ok program) name file = (first_fault file ≡ None) × (program ≡ program_of file) × IsGoodProgram program
+IsProgramIn (Ok program) name file = (first_fault file ≡ None) × (program ≡ program_of file)
+    × IsGoodProgram program
 IsProgramIn (Err (BadElf who fault)) name file = (who.now ≡ name) × (first_fault file ≡ Some fault)
 IsProgramIn (Err Memory) name file = Unit {0}
 IsProgramIn (Err _) name file = ⊥
 
 -- the program in the input of this name, or why there is none
-abbrev pub IsReadProgram : Result Program Ending → Option Files → List ℕ → Type 0
+abbrev pub IsReadProgram : Result Program Ending → Option NamedFiles → List ℕ → Type 0
 IsReadProgram (Ok program) files name =
-    (file : List ℕ) × (IsInput files name (Some file) × (first_fault file ≡ None) × (program ≡ program_of file) × IsGoodProgram program)
+    (file : List ℕ) × (IsInput files name (Some file) × (first_fault file ≡ None)
+    × (program ≡ program_of file) × IsGoodProgram program)
 IsReadProgram (Err (InputFault who)) files name = who.now ≡ name
 IsReadProgram (Err (Missing who)) files name = (who.now ≡ name) × IsInput files name None
-IsReadProgram (Err (BadElf who fault)) files name = (who.now ≡ name) × ((file : List ℕ) × (IsInput files name (Some file) × (first_fault file ≡ Some fault)))
+IsReadProgram (Err (BadElf who fault)) files name = (who.now ≡ name)
+    × ((file : List ℕ) × (IsInput files name (Some file) × (first_fault file ≡ Some fault)))
 IsReadProgram (Err Memory) files name = Unit {0}
 IsReadProgram (Err _) files name = ⊥
 
@@ -122,7 +131,8 @@ Reopened (Err _) folder = ⊥
 -- the machine at the state that the files of a set in this slot spell, or why there is none
 abbrev pub IsMachineOf : Result Machine Ending → ℕ → List (List ℕ) → Type 0
 IsMachineOf (Ok m) slot images = SpellsState images (plain_of m) × IsReady m
-IsMachineOf (Err (Damaged at damage)) slot images = (at ≡ slot) × DamagedFiles images damage.file damage.offset
+IsMachineOf (Err (Damaged at damage)) slot images = (at ≡ slot)
+    × DamagedFiles images damage.file damage.offset
 IsMachineOf (Err Memory) slot images = Unit {0}
 IsMachineOf (Err _) slot images = ⊥
 
@@ -141,7 +151,7 @@ Restored (Err Memory) info folder = Unit {0}
 Restored (Err _) info folder = ⊥
 
 -- a stretch of calls of the folder that only look or sync
-pub record OnlyLooks {D : Type 0} (reads : D → Option Folder) (moment : D → ℕ) (may_leave : D → Folder → Type 0) (left_since : D → ℕ → Folder → Type 0) (faults : D → ℕ) (old new : D) : Type 0 where
-  pub nothing : ChangesNothing reads moment may_leave left_since old new
-  pub crash : LeavesOnly moment left_since old new (may_leave old)
-  pub counts : Counts (faults old) (faults new)
+pub record OnlyLooks (old new : SeenFolder) : Type 0 where
+  pub nothing : ChangesNothing old new
+  pub crash : LeavesOnly old new old.may_leave
+  pub counts : Counts old.faults new.faults

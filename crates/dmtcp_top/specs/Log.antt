@@ -2,8 +2,8 @@
 use Rattle.std.specs.Prelude.{ℕ, List, ◌++◌, codes}
 use Rattle.std.specs.Fmt.{decimal}
 use Rattle.elf32.specs.declared.fault.ElfFault.{ElfFault}
-use Rattle.elf32.specs.Faults.{word_of}
-use Rattle.image_codec.specs.declared.damage.Damage.{Damage}
+use Rattle.elf32.specs.Faults.{reason_text}
+use Rattle.image_format.specs.declared.damage.Damage.{Damage}
 
 abbrev pub line : List ℕ → List ℕ
 line text = text ++ codes "\n"
@@ -22,7 +22,7 @@ missing_line name = line (codes "missing: " ++ name)
 
 -- as `short at 51`
 abbrev pub fault_text : ElfFault → List ℕ
-fault_text fault = word_of fault.reason ++ codes " at " ++ decimal fault.offset
+fault_text fault = reason_text fault.reason ++ codes " at " ++ decimal fault.offset
 
 abbrev pub bad_program_line : List ℕ → ElfFault → List ℕ
 bad_program_line name fault = line (codes "bad program: " ++ name ++ codes ": " ++ fault_text fault)
@@ -47,4 +47,5 @@ abbrev pub place_text : Damage → List ℕ
 place_text damage = decimal damage.file ++ codes " at " ++ decimal damage.offset
 
 abbrev pub damaged_line : ℕ → Damage → List ℕ
-damaged_line slot damage = line (codes "damaged: slot " ++ decimal slot ++ codes " file " ++ place_text damage)
+damaged_line slot damage =
+    line (codes "damaged: slot " ++ decimal slot ++ codes " file " ++ place_text damage)

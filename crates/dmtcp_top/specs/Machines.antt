@@ -19,7 +19,8 @@ use Rattle.trace_log.specs.Trace.{TraceState}
 use Rattle.plain_machine.specs.declared.plain.Plain.{Plain}
 use Rattle.plain_machine.specs.declared.kernel.PlainKernel.{PlainKernel}
 use Rattle.plain_process.specs.declared.user_part.UserPart.{UserPart}
-use Rattle.plain_machine.specs.Kernel.{is_live, after_end}
+use Rattle.plain_machine.specs.Kernel.{is_live}
+use Rattle.plain_machine.specs.Ends.{ended}
 use Rattle.plain_machine.specs.Valid.{IsValid}
 use Rattle.image_codec.specs.KernelImages.{HasImage}
 use Rattle.plain_machine.specs.Records.{outcome, living}
@@ -45,7 +46,8 @@ lives m = is_live m.kernel m.guest.pid
 pub record IsSingle (m : Machine) : Type 0 where
   pub alone : (q : VPid) → q ≢ m.guest.pid → is_live m.kernel q ≡ false
 
--- nobody else lives, the plain state is a valid one, and there is an image of the kernel part as long as the process lives
+-- nobody else lives, the plain state is a valid one, and there is an image of the kernel part as long as the
+-- process lives
 pub record IsReady (m : Machine) : Type 0 where
   pub single : IsSingle m
   pub valid : IsValid (plain_of m)
@@ -72,13 +74,14 @@ placed m turn = option_map (λ t. InTurn (place_of m t)) turn
 abbrev pub with_record : TraceState → Record → TraceState
 with_record trace r = record { records = trace.records ++ r ∷ []; room = trace.room - 1 }
 
--- the signal is that of the trap at which the thread stands, or it is pending and the thread's mask lets it through
+-- the signal is that of the trap at which the thread stands, or it is pending and the thread's mask lets it
+-- through
 abbrev pub CanDeliver : Plain → VPid → Tid → Signal → Type 0
 CanDeliver g p t s = is_some (outcome g (Deliver p t s)) ≡ true
 
 -- a signal that kills takes the process away
 abbrev pub kernel_after : PlainKernel → VPid → Delivered → PlainKernel
-kernel_after k p (Kills status) = after_end k p
+kernel_after k p (Kills status) = ended k p status
 kernel_after k p _ = k
 
 -- this record was made, and the console took its bytes
@@ -102,7 +105,8 @@ pub record IsDueWork (now : Plain) (here : Place) (r : Record) : Type 0 where
   pub due : is_due_in now here r ≡ true
 
 -- one more record, which is due at the place and leads to the next one
-pub record Notes (before after : Plain) (here : Place) (next : Option Due) (from to : TraceState) (console : Sunk) : Type 0 where
+pub record Notes (before after : Plain) (here : Place) (next : Option Due) (from to : TraceState)
+    (console : Sunk) : Type 0 where
   pub noted : Record
   pub own : IsDueWork before here noted
   pub took : Takes before after noted from to console

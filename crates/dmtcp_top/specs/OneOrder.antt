@@ -4,16 +4,21 @@
 --     OneOrder             of two traces from one state the steps of the shorter begin those of the longer
 --     OneTrace             and the shorter run's trace begins the longer one's
 --     StandsStill          where nothing is due in a new round, though somebody lives, nobody can go on
---     EndsThere            once nobody lives or can go on no more work is done, and nothing at all where all bytes have arrived
+--     EndsThere            once nobody lives or can go on no more work is done, and nothing at all where
+--                          nobody lives or all bytes have arrived
 --     OneEnd               so two runs to such an end are one
 --     OneEnding            and two runs with as much room end alike, with one trace
---     EndsSo               so a run does what a trace in rounds to its end says, where there is room for that, or wants memory
+--     EndsSo               so a run does what the rounds from its state do to their end, where there is room
+--                          for that, or wants memory
 --     OneRestart           so restarts from one set answer one and leave one trace
+--     RestartEndsSo        and a restart does what the rounds from its set's state do to their end
 --     SetIsValid           whose state is valid, as that of a launch is
---     OneAnswer            and two calls that begin with one state, launch or restart, show the same where both end as done
---     LacksNoRequest       a call that ends as done has the mark of a request that was due
-use Rattle.std.specs.Prelude.{◌≡◌, ◌≢◌, ◌⊎◌, ℕ, ◌-◌, ◌^◌, ◌<◌, ◌≤◌, true, false, not, List, [], ◌∷◌, ◌++◌, filter, length, take, Some, None, IfSome, All}
+--     OneAnswer            and two calls that begin with one state, launch or restart, show the same where
+--                          both end as done
+--     LacksNoRequest       a run to its end has the mark of a request that was due
+use Rattle.std.specs.Prelude.{◌≡◌, ◌≢◌, ◌⊎◌, ℕ, ◌-◌, ◌^◌, ◌<◌, ◌≤◌, true, false, not, List, [], ◌∷◌, ◌++◌, filter, length, take, Some, None, All}
 use Rattle.std.specs.List.{count_by}
+use Rattle.std.specs.Option.{option_map}
 use Rattle.sys_abi.specs.declared.record.Record.{Record}
 use Rattle.plain_machine.specs.declared.plain.Plain.{Plain}
 use Rattle.plain_machine.specs.Runs.{run, console}
@@ -25,16 +30,15 @@ use Rattle.trace_log.specs.Requests.{is_mark}
 use Rattle.set_disk.specs.Files.{Files as Folder}
 use Rattle.dmtcp_top.specs.declared.settings.Settings.{Settings}
 use Rattle.dmtcp_top.specs.declared.status.Status.{Status}
-use Rattle.dmtcp_top.specs.declared.status.Status.TheVariants.{Done, Budget, Stuck}
+use Rattle.dmtcp_top.specs.declared.status.Status.TheVariants.{Done, Budget, Stuck, Memory as WantsMemory}
 use Rattle.dmtcp_top.specs.Words.{IsRestart, NameNoEvery}
-use Rattle.dmtcp_top.specs.Launches.{settings_in, schedule_in}
 use Rattle.dmtcp_top.specs.Sets.{SpellsState, SpellsSet}
 use Rattle.dmtcp_top.specs.Rounds.{GoesInRounds, new_round}
 use Rattle.dmtcp_top.specs.declared.run_end.RunEnd.{RunEnd}
 use Rattle.dmtcp_top.specs.declared.run_end.RunEnd.TheVariants.{Done as Ended, SinkFault, Memory}
-use Rattle.dmtcp_top.specs.RunEnds.{IsRun, EndsRun}
-use Rattle.dmtcp_top.specs.Sessions.{Sunk, Session, Took}
-use Rattle.dmtcp_top.specs.Ends.{Ends, IsInRounds}
+use Rattle.dmtcp_top.specs.RunEnds.{IsRun, RanOut, EndsRun}
+use Rattle.dmtcp_top.specs.Sessions.{Sunk, Beginning, Session, Took}
+use Rattle.dmtcp_top.specs.Ends.{Ends, IsDecided, CallGoesInRounds}
 
 abbrev pub work_in : List Record → List Record
 work_in records = filter is_work records
@@ -44,36 +48,45 @@ steps_in records = filter (λ r. not (is_mark r)) records
 
 abbrev pub OneOrder : Type 0
 OneOrder =
-    (schedule other : Schedule) (g : Plain) (a b : List Record) → schedule.every ≡ None → other.every ≡ None
-    → GoesInRounds schedule g a → GoesInRounds other g b → length (steps_in a) ≤ length (steps_in b) → steps_in a ≡ take (length (steps_in a)) (steps_in b)
+    (schedule other : Schedule) (g : Plain) (a b : List Record)
+    → schedule.every ≡ None → other.every ≡ None → GoesInRounds schedule g a → GoesInRounds other g b
+    → length (steps_in a) ≤ length (steps_in b) → steps_in a ≡ take (length (steps_in a)) (steps_in b)
 
 abbrev pub OneTrace : Type 0
 OneTrace =
-    (schedule other : Schedule) (g last final : Plain) (room more : ℕ) (a b : List Record) → schedule.every ≡ None → other.every ≡ None
-    → IsRun schedule g room a last → IsRun other g more b final → GoesInRounds schedule g a → GoesInRounds other g b → length a ≤ length b → a ≡ take (length a) b
+    (schedule other : Schedule) (g last final : Plain) (room more : ℕ) (a b : List Record)
+    → schedule.every ≡ None → other.every ≡ None → IsRun schedule g room a last → IsRun other g more b final
+    → GoesInRounds schedule g a → GoesInRounds other g b → length a ≤ length b → a ≡ take (length a) b
 
 -- nobody lives, or nobody can go on
 abbrev pub ComesToRest : Plain → Type 0
 ComesToRest g = (ended g ≡ true) ⊎ IsStuck g
 
 abbrev pub StandsStill : Type 0
-StandsStill = (g : Plain) → IsValid g → ended g ≡ false → new_round g ≡ None → IsStuck g × (full_arrive g ≡ g)
+StandsStill =
+    (g : Plain) → IsValid g → ended g ≡ false → new_round g ≡ None → IsStuck g × (full_arrive g ≡ g)
 
 abbrev pub EndsThere : Type 0
 EndsThere =
     (schedule : Schedule) (g last : Plain) (records : List Record) (r : Record)
-    → IsValid g → run g records ≡ Some last → ComesToRest last → GoesInRounds schedule g (records ++ r ∷ []) → (is_work r ≡ false) × (full_arrive last ≡ last → is_mark r ≡ true)
+    → IsValid g → run g records ≡ Some last → ComesToRest last → GoesInRounds schedule g (records ++ r ∷ [])
+    → (is_work r ≡ false) × ((ended last ≡ true) ⊎ (full_arrive last ≡ last) → is_mark r ≡ true)
 
--- the same work, the same bytes on the console and, once all bytes have arrived, the same state at the end
+-- the same work, the same bytes on the console, and the same state at the end, where nobody lives, or once
+-- all bytes have arrived
 pub record AreOne (g : Plain) (a b : List Record) (last final : Plain) : Type 0 where
   pub work : work_in a ≡ work_in b
   pub shown : console g a ≡ console g b
+  pub same : ended last ≡ true → last ≡ final
   pub state : full_arrive last ≡ full_arrive final
 
 abbrev pub OneEnd : Type 0
 OneEnd =
-    (schedule other : Schedule) (g last final : Plain) (a b : List Record) → schedule.every ≡ None → other.every ≡ None
-    → IsValid g → GoesInRounds schedule g a → GoesInRounds other g b → run g a ≡ Some last → run g b ≡ Some final → ComesToRest last → ComesToRest final → AreOne g a b last final
+    (schedule other : Schedule) (g last final : Plain) (a b : List Record)
+    → schedule.every ≡ None → other.every ≡ None → IsValid g → GoesInRounds schedule g a
+    → GoesInRounds other g b
+    → run g a ≡ Some last → run g b ≡ Some final → ComesToRest last → ComesToRest final
+    → AreOne g a b last final
 
 -- what a run comes to where nothing outside fails and there is memory
 abbrev pub IsAnswer : RunEnd → Type 0
@@ -83,16 +96,33 @@ IsAnswer _ = Unit {0}
 
 abbrev pub OneEnding : Type 0
 OneEnding =
-    (schedule other : Schedule) (g : Plain) (room : ℕ) (a b : List Record) (first second : RunEnd) (console log also more : Sunk)
-    → IsValid g → schedule.every ≡ None → other.every ≡ None → IsAnswer first → IsAnswer second → EndsRun first schedule g room a console log → EndsRun second other g room b also more
+    (schedule other : Schedule) (g : Plain) (room : ℕ) (a b : List Record)
+    (first second : RunEnd) (console log also more : Sunk)
+    → IsValid g → schedule.every ≡ None → other.every ≡ None → IsAnswer first → IsAnswer second
+    → EndsRun first schedule g room a console log → EndsRun second other g room b also more
     → GoesInRounds schedule g a → GoesInRounds other g b → (first ≡ second) × (a ≡ b)
 
--- a trace in rounds to an end, and a run with room for it that no sink cut off
+abbrev pub no_checkpoints : Schedule
+no_checkpoints = record { every = None; opening = 0 }
+
+-- the rounds from this state, without checkpoints, come with these records to an end where nobody lives, and
+-- there is room for them
+pub record RunsToEnd (g : Plain) (room : ℕ) (records : List Record) : Type 0 where
+  pub last : Plain
+  pub steps : run g records ≡ Some last
+  pub over : ended last ≡ true
+  pub unmarked : All (λ r. is_mark r ≡ false) records
+  pub order : GoesInRounds no_checkpoints g records
+  pub fits : length records ≤ room
+
+-- of a run that no sink cut off
 abbrev pub EndsSo : Type 0
 EndsSo =
-    (schedule other : Schedule) (g last : Plain) (room more : ℕ) (a b : List Record) (end : RunEnd) (console log : Sunk)
-    → IsValid g → schedule.every ≡ None → other.every ≡ None → IsRun schedule g more a last → GoesInRounds schedule g a → ended last ≡ true → length a ≤ room
-    → EndsRun end other g room b console log → GoesInRounds other g b → end ≢ SinkFault → (end ≡ Memory) ⊎ ((end ≡ Ended) × (b ≡ a))
+    (schedule : Schedule) (g : Plain) (room : ℕ) (records trace : List Record) (end : RunEnd)
+    (console log : Sunk)
+    → IsValid g → schedule.every ≡ None → RunsToEnd g room records
+    → EndsRun end schedule g room trace console log → GoesInRounds schedule g trace → end ≢ SinkFault
+    → (end ≡ Memory) ⊎ ((end ≡ Ended) × (trace ≡ records))
 
 -- the statuses with which a run answers
 abbrev pub Answers : Status → Type 0
@@ -101,18 +131,31 @@ Answers Budget = Unit {0}
 Answers Stuck = Unit {0}
 Answers _ = ⊥
 
-abbrev pub GoesOnInRounds : Session → Type 0
-GoesOnInRounds session = IsInRounds session.left.start session.left.trace
-
 abbrev pub OneRestart : Type 0
 OneRestart =
-    (files : Folder) (generation : ℕ) (g : Plain) (settings : Settings) (a b : Session) (first second : Status) (log other : Sunk)
-    → SpellsSet files generation g → settings.every ≡ None → IsRestart a.given.words settings → IsRestart b.given.words settings → a.given.folder ≡ Some files → b.given.folder ≡ Some files
-    → Answers first → Answers second → Ends first a log → Ends second b other → GoesOnInRounds a → GoesOnInRounds b → (first ≡ second) × (a.left.trace ≡ b.left.trace)
+    (files : Folder) (generation : ℕ) (g : Plain) (settings : Settings)
+    (a b : Session) (first second : Status) (log other : Sunk)
+    → SpellsSet files generation g → settings.every ≡ None
+    → IsRestart a.given.words settings → IsRestart b.given.words settings
+    → a.given.folder ≡ Some files → b.given.folder ≡ Some files → Answers first → Answers second
+    → Ends first a log → Ends second b other → CallGoesInRounds a → CallGoesInRounds b
+    → (first ≡ second) × (a.left.trace ≡ b.left.trace)
+
+-- of a call whose status is decided, as it is where nothing outside failed
+abbrev pub RestartEndsSo : Type 0
+RestartEndsSo =
+    (files : Folder) (generation : ℕ) (g : Plain) (settings : Settings) (records : List Record)
+    (session : Session) (status : Status) (log : Sunk)
+    → SpellsSet files generation g → session.given.folder ≡ Some files
+    → IsRestart session.given.words settings → settings.every ≡ None → RunsToEnd g settings.records records
+    → Ends status session log → CallGoesInRounds session → IsDecided status session.given
+    → (status ≡ WantsMemory) ⊎ ((status ≡ Done) × (session.left.trace ≡ records))
 
 -- what a set's files spell is valid
 abbrev pub SetIsValid : Type 0
-SetIsValid = (images : List (List ℕ)) (g : Plain) → All (λ file. All IsByte file) images → SpellsState images g → IsValid g
+SetIsValid =
+    (images : List (List ℕ)) (g : Plain)
+    → All (λ file. All IsByte file) images → SpellsState images g → IsValid g
 
 -- the same work, and the same bytes on the console
 pub record ShowOne (a b : Session) : Type 0 where
@@ -121,18 +164,21 @@ pub record ShowOne (a b : Session) : Type 0 where
   pub first : Took a.left.console bytes
   pub second : Took b.left.console bytes
 
--- the call began a run with this state
-abbrev pub BeginsWith : Session → Plain → Type 0
-BeginsWith session g = IfSome session.left.start (λ begun. begun.state ≡ g)
+-- the call began a run, and with this state
+abbrev pub BeganWith : Session → Plain → Type 0
+BeganWith session g = option_map (λ (begun : Beginning). begun.state) session.left.start ≡ Some g
 
 abbrev pub OneAnswer : Type 0
 OneAnswer =
-    (g : Plain) (a b : Session) (log other : Sunk) → NameNoEvery a.given.words → NameNoEvery b.given.words
-    → BeginsWith a g → BeginsWith b g → Ends Done a log → Ends Done b other → GoesOnInRounds a → GoesOnInRounds b → ShowOne a b
+    (g : Plain) (a b : Session) (log other : Sunk)
+    → NameNoEvery a.given.words → NameNoEvery b.given.words → BeganWith a g → BeganWith b g
+    → Ends Done a log → Ends Done b other → CallGoesInRounds a → CallGoesInRounds b → ShowOne a b
 
--- no call that ended as done, whose words ask for a checkpoint after every so many records of work, made as many, with room for
--- more and a generation left, and has no mark
+-- no run that came to its end, with a checkpoint asked for after every so many records of work, made as many,
+-- with room for more and a generation left, and has no mark
 abbrev pub LacksNoRequest : Type 0
 LacksNoRequest =
-    (session : Session) (log : Sunk) (every : ℕ) (ends : Ends Done session log) → (schedule_in ends.reached.0.begun).every ≡ Some every → (schedule_in ends.reached.0.begun).opening < 2 ^ 64 - 2
-    → every ≤ count_by is_work session.left.trace → length session.left.trace < (settings_in ends.reached.0.begun).records → All (λ r. is_mark r ≡ false) session.left.trace → ⊥
+    (schedule : Schedule) (g : Plain) (room every : ℕ) (trace : List Record) (console : Sunk)
+    → RanOut schedule g room trace console → schedule.every ≡ Some every → 0 < every
+    → schedule.opening < 2 ^ 64 - 2 → every ≤ count_by is_work trace → length trace < room
+    → All (λ r. is_mark r ≡ false) trace → ⊥

@@ -1,16 +1,22 @@
--- The order in which one thread of the host runs the threads of all processes: round after round, while somebody lives. At the start of a round, where bytes
--- are on the way, all that are missing of a direction arrive at once, one direction after the other, in rising order. A round has the processes that live at
--- its start, in rising order. When a process's turn comes, the threads that it has then follow each other in rising order. In its turn a thread has the least
--- of the signals delivered that are pending and that its mask lets through, and runs one quantum, unless it stands at a call or a trap; if it then stands at a
--- call that is ready the call is served, if at a trap that is delivered. Who has ended meanwhile or can do nothing of this is passed over. Who can is seen
--- when the next record comes, so after a checkpoint that the last one asked for. While a request for a checkpoint waits nobody's turn goes on: the bytes that
--- are missing arrive in the same way, and marks stand between the records of the rounds wherever they may.
---     new_round g                      what is due first in a round that starts at this state
---     due_at g upcoming                what is due at this state, where a round comes this far
---     in_rounds schedule g at records  each of the records is due when it comes, from this state and this place on
+-- The order in which one thread of the host runs the threads of all processes: round after round, while
+-- somebody lives. At the start of a round, where bytes are on the way, all that are missing of a direction
+-- arrive at once, one direction after the other, in rising order. A round has the processes that live at its
+-- start, in rising order. When a process's turn comes, the threads that it has then follow each other in
+-- rising order. In its turn a thread has the least of the signals delivered that are pending and that its
+-- mask lets through, and runs one quantum, unless it stands at a call or a trap; if it then stands at a call
+-- that is ready the call is served, if at a trap that is delivered. Who has ended meanwhile or can do nothing
+-- of this is passed over. Who can is seen when the next record comes, so after a checkpoint that the last one
+-- asked for. While a request for a checkpoint waits nobody's turn goes on: where a cut can come, the bytes
+-- that are missing arrive in the same way before it. Marks stand between the records of the rounds wherever
+-- they may.
+--     new_round g                         what is due first in a round that starts at this state
+--     due_at g upcoming                   what is due at this state, where a round comes this far
+--     each_is_due schedule g at records   each of the records is due when it comes, from this state and this
+--                                         place on
+--     GoesInRounds schedule g records     the same from the start of the rounds
 use Rattle.std.specs.Prelude.{◌≡◌, ◌==◌, ◌-◌, ◌&&◌, ◌||◌, ℕ, Bool, true, false, not, nat_lt, List, [], ◌∷◌, length, Option, Some, None, is_some, if◌then◌else◌}
 use Rattle.std.specs.List.{filter_map}
-use Rattle.std.specs.Option.{option_map}
+use Rattle.std.specs.Option.{option_map, option_map_or, option_or}
 use Rattle.std.specs.FinMap as map
 use Rattle.sys_abi.specs.declared.identity.VPid.{VPid}
 use Rattle.sys_abi.specs.declared.identity.Tid.{Tid}
@@ -26,9 +32,10 @@ use Rattle.plain_machine.specs.Records.{step, stands, deliverable}
 use Rattle.plain_process.specs.Steps.{UserStep, Stepped, Asks, Trapped, Waits, NoThread, user_step}
 use Rattle.sys_abi.specs.Signals.{lowest_signal}
 use Rattle.trace_log.specs.declared.requests.Schedule.{Schedule}
-use Rattle.trace_log.specs.Requests.{Phase, Requested, Requests, is_mark, at_start, next_requests}
+use Rattle.trace_log.specs.Requests.{Phase, Requested, Requests, can_be_held, is_mark, first_requests, next_requests}
 
--- a thread's turn in a round: the signal that is delivered first, if one is, and whether the thread has run its quantum
+-- a thread's turn in a round: the signal that is delivered first, if one is, and whether the thread has run
+-- its quantum
 pub record Place : Type 0 where
   pub p : VPid
   pub t : ℕ
@@ -37,14 +44,11 @@ pub record Place : Type 0 where
   pub threads : List ℕ  -- those of p whose turn is still to come
   pub processes : List VPid  -- those of this round whose turn is still to come
 
--- what is due: all bytes that are missing of a direction arrive, and then those of the others; or a thread has its turn
+-- what is due: all bytes that are missing of a direction arrive, and then those of the others; or a thread
+-- has its turn
 pub data Due : Type 0 where
   Arrival : Dir → List Dir → Due
   InTurn : Place → Due
-
-abbrev pub or_else : {A : Type 0} → Option A → Option A → Option A
-or_else None other = other
-or_else (Some a) other = Some a
 
 abbrev pub threads_in : Option UserPart → List ℕ
 threads_in None = []
@@ -73,7 +77,10 @@ goes_on g p t (Some user) = goes_on_at g p t (user_step user t)
 
 abbrev pub turn_with : VPid → ℕ → List ℕ → List VPid → Bool → Option ℕ → Option Place
 turn_with p t threads processes can signal =
-    if is_some signal || can then Some (record { p = p; t = t; signal = signal; has_run = false; threads = threads; processes = processes }) else None
+    if is_some signal || can then
+    Some (record { p = p; t = t; signal = signal; has_run = false; threads = threads; processes = processes })
+    else
+    None
 
 -- a thread's turn, where a signal is to be delivered to it or it can go on
 abbrev pub turn_of : Plain → VPid → ℕ → List ℕ → List VPid → Option Place
@@ -83,12 +90,14 @@ turn_of g p t threads processes =
 -- the turn of the first of these threads of a process that has one
 unfoldable pub first_thread : Plain → VPid → List VPid → List ℕ → Option Place
 first_thread g p processes [] = None
-first_thread g p processes (t ∷ threads) = or_else (turn_of g p t threads processes) (first_thread g p processes threads)
+first_thread g p processes (t ∷ threads) =
+    option_or (turn_of g p t threads processes) (first_thread g p processes threads)
 
 -- the first turn of the first of these processes that has one
 unfoldable pub first_turn : Plain → List VPid → Option Place
 first_turn g [] = None
-first_turn g (p ∷ processes) = or_else (first_thread g p processes (threads_in (map.get g.users p))) (first_turn g processes)
+first_turn g (p ∷ processes) =
+    option_or (first_thread g p processes (threads_in (map.get g.users p))) (first_turn g processes)
 
 -- the directions of which bytes are missing, in rising order
 abbrev pub if_missing : Dir × Direction → Option Dir
@@ -109,8 +118,15 @@ round_from g dirs = round_of g dirs (map.keys g.users)
 abbrev pub new_round : Plain → Option Due
 new_round g = round_from g (coming g)
 
+-- the next turn of a thread of the same process, and of one after it
+abbrev pub turn_in_process : Plain → Place → Option Due
+turn_in_process g here = option_map InTurn (first_thread g here.p here.processes here.threads)
+
+abbrev pub turn_in_round : Plain → Place → Option Due
+turn_in_round g here = option_map InTurn (first_turn g here.processes)
+
 abbrev pub next_turn : Plain → Place → Option Due
-next_turn g here = or_else (option_map InTurn (first_thread g here.p here.processes here.threads)) (or_else (option_map InTurn (first_turn g here.processes)) (new_round g))
+next_turn g here = option_or (turn_in_process g here) (option_or (turn_in_round g here) (new_round g))
 
 abbrev pub is_turn_of : Place → VPid → Tid → Bool
 is_turn_of here p t = (here.p.0 == p.0) && (here.t == t.0)
@@ -135,14 +151,14 @@ abbrev pub missing_in : Option Direction → ℕ
 missing_in None = 0
 missing_in (Some direction) = length direction.left - direction.arrived
 
-abbrev pub is_whole : Plain → Dir → ℕ → Bool
-is_whole g dir n = n == missing_in (map.get g.kernel.directions dir)
+abbrev pub is_all_missing : Plain → Dir → ℕ → Bool
+is_all_missing g dir n = n == missing_in (map.get g.kernel.directions dir)
 
-abbrev pub is_same : Dir → Dir → Bool
-is_same a b = (a.conn.pid.0 == b.conn.pid.0) && (a.conn.num == b.conn.num) && (a.side == b.side)
+abbrev pub is_same_dir : Dir → Dir → Bool
+is_same_dir a b = (a.conn.pid.0 == b.conn.pid.0) && (a.conn.num == b.conn.num) && (a.side == b.side)
 
 abbrev pub is_arrival : Plain → Dir → Record → Bool
-is_arrival g dir (Arrive other n) = is_same other dir && is_whole g dir n
+is_arrival g dir (Arrive other n) = is_same_dir other dir && is_all_missing g dir n
 is_arrival g dir _ = false
 
 abbrev pub is_due_at : Plain → Option Due → Record → Bool
@@ -158,13 +174,14 @@ stands_in (Some user) t = stands (user_step user t)
 abbrev pub same_turn : Plain → Place → Bool → Option Due
 same_turn g here has_run =
     if goes_on g here.p here.t (map.get g.users here.p) then
-    Some (InTurn (record { p = here.p; t = here.t; signal = None; has_run = has_run; threads = here.threads; processes = here.processes }))
+    Some (InTurn (record here { signal = None; has_run = has_run }))
     else
     next_turn g here
 
 -- what is due after a record of a turn
 abbrev pub after_turn : Plain → Place → Record → Option Due
-after_turn g here (User p t n) = if stands_in (map.get g.users here.p) here.t then same_turn g here true else next_turn g here
+after_turn g here (User p t n) =
+    if stands_in (map.get g.users here.p) here.t then same_turn g here true else next_turn g here
 after_turn g here (Call p t) = next_turn g here
 after_turn g here (Deliver p t s) = if is_some here.signal then same_turn g here false else next_turn g here
 after_turn g here _ = None
@@ -179,26 +196,28 @@ due_at g NewRound = new_round g
 due_at g (After (Arrival dir dirs) r) = round_from g dirs
 due_at g (After (InTurn here) r) = after_turn g here r
 
-abbrev pub then_so : {A : Type 0} → Option A → (A → Bool) → Bool
-then_so None test = false
-then_so (Some a) test = test a
-
 -- how far the rounds and the requests have come
 pub record Standing : Type 0 where
   pub upcoming : Upcoming
   pub requests : Requests
 
-abbrev pub waits : Phase → Bool
-waits (Requested since) = true
-waits _ = false
+abbrev pub request_waits : Phase → Bool
+request_waits (Requested since) = true
+request_waits _ = false
 
--- while a request waits bytes arrive of the least direction of which some are missing
+-- while a request waits bytes arrive of the least direction of which some are missing, where a cut can come,
+-- and else nothing does
 abbrev pub is_first_arrival : Plain → List Dir → Record → Bool
 is_first_arrival g [] r = false
 is_first_arrival g (dir ∷ dirs) r = is_arrival g dir r
 
+abbrev pub is_due_for_cut : Plain → Record → Bool
+is_due_for_cut g r = can_be_held g && is_first_arrival g (coming g) r
+
 abbrev pub is_due : Plain → Standing → Record → Bool
-is_due g at r = is_mark r || (if waits at.requests.phase then is_first_arrival g (coming g) r else is_due_at g (due_at g at.upcoming) r)
+is_due g at r =
+    is_mark r
+    || (if request_waits at.requests.phase then is_due_for_cut g r else is_due_at g (due_at g at.upcoming) r)
 
 -- a mark, and what comes while a request waits, leaves the rounds where they are
 abbrev pub moved_by : Option Due → Upcoming → Record → Upcoming
@@ -206,19 +225,24 @@ moved_by None upcoming r = upcoming
 moved_by (Some due) upcoming r = After due r
 
 abbrev pub moved : Plain → Standing → Record → Upcoming
-moved g at r = if is_mark r || waits at.requests.phase then at.upcoming else moved_by (due_at g at.upcoming) at.upcoming r
+moved g at r =
+    if is_mark r || request_waits at.requests.phase then at.upcoming
+    else moved_by (due_at g at.upcoming) at.upcoming r
 
 -- after a record that came at g
 abbrev pub standing_after : Schedule → Plain → Standing → Record → Standing
-standing_after schedule g at r = record { upcoming = moved g at r; requests = next_requests schedule g at.requests r }
+standing_after schedule g at r =
+    record { upcoming = moved g at r; requests = next_requests schedule g at.requests r }
 
-unfoldable pub in_rounds : Schedule → Plain → Standing → List Record → Bool
-in_rounds schedule g at [] = true
-in_rounds schedule g at (r ∷ records) = is_due g at r && then_so (step g r) (λ next. in_rounds schedule next (standing_after schedule g at r) records)
+unfoldable pub each_is_due : Schedule → Plain → Standing → List Record → Bool
+each_is_due schedule g at [] = true
+each_is_due schedule g at (r ∷ rest) =
+    is_due g at r
+    && option_map_or (λ h. each_is_due schedule h (standing_after schedule g at r) rest) (step g r) false
 
 abbrev pub first_standing : Schedule → Standing
-first_standing schedule = record { upcoming = NewRound; requests = at_start schedule }
+first_standing schedule = record { upcoming = NewRound; requests = first_requests schedule }
 
 -- the records are those of the rounds that start at this state
 abbrev pub GoesInRounds : Schedule → Plain → List Record → Type 0
-GoesInRounds schedule g records = in_rounds schedule g (first_standing schedule) records ≡ true
+GoesInRounds schedule g records = each_is_due schedule g (first_standing schedule) records ≡ true

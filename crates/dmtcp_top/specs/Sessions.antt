@@ -1,11 +1,13 @@
--- A call of the program, as far as its promise speaks of it: what it was given, what it left, and how often what is outside failed.
-use Rattle.std.specs.Prelude.{◌≡◌, ℕ, List, ◌++◌, take, Option, Some}
+-- A call of the program, as far as its promise speaks of it: what it was given, what it left, and what is
+-- seen of what is outside.
+use Rattle.std.specs.Prelude.{◌≡◌, ◌⊎◌, ℕ, List, ◌++◌, take, Option, Some}
 use Rattle.std.specs.FinMap as map
 use Rattle.sys_abi.specs.declared.record.Record.{Record}
 use Rattle.views.specs.Faults.{Rose}
-use Rattle.edge_io.specs.Inputs.{Files}
-use Rattle.edge_io.specs.Sink.{appended}
+use Rattle.edge_io.specs.Inputs.{NamedFiles, SeenInputs}
+use Rattle.edge_io.specs.Sink.{SeenSink, appended}
 use Rattle.set_disk.specs.Files.{Files as Folder}
+use Rattle.set_disk.specs.SeenFolder.{SeenFolder}
 use Rattle.plain_machine.specs.declared.plain.Plain.{Plain}
 use Rattle.trace_log.specs.declared.requests.Schedule.{Schedule}
 
@@ -29,11 +31,11 @@ TookFront sink bytes = (n : ℕ) × Took sink (take n bytes)
 abbrev pub TookThen : Sunk → List ℕ → List ℕ → Type 0
 TookThen sink bytes more = (n : ℕ) × Took sink (bytes ++ take n more)
 
--- what a call was given: the words of the command line, and the files that the inputs hold and those that the folder of sets had at the start, where they
--- tell them
+-- what a call was given: the words of the command line, and the files that the inputs hold and those that the
+-- folder of sets had at the start, where they tell them
 pub record Given : Type 0 where
   pub words : List (List ℕ)
-  pub files : Option Files
+  pub files : Option NamedFiles
   pub folder : Option Folder
 
 -- the state with which a run began, and when it asks for checkpoints
@@ -51,36 +53,50 @@ pub record Session : Type 0 where
   pub given : Given
   pub left : Left
 
-abbrev pub given : List (List ℕ) → Option Files → Option Folder → Given
+abbrev pub given : List (List ℕ) → Option NamedFiles → Option Folder → Given
 given words files folder = record { words = words; files = files; folder = folder }
 
 abbrev pub session : Given → Option Beginning → List Record → Sunk → Session
-session given start trace console = record { given = given; left = record { start = start; trace = trace; console = console } }
+session given start trace console =
+    record { given = given; left = record { start = start; trace = trace; console = console } }
 
 -- the inputs hold this under the name, or they don't tell
-abbrev pub IsInput : Option Files → List ℕ → Option (List ℕ) → Type 0
-IsInput files name content = (held : Files) → files ≡ Some held → map.get held name ≡ content
+abbrev pub IsInput : Option NamedFiles → List ℕ → Option (List ℕ) → Type 0
+IsInput files name content = (held : NamedFiles) → files ≡ Some held → map.get held name ≡ content
 
--- how often something outside had failed before the call, and after it
-pub record Failures : Type 0 where
-  pub before : ℕ
-  pub after : ℕ
+-- what is seen at a moment of what a call is lent
+pub record Outside : Type 1 where
+  pub inputs : SeenInputs
+  pub console : SeenSink
+  pub log : SeenSink
+  -- the folder of sets
+  pub folder : SeenFolder
 
-abbrev pub failures : ℕ → ℕ → Failures
-failures before after = record { before = before; after = after }
-
-abbrev pub Failed : Failures → Type 0
-Failed failures = Rose failures.before failures.after
-
-abbrev pub DidNotFail : Failures → Type 0
-DidNotFail failures = Failed failures → ⊥
-
--- of the inputs, the console, the log and the folder of sets
-pub record Outside : Type 0 where
-  pub inputs : Failures
-  pub console : Failures
-  pub log : Failures
-  pub folder : Failures
-
-abbrev pub outside : Failures → Failures → Failures → Failures → Outside
+abbrev pub outside : SeenInputs → SeenSink → SeenSink → SeenFolder → Outside
 outside inputs console log folder = record { inputs = inputs; console = console; log = log; folder = folder }
+
+-- a call with these words that begins at a moment
+abbrev pub given_in : List (List ℕ) → Outside → Given
+given_in words before = given words before.inputs.files before.folder.files
+
+-- the call from one moment to the other
+abbrev pub session_in : List (List ℕ) → Option Beginning → List Record → Outside → Outside → Session
+session_in words start trace before after =
+    session (given_in words before) start trace (sunk before.console.taken after.console.taken)
+
+-- what its log took
+abbrev pub log_in : Outside → Outside → Sunk
+log_in before after = sunk before.log.taken after.log.taken
+
+-- a read of the inputs failed between the two moments
+abbrev pub InputsFailed : Outside → Outside → Type 0
+InputsFailed before after = Rose before.inputs.faults after.inputs.faults
+
+-- a put on the console or on the log failed
+abbrev pub StreamsFailed : Outside → Outside → Type 0
+StreamsFailed before after =
+    Rose before.console.faults after.console.faults ⊎ Rose before.log.faults after.log.faults
+
+-- a call of the folder of sets failed
+abbrev pub FolderFailed : Outside → Outside → Type 0
+FolderFailed before after = Rose before.folder.faults after.folder.faults

@@ -1,7 +1,7 @@
 ghost use Rattle.std.specs.Prelude.{◌≡◌, ◌≤◌, ◌⊎◌, [], Option, map, string_bytes};
 ghost use Rattle.views.specs.Faults.{Rose};
-ghost use Rattle.dmtcp_top.specs.Endings.{status_of, Arrives};
-ghost use Rattle.dmtcp_top.specs.Ends.{IsInRounds};
+ghost use Rattle.dmtcp_top.specs.Endings.{status_of, IsAtEnding, KeepsPaceAt};
+ghost use Rattle.dmtcp_top.specs.Ends.{CallGoesInRounds};
 ghost use Rattle.dmtcp_top.specs.Promise.{StaysWhole};
 ghost use Rattle.dmtcp_top.specs.Sessions.{Beginning, given, session, sunk};
 ghost use Rattle.dmtcp_top.specs.Words.{MakesNoCheckpoints};
@@ -27,19 +27,32 @@ pub(crate) fn carry_out<'a, I: Inputs, O: Sink, L: Sink, F: Folder>(
     trace: &mut Trace,
 ) -> Ending<'a>
     requires { trace.old.records ≡ [] }
-    ensures promise { (start : Option Beginning) × (Arrives result
-        (session (given (map string_bytes words.now) (I.held inputs.old) (F.reads disk.old)) start trace.new.records
-        (sunk (O.taken out.old) (O.taken out.new)))
-        (sunk (L.taken log.old) (L.taken log.new))
-        × IsInRounds start trace.new.records
-        × StaysWhole F.reads F.moment F.may_leave F.left_since F.faults start trace.new.records disk.old disk.new) }
-    ensures input { status_of result ≡ Status.InputFault → Rose (I.faults inputs.old) (I.faults inputs.new) }
-    ensures sink { status_of result ≡ Status.SinkFault → Rose (O.faults out.old) (O.faults out.new) ⊎ Rose (L.faults log.old) (L.faults log.new) }
-    ensures disk { status_of result ≡ Status.DiskFault → Rose (F.faults disk.old) (F.faults disk.new) }
+    ensures promise { (start : Option Beginning) × (IsAtEnding result
+        (session (given (map string_bytes words.now) (I.seen inputs.old).files
+        (F.seen disk.old).files) start trace.new.records
+        (sunk (O.seen out.old).taken (O.seen out.new).taken))
+        (sunk (L.seen log.old).taken (L.seen log.new).taken)
+        × KeepsPaceAt result
+        (session (given (map string_bytes words.now) (I.seen inputs.old).files
+        (F.seen disk.old).files) start trace.new.records
+        (sunk (O.seen out.old).taken (O.seen out.new).taken))
+        (sunk (L.seen log.old).taken (L.seen log.new).taken)
+        × CallGoesInRounds
+        (session (given (map string_bytes words.now) (I.seen inputs.old).files
+        (F.seen disk.old).files) start trace.new.records
+        (sunk (O.seen out.old).taken (O.seen out.new).taken))
+        × StaysWhole start trace.new.records (F.seen disk.old) (F.seen disk.new)) }
+    ensures input { status_of result ≡ Status.InputFault
+        → Rose (I.seen inputs.old).faults (I.seen inputs.new).faults }
+    ensures sink { status_of result ≡ Status.SinkFault
+        → Rose (O.seen out.old).faults (O.seen out.new).faults
+        ⊎ Rose (L.seen log.old).faults (L.seen log.new).faults }
+    ensures disk { status_of result ≡ Status.DiskFault
+        → Rose (F.seen disk.old).faults (F.seen disk.new).faults }
     ensures untouched { MakesNoCheckpoints (map string_bytes words.now) → disk.new ≡ disk.old }
-    ensures same { I.held inputs.new ≡ I.held inputs.old }
-    ensures later { O.faults out.old ≤ O.faults out.new }
-    ensures log_later { L.faults log.old ≤ L.faults log.new }
+    ensures same { (I.seen inputs.new).files ≡ (I.seen inputs.old).files }
+    ensures later { (O.seen out.old).faults ≤ (O.seen out.new).faults }
+    ensures log_later { (L.seen log.old).faults ≤ (L.seen log.new).faults }
 {
     let Some(job) = Job::read(words) else {
         return Ending::Usage;

@@ -55,12 +55,12 @@ impl Ending<'_> {
         }
     }
 
-    /// Puts the last line on the log. Where the log fails, the status is that of a sink's fault. Where the console has
-    /// failed, there is no line.
+    /// Puts the last line on the log. Where the log fails, the status is that of a sink's fault. Where the
+    /// console has failed, there is no line.
     pub fn conclude<L: Sink>(self, log: &mut L) -> Status
-        ensures concludes { Concludes self.entry result (sunk (L.taken log.old) (L.taken log.new)) }
+        ensures concludes { Concludes self.entry result (sunk (L.seen log.old).taken (L.seen log.new).taken) }
         ensures cause { result ≡ Status.SinkFault →
-            (status_of self.entry ≡ Status.SinkFault) ⊎ Rose (L.faults log.old) (L.faults log.new) }
+            (status_of self.entry ≡ Status.SinkFault) ⊎ Rose (L.seen log.old).faults (L.seen log.new).faults }
         ensures silent { status_of self.entry ≡ Status.SinkFault → log.new ≡ log.old }
     {
         match self.put_line(log) {
@@ -70,9 +70,11 @@ impl Ending<'_> {
     }
 
     fn put_line<L: Sink>(self, log: &mut L) -> Result<(), SinkFault>
-        ensures ok { OnOk result (Took (sunk (L.taken log.old) (L.taken log.new)) (line_of self.entry)) }
-        ensures err { OnErr result (TookFront (sunk (L.taken log.old) (L.taken log.new)) (line_of self.entry)) }
-        ensures cause { OnErr result (Rose (L.faults log.old) (L.faults log.new)) }
+        ensures ok { OnOk result (Took (sunk (L.seen log.old).taken (L.seen log.new).taken)
+            (line_of self.entry)) }
+        ensures err { OnErr result (TookFront (sunk (L.seen log.old).taken (L.seen log.new).taken)
+            (line_of self.entry)) }
+        ensures cause { OnErr result (Rose (L.seen log.old).faults (L.seen log.new).faults) }
         ensures silent { status_of self.entry ≡ Status.SinkFault → log.new ≡ log.old }
     {
         match self {
@@ -97,10 +99,12 @@ impl Ending<'_> {
 
 /// Puts the line of a file that breaks a rule of its format.
 fn put_fault<L: Sink>(log: &mut L, name: &str, fault: ElfFault) -> Result<(), SinkFault>
-    ensures ok { OnOk result (Took (sunk (L.taken log.old) (L.taken log.new)) (bad_program_line name.now fault)) }
-    ensures err { OnErr result (TookFront (sunk (L.taken log.old) (L.taken log.new)) (bad_program_line name.now fault)) }
-    ensures cause { OnErr result (Rose (L.faults log.old) (L.faults log.new)) }
-    ensures later { L.faults log.old ≤ L.faults log.new }
+    ensures ok { OnOk result (Took (sunk (L.seen log.old).taken (L.seen log.new).taken)
+        (bad_program_line name.now fault)) }
+    ensures err { OnErr result (TookFront (sunk (L.seen log.old).taken (L.seen log.new).taken)
+        (bad_program_line name.now fault)) }
+    ensures cause { OnErr result (Rose (L.seen log.old).faults (L.seen log.new).faults) }
+    ensures later { (L.seen log.old).faults ≤ (L.seen log.new).faults }
 {
     put_three(log, "bad program: ", name, ": ")?;
     let mut number = Buffer::new();
@@ -115,10 +119,12 @@ fn put_fault<L: Sink>(log: &mut L, name: &str, fault: ElfFault) -> Result<(), Si
 
 /// Puts the line of a set that spells no state.
 fn put_damage<L: Sink>(log: &mut L, slot: u32, damage: Damage) -> Result<(), SinkFault>
-    ensures ok { OnOk result (Took (sunk (L.taken log.old) (L.taken log.new)) (damaged_line slot damage)) }
-    ensures err { OnErr result (TookFront (sunk (L.taken log.old) (L.taken log.new)) (damaged_line slot damage)) }
-    ensures cause { OnErr result (Rose (L.faults log.old) (L.faults log.new)) }
-    ensures later { L.faults log.old ≤ L.faults log.new }
+    ensures ok { OnOk result (Took (sunk (L.seen log.old).taken (L.seen log.new).taken)
+        (damaged_line slot damage)) }
+    ensures err { OnErr result (TookFront (sunk (L.seen log.old).taken (L.seen log.new).taken)
+        (damaged_line slot damage)) }
+    ensures cause { OnErr result (Rose (L.seen log.old).faults (L.seen log.new).faults) }
+    ensures later { (L.seen log.old).faults ≤ (L.seen log.new).faults }
 {
     let mut number = Buffer::new();
     put_three(log, "damaged: slot ", number.format(slot), " file ")?;
@@ -135,11 +141,13 @@ fn put_damage<L: Sink>(log: &mut L, slot: u32, damage: Damage) -> Result<(), Sin
 
 /// Puts three pieces, one after the other.
 fn put_three<L: Sink>(log: &mut L, first: &str, second: &str, third: &str) -> Result<(), SinkFault>
-    ensures ok { OnOk result (Took (sunk (L.taken log.old) (L.taken log.new)) (first.now ++ second.now ++ third.now)) }
+    ensures ok { OnOk result (Took (sunk (L.seen log.old).taken (L.seen log.new).taken)
+        (first.now ++ second.now ++ third.now)) }
     ensures err { OnErr result
-        (TookFront (sunk (L.taken log.old) (L.taken log.new)) (first.now ++ second.now ++ third.now)) }
-    ensures cause { OnErr result (Rose (L.faults log.old) (L.faults log.new)) }
-    ensures later { L.faults log.old ≤ L.faults log.new }
+        (TookFront (sunk (L.seen log.old).taken (L.seen log.new).taken)
+        (first.now ++ second.now ++ third.now)) }
+    ensures cause { OnErr result (Rose (L.seen log.old).faults (L.seen log.new).faults) }
+    ensures later { (L.seen log.old).faults ≤ (L.seen log.new).faults }
 {
     put(log, first)?;
     put(log, second)?;
@@ -147,11 +155,11 @@ fn put_three<L: Sink>(log: &mut L, first: &str, second: &str, third: &str) -> Re
 }
 
 fn put<L: Sink>(log: &mut L, piece: &str) -> Result<(), SinkFault>
-    ensures ok { OnOk result (Took (sunk (L.taken log.old) (L.taken log.new)) piece.now) }
-    ensures err { OnErr result (TookFront (sunk (L.taken log.old) (L.taken log.new)) piece.now) }
-    ensures cause { OnErr result (Rose (L.faults log.old) (L.faults log.new)) }
-    ensures later { L.faults log.old ≤ L.faults log.new }
-    ensures small { L.faults log.new < 2 ^ 64 }
+    ensures ok { OnOk result (Took (sunk (L.seen log.old).taken (L.seen log.new).taken) piece.now) }
+    ensures err { OnErr result (TookFront (sunk (L.seen log.old).taken (L.seen log.new).taken) piece.now) }
+    ensures cause { OnErr result (Rose (L.seen log.old).faults (L.seen log.new).faults) }
+    ensures later { (L.seen log.old).faults ≤ (L.seen log.new).faults }
+    ensures small { (L.seen log.new).faults < 2 ^ 64 }
 {
     log.put(piece.as_bytes())
 }

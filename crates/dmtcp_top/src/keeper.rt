@@ -13,8 +13,8 @@ ghost use Rattle.dmtcp_top.specs.Launches.{schedule_of};
 ghost use Rattle.dmtcp_top.specs.Machines.{IsReady, lives, plain_of, with_record};
 ghost use Rattle.dmtcp_top.specs.Sessions.{Sunk, sunk, Took, TookFront};
 ghost use Rattle.dmtcp_top.specs.Keeping.{IsKept, IsPut, Counts, IsOutside, cause_told};
-ghost use Rattle.dmtcp_top.specs.Rounds.{Due};
-ghost use Rattle.dmtcp_top.specs.UnderWay.{IsUnderWay, IsBrokenOff, IsDue, IsSettled};
+ghost use Rattle.dmtcp_top.specs.Rounds.{Due, due_at};
+ghost use Rattle.dmtcp_top.specs.UnderWay.{IsUnderWay, IsBrokenOff, WaitsIfAsked, IsSettled};
 
 use crate::machine::{Machine, Stop};
 use crate::settings::Settings;
@@ -25,8 +25,8 @@ use std::alloc::Global;
 use sys_abi::{Cause, Record};
 use trace_log::{Progress, Schedule, Tally, Trace};
 
-/// The keeper of a run's checkpoints: when they are asked for, where their sets go, and how far their lines on the log
-/// have come.
+/// The keeper of a run's checkpoints: when they are asked for, where their sets go, and how far their lines
+/// on the log have come.
 #[derive(Drop)]
 pub struct Keeper {
     pub schedule: Schedule,
@@ -68,34 +68,43 @@ impl Keeper {
     pub fn serve<L: Sink, F: Folder>(
         &mut self,
         alloc: Global,
-        machine: &Machine,
+        machine: &mut Machine,
         log: &mut L,
         disk: &mut F,
         trace: &mut Trace,
     ) -> Result<(), Stop>
-        requires ready { IsReady machine.now }
+        requires ready { IsReady machine.old }
         requires every { IfSome self.old.schedule.every (λ every. 0 < every) }
         requires work { self.old.tally.work + 2 < 2 ^ 64 }
         requires request { self.old.lines.request + 1 < 2 ^ 64 }
         requires drained { self.old.lines.drained ≡ 0 }
-        requires kept { self.old.schedule.every ≢ None → IsKept self.old (F.reads disk.old) (F.may_leave disk.old) }
+        requires kept { self.old.schedule.every ≢ None → IsKept self.old (F.seen disk.old) }
 
-        ensures ok { OnOk result ((g : Plain) (next : Option Due) (sink : Sunk) (had : Option (List ℕ)) (first : F) →
-            (before : IsUnderWay F.reads F.moment F.may_leave F.left_since F.faults self.old.schedule g (plain_of machine.now) next self.old trace.old sink (sunk had (L.taken log.old)) first disk.old)
-            → IsDue self.old.schedule before.running.requests
-            → (after : IsUnderWay F.reads F.moment F.may_leave F.left_since F.faults self.old.schedule g (plain_of machine.now) next self.new trace.new sink (sunk had (L.taken log.new)) first disk.new)
+        ensures ok { OnOk result ((g : Plain) (next : Option Due) (sink : Sunk) (had : Option (List ℕ))
+            (first : F) →
+            (before : IsUnderWay self.old.schedule g (plain_of machine.old) next self.old trace.old sink
+            (sunk had (L.seen log.old).taken) (F.seen first) (F.seen disk.old))
+            → WaitsIfAsked self.old.schedule before.running.requests
+            → (after : IsUnderWay self.old.schedule g (plain_of machine.new)
+            (due_at (plain_of machine.new) before.running.upcoming) self.new trace.new sink
+            (sunk had (L.seen log.new).taken) (F.seen first) (F.seen disk.new))
             × IsSettled after.running.requests trace.new) }
-        ensures kept { OnOk result (self.old.schedule.every ≢ None → IsKept self.new (F.reads disk.new) (F.may_leave disk.new)) }
-        ensures err { OnErr result ((g : Plain) (next : Option Due) (sink : Sunk) (had : Option (List ℕ)) (first : F) →
-            (before : IsUnderWay F.reads F.moment F.may_leave F.left_since F.faults self.old.schedule g (plain_of machine.now) next self.old trace.old sink (sunk had (L.taken log.old)) first disk.old)
-            → IsDue self.old.schedule before.running.requests
-            → IsBrokenOff F.reads F.moment F.may_leave F.left_since F.faults self.old.schedule g (plain_of machine.now) next trace.new sink (sunk had (L.taken log.new)) first disk.new) }
+        ensures kept { OnOk result (self.old.schedule.every ≢ None → IsKept self.new (F.seen disk.new)) }
+        ensures err { OnErr result ((g : Plain) (next : Option Due) (sink : Sunk) (had : Option (List ℕ))
+            (first : F) →
+            (before : IsUnderWay self.old.schedule g (plain_of machine.old) next self.old trace.old sink
+            (sunk had (L.seen log.old).taken) (F.seen first) (F.seen disk.old))
+            → WaitsIfAsked self.old.schedule before.running.requests
+            → IsBrokenOff self.old.schedule g (plain_of machine.new)
+            (due_at (plain_of machine.new) before.running.upcoming) trace.new sink
+            (sunk had (L.seen log.new).taken) (F.seen first) (F.seen disk.new)) }
         ensures size { length trace.new.records + trace.new.room ≡ length trace.old.records + trace.old.room }
         ensures room { trace.new.room ≤ trace.old.room }
         ensures schedule { self.new.schedule ≡ self.old.schedule }
+        ensures machine { machine.new ≡ machine.old }
         ensures untouched { self.old.schedule.every ≡ None → disk.new ≡ disk.old }
-        ensures cause { IsFaultOf result Stop.Sink (L.faults log.old) (L.faults log.new) }
-        ensures later { L.faults log.old ≤ L.faults log.new }
+        ensures cause { IsFaultOf result Stop.Sink (L.seen log.old).faults (L.seen log.new).faults }
+        ensures later { (L.seen log.old).faults ≤ (L.seen log.new).faults }
     {
         if !self.schedule.asks(self.tally) {
             return Ok(());
@@ -113,35 +122,44 @@ impl Keeper {
     fn checkpoint<L: Sink, F: Folder>(
         &mut self,
         alloc: Global,
-        machine: &Machine,
+        machine: &mut Machine,
         log: &mut L,
         disk: &mut F,
         trace: &mut Trace,
     ) -> Result<(), Stop>
-        requires ready { IsReady machine.now }
-        requires alive { lives machine.now ≡ true }
+        requires ready { IsReady machine.old }
+        requires alive { lives machine.old ≡ true }
         requires room { 0 < trace.old.room }
         requires below { self.old.tally.greatest < 2 ^ 64 - 2 }
         requires work { self.old.tally.work + 2 < 2 ^ 64 }
         requires request { self.old.lines.request + 1 < 2 ^ 64 }
         requires drained { self.old.lines.drained ≡ 0 }
-        requires kept { IsKept self.old (F.reads disk.old) (F.may_leave disk.old) }
+        requires kept { IsKept self.old (F.seen disk.old) }
 
-        ensures ok { OnOk result ((g : Plain) (next : Option Due) (sink : Sunk) (had : Option (List ℕ)) (first : F) →
-            (before : IsUnderWay F.reads F.moment F.may_leave F.left_since F.faults self.old.schedule g (plain_of machine.now) next self.old trace.old sink (sunk had (L.taken log.old)) first disk.old)
+        ensures ok { OnOk result ((g : Plain) (next : Option Due) (sink : Sunk) (had : Option (List ℕ))
+            (first : F) →
+            (before : IsUnderWay self.old.schedule g (plain_of machine.old) next self.old trace.old sink
+            (sunk had (L.seen log.old).taken) (F.seen first) (F.seen disk.old))
             → before.running.requests.phase ≡ Requested []
-            → (after : IsUnderWay F.reads F.moment F.may_leave F.left_since F.faults self.old.schedule g (plain_of machine.now) next self.new trace.new sink (sunk had (L.taken log.new)) first disk.new)
+            → (after : IsUnderWay self.old.schedule g (plain_of machine.new)
+            (due_at (plain_of machine.new) before.running.upcoming) self.new trace.new sink
+            (sunk had (L.seen log.new).taken) (F.seen first) (F.seen disk.new))
             × IsSettled after.running.requests trace.new) }
-        ensures kept { OnOk result (IsKept self.new (F.reads disk.new) (F.may_leave disk.new)) }
-        ensures err { OnErr result ((g : Plain) (next : Option Due) (sink : Sunk) (had : Option (List ℕ)) (first : F) →
-            (before : IsUnderWay F.reads F.moment F.may_leave F.left_since F.faults self.old.schedule g (plain_of machine.now) next self.old trace.old sink (sunk had (L.taken log.old)) first disk.old)
+        ensures kept { OnOk result (IsKept self.new (F.seen disk.new)) }
+        ensures err { OnErr result ((g : Plain) (next : Option Due) (sink : Sunk) (had : Option (List ℕ))
+            (first : F) →
+            (before : IsUnderWay self.old.schedule g (plain_of machine.old) next self.old trace.old sink
+            (sunk had (L.seen log.old).taken) (F.seen first) (F.seen disk.old))
             → before.running.requests.phase ≡ Requested []
-            → IsBrokenOff F.reads F.moment F.may_leave F.left_since F.faults self.old.schedule g (plain_of machine.now) next trace.new sink (sunk had (L.taken log.new)) first disk.new) }
+            → IsBrokenOff self.old.schedule g (plain_of machine.new)
+            (due_at (plain_of machine.new) before.running.upcoming) trace.new sink
+            (sunk had (L.seen log.new).taken) (F.seen first) (F.seen disk.new)) }
         ensures size { length trace.new.records + trace.new.room ≡ length trace.old.records + trace.old.room }
         ensures room { trace.new.room ≤ trace.old.room }
         ensures schedule { self.new.schedule ≡ self.old.schedule }
-        ensures cause { IsFaultOf result Stop.Sink (L.faults log.old) (L.faults log.new) }
-        ensures later { L.faults log.old ≤ L.faults log.new }
+        ensures machine { machine.new ≡ machine.old }
+        ensures cause { IsFaultOf result Stop.Sink (L.seen log.old).faults (L.seen log.new).faults }
+        ensures later { (L.seen log.old).faults ≤ (L.seen log.new).faults }
     {
         let store = match self.open(alloc, disk) {
             Ok(store) => store,
@@ -163,16 +181,16 @@ impl Keeper {
 
     /// The store, which is opened again where there is none.
     fn open<F: Folder>(&mut self, alloc: Global, disk: &mut F) -> Result<Store, Cause>
-        requires kept { IsKept self.old (F.reads disk.old) (F.may_leave disk.old) }
-        ensures ok { IfOk result (λ store. FitsFolder store (F.reads disk.new) (F.may_leave disk.new)
+        requires kept { IsKept self.old (F.seen disk.old) }
+        ensures ok { IfOk result (λ store. FitsFolder store (F.seen disk.new)
             × (next_generation store ≡ suc self.old.tally.greatest)) }
         ensures err { OnErr result (self.old.store ≡ None) }
         ensures kind { IfErr result IsOutside }
         ensures keeper { self.new ≡ record self.old { store = None } }
-        ensures nothing { ChangesNothing F.reads F.moment F.may_leave F.left_since disk.old disk.new }
-        ensures crash { LeavesOnly F.moment F.left_since disk.old disk.new (F.may_leave disk.old) }
-        ensures counts { Counts (F.faults disk.old) (F.faults disk.new) }
-        ensures cause { IsFaultOf result Cause.DiskFault (F.faults disk.old) (F.faults disk.new) }
+        ensures nothing { ChangesNothing (F.seen disk.old) (F.seen disk.new) }
+        ensures crash { LeavesOnly (F.seen disk.old) (F.seen disk.new) (F.seen disk.old).may_leave }
+        ensures counts { Counts (F.seen disk.old).faults (F.seen disk.new).faults }
+        ensures cause { IsFaultOf result Cause.DiskFault (F.seen disk.old).faults (F.seen disk.new).faults }
     {
         match self.store.take() {
             Some(store) => Ok(store),
@@ -214,10 +232,12 @@ impl Keeper {
           lines = after self.old.lines outcome;
         }) }
         ensures schedule { self.new.schedule ≡ self.old.schedule }
-        ensures ok { OnOk result (Took (sunk (L.taken log.old) (L.taken log.new)) (line_of self.old.lines outcome)) }
-        ensures err { OnErr result (TookFront (sunk (L.taken log.old) (L.taken log.new)) (line_of self.old.lines outcome)) }
-        ensures cause { IsFaultOf result Stop.Sink (L.faults log.old) (L.faults log.new) }
-        ensures later { L.faults log.old ≤ L.faults log.new }
+        ensures ok { OnOk result (Took (sunk (L.seen log.old).taken (L.seen log.new).taken)
+            (line_of self.old.lines outcome)) }
+        ensures err { OnErr result (TookFront (sunk (L.seen log.old).taken (L.seen log.new).taken)
+            (line_of self.old.lines outcome)) }
+        ensures cause { IsFaultOf result Stop.Sink (L.seen log.old).faults (L.seen log.new).faults }
+        ensures later { (L.seen log.old).faults ≤ (L.seen log.new).faults }
     {
         self.mark(outcome, trace);
         let line = self.lines.line_of(alloc, &outcome)?;
@@ -238,15 +258,16 @@ fn put<F: Folder>(
 ) -> Result<Store, Cause>
     requires ready { IsReady machine.now }
     requires alive { lives machine.now ≡ true }
-    requires fits { FitsFolder store (F.reads disk.old) (F.may_leave disk.old) }
+    requires fits { FitsFolder store (F.seen disk.old) }
     requires room { next_generation store < 2 ^ 64 - 1 }
-    ensures ok { IfOk result (λ done. FitsFolder done (F.reads disk.new) (F.may_leave disk.new)
+    ensures ok { IfOk result (λ done. FitsFolder done (F.seen disk.new)
         × (next_generation done ≡ suc (next_generation store))) }
-    ensures put { IsPut F.reads F.moment F.may_leave F.left_since (plain_of machine.now) (next_generation store) result disk.old disk.new
+    ensures put { IsPut (plain_of machine.now) (next_generation store) result (F.seen disk.old)
+        (F.seen disk.new)
         ⊎ ((result ≡ Err Cause.Memory) × (disk.new ≡ disk.old)) }
     ensures kind { IfErr result IsOutside }
-    ensures counts { Counts (F.faults disk.old) (F.faults disk.new) }
-    ensures cause { IsFaultOf result Cause.DiskFault (F.faults disk.old) (F.faults disk.new) }
+    ensures counts { Counts (F.seen disk.old).faults (F.seen disk.new).faults }
+    ensures cause { IsFaultOf result Cause.DiskFault (F.seen disk.old).faults (F.seen disk.new).faults }
 {
     let Ok(set) = machine.images(alloc) else {
         return Err(Cause::Memory);

@@ -1,16 +1,18 @@
 //! The top call of the checkpointer: [`dmtcp`] does what the words of a command line ask for.
 //!
-//! `launch 0:NAME` runs the program in the file NAME, an ELF executable for RV32IM, in one process of up to 64 threads, and
-//! `restart` goes on from the set that counts in the folder of sets; each ends when nobody lives, nobody can go on, or the
-//! trace is full. With `--every K` a set of the whole state goes to the folder after every K records of work.
-//! `specs/Ends.antt` says in one line for each status what holds of the trace, the console and the log,
-//! `specs/Promise.antt` what a crash at any moment leaves of the folder, and `specs/Words.antt` which words there are.
+//! `launch 0:NAME` runs the program in the file NAME, an ELF executable for RV32IM, in one process of up to
+//! 64 threads, and `restart` goes on from the set that counts in the folder of sets; each ends when nobody
+//! lives, nobody can go on, or the trace is full. With `--every K` a set of the whole state goes to the
+//! folder after every K records of work. `specs/Ends.antt` says in one line for each status what holds of the
+//! trace, the console and the log, `specs/Promise.antt` what a crash at any moment leaves of the folder, and
+//! `specs/Words.antt` which words there are.
 //!
-//! The contract of [`dmtcp`] says all of that for every word list, all inputs, sinks and folders, also where these fail;
-//! what it says of files, sets, the console and the log it says of those that tell their content. It says which status
-//! comes where nothing outside fails, and that an answer of a failure outside comes only where there was one. It does not
-//! say that memory is there, nor what a file, a stream or a folder of the host holds. The words, the texts, the numbers of
-//! the statuses and the order of the rounds are this project's own and restate no standard.
+//! The contract of [`dmtcp`] says all of that for every word list, all inputs, sinks and folders, also where
+//! these fail; what it says of files, sets, the console and the log it says of those that tell their content.
+//! It says which status comes where nothing outside fails, and that an answer of a failure outside comes only
+//! where there was one. It does not say that memory is there, nor what a file, a stream or a folder of the
+//! host holds. The words, the texts, the numbers of the statuses and the order of the rounds are this
+//! project's own and restate no standard.
 #![tactic(auto)]
 
 mod carry_out;

@@ -41,14 +41,17 @@ pub(crate) fn begin<'a, I: Inputs, F: Folder>(
     disk: &mut F,
 ) -> Result<Start, Ending<'a>>
     requires asked { (words : List (List ℕ)) × IsAsked words job }
-    ensures begins { Begins result job.entry (I.held inputs.old) (F.reads disk.old) }
-    ensures kept { IfOk result (λ start. start.keeper.schedule.every ≢ None → IsKept start.keeper (F.reads disk.new) (F.may_leave disk.new)) }
-    ensures input { IfErr result (λ ending. status_of ending ≡ Status.InputFault → Rose (I.faults inputs.old) (I.faults inputs.new)) }
+    ensures begins { Begins result job.entry (I.seen inputs.old).files (F.seen disk.old).files }
+    ensures kept { IfOk result (λ start. start.keeper.schedule.every ≢ None
+        → IsKept start.keeper (F.seen disk.new)) }
+    ensures input { IfErr result (λ ending. status_of ending ≡ Status.InputFault
+        → Rose (I.seen inputs.old).faults (I.seen inputs.new).faults) }
     ensures sink { IfErr result (λ ending. status_of ending ≢ Status.SinkFault) }
-    ensures disk { IfErr result (λ ending. status_of ending ≡ Status.DiskFault → Rose (F.faults disk.old) (F.faults disk.new)) }
-    ensures looks { OnlyLooks F.reads F.moment F.may_leave F.left_since F.faults disk.old disk.new }
+    ensures disk { IfErr result (λ ending. status_of ending ≡ Status.DiskFault
+        → Rose (F.seen disk.old).faults (F.seen disk.new).faults) }
+    ensures looks { OnlyLooks (F.seen disk.old) (F.seen disk.new) }
     ensures untouched { IsQuiet job.entry → disk.new ≡ disk.old }
-    ensures same { I.held inputs.new ≡ I.held inputs.old }
+    ensures same { (I.seen inputs.new).files ≡ (I.seen inputs.old).files }
 {
     match job {
         Job::Launch { name, settings } => launch(alloc, name, settings, inputs, disk),
@@ -65,13 +68,16 @@ fn launch<'a, I: Inputs, F: Folder>(
     disk: &mut F,
 ) -> Result<Start, Ending<'a>>
     requires { IsName name.now }
-    ensures launches { Launches result (I.held inputs.old) (F.reads disk.old) name.now settings }
-    ensures kept { IfOk result (λ start. start.keeper.schedule.every ≢ None → IsKept start.keeper (F.reads disk.new) (F.may_leave disk.new)) }
-    ensures input { IfErr result (λ ending. status_of ending ≡ Status.InputFault → Rose (I.faults inputs.old) (I.faults inputs.new)) }
-    ensures disk { IfErr result (λ ending. status_of ending ≡ Status.DiskFault → Rose (F.faults disk.old) (F.faults disk.new)) }
-    ensures looks { OnlyLooks F.reads F.moment F.may_leave F.left_since F.faults disk.old disk.new }
+    ensures launches { Launches result (I.seen inputs.old).files (F.seen disk.old).files name.now settings }
+    ensures kept { IfOk result (λ start. start.keeper.schedule.every ≢ None
+        → IsKept start.keeper (F.seen disk.new)) }
+    ensures input { IfErr result (λ ending. status_of ending ≡ Status.InputFault
+        → Rose (I.seen inputs.old).faults (I.seen inputs.new).faults) }
+    ensures disk { IfErr result (λ ending. status_of ending ≡ Status.DiskFault
+        → Rose (F.seen disk.old).faults (F.seen disk.new).faults) }
+    ensures looks { OnlyLooks (F.seen disk.old) (F.seen disk.new) }
     ensures untouched { settings.every ≡ None → disk.new ≡ disk.old }
-    ensures same { I.held inputs.new ≡ I.held inputs.old }
+    ensures same { (I.seen inputs.new).files ≡ (I.seen inputs.old).files }
 {
     let program = read_program(alloc, name, inputs)?;
     let keeper = match settings.every {
@@ -90,9 +96,10 @@ fn read_program<'a, I: Inputs>(
     name: &'a str,
     inputs: &mut I,
 ) -> Result<Program, Ending<'a>>
-    ensures reads { IsReadProgram result (I.held inputs.old) name.now }
-    ensures input { IfErr result (λ ending. status_of ending ≡ Status.InputFault → Rose (I.faults inputs.old) (I.faults inputs.new)) }
-    ensures same { I.held inputs.new ≡ I.held inputs.old }
+    ensures reads { IsReadProgram result (I.seen inputs.old).files name.now }
+    ensures input { IfErr result (λ ending. status_of ending ≡ Status.InputFault
+        → Rose (I.seen inputs.old).faults (I.seen inputs.new).faults) }
+    ensures same { (I.seen inputs.new).files ≡ (I.seen inputs.old).files }
 {
     let bytes = match inputs.read(alloc, name) {
         Ok(Some(bytes)) => bytes,
@@ -121,7 +128,8 @@ fn program_in<'a>(alloc: Global, name: &'a str, file: &[u8]) -> Result<Program, 
 
 /// The machine at the start of the program, whose one argument is its name.
 fn start(alloc: Global, program: &Program, name: &str) -> Result<Machine, AllocError>
-    requires launched { IsLaunched (record { host = 0; program = program.now; arguments = arguments_of name.now }) }
+    requires launched { IsLaunched
+        (record { host = 0; program = program.now; arguments = arguments_of name.now }) }
     requires short { IsName name.now }
     ensures state { IfOk result (λ m. plain_of m ≡
         start (record { host = 0; program = program.now; arguments = arguments_of name.now } ∷ []) []) }
@@ -134,10 +142,11 @@ fn start(alloc: Global, program: &Program, name: &str) -> Result<Machine, AllocE
 
 /// The store of the folder's sets.
 fn open<'a, F: Folder>(alloc: Global, disk: &mut F) -> Result<Store, Ending<'a>>
-    ensures opens { Reopened result (F.reads disk.old) }
-    ensures fits { IfOk result (λ store. FitsFolder store (F.reads disk.new) (F.may_leave disk.new)) }
-    ensures disk { IfErr result (λ ending. status_of ending ≡ Status.DiskFault → Rose (F.faults disk.old) (F.faults disk.new)) }
-    ensures looks { OnlyLooks F.reads F.moment F.may_leave F.left_since F.faults disk.old disk.new }
+    ensures opens { Reopened result (F.seen disk.old).files }
+    ensures fits { IfOk result (λ store. FitsFolder store (F.seen disk.new)) }
+    ensures disk { IfErr result (λ ending. status_of ending ≡ Status.DiskFault
+        → Rose (F.seen disk.old).faults (F.seen disk.new).faults) }
+    ensures looks { OnlyLooks (F.seen disk.old) (F.seen disk.new) }
 {
     match Store::open_store(alloc, disk, 0) {
         Ok(store) => Ok(store),
@@ -148,7 +157,8 @@ fn open<'a, F: Folder>(alloc: Global, disk: &mut F) -> Result<Store, Ending<'a>>
 
 /// The keeper of a run whose sets follow those of this store.
 fn keeper_of(settings: Settings, store: Store) -> Keeper
-    ensures fresh { IsFresh result settings (option_map_or (λ (info : SetInfo). info.generation) store.last 0) }
+    ensures fresh { IsFresh result settings
+        (option_map_or (λ (info : SetInfo). info.generation) store.last 0) }
     ensures store { result.store ≡ Some store }
 {
     let opening = match store.last() {
@@ -164,10 +174,11 @@ fn restart<'a, F: Folder>(
     settings: Settings,
     disk: &mut F,
 ) -> Result<Start, Ending<'a>>
-    ensures restarts { Restarts result (F.reads disk.old) settings }
-    ensures kept { IfOk result (λ start. IsKept start.keeper (F.reads disk.new) (F.may_leave disk.new)) }
-    ensures disk { IfErr result (λ ending. status_of ending ≡ Status.DiskFault → Rose (F.faults disk.old) (F.faults disk.new)) }
-    ensures looks { OnlyLooks F.reads F.moment F.may_leave F.left_since F.faults disk.old disk.new }
+    ensures restarts { Restarts result (F.seen disk.old).files settings }
+    ensures kept { IfOk result (λ start. IsKept start.keeper (F.seen disk.new)) }
+    ensures disk { IfErr result (λ ending. status_of ending ≡ Status.DiskFault
+        → Rose (F.seen disk.old).faults (F.seen disk.new).faults) }
+    ensures looks { OnlyLooks (F.seen disk.old) (F.seen disk.new) }
 {
     let store = open(alloc, disk)?;
     let Some(info) = store.last() else {
@@ -186,11 +197,12 @@ fn restore<'a, F: Folder>(
     disk: &mut F,
 ) -> Result<Machine, Ending<'a>>
     requires last { store.now.last ≡ Some info }
-    requires fits { FitsFolder store.now (F.reads disk.old) (F.may_leave disk.old) }
-    ensures restored { Restored result info (F.reads disk.old) }
-    ensures fits { FitsFolder store.now (F.reads disk.new) (F.may_leave disk.new) }
-    ensures disk { IfErr result (λ ending. status_of ending ≡ Status.DiskFault → Rose (F.faults disk.old) (F.faults disk.new)) }
-    ensures looks { OnlyLooks F.reads F.moment F.may_leave F.left_since F.faults disk.old disk.new }
+    requires fits { FitsFolder store.now (F.seen disk.old) }
+    ensures restored { Restored result info (F.seen disk.old).files }
+    ensures fits { FitsFolder store.now (F.seen disk.new) }
+    ensures disk { IfErr result (λ ending. status_of ending ≡ Status.DiskFault
+        → Rose (F.seen disk.old).faults (F.seen disk.new).faults) }
+    ensures looks { OnlyLooks (F.seen disk.old) (F.seen disk.new) }
 {
     let set = match store.get_set(alloc, disk) {
         Ok(set) => set,

@@ -1,9 +1,10 @@
-ghost use Rattle.std.specs.Prelude.{◌≡◌, ◌≢◌, ℕ, ◌<◌, ◌≤◌, [], ◌∷◌, true, false, if◌then◌else◌, Option, None, Some, length, Err, IsErrOf, IfOk, IfSome, OnOk, OnErr};
+ghost use Rattle.std.specs.Prelude.{◌≡◌, ◌≢◌, ℕ, ◌<◌, ◌≤◌, [], ◌∷◌, true, false, if◌then◌else◌, Option, None, Some, is_some, length, Err, IsErrOf, IfOk, IfSome, OnOk, OnErr};
 ghost use Rattle.views.specs.Faults.{Rose, IsFaultOf};
 ghost use Rattle.plain_process.specs.Launches.{IsLaunched};
 ghost use Rattle.plain_process.specs.Buffers.{lent};
 ghost use Rattle.plain_machine.specs.Start.{start};
 ghost use Rattle.plain_machine.specs.Kernel.{after_take};
+ghost use Rattle.plain_machine.specs.Serve.{serve};
 ghost use Rattle.plain_process.specs.Deliveries.{traps_with};
 ghost use Rattle.plain_process.specs.Put.{added_thread};
 ghost use Rattle.plain_process.specs.Steps.{user_step, waits, Asks};
@@ -17,6 +18,7 @@ use edge_io::Sink;
 use elf32::Program;
 use guest_proc::{Guest, LendFault, Ran};
 use plain_machine::{FIRST_PID, PlainKernel};
+use plain_rows::serve;
 use std::alloc::{AllocError, Global};
 use sys_abi::errors::EFAULT;
 use sys_abi::{Delivered, Errno, Record, Reply, Request, Signal, Tid, Transfer, VPid, is_local};
@@ -55,7 +57,8 @@ impl Machine {
 
     /// The start of a program, with these argument strings.
     pub fn start(alloc: Global, program: &Program, arguments: &[u8]) -> Result<Machine, AllocError>
-        requires launched { IsLaunched (record { host = 0; program = program.now; arguments = arguments.now }) }
+        requires launched { IsLaunched
+            (record { host = 0; program = program.now; arguments = arguments.now }) }
         requires some { 1 ≤ length arguments.now }
         requires few { length arguments.now ≤ 4096 }
         ensures state { IfOk result (λ m. plain_of m ≡
@@ -81,12 +84,13 @@ impl Machine {
     }
 
     /// Delivers a signal to a thread: that of the trap at which it stands, or a pending one.
-    pub fn deliver(&mut self, t: Tid, s: Signal, trace: &mut Trace)
+    pub fn deliver(&mut self, alloc: Global, t: Tid, s: Signal, trace: &mut Trace)
         requires ready { IsReady self.old }
         requires alive { lives self.old ≡ true }
         requires due { CanDeliver (plain_of self.old) self.old.guest.pid t s }
         requires room { 0 < trace.old.room }
-        ensures took { (taken : _) → Takes (plain_of self.old) (plain_of self.new) (a_record.Deliver self.old.guest.pid t s) trace.old trace.new (sunk taken taken) }
+        ensures took { (taken : _) → Takes (plain_of self.old) (plain_of self.new)
+            (a_record.Deliver self.old.guest.pid t s) trace.old trace.new (sunk taken taken) }
         ensures ready { IsReady self.new }
         ensures same { IsSame self.old self.new }
     {
@@ -94,7 +98,7 @@ impl Machine {
         let is_waiting = self.is_waiting(t);
         self.take_unless_trap(t, s);
         let delivered = self.guest.deliver(t, s, is_waiting);
-        self.end_if_killed(delivered);
+        self.end_if_killed(alloc, delivered);
         trace.append(Record::Deliver { p, t, s });
     }
 
@@ -123,7 +127,8 @@ impl Machine {
     /// Takes a pending signal away. That of a trap stays pending where it is.
     fn take_unless_trap(&mut self, t: Tid, s: Signal)
         requires { HasThread self.old.guest.user t.0 }
-        ensures kernel { self.new.kernel ≡ if traps_with (user_step self.old.guest.user t.0) s.0 then self.old.kernel
+        ensures kernel { self.new.kernel ≡ if traps_with (user_step self.old.guest.user t.0) s.0
+            then self.old.kernel
             else after_take self.old.kernel self.old.guest.pid t.0 s.0 }
         ensures guest { self.new.guest ≡ self.old.guest }
     {
@@ -133,12 +138,12 @@ impl Machine {
     }
 
     /// Ends the process if the signal killed it.
-    fn end_if_killed(&mut self, delivered: Delivered)
+    fn end_if_killed(&mut self, alloc: Global, delivered: Delivered)
         ensures kernel { self.new.kernel ≡ kernel_after self.old.kernel self.old.guest.pid delivered }
         ensures guest { self.new.guest ≡ self.old.guest }
     {
         match delivered {
-            Delivered::Kills(_) => self.kernel.end_process(self.guest.pid()),
+            Delivered::Kills(status) => { self.kernel.end_process(alloc, self.guest.pid(), status) }
             _ => {}
         }
     }
@@ -156,16 +161,18 @@ impl Machine {
         requires alive { lives self.old ≡ true }
         requires asks { user_step self.old.guest.user t.0 ≡ Asks request.now }
         requires room { 0 < trace.old.room }
-        ensures ok { OnOk result (Takes (plain_of self.old) (plain_of self.new) (a_record.Call self.old.guest.pid t) trace.old trace.new
-            (sunk (O.taken out.old) (O.taken out.new))) }
+        ensures ok { OnOk result (Takes (plain_of self.old) (plain_of self.new)
+            (a_record.Call self.old.guest.pid t) trace.old trace.new
+            (sunk (O.seen out.old).taken (O.seen out.new).taken)) }
         ensures ready { OnOk result (IsReady self.new) }
         ensures same { IsSame self.old self.new }
-        ensures failed { IsErrOf result Stop.Sink → Breaks (plain_of self.old) (a_record.Call self.old.guest.pid t) trace.old trace.new
-            (sunk (O.taken out.old) (O.taken out.new)) }
+        ensures failed { IsErrOf result Stop.Sink
+            → Breaks (plain_of self.old) (a_record.Call self.old.guest.pid t) trace.old trace.new
+            (sunk (O.seen out.old).taken (O.seen out.new).taken) }
         ensures memory { IsErrOf result Stop.Memory →
-            (trace.new ≡ trace.old) × (O.taken out.new ≡ O.taken out.old) }
-        ensures cause { IsFaultOf result Stop.Sink (O.faults out.old) (O.faults out.new) }
-        ensures later { O.faults out.old ≤ O.faults out.new }
+            (trace.new ≡ trace.old) × ((O.seen out.new).taken ≡ (O.seen out.old).taken) }
+        ensures cause { IsFaultOf result Stop.Sink (O.seen out.old).faults (O.seen out.new).faults }
+        ensures later { (O.seen out.old).faults ≤ (O.seen out.new).faults }
     {
         match self.guest.lend(t, request, &mut self.transfer) {
             Ok(()) => {
@@ -190,7 +197,8 @@ impl Machine {
         requires asks { user_step self.old.guest.user t.0 ≡ Asks request.now }
         requires fault { lent self.old.guest.user.memory request.now ≡ None }
         requires room { 0 < trace.old.room }
-        ensures took { (taken : _) → Takes (plain_of self.old) (plain_of self.new) (a_record.Call self.old.guest.pid t) trace.old trace.new (sunk taken taken) }
+        ensures took { (taken : _) → Takes (plain_of self.old) (plain_of self.new)
+            (a_record.Call self.old.guest.pid t) trace.old trace.new (sunk taken taken) }
         ensures ready { IsReady self.new }
         ensures same { IsSame self.old self.new }
     {
@@ -215,7 +223,9 @@ impl Machine {
         requires given { lent self.old.guest.user.memory request.now ≡ Some self.old.transfer }
         requires local { is_local request.now ≡ true }
         requires room { 0 < trace.old.room }
-        ensures ok { OnOk result ((taken : _) → Takes (plain_of self.old) (plain_of self.new) (a_record.Call self.old.guest.pid t) trace.old trace.new (sunk taken taken)) }
+        ensures ok { OnOk result ((taken : _)
+            → Takes (plain_of self.old) (plain_of self.new)
+            (a_record.Call self.old.guest.pid t) trace.old trace.new (sunk taken taken)) }
         ensures ready { OnOk result (IsReady self.new) }
         ensures same { IsSame self.old self.new }
         ensures memory { OnErr result (trace.new ≡ trace.old) }
@@ -241,23 +251,32 @@ impl Machine {
         requires asks { user_step self.old.guest.user t.0 ≡ Asks request.now }
         requires given { lent self.old.guest.user.memory request.now ≡ Some self.old.transfer }
         requires kernels { is_local request.now ≡ false }
+        requires goes { is_some (serve self.old.kernel self.old.guest.pid t.0 request.now self.old.transfer)
+            ≡ true }
         requires room { 0 < trace.old.room }
-        ensures ok { OnOk result (Takes (plain_of self.old) (plain_of self.new) (a_record.Call self.old.guest.pid t) trace.old trace.new
-            (sunk (O.taken out.old) (O.taken out.new))) }
+        ensures ok { OnOk result (Takes (plain_of self.old) (plain_of self.new)
+            (a_record.Call self.old.guest.pid t) trace.old trace.new
+            (sunk (O.seen out.old).taken (O.seen out.new).taken)) }
         ensures ready { OnOk result (IsReady self.new) }
         ensures same { IsSame self.old self.new }
-        ensures failed { IsErrOf result Stop.Sink → Breaks (plain_of self.old) (a_record.Call self.old.guest.pid t) trace.old trace.new
-            (sunk (O.taken out.old) (O.taken out.new)) }
+        ensures failed { IsErrOf result Stop.Sink
+            → Breaks (plain_of self.old) (a_record.Call self.old.guest.pid t) trace.old trace.new
+            (sunk (O.seen out.old).taken (O.seen out.new).taken) }
         ensures memory { IsErrOf result Stop.Memory →
-            (trace.new ≡ trace.old) × (O.taken out.new ≡ O.taken out.old) }
-        ensures cause { IsFaultOf result Stop.Sink (O.faults out.old) (O.faults out.new) }
-        ensures later { O.faults out.old ≤ O.faults out.new }
+            (trace.new ≡ trace.old) × ((O.seen out.new).taken ≡ (O.seen out.old).taken) }
+        ensures cause { IsFaultOf result Stop.Sink (O.seen out.old).faults (O.seen out.new).faults }
+        ensures later { (O.seen out.old).faults ≤ (O.seen out.new).faults }
     {
         let p = self.guest.pid();
         reserve_for(&mut self.guest, alloc, request)?;
-        let Some(answer) = self
-            .kernel
-            .serve(alloc, p, t, request, self.transfer.as_slice())?
+        let Some(answer) = serve(
+            &mut self.kernel,
+            alloc,
+            p,
+            t,
+            request,
+            self.transfer.as_slice(),
+        )?
         else {
             unreachable!();
         };
@@ -273,7 +292,8 @@ impl Machine {
 /// Makes room for the thread that a clone adds.
 fn reserve_for(guest: &mut Guest, alloc: Global, request: &Request) -> Result<(), AllocError>
     ensures same { guest.new ≡ record guest.old { spare = guest.new.spare } }
-    ensures spare { OnOk result ((reply : Reply) → IfSome (added_thread request.now reply) (λ _. 1 ≤ guest.new.spare)) }
+    ensures spare { OnOk result ((reply : Reply)
+        → IfSome (added_thread request.now reply) (λ _. 1 ≤ guest.new.spare)) }
 {
     match request {
         Request::Clone { .. } => guest.reserve_thread(alloc),
@@ -284,12 +304,13 @@ fn reserve_for(guest: &mut Guest, alloc: Global, request: &Request) -> Result<()
 /// Writes what a call shows on the console, in one piece where there is something to write.
 fn show<O: Sink>(out: &mut O, is_shown: bool, bytes: &[u8]) -> Result<(), Stop>
     ensures ok { OnOk result
-        (Took (sunk (O.taken out.old) (O.taken out.new)) (if is_shown then bytes.now else [])) }
+        (Took (sunk (O.seen out.old).taken (O.seen out.new).taken) (if is_shown then bytes.now else [])) }
     ensures err { OnErr result
-        (TookFront (sunk (O.taken out.old) (O.taken out.new)) (if is_shown then bytes.now else [])) }
+        (TookFront (sunk (O.seen out.old).taken (O.seen out.new).taken)
+        (if is_shown then bytes.now else [])) }
     ensures kind { result ≢ Err Stop.Memory }
-    ensures cause { IsFaultOf result Stop.Sink (O.faults out.old) (O.faults out.new) }
-    ensures later { O.faults out.old ≤ O.faults out.new }
+    ensures cause { IsFaultOf result Stop.Sink (O.seen out.old).faults (O.seen out.new).faults }
+    ensures later { (O.seen out.old).faults ≤ (O.seen out.new).faults }
 {
     if !is_shown {
         return Ok(());

@@ -13,7 +13,8 @@ use sys_abi::Transfer;
 impl Machine {
     /// The machine whose state the values of a set stand for. It takes the pages as they are.
     pub fn restore(alloc: Global, decoded: Decoded) -> Result<Machine, AllocError>
-        requires spelled { (files : List (List ℕ)) × (All (λ file. All IsByte file) files × SpellsFiles files decoded.shared decoded.procs) }
+        requires spelled { (files : List (List ℕ))
+            × (All (λ file. All IsByte file) files × SpellsFiles files decoded.shared decoded.procs) }
         ensures ready { IfOk result (λ m. IsReady m) }
         ensures state { IfOk result (λ m. IsStateOf decoded.shared decoded.procs (plain_of m)) }
     {

@@ -6,6 +6,7 @@ ghost use Rattle.dmtcp_top.specs.Keeping.{IsKept, IsSafe};
 ghost use Rattle.dmtcp_top.specs.Machines.{plain_of, IsReady};
 ghost use Rattle.dmtcp_top.specs.Rounds.{GoesInRounds};
 ghost use Rattle.dmtcp_top.specs.RunEnds.{EndsRun};
+ghost use Rattle.dmtcp_top.specs.Pace.{KeepsPace};
 ghost use Rattle.dmtcp_top.specs.Sessions.{sunk};
 
 use crate::machine::Stop;
@@ -18,7 +19,8 @@ use std::alloc::Global;
 use trace_log::Trace;
 
 impl Start {
-    /// Runs turn after turn, until nobody lives or can go on, or the trace is full, and makes the checkpoints that the records ask for.
+    /// Runs turn after turn, until nobody lives or can go on, or the trace is full, and makes the checkpoints
+    /// that the records ask for.
     pub fn run<O: Sink, L: Sink, F: Folder>(
         &mut self,
         alloc: Global,
@@ -31,16 +33,25 @@ impl Start {
         requires every { IfSome self.old.keeper.schedule.every (λ every. 0 < every) }
         requires tally { self.old.keeper.tally ≡ first_tally self.old.keeper.schedule }
         requires lines { self.old.keeper.lines ≡ at_start }
-        requires kept { self.old.keeper.schedule.every ≢ None → IsKept self.old.keeper (F.reads disk.old) (F.may_leave disk.old) }
+        requires kept { self.old.keeper.schedule.every ≢ None → IsKept self.old.keeper (F.seen disk.old) }
         requires empty { trace.old.records ≡ [] }
-        ensures ends { EndsRun result self.old.keeper.schedule (plain_of self.old.machine) trace.old.room trace.new.records
-            (sunk (O.taken out.old) (O.taken out.new)) (sunk (L.taken log.old) (L.taken log.new)) }
-        ensures in_rounds { GoesInRounds self.old.keeper.schedule (plain_of self.old.machine) trace.new.records }
-        ensures safe { IsSafe F.reads F.moment F.may_leave F.left_since F.faults (plain_of self.old.machine) trace.new.records disk.old disk.new }
+        ensures ends { EndsRun result self.old.keeper.schedule
+            (plain_of self.old.machine) trace.old.room trace.new.records
+            (sunk (O.seen out.old).taken (O.seen out.new).taken)
+            (sunk (L.seen log.old).taken (L.seen log.new).taken) }
+        ensures pace { KeepsPace result (plain_of self.old.machine) trace.new.records
+            (sunk (O.seen out.old).taken (O.seen out.new).taken)
+            (sunk (L.seen log.old).taken (L.seen log.new).taken) }
+        ensures in_rounds { GoesInRounds self.old.keeper.schedule
+            (plain_of self.old.machine) trace.new.records }
+        ensures safe { IsSafe (plain_of self.old.machine) trace.new.records (F.seen disk.old)
+            (F.seen disk.new) }
         ensures untouched { self.old.keeper.schedule.every ≡ None → disk.new ≡ disk.old }
-        ensures cause { result ≡ RunEnd.SinkFault → Rose (O.faults out.old) (O.faults out.new) ⊎ Rose (L.faults log.old) (L.faults log.new) }
-        ensures later { O.faults out.old ≤ O.faults out.new }
-        ensures log_later { L.faults log.old ≤ L.faults log.new }
+        ensures cause { result ≡ RunEnd.SinkFault
+            → Rose (O.seen out.old).faults (O.seen out.new).faults
+            ⊎ Rose (L.seen log.old).faults (L.seen log.new).faults }
+        ensures later { (O.seen out.old).faults ≤ (O.seen out.new).faults }
+        ensures log_later { (L.seen log.old).faults ≤ (L.seen log.new).faults }
     {
         let Ok(queue) = Queue::new(alloc) else {
             return RunEnd::Memory;
@@ -63,7 +74,10 @@ impl Start {
                 Err(Stop::Memory) => return RunEnd::Memory,
             }
             self.keeper.count();
-            match self.keeper.serve(alloc, &self.machine, log, disk, trace) {
+            match self
+                .keeper
+                .serve(alloc, &mut self.machine, log, disk, trace)
+            {
                 Ok(()) => {}
                 Err(Stop::Sink) => return RunEnd::SinkFault,
                 Err(Stop::Memory) => return RunEnd::Memory,

@@ -30,7 +30,8 @@ impl Settings {
     /// What the words set, each option at most once. `None` exactly where they are no options.
     pub fn read(words: &[String]) -> Option<Self>
         ensures some { IfSome result (λ settings. AreOptions (map string_bytes words.now) settings) }
-        ensures none { IfNone result ((settings : Settings) → AreOptions (map string_bytes words.now) settings → ⊥) }
+        ensures none { IfNone result ((settings : Settings) → AreOptions (map string_bytes words.now) settings
+            → ⊥) }
     {
         match words {
             [] => Some(Settings::unset()),

@@ -1,8 +1,8 @@
 ghost use Rattle.std.specs.Prelude.{◌≡◌};
 ghost use Rattle.dmtcp_top.specs.Statuses.{number_of};
 
-/// How a call ended. Statuses are tried in the order in which a call goes on: the words, the trace's room, the inputs,
-/// the folder of sets, the memory of the start, the run.
+/// How a call ended. Statuses are tried in the order in which a call goes on: the words, the trace's room,
+/// the inputs, the folder of sets, the memory of the start, the run.
 #[derive(Clone, Copy, Debug, PartialEq, Eq)]
 pub enum Status {
     /// No process lives.

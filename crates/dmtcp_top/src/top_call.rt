@@ -1,6 +1,7 @@
 ghost use Rattle.std.specs.Prelude.{◌≡◌, [], map, string_bytes};
-ghost use Rattle.dmtcp_top.specs.Sessions.{given, sunk, outside, failures};
+ghost use Rattle.dmtcp_top.specs.Sessions.{outside};
 ghost use Rattle.dmtcp_top.specs.Promise.{IsPromised};
+ghost use Rattle.dmtcp_top.specs.Words.{MakesNoCheckpoints};
 
 use crate::carry_out::carry_out;
 use crate::status::Status;
@@ -13,12 +14,13 @@ use trace_log::Trace;
 
 /// Does what the words of a command line ask for.
 ///
-/// `launch 0:NAME` runs the program in the input NAME to its end, or until nobody can go on or the trace has no room.
-/// `restart` goes on in the same way from the last complete set in `disk`. After every so many records of work, where the
-/// words ask for it, a set of the whole state goes to `disk`.
+/// `launch 0:NAME` runs the program in the input NAME to its end, or until nobody can go on or the trace has
+/// no room. `restart` goes on in the same way from the last complete set in `disk`. After every so many
+/// records of work, where the words ask for it, a set of the whole state goes to `disk`.
 ///
-/// The bytes that the program writes go to `out`. `log` gets a line for each checkpoint, and how the call ended in one
-/// last line. `trace` gets a record for each step of the run and a mark for each stage of a checkpoint.
+/// The bytes that the program writes go to `out`. `log` gets a line for each checkpoint, and how the call
+/// ended in one last line. `trace` gets a record for each step of the run and a mark for each stage of a
+/// checkpoint.
 pub fn dmtcp<R: Wait + Threads + Sync, I: Inputs, O: Sink, L: Sink, F: Folder>(
     rt: &R,
     alloc: Global,
@@ -31,15 +33,15 @@ pub fn dmtcp<R: Wait + Threads + Sync, I: Inputs, O: Sink, L: Sink, F: Folder>(
 ) -> Status
     requires { trace.old.records ≡ [] }
 
-    // What the status says of the trace, the console and the log, in which order the records come, what a crash at any
-    // moment leaves of the folder of sets, and which status comes where: `specs/Promise.antt` has it field by field.
-    ensures promise { IsPromised F.reads F.moment F.may_leave F.left_since F.faults result
-        (given (map string_bytes words.now) (I.held inputs.old) (F.reads disk.old)) trace.new.records
-        (sunk (O.taken out.old) (O.taken out.new)) (sunk (L.taken log.old) (L.taken log.new))
-        (outside (failures (I.faults inputs.old) (I.faults inputs.new)) (failures (O.faults out.old) (O.faults out.new))
-        (failures (L.faults log.old) (L.faults log.new)) (failures (F.faults disk.old) (F.faults disk.new)))
-        disk.old disk.new }
-    ensures same { I.held inputs.new ≡ I.held inputs.old }
+    // What the status says of the trace, the console and the log, in which order the records come, what a
+    // crash at any moment leaves of the folder of sets, and which status comes where: `specs/Promise.antt`
+    // has it field by field.
+    ensures promise { IsPromised result (map string_bytes words.now) trace.new.records
+        (outside (I.seen inputs.old) (O.seen out.old) (L.seen log.old) (F.seen disk.old))
+        (outside (I.seen inputs.new) (O.seen out.new) (L.seen log.new) (F.seen disk.new)) }
+
+    // Without checkpoints, and without a restart, the folder is not touched.
+    ensures untouched { MakesNoCheckpoints (map string_bytes words.now) → disk.new ≡ disk.old }
 {
     let _ = rt;
     run_words(alloc, words, inputs, out, log, disk, trace)
@@ -56,13 +58,12 @@ pub fn run_words<I: Inputs, O: Sink, L: Sink, F: Folder>(
     trace: &mut Trace,
 ) -> Status
     requires { trace.old.records ≡ [] }
-    ensures promise { IsPromised F.reads F.moment F.may_leave F.left_since F.faults result
-        (given (map string_bytes words.now) (I.held inputs.old) (F.reads disk.old)) trace.new.records
-        (sunk (O.taken out.old) (O.taken out.new)) (sunk (L.taken log.old) (L.taken log.new))
-        (outside (failures (I.faults inputs.old) (I.faults inputs.new)) (failures (O.faults out.old) (O.faults out.new))
-        (failures (L.faults log.old) (L.faults log.new)) (failures (F.faults disk.old) (F.faults disk.new)))
-        disk.old disk.new }
-    ensures same { I.held inputs.new ≡ I.held inputs.old }
+    ensures promise { IsPromised result (map string_bytes words.now) trace.new.records
+        (outside (I.seen inputs.old) (O.seen out.old) (L.seen log.old) (F.seen disk.old))
+        (outside (I.seen inputs.new) (O.seen out.new) (L.seen log.new) (F.seen disk.new)) }
+
+    // Without checkpoints, and without a restart, the folder is not touched.
+    ensures untouched { MakesNoCheckpoints (map string_bytes words.now) → disk.new ≡ disk.old }
 {
     let ending = carry_out(alloc, words, inputs, out, log, disk, trace);
     ending.conclude(log)

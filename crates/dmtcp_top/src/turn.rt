@@ -7,7 +7,8 @@ use sys_abi::{Signal, Tid};
 /// How many threads a process has at most.
 pub const THREAD_LIMIT: usize = 64;
 
-/// The threads whose turn is still to come in a round, in order. Its room is taken once, so that a round takes no memory.
+/// The threads whose turn is still to come in a round, in order. Its room is taken once, so that a round
+/// takes no memory.
 #[derive(Drop)]
 pub struct Queue {
     threads: Vec<u32>,
@@ -60,8 +61,8 @@ impl Queue {
     }
 }
 
-/// Whose turn it is, of the threads of the one process: the signal that is delivered first, if one is, whether the thread
-/// has run its quantum, and the threads that follow.
+/// Whose turn it is, of the threads of the one process: the signal that is delivered first, if one is,
+/// whether the thread has run its quantum, and the threads that follow.
 #[derive(Drop)]
 pub struct Turn {
     pub thread: Tid,

@@ -32,12 +32,14 @@ impl Machine {
     ghost use Rattle.dmtcp_top.specs.Abilities.{place_with, IsAble, HasTurn};
     ghost use Rattle.dmtcp_top.specs.Rounds.{Place, due_signal, goes_on, turn_of, first_thread, new_round, next_turn, same_turn, stands_in};
 
-    /// The least of the signals that are pending for the thread or the process, and that the thread's mask lets through.
+    /// The least of the signals that are pending for the thread or the process, and that the thread's mask
+    /// lets through.
     fn due_signal(&self, t: Tid) -> Option<Signal>
         requires ready { IsReady self.now }
         requires alive { lives self.now ≡ true }
         ensures { option_map (λ s. s.0) result
-            ≡ due_signal (plain_of self.now) self.now.guest.pid t.0 (map.get (plain_of self.now).users self.now.guest.pid) }
+            ≡ due_signal (plain_of self.now) self.now.guest.pid t.0
+            (map.get (plain_of self.now).users self.now.guest.pid) }
     {
         if !self.guest.has_thread(t) {
             return None;
@@ -51,7 +53,8 @@ impl Machine {
         requires ready { IsReady self.now }
         requires alive { lives self.now ≡ true }
         ensures { result
-            ≡ goes_on (plain_of self.now) self.now.guest.pid t.0 (map.get (plain_of self.now).users self.now.guest.pid) }
+            ≡ goes_on (plain_of self.now) self.now.guest.pid t.0
+            (map.get (plain_of self.now).users self.now.guest.pid) }
     {
         if !self.guest.has_thread(t) {
             return false;
@@ -66,7 +69,9 @@ impl Machine {
     fn able(&self, t: Tid) -> Option<Able>
         requires ready { IsReady self.now }
         requires alive { lives self.now ≡ true }
-        ensures turn { (later : List ℕ) → option_map (place_with self.now later) result ≡ turn_of (plain_of self.now) self.now.guest.pid t.0 later [] }
+        ensures turn { (later : List ℕ)
+            → option_map (place_with self.now later) result ≡ turn_of
+            (plain_of self.now) self.now.guest.pid t.0 later [] }
         ensures has { IfSome result (IsAble self.now) }
     {
         if !self.guest.has_thread(t) {
@@ -86,7 +91,8 @@ impl Machine {
     fn first_able(&self, later: &mut Queue) -> Option<Able>
         requires ready { IsReady self.now }
         requires alive { lives self.now ≡ true }
-        ensures turn { option_map (place_with self.now later.new) result ≡ first_thread (plain_of self.now) self.now.guest.pid [] later.old }
+        ensures turn { option_map (place_with self.now later.new) result ≡ first_thread
+            (plain_of self.now) self.now.guest.pid [] later.old }
         ensures has { IfSome result (IsAble self.now) }
         ensures none { result ≡ None → later.new ≡ [] }
     {
@@ -102,7 +108,8 @@ impl Machine {
     fn first_turn(&self, queue: Queue) -> Result<Turn, Queue>
         requires ready { IsReady self.now }
         requires alive { lives self.now ≡ true }
-        ensures turn { option_map (place_of self.now) (result_ok result) ≡ first_thread (plain_of self.now) self.now.guest.pid [] queue }
+        ensures turn { option_map (place_of self.now) (result_ok result) ≡ first_thread
+            (plain_of self.now) self.now.guest.pid [] queue }
         ensures has { IfOk result (HasTurn self.now) }
     {
         let mut later = queue;
@@ -148,7 +155,8 @@ impl Machine {
     /// The turn that follows in the round, or the first one of a new round.
     fn next_turn(&self, later: Queue) -> Option<Turn>
         requires ready { IsReady self.now }
-        ensures place { (here : Place) → here.p ≡ self.now.guest.pid → here.processes ≡ [] → here.threads ≡ later → placed self.now result ≡ next_turn (plain_of self.now) here }
+        ensures place { (here : Place) → here.p ≡ self.now.guest.pid → here.processes ≡ []
+            → here.threads ≡ later → placed self.now result ≡ next_turn (plain_of self.now) here }
         ensures has { IfSome result (HasTurn self.now) }
     {
         if !self.lives() {
@@ -164,7 +172,8 @@ impl Machine {
     fn same_turn(&self, t: Tid, later: Queue, has_run: bool) -> Option<Turn>
         requires ready { IsReady self.now }
         requires stands { has_run ≡ true → stands (user_step self.now.guest.user t.0) ≡ true }
-        ensures place { (here : Place) → here.p ≡ self.now.guest.pid → here.t ≡ t.0 → here.processes ≡ [] → here.threads ≡ later → placed self.now result ≡ same_turn (plain_of self.now) here has_run }
+        ensures place { (here : Place) → here.p ≡ self.now.guest.pid → here.t ≡ t.0 → here.processes ≡ []
+            → here.threads ≡ later → placed self.now result ≡ same_turn (plain_of self.now) here has_run }
         ensures has { IfSome result (HasTurn self.now) }
     {
         if !self.lives() {
@@ -181,8 +190,8 @@ impl Machine {
         self.next_turn(later)
     }
 
-    /// One record of the thread whose turn it is: a signal's delivery, a quantum of instructions, or the call or the trap
-    /// at which it stands. Tells whose turn is next, None where nobody lives or can go on.
+    /// One record of the thread whose turn it is: a signal's delivery, a quantum of instructions, or the call
+    /// or the trap at which it stands. Tells whose turn is next, None where nobody lives or can go on.
     pub fn take_turn<O: Sink>(
         &mut self,
         alloc: Global,
@@ -195,16 +204,18 @@ impl Machine {
         requires turn { HasTurn self.old turn }
         requires room { 0 < trace.old.room }
         ensures has { IfOk result (λ next. IfSome next (HasTurn self.new)) }
-        ensures ok { IfOk result (λ next. Notes (plain_of self.old) (plain_of self.new) (place_of self.old turn) (placed self.new next) trace.old trace.new
-            (sunk (O.taken out.old) (O.taken out.new))) }
+        ensures ok { IfOk result (λ next. Notes (plain_of self.old) (plain_of self.new)
+            (place_of self.old turn) (placed self.new next) trace.old trace.new
+            (sunk (O.seen out.old).taken (O.seen out.new).taken)) }
         ensures ready { OnOk result (IsReady self.new) }
         ensures same { IsSame self.old self.new }
-        ensures failed { IsErrOf result Stop.Sink → Spoils (plain_of self.old) (place_of self.old turn) trace.old trace.new
-            (sunk (O.taken out.old) (O.taken out.new)) }
+        ensures failed { IsErrOf result Stop.Sink
+            → Spoils (plain_of self.old) (place_of self.old turn) trace.old trace.new
+            (sunk (O.seen out.old).taken (O.seen out.new).taken) }
         ensures memory { IsErrOf result Stop.Memory →
-            (trace.new ≡ trace.old) × (O.taken out.new ≡ O.taken out.old) }
-        ensures cause { IsFaultOf result Stop.Sink (O.faults out.old) (O.faults out.new) }
-        ensures later { O.faults out.old ≤ O.faults out.new }
+            (trace.new ≡ trace.old) × ((O.seen out.new).taken ≡ (O.seen out.old).taken) }
+        ensures cause { IsFaultOf result Stop.Sink (O.seen out.old).faults (O.seen out.new).faults }
+        ensures later { (O.seen out.old).faults ≤ (O.seen out.new).faults }
     {
         let Turn {
             thread: t,
@@ -213,7 +224,7 @@ impl Machine {
             later,
         } = turn;
         if let Some(signal) = signal {
-            self.deliver(t, signal, trace);
+            self.deliver(alloc, t, signal, trace);
             return Ok(self.same_turn(t, later, false));
         }
         match self.guest.look(t) {
@@ -222,7 +233,7 @@ impl Machine {
                 Ok(self.next_turn(later))
             }
             Ran::Trapped(signal) => {
-                self.deliver(t, signal, trace);
+                self.deliver(alloc, t, signal, trace);
                 Ok(self.next_turn(later))
             }
             Ran::Whole => {
@@ -241,7 +252,9 @@ impl Machine {
         requires thread { HasThread self.old.guest.user t.0 }
         requires goes { ran_at (user_step self.old.guest.user t.0) ≡ Ran.Whole }
         requires room { 0 < trace.old.room }
-        ensures took { (n : ℕ) × ((taken : _) → Takes (plain_of self.old) (plain_of self.new) (a_record.User self.old.guest.pid t n) trace.old trace.new (sunk taken taken)) }
+        ensures took { (n : ℕ) × ((taken : _)
+            → Takes (plain_of self.old) (plain_of self.new)
+            (a_record.User self.old.guest.pid t n) trace.old trace.new (sunk taken taken)) }
         ensures ready { IsReady self.new }
         ensures same { IsSame self.old self.new }
         ensures alive { lives self.new ≡ true }
@@ -257,8 +270,11 @@ impl Machine {
         requires ready { IsReady self.now }
         requires alive { lives self.now ≡ true }
         requires thread { HasThread self.now.guest.user t.0 }
-        ensures place { (here : Place) → here.p ≡ self.now.guest.pid → here.t ≡ t.0 → here.processes ≡ [] → here.threads ≡ later
-            → placed self.now result ≡ (if stands_in (map.get (plain_of self.now).users self.now.guest.pid) t.0 then same_turn (plain_of self.now) here true else next_turn (plain_of self.now) here) }
+        ensures place { (here : Place) → here.p ≡ self.now.guest.pid → here.t ≡ t.0 → here.processes ≡ []
+            → here.threads ≡ later
+            → placed self.now result ≡ (if stands_in
+            (map.get (plain_of self.now).users self.now.guest.pid) t.0
+            then same_turn (plain_of self.now) here true else next_turn (plain_of self.now) here) }
         ensures has { IfSome result (HasTurn self.now) }
     {
         match self.guest.look(t) {

@@ -11,7 +11,7 @@ use Rattle.std.specs.String.{string_cmp}
 use Rattle.std.specs.Str.{bytes_eq}
 use Rattle.std.specs.declared.string.String.{String}
 use Rattle.std.proofs.lemmas.Map.Text.{btree_map_updates_text, is_eq-slice_cmp}
-use Rattle.edge_io.specs.Inputs.{Files}
+use Rattle.edge_io.specs.Inputs.{NamedFiles}
 use Rattle.edge_io.specs.NamedBytes.{files_of}
 
 -- a choice of what stands there, seen as bytes
@@ -43,6 +43,6 @@ module _ {A B : Type 0} where
       ∙ sym (fin.get-insert nat_list_cmp_total (files_of m.entries) (string_bytes k) (vec_items v) q))
 
   -- the same, where the map, the name and the bytes are seen as these
-  pub files_of-insert_at : (m n : BTreeMap (String A) (Vec ℕ B)) (k : String A) (v : Vec ℕ B) (files : Files) (name bytes : List ℕ) → tree.Updates string_cmp m n k (Some v) → files_of m.entries ≡ files → string_bytes k ≡ name → vec_items v ≡ bytes → files_of n.entries ≡ fin.insert files name bytes
+  pub files_of-insert_at : (m n : BTreeMap (String A) (Vec ℕ B)) (k : String A) (v : Vec ℕ B) (files : NamedFiles) (name bytes : List ℕ) → tree.Updates string_cmp m n k (Some v) → files_of m.entries ≡ files → string_bytes k ≡ name → vec_items v ≡ bytes → files_of n.entries ≡ fin.insert files name bytes
   files_of-insert_at m n k v files name bytes updates before named held =
       files_of-insert m n k v updates ∙ (λ i. fin.insert (before i) (named i) (held i))

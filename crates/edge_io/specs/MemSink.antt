@@ -12,5 +12,6 @@ pub record SinkState : Type 0 where
 -- stored as the triple of its fields
 abbrev pub sink_state_code : Coded SinkState
 sink_state_code =
-    code_by (List ℕ × (FaultScript × ℕ)) (coded× (coded_list coded_ℕ) (coded× script.the_row.coded coded_ℕ)) (λ s. (s.bytes, (s.script, s.refusals)))
+    code_by (List ℕ × (FaultScript × ℕ)) (coded× (coded_list coded_ℕ) (coded× script.the_row.coded coded_ℕ))
+    (λ s. (s.bytes, (s.script, s.refusals)))
     (λ p. record { bytes = p.0; script = p.1.0; refusals = p.1.1 }) (λ _. refl)

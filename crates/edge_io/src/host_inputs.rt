@@ -29,9 +29,7 @@ impl<R> HostInputs<R> {
 }
 
 impl<R: Files> Inputs for HostInputs<R> {
-    ghost held = { λ _. None };
-
-    ghost faults = { λ inputs. inputs.faults };
+    ghost seen = { λ inputs. record { files = None; faults = inputs.faults } };
 
     fn read(&mut self, alloc: Global, name: &str) -> Result<Option<Vec<u8>>, InputFault> {
         let _in_range = self.faults;

@@ -25,9 +25,7 @@ impl<P> HostSink<P> {
 }
 
 impl<P: Print> Sink for HostSink<P> {
-    ghost taken = { λ _. None };
-
-    ghost faults = { λ sink. sink.faults };
+    ghost seen = { λ sink. record { taken = None; faults = sink.faults } };
 
     fn put(&mut self, piece: &[u8]) -> Result<(), SinkFault> {
         let _in_range = self.faults;

@@ -1,7 +1,7 @@
-ghost use Rattle.std.specs.Prelude.{◌≡◌, ℕ, ◌^◌, ◌<◌, ◌≤◌, Option, option_map, vec_items, IfOk, IfSome, IsErrOf};
+ghost use Rattle.std.specs.Prelude.{◌≡◌, ◌^◌, ◌<◌, ◌≤◌, option_map, vec_items, IfOk, IfSome, IsErrOf};
 ghost use Rattle.std.specs.FinMap as map;
 ghost use Rattle.views.specs.Faults.{IsFaultOf};
-ghost use Rattle.edge_io.specs.Inputs.{Files};
+ghost use Rattle.edge_io.specs.Inputs.{SeenInputs};
 
 use std::alloc::{AllocError, Global};
 use thiserror::Error;
@@ -27,22 +27,22 @@ impl From<AllocError> for InputFault {
 }
 
 /// Files that a run reads by name.
+///
+/// No call changes them. Inputs that can't say what they hold, as files of the host that others may
+/// change, tell none, and what they answer is then any bytes.
 pub trait Inputs {
-    // The files, where the object tells them. No call changes them.
-    ghost held: { Self → Option Files };
-
-    // How many faults there have been.
-    ghost faults: { Self → ℕ };
+    /// What is seen of the inputs at a moment.
+    ghost seen: { Self → SeenInputs };
 
     /// The bytes of the file of that name, or `None` where there is no such file.
     fn read(&mut self, alloc: Global, name: &str) -> Result<Option<Vec<u8>>, InputFault>
-        ensures told { IfOk result (λ bytes. IfSome (held self.old)
+        ensures told { IfOk result (λ bytes. IfSome (seen self.old).files
             (λ files. option_map vec_items bytes ≡ map.get files name.now)) }
-        ensures same { held self.new ≡ held self.old }
+        ensures same { (seen self.new).files ≡ (seen self.old).files }
 
         // A fault raises the count, and want of memory is no fault.
-        ensures cause { IsFaultOf result InputFault.Failed (faults self.old) (faults self.new) }
-        ensures memory { IsErrOf result InputFault.Memory → faults self.new ≡ faults self.old }
-        ensures later { faults self.old ≤ faults self.new }
-        ensures small { faults self.new < 2 ^ 64 };
+        ensures cause { IsFaultOf result InputFault.Failed (seen self.old).faults (seen self.new).faults }
+        ensures memory { IsErrOf result InputFault.Memory → (seen self.new).faults ≡ (seen self.old).faults }
+        ensures later { (seen self.old).faults ≤ (seen self.new).faults }
+        ensures small { (seen self.new).faults < 2 ^ 64 };
 }

@@ -19,7 +19,8 @@ pub struct MemInputs {
 impl MemInputs {
     /// No files. The calls of `read` whose numbers are among `fails`, counted from 1, are to fail.
     pub fn new(alloc: Global, fails: &[u64]) -> Result<Self, AllocError>
-        ensures { IfOk result (λ inputs. inputs ≡ record { files = map.empty; script = new_script fails.now }) }
+        ensures { IfOk result (λ inputs. inputs
+            ≡ record { files = map.empty; script = new_script fails.now }) }
     {
         Ok(MemInputs {
             files: NamedBytes::new(alloc),
@@ -38,9 +39,7 @@ impl MemInputs {
 }
 
 impl Inputs for MemInputs {
-    ghost held = { λ inputs. Some inputs.files };
-
-    ghost faults = { λ inputs. inputs.script.faults };
+    ghost seen = { λ inputs. record { files = Some inputs.files; faults = inputs.script.faults } };
 
     /// After want of memory the call counts as none.
     fn read(&mut self, alloc: Global, name: &str) -> Result<Option<Vec<u8>>, InputFault>

@@ -29,7 +29,8 @@ impl Model for MemSink {
 impl MemSink {
     /// No bytes. The calls of `put` whose numbers are among `fails`, counted from 1, are to fail.
     pub fn new(alloc: Global, fails: &[u64]) -> Result<Self, AllocError>
-        ensures { IfOk result (λ sink. sink ≡ record { bytes = []; script = new_script fails.now; refusals = 0 }) }
+        ensures { IfOk result (λ sink. sink
+            ≡ record { bytes = []; script = new_script fails.now; refusals = 0 }) }
     {
         Ok(MemSink {
             bytes: Vec::new(alloc),
@@ -54,9 +55,7 @@ impl MemSink {
 }
 
 impl Sink for MemSink {
-    ghost taken = { λ sink. Some sink.bytes };
-
-    ghost faults = { λ sink. sink.script.faults };
+    ghost seen = { λ sink. record { taken = Some sink.bytes; faults = sink.script.faults } };
 
     /// A failed call takes nothing. It fails where its number is listed, and else only for want of
     /// memory, which is counted as well.

@@ -15,10 +15,10 @@ pub struct NamedBytes {
 impl Model for NamedBytes {
     ghost use Rattle.std.specs.FinMap as map;
     ghost use Rattle.std.specs.Coded.{coded_ℕ, coded_list};
-    ghost use Rattle.edge_io.specs.Inputs.{Files};
+    ghost use Rattle.edge_io.specs.Inputs.{NamedFiles};
     ghost use Rattle.edge_io.specs.NamedBytes.{files_of};
 
-    ghost Value = { Files };
+    ghost Value = { NamedFiles };
 
     ghost coded = { map.code (coded_list coded_ℕ) (coded_list coded_ℕ) };
 

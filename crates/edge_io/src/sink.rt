@@ -1,6 +1,6 @@
-ghost use Rattle.std.specs.Prelude.{◌≡◌, ℕ, ◌^◌, ◌<◌, ◌≤◌, List, Option, OnOk, OnErr, take};
+ghost use Rattle.std.specs.Prelude.{◌≡◌, ℕ, ◌^◌, ◌<◌, ◌≤◌, OnOk, OnErr, take};
 ghost use Rattle.views.specs.Faults.{IsFaultOf};
-ghost use Rattle.edge_io.specs.Sink.{appended};
+ghost use Rattle.edge_io.specs.Sink.{SeenSink, appended};
 
 use thiserror::Error;
 
@@ -12,20 +12,19 @@ pub enum SinkFault {
 }
 
 /// Takes bytes, in pieces and in order.
+///
+/// A sink that can't say what came of its bytes, as a stream of the host, tells none.
 pub trait Sink {
-    // The bytes taken so far, where the object tells them.
-    ghost taken: { Self → Option (List ℕ) };
-
-    // How many faults there have been.
-    ghost faults: { Self → ℕ };
+    /// What is seen of the sink at a moment.
+    ghost seen: { Self → SeenSink };
 
     /// Takes the whole piece, or fails and has taken some first part of it, which may be none. The
     /// call takes no memory that its caller could be refused.
     fn put(&mut self, piece: &[u8]) -> Result<(), SinkFault>
-        ensures ok { OnOk result (taken self.new ≡ appended (taken self.old) piece.now) }
+        ensures ok { OnOk result ((seen self.new).taken ≡ appended (seen self.old).taken piece.now) }
         ensures err { OnErr result
-            ((n : ℕ) × (taken self.new ≡ appended (taken self.old) (take n piece.now))) }
-        ensures cause { IsFaultOf result SinkFault.Failed (faults self.old) (faults self.new) }
-        ensures later { faults self.old ≤ faults self.new }
-        ensures small { faults self.new < 2 ^ 64 };
+            ((n : ℕ) × ((seen self.new).taken ≡ appended (seen self.old).taken (take n piece.now))) }
+        ensures cause { IsFaultOf result SinkFault.Failed (seen self.old).faults (seen self.new).faults }
+        ensures later { (seen self.old).faults ≤ (seen self.new).faults }
+        ensures small { (seen self.new).faults < 2 ^ 64 };
 }

@@ -7,7 +7,7 @@ use Rattle.set_disk.specs.Files.{Files}
 use Rattle.set_disk.specs.Crash.{AfterStep, Same, IsSettled}
 use Rattle.set_disk.specs.Moments.{Passes}
 use Rattle.set_disk.specs.History.{History, image_after, MayLeave, durable, pending, torn_by, with_call}
-use Rattle.set_disk.specs.InMemory.{reads_of, MayLeaveNow, moment_of, LeftSince, Answers}
+use Rattle.set_disk.specs.InMemory.{LeftSince, in_memory, Answers}
 use Rattle.set_disk.specs.declared.call.Call.{Call}
 use Rattle.set_disk.specs.declared.request.Request.{Request}
 use Rattle.set_disk.specs.declared.request.Request.TheVariants.{Sync}
@@ -22,7 +22,7 @@ image_left v h k pattern image is within made =
     (k, omega arith, within, subst (MayLeave h.start calls) (sym made_of) (inr (pending_leave pattern (durable h.start calls) (pending calls))))
 
 since_call : (h : History) (request : Request) (is_done : Bool) (t k : ℕ) (image : Files) → t ≤ length h.calls → t ≤ k → k ≤ length h.calls + 1 → MayLeave h.start (take k (h.calls ++ record { request = request; done = is_done } ∷ [])) image
-    → (length h.calls < k) ⊎ (k ≤ length h.calls) → LeftSince h t image ⊎ AfterStep (torn_by request) (MayLeaveNow h) image
+    → (length h.calls < k) ⊎ (k ≤ length h.calls) → LeftSince h t image ⊎ AfterStep (torn_by request) (MayLeave h.start h.calls) image
 since_call h request is_done t k image early since within left (inl last) =
     let call : Call = record { request = request; done = is_done } in
     let whole : take k (h.calls ++ call ∷ []) ≡ h.calls ++ call ∷ [] = take_all k (h.calls ++ call ∷ []) (omega (arith, length-append h.calls (call ∷ []))) in
@@ -31,7 +31,7 @@ since_call h request is_done t k image early since within left (inr before) =
     let call : Call = record { request = request; done = is_done } in
     inl (k, since, before, subst (λ calls. MayLeave h.start calls image) (take-append-le k h.calls (call ∷ []) before) left)
 
-pub one_more : (h : History) (request : Request) (is_done : Bool) → Passes moment_of MayLeaveNow LeftSince (torn_by request) h (with_call h request is_done)
+pub one_more : (h : History) (request : Request) (is_done : Bool) → Passes (torn_by request) (in_memory h) (in_memory (with_call h request is_done))
 one_more h request is_done =
     let call : Call = record { request = request; done = is_done } in
     let size : length (h.calls ++ call ∷ []) ≡ length h.calls + 1 = length-append h.calls (call ∷ []) in
@@ -45,24 +45,26 @@ one_more h request is_done =
         (let within = left.2 in omega (arith, size)),
         subst (λ calls. MayLeave h.start calls image) (sym (take-append-le left.0 h.calls (call ∷ []) left.2)) left.3,
       );
+      wants = λ want. want;
     }
 
-pub stays : (h : History) (step : Files → Files → Type 0) → ((files : Files) → step files files) → Passes moment_of MayLeaveNow LeftSince step h h
+pub stays : (h : History) (step : Files → Files → Type 0) → ((files : Files) → step files files) → Passes step (in_memory h) (in_memory h)
 stays h step none = record {
   later = omega arith;
   now = λ image left. (image, left, none image);
   since = λ t image early left. inl left;
   keeps = λ t image early left. left;
+  wants = λ want. want;
 }
 
-pub stays_as : (h n : History) (step : Files → Files → Type 0) → ((files : Files) → step files files) → n ≡ h → Passes moment_of MayLeaveNow LeftSince step h n
-stays_as h n step none same = subst (λ (m : History). Passes moment_of MayLeaveNow LeftSince step h m) (sym same) (stays h step none)
+pub stays_as : (h n : History) (step : Files → Files → Type 0) → ((files : Files) → step files files) → n ≡ h → Passes step (in_memory h) (in_memory n)
+stays_as h n step none same = subst (λ (m : History). Passes step (in_memory h) (in_memory m)) (sym same) (stays h step none)
 
-one_more_as : (h n : History) (request : Request) (is_done : Bool) → n ≡ with_call h request is_done → Passes moment_of MayLeaveNow LeftSince (torn_by request) h n
-one_more_as h n request is_done is = subst (λ (m : History). Passes moment_of MayLeaveNow LeftSince (torn_by request) h m) (sym is) (one_more h request is_done)
+one_more_as : (h n : History) (request : Request) (is_done : Bool) → n ≡ with_call h request is_done → Passes (torn_by request) (in_memory h) (in_memory n)
+one_more_as h n request is_done is = subst (λ (m : History). Passes (torn_by request) (in_memory h) (in_memory m)) (sym is) (one_more h request is_done)
 
 -- a call, whatever it answers
-pub passes : {A : Type 0} (request : Request) (h n : History) (r : Result A DiskFault) → Answers request h n r → Passes moment_of MayLeaveNow LeftSince (torn_by request) h n
+pub passes : {A : Type 0} (request : Request) (h n : History) (r : Result A DiskFault) → Answers request h n r → Passes (torn_by request) (in_memory h) (in_memory n)
 passes request h n (Ok value) answers = one_more_as h n request true answers.1
 passes request h n (Err Failed) answers = one_more_as h n request false answers.1
 passes request h n (Err Memory) answers = stays_as h n (torn_by request) (none_torn request) answers
@@ -70,18 +72,18 @@ passes request h n (Err Memory) answers = stays_as h n (torn_by request) (none_t
 memory_is : {A : Type 0} (request : Request) (h n : History) (r : Result A DiskFault) → Answers request h n r → r ≡ Err Memory → n ≡ h
 memory_is {A} request h n r answers is = let P : Result A DiskFault → Type 0 = Answers request h n in subst P is answers
 
-pub memory_passes : {A : Type 0} (request : Request) (h n : History) (r : Result A DiskFault) → Answers request h n r → r ≡ Err Memory → Passes moment_of MayLeaveNow LeftSince Same h n
+pub memory_passes : {A : Type 0} (request : Request) (h n : History) (r : Result A DiskFault) → Answers request h n r → r ≡ Err Memory → Passes Same (in_memory h) (in_memory n)
 memory_passes request h n r answers is = stays_as h n Same (λ files. refl) (memory_is request h n r answers is)
 
 -- a call that failed has changed nothing of what reads give
-pub failed_reads : {A : Type 0} (request : Request) (h n : History) (r : Result A DiskFault) → Answers request h n r → r ≡ Err Failed → reads_of n ≡ reads_of h
+pub failed_reads : {A : Type 0} (request : Request) (h n : History) (r : Result A DiskFault) → Answers request h n r → r ≡ Err Failed → (in_memory n).files ≡ (in_memory h).files
 failed_reads {A} request h n r answers is =
     let P : Result A DiskFault → Type 0 = Answers request h n in
     let failed = subst P is answers in
-    ap reads_of failed.1 ∙ ap Some (reads-push h.start h.calls (record { request = request; done = false }))
+    ap (λ (m : History). (in_memory m).files) failed.1 ∙ ap Some (reads-push h.start h.calls (record { request = request; done = false }))
 
 -- a sync that was done
-pub settled_by : {A : Type 0} (h n : History) (r : Result A DiskFault) → Answers Sync h n r → OnOk r (IsSettled (reads_of n) (MayLeaveNow n))
+pub settled_by : {A : Type 0} (h n : History) (r : Result A DiskFault) → Answers Sync h n r → OnOk r (IsSettled (in_memory n))
 settled_by h n (Ok value) answers =
-    subst (λ (m : History). IsSettled (reads_of m) (MayLeaveNow m)) (sym answers.1) (λ image left. MayLeave-settled h.start h.calls (record { request = Sync; done = true }) image refl left)
+    subst (λ (m : History). IsSettled (in_memory m)) (sym answers.1) (λ image left. MayLeave-settled h.start h.calls (record { request = Sync; done = true }) image refl left)
 settled_by h n (Err fault) answers = tt

@@ -1,13 +1,15 @@
 -- A folder that tells no content, and may leave anything, meets what a call says of crashes.
-use Rattle.std.proofs.Common.{inl, arith}
+use Rattle.std.proofs.Common.{ℕ, inl, arith}
 use Rattle.set_disk.specs.Files.{Files}
 use Rattle.set_disk.specs.Moments.{Passes}
-use Rattle.set_disk.specs.Untold.{AnyImage, AnySince, one_moment}
+use Rattle.set_disk.specs.Untold.{without_content}
 
-pub untold_passes : {D : Type 0} (step : Files → Files → Type 0) → ((files : Files) → step files files) → (old new : D) → Passes one_moment AnyImage AnySince step old new
+pub untold_passes : (step : Files → Files → Type 0) → ((files : Files) → step files files) → (old new : ℕ)
+    → Passes step (without_content old) (without_content new)
 untold_passes step none old new = record {
   later = omega arith;
   now = λ image left. (image, tt, none image);
   since = λ t image early left. inl tt;
   keeps = λ t image early left. tt;
+  wants = λ want. tt;
 }

@@ -1,17 +1,22 @@
 -- What a crash may leave of a folder: an image is the files that are found afterwards.
---     Torn name at n          a torn write: what a crash may make of an image while n bytes are written, and until a sync has settled them
+--     Torn name at n          a torn write: what a crash may make of an image while n bytes are written, and
+--                             until a sync has settled them
 --     CutOrNot name len       the same of a cut
 --     Same                    the same of a call that writes nothing
 --     AfterStep step before   the images that come of those before by a step
 --     Only files images       a crash leaves these files and nothing else
---     IsSettled told images   nothing is pending: all that reads give is durable, and a crash leaves just that. Of a folder that tells no content this says nothing
---     Takes step old new      what reads give has taken a step; a folder that tells no content goes on telling none
+--     IsSettled folder        nothing is pending: all that reads give is durable, and a crash leaves just
+--                             that. Of a folder that tells no content this says nothing
+--     Takes step old new      what reads give has taken a step; a folder that tells no content goes on
+--                             telling none
 use Rattle.std.specs.Prelude.{◌≡◌, ◌≢◌, ◌⊎◌, ℕ, ◌+◌, ◌≤◌, min, max, List, length, take, drop, Option, Some, None, IsSome, IfSome}
 use Rattle.std.specs.FinMap as map
 use Rattle.set_disk.specs.Files.{Files, contents, with_cut}
+use Rattle.set_disk.specs.SeenFolder.{SeenFolder}
 use Rattle.set_disk.specs.declared.file_name.FileName.{FileName}
 
--- Any bytes may stand in the written range and, where a write before it got less far, from the file's end on up to the range. The bytes outside stay.
+-- Any bytes may stand in the written range and, where a write before it got less far, from the file's end on
+-- up to the range. The bytes outside stay.
 pub record TornBytes (at n : ℕ) (old new : List ℕ) : Type 0 where
   pub front : take (min at (length old)) new ≡ take at old
   pub behind : drop (at + n) new ≡ drop (at + n) old
@@ -36,8 +41,8 @@ AfterStep step before image = (old : Files) × before old × step old image
 abbrev pub Only : Files → (Files → Type 0) → Type 0
 Only files images = (image : Files) → images image → image ≡ files
 
-abbrev pub IsSettled : Option Files → (Files → Type 0) → Type 0
-IsSettled told images = IfSome told (λ files. Only files images)
+abbrev pub IsSettled : SeenFolder → Type 0
+IsSettled folder = IfSome folder.files (λ files. Only files folder.may_leave)
 
 abbrev pub Takes : (Files → Files → Type 0) → Option Files → Option Files → Type 0
 Takes step None new = new ≡ None

@@ -1,5 +1,6 @@
 -- The table of a folder's files in memory.
---     LendsFile s name r      the table behind s has under the name the last bytes written through r, and is unchanged if r is `None`
+--     LendsFile s name r      the table behind s has under the name the last bytes written through r, and is
+--                             unchanged if r is `None`
 use Rattle.std.specs.Prelude.{◌≡◌, ℕ, List, Option, OnSome}
 use Rattle.std.specs.Borrow.{Fml, MutBor, LendsSo}
 use Rattle.std.specs.FinMap as map
@@ -9,4 +10,5 @@ use Rattle.set_disk.specs.contracts.files.Files as table
 use Rattle.set_disk.specs.contracts.file_bytes.FileBytes as bytes
 
 abbrev pub LendsFile : MutBor Files → FileName → Option (MutBor (List ℕ)) → Fml
-LendsFile s name r = LendsSo table.the_row bytes.the_row s r (λ n w. OnSome r (n ≡ map.insert s.now name w)) (λ n. n ≡ s.now)
+LendsFile s name r = LendsSo table.the_row bytes.the_row s r (λ n w. OnSome r (n ≡ map.insert s.now name w))
+    (λ n. n ≡ s.now)

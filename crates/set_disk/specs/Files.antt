@@ -29,4 +29,5 @@ with_write files name at bytes = map.insert files name (overwritten at bytes (co
 
 -- a cut makes no file
 abbrev pub with_cut : Files → FileName → ℕ → Files
-with_cut files name len = option_map_or (λ bytes. map.insert files name (take len bytes)) (map.get files name) files
+with_cut files name len = option_map_or (λ bytes. map.insert files name (take len bytes))
+    (map.get files name) files

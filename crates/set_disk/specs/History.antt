@@ -4,7 +4,8 @@
 --     settled_count calls          how many calls there are up to the last sync that was done
 --     durable, pending             the files that this sync made sure, and the calls since
 --     MayLeave start calls image   a crash after these calls may leave this image
---     image_after pattern start calls      one such image: without the pending writes and cuts (0), with them (1), and with each written range filled (2)
+--     image_after pattern start calls      one such image: without the pending writes and cuts (0), with them
+--                                          (1), and with each written range filled (2)
 use Rattle.std.specs.Prelude.{◌≡◌, ◌⊎◌, ℕ, zero, suc, ◌+◌, Bool, true, false, ◌&&◌, if◌then◌else◌, List, [], ◌∷◌, ◌++◌, length, take, drop, replicate, fold, ◌==◌}
 use Rattle.std.specs.List.{list_any}
 use Rattle.set_disk.specs.Files.{Files, with_write, with_cut}
@@ -69,7 +70,8 @@ Leaves files (call ∷ later) image = (next : Files) × torn_by call.request fil
 
 -- what reads give, or what the pending calls may make of the durable files
 abbrev pub MayLeave : Files → List Call → Files → Type 0
-MayLeave start calls image = (image ≡ reads_after start calls) ⊎ Leaves (durable start calls) (pending calls) image
+MayLeave start calls image = (image ≡ reads_after start calls)
+    ⊎ Leaves (durable start calls) (pending calls) image
 
 abbrev pub FILLER : ℕ
 FILLER = 0xA5
@@ -98,4 +100,9 @@ abbrev pub is_due : History → Bool
 is_due h = list_any (λ n. n == length h.calls + 1) h.fails
 
 abbrev pub with_call : History → Request → Bool → History
-with_call h request is_done = record { start = h.start; calls = h.calls ++ record { request = request; done = is_done } ∷ []; fails = h.fails }
+with_call h request is_done =
+    record {
+      start = h.start;
+      calls = h.calls ++ record { request = request; done = is_done } ∷ [];
+      fails = h.fails;
+    }

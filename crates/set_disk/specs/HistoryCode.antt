@@ -9,5 +9,7 @@ use Rattle.set_disk.specs.contracts.call.Call as call
 
 abbrev pub coded_history : Coded History
 coded_history =
-    code_by (Files × (List Call × List ℕ)) (coded× coded_files (coded× (coded_list call.the_row.coded) (coded_list coded_ℕ)))
-    (λ h. (h.start, (h.calls, h.fails))) (λ p. record { start = p.0; calls = p.1.0; fails = p.1.1 }) (λ _. refl)
+    code_by (Files × (List Call × List ℕ))
+    (coded× coded_files (coded× (coded_list call.the_row.coded) (coded_list coded_ℕ)))
+    (λ h. (h.start, (h.calls, h.fails))) (λ p. record { start = p.0; calls = p.1.0; fails = p.1.1 })
+    (λ _. refl)

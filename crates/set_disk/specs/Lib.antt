@@ -1,4 +1,5 @@
 pub mod Files
+pub mod SeenFolder
 pub mod Crash
 pub mod Moments
 pub mod Faults
@@ -7,6 +8,6 @@ pub mod InMemory
 pub mod FileTable
 pub mod FilesCode
 pub mod HistoryCode
-pub mod InMemoryLaws
 pub mod Untold
+pub mod Owed
 pub mod HostNames

@@ -1,21 +1,27 @@
--- Crashes over a stretch of time. A folder's moments are numbers that do not fall, and `left_since folder t` are the images that a crash at some moment from t on might have left, in a call or between two.
---     Passes .. step old new    one call: what a crash may leave has taken the step, and each image of the call's moments is one of before it or one after the step
---     LeavesOnly .. old new P   a stretch of calls: a crash at any of its moments leaves an image that has P
+-- Crashes over a stretch of time, from what is seen of a folder at its start to what is seen at its end.
+--     Passes step old new     one call: what a crash may leave has taken the step, and each image of the
+--                             call's moments is one of before it or one after the step
+--     LeavesOnly old new P    a stretch of calls: a crash at any of its moments leaves an image that has P
 use Rattle.std.specs.Prelude.{◌⊎◌, ℕ, ◌≤◌}
 use Rattle.set_disk.specs.Files.{Files}
 use Rattle.set_disk.specs.Crash.{AfterStep}
+use Rattle.set_disk.specs.SeenFolder.{SeenFolder}
 
-pub record Passes {D : Type 0} (moment : D → ℕ) (may_leave : D → Files → Type 0) (left_since : D → ℕ → Files → Type 0) (step : Files → Files → Type 0) (old new : D) : Type 0 where
-  pub later : moment old ≤ moment new
+pub record Passes (step : Files → Files → Type 0) (old new : SeenFolder) : Type 0 where
+  pub later : old.moment ≤ new.moment
   -- what a crash may leave when the call has returned
-  pub now : (image : Files) → may_leave new image → AfterStep step (may_leave old) image
+  pub now : (image : Files) → new.may_leave image → AfterStep step old.may_leave image
   -- what a crash since a moment before the call might have left: before it, or in it
-  pub since : (t : ℕ) (image : Files) → t ≤ moment old → left_since new t image → left_since old t image ⊎ AfterStep step (may_leave old) image
+  pub since : (t : ℕ) (image : Files) → t ≤ old.moment → new.left_since t image
+      → old.left_since t image ⊎ AfterStep step old.may_leave image
   -- and nothing of that is forgotten
-  pub keeps : (t : ℕ) (image : Files) → t ≤ moment old → left_since old t image → left_since new t image
+  pub keeps : (t : ℕ) (image : Files) → t ≤ old.moment → old.left_since t image → new.left_since t image
+  -- a folder that never wants for memory goes on so
+  pub wants : new.may_want → old.may_want
 
-pub record LeavesOnly {D : Type 0} (moment : D → ℕ) (left_since : D → ℕ → Files → Type 0) (old new : D) (P : Files → Type 0) : Type 0 where
-  pub later : moment old ≤ moment new
-  pub each : (image : Files) → left_since new (moment old) image → P image
+pub record LeavesOnly (old new : SeenFolder) (P : Files → Type 0) : Type 0 where
+  pub later : old.moment ≤ new.moment
+  pub each : (image : Files) → new.left_since old.moment image → P image
   -- for a stretch that began earlier
-  pub before : (t : ℕ) (image : Files) → t ≤ moment old → left_since new t image → left_since old t image ⊎ P image
+  pub before : (t : ℕ) (image : Files) → t ≤ old.moment → new.left_since t image
+      → old.left_since t image ⊎ P image

@@ -1,7 +1,8 @@
-ghost use Rattle.std.specs.Prelude.{◌≡◌, ◌≤◌, None, length, IfOk, ⊤, string_bytes};
+ghost use Rattle.std.specs.Prelude.{◌≡◌, ◌≤◌, [], Some, None, false, length, option_map, IfOk, OnOk, string_bytes};
 ghost use Rattle.set_disk.specs.Faults.{HasCause};
 ghost use Rattle.set_disk.specs.HostNames.{host_path};
-ghost use Rattle.set_disk.specs.Untold.{AnyImage, AnySince, host_faults, one_moment};
+ghost use Rattle.set_disk.specs.Owed.{files_owed, owes_folder, with_file};
+ghost use Rattle.set_disk.specs.Untold.{without_content};
 ghost use Rattle.set_disk.specs.declared.owed.Owed.TheVariants.{All};
 
 use crate::disk_fault::DiskFault;
@@ -33,7 +34,8 @@ pub struct HostFolder<R> {
 impl<R: Files<File = File> + AllocGlobal + Clone + Drop> HostFolder<R> {
     /// The folder at the path, without faults so far. No call of the host is made.
     pub fn new(rt: R, alloc: Global, path: &str) -> Result<Self, AllocError>
-        ensures rest { IfOk result (λ folder. (folder.rt ≡ rt) × ((folder.held ≡ None) × ((folder.owed ≡ All) × (host_faults folder ≡ 0)))) }
+        ensures rest { IfOk result (λ folder. (folder.rt ≡ rt)
+            × ((folder.held ≡ None) × ((folder.owed ≡ All) × (folder.faults ≡ 0)))) }
         ensures place { IfOk result (λ folder. string_bytes folder.path ≡ path.now) }
     {
         Ok(HostFolder {
@@ -55,6 +57,8 @@ impl<R: Files<File = File> + AllocGlobal + Clone + Drop> HostFolder<R> {
     /// The path of a file that is to be changed, once the folder is there. The next sync owes the file.
     fn path_to_change(&mut self, name: FileName) -> Result<String, DiskFault>
         ensures path { IfOk result (λ path. string_bytes path ≡ host_path (string_bytes self.old.path) name) }
+        ensures owes { OnOk result
+            (files_owed self.new.owed ≡ option_map (with_file name) (files_owed self.old.owed)) }
         ensures place { self.new.path ≡ self.old.path }
         ensures faults { self.new.faults ≡ self.old.faults }
     {
@@ -66,6 +70,7 @@ impl<R: Files<File = File> + AllocGlobal + Clone + Drop> HostFolder<R> {
 
     /// Makes the folder where it is missing, and takes it, at the first sync or change.
     fn take(&mut self) -> Result<(), DiskFault>
+        ensures owed { self.new.owed ≡ self.old.owed }
         ensures place { self.new.path ≡ self.old.path }
         ensures faults { self.new.faults ≡ self.old.faults }
     {
@@ -77,6 +82,8 @@ impl<R: Files<File = File> + AllocGlobal + Clone + Drop> HostFolder<R> {
 
     /// Makes durable what is owed. After a failure all is owed.
     fn sync_owed(&mut self) -> Result<(), DiskFault>
+        ensures files { OnOk result (files_owed self.new.owed ≡ Some []) }
+        ensures folder { OnOk result (owes_folder self.new.owed ≡ false) }
         ensures place { self.new.path ≡ self.old.path }
         ensures faults { self.new.faults ≡ self.old.faults }
     {
@@ -90,14 +97,14 @@ impl<R: Files<File = File> + AllocGlobal + Clone + Drop> HostFolder<R> {
         Ok(())
     }
 
-    /// Counts the answer of a write, if it is a fault. The next sync owes the names where a file was made,
+    /// Counts the answer of a write, if it is a fault. The next sync owes the folder where a file was made,
     /// and all where the write failed.
     fn count_write(&mut self, answer: Result<bool, DiskFault>) -> Result<(), DiskFault>
         ensures place { self.new.path ≡ self.old.path }
         ensures cause { HasCause result self.old.faults self.new.faults }
     {
         match self.count(answer) {
-            Ok(true) => self.owed.add_names(),
+            Ok(true) => self.owed.add_entry(),
             Ok(false) => {}
             Err(fault) => {
                 self.owed = Owed::All;
@@ -122,25 +129,7 @@ impl<R: Files<File = File> + AllocGlobal + Clone + Drop> HostFolder<R> {
 }
 
 impl<R: Files<File = File> + AllocGlobal + Clone + Drop> Folder for HostFolder<R> {
-    ghost reads = { λ _. None };
-
-    ghost may_leave = { AnyImage };
-
-    ghost moment = { one_moment };
-
-    ghost left_since = { AnySince };
-
-    ghost faults = { host_faults };
-
-    ghost may_want = { ⊤ };
-
-    ghost reads_left = { λ _ _ _. tt };
-
-    ghost untold = { λ _ _ _. tt };
-
-    ghost counts_now = { λ _ _ _ _ _. tt };
-
-    ghost only_now = { λ _ _ _. tt };
+    ghost seen = { λ folder. without_content folder.faults };
 
     fn len(&mut self, name: FileName) -> Result<Option<u64>, DiskFault> {
         let answer = match self.path_of(name) {

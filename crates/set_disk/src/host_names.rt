@@ -33,7 +33,8 @@ pub fn is_used(alloc: Global, text: &str) -> Result<bool, AllocError>
     Ok(spelled.as_str() == text)
 }
 
-/// The numbers that stand in a name where the ones of a file do. Other names may have them too, as with a sign.
+/// The numbers that stand in a name where the ones of a file do. Other names may have them too, as with a
+/// sign.
 fn numbers_in(text: &str) -> Option<FileName>
     ensures { (name : FileName) → IsSmall name → text.now ≡ host_name name → result ≡ Some name }
 {

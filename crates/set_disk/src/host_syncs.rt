@@ -45,7 +45,10 @@ pub fn sync_folder<R: Files<File = File> + AllocGlobal + Clone + Drop>(
 ) -> Result<(), DiskFault> {
     let synced = match owed {
         Owed::All => sync_all(rt, path, folder),
-        Owed::Changes { files, names } => sync_changes(rt, path, folder, files, *names),
+        Owed::Changes {
+            files,
+            has_new_entry,
+        } => sync_changes(rt, path, folder, files, *has_new_entry),
     };
     match synced {
         Ok(()) => Ok(()),
@@ -98,19 +101,19 @@ fn sync_above<R: Files<File = File> + AllocGlobal>(rt: &R, path: &str) -> io::Re
     }
 }
 
-/// Syncs these files, and the folder where a file was made.
+/// Syncs these files, and the folder, where it has a new entry.
 fn sync_changes<R: Files<File = File> + AllocGlobal>(
     rt: &R,
     path: &str,
     folder: &File,
     files: &[FileName],
-    names: bool,
+    has_new_entry: bool,
 ) -> io::Result<()> {
     for name in files {
         let place = path_of(rt.alloc(), path, *name)?;
         sync_file(rt, place.as_str())?;
     }
-    if names {
+    if has_new_entry {
         folder.sync_all()?;
     }
     Ok(())

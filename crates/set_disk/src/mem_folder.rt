@@ -5,7 +5,7 @@ ghost use Rattle.set_disk.specs.Crash.{CutOrNot, IsSettled, Same, Takes, Torn};
 ghost use Rattle.set_disk.specs.Moments.{Passes};
 ghost use Rattle.set_disk.specs.Faults.{HasCause};
 ghost use Rattle.set_disk.specs.History.{image_after, is_due};
-ghost use Rattle.set_disk.specs.InMemory.{Answers, LeftSince, MayLeaveNow, faults_of, moment_of, reads_of};
+ghost use Rattle.set_disk.specs.InMemory.{Answers, in_memory};
 ghost use Rattle.views.specs.Bytes.{read_from};
 
 use crate::call::Call;
@@ -49,7 +49,8 @@ impl Model for MemFolder {
 impl MemFolder {
     /// An empty folder whose calls of these numbers fail, counted from 1.
     pub fn new(alloc: Global, fails: &[u64]) -> Result<Self, AllocError>
-        ensures { IfOk result (λ folder. folder ≡ record { start = map.empty; calls = []; fails = fails.now }) }
+        ensures { IfOk result (λ folder. folder
+            ≡ record { start = map.empty; calls = []; fails = fails.now }) }
     {
         Ok(MemFolder {
             alloc,
@@ -77,10 +78,14 @@ impl MemFolder {
         requires pattern { pattern < 3 }
 
         ensures image { IfOk result (λ folder.
-            folder ≡ record { start = image_after pattern self.now.start (take k self.now.calls); calls = []; fails = [] }) }
+            folder ≡ record {
+              start = image_after pattern self.now.start (take k self.now.calls);
+              calls = [];
+              fails = [];
+            }) }
 
         // It is one of the images of the moment right after that call.
-        ensures left { IfOk result (λ folder. LeftSince self.now k folder.start) }
+        ensures left { IfOk result (λ folder. (in_memory self.now).left_since k folder.start) }
     {
         let start = crash_files(alloc, &self.start, &self.calls[..k as usize], pattern)?;
         let files = start.duplicate(alloc)?;
@@ -123,35 +128,15 @@ impl MemFolder {
 }
 
 impl Folder for MemFolder {
-    ghost use Rattle.set_disk.specs.InMemoryLaws as laws;
-
-    ghost reads = { reads_of };
-
-    ghost may_leave = { MayLeaveNow };
-
-    ghost moment = { moment_of };
-
-    ghost left_since = { LeftSince };
-
-    ghost faults = { faults_of };
-
-    ghost may_want = { ⊤ };
-
-    ghost reads_left = { laws.reads_left };
-
-    ghost untold = { laws.untold };
-
-    ghost counts_now = { laws.counts_now };
-
-    ghost only_now = { laws.only_now };
+    ghost seen = { in_memory };
 
     fn len(&mut self, name: FileName) -> Result<Option<u64>, DiskFault>
         ensures made { Answers Request.Look self.old self.new result }
-        ensures told { IfOk result (λ len. IfSome (reads_of self.old)
+        ensures told { IfOk result (λ len. IfSome (in_memory self.old).files
             (λ files. len ≡ option_map length (map.get files name))) }
-        ensures same { reads_of self.new ≡ reads_of self.old }
-        ensures crash { Passes moment_of MayLeaveNow LeftSince Same self.old self.new }
-        ensures cause { HasCause result (faults_of self.old) (faults_of self.new) }
+        ensures same { (in_memory self.new).files ≡ (in_memory self.old).files }
+        ensures crash { Passes Same (in_memory self.old) (in_memory self.new) }
+        ensures cause { HasCause result (in_memory self.old).faults (in_memory self.new).faults }
         ensures want { result ≡ Err DiskFault.Memory → ⊤ }
     {
         self.make(Request::Look)?;
@@ -161,14 +146,14 @@ impl Folder for MemFolder {
     fn read_at(&mut self, name: FileName, at: u64, buf: &mut [u8]) -> Result<usize, DiskFault>
         ensures made { Answers Request.Look self.old self.new result }
         ensures fits { IfOk result (λ n. n ≤ length buf.old) }
-        ensures placed { IfOk result (λ n. IfSome (reads_of self.old)
+        ensures placed { IfOk result (λ n. IfSome (in_memory self.old).files
             (λ files. n ≡ length (read_from at (length buf.old) (contents files name)))) }
-        ensures bytes { IfOk result (λ n. IfSome (reads_of self.old)
+        ensures bytes { IfOk result (λ n. IfSome (in_memory self.old).files
             (λ files. buf.new ≡ read_from at (length buf.old) (contents files name) ++ drop n buf.old)) }
         ensures err { OnErr result (buf.new ≡ buf.old) }
-        ensures same { reads_of self.new ≡ reads_of self.old }
-        ensures crash { Passes moment_of MayLeaveNow LeftSince Same self.old self.new }
-        ensures cause { HasCause result (faults_of self.old) (faults_of self.new) }
+        ensures same { (in_memory self.new).files ≡ (in_memory self.old).files }
+        ensures crash { Passes Same (in_memory self.old) (in_memory self.new) }
+        ensures cause { HasCause result (in_memory self.old).faults (in_memory self.new).faults }
         ensures want { result ≡ Err DiskFault.Memory → ⊤ }
     {
         self.make(Request::Look)?;
@@ -182,14 +167,15 @@ impl Folder for MemFolder {
     fn write_at(&mut self, name: FileName, at: u64, bytes: &[u8]) -> Result<(), DiskFault>
         ensures made { Answers (Request.Write name at bytes.now) self.old self.new result }
         ensures written { OnOk result
-            (reads_of self.new ≡ option_map (λ files. with_write files name at bytes.now) (reads_of self.old)) }
-        ensures err { OnErr result (reads_of self.new ≡ reads_of self.old) }
+            ((in_memory self.new).files ≡ option_map (λ files. with_write files name at bytes.now)
+            (in_memory self.old).files) }
+        ensures err { OnErr result ((in_memory self.new).files ≡ (in_memory self.old).files) }
         ensures failed { result ≡ Err DiskFault.Failed
-            → Takes (Torn name at (length bytes.now)) (reads_of self.old) (reads_of self.new) }
-        ensures crash { Passes moment_of MayLeaveNow LeftSince (Torn name at (length bytes.now)) self.old self.new }
+            → Takes (Torn name at (length bytes.now)) (in_memory self.old).files (in_memory self.new).files }
+        ensures crash { Passes (Torn name at (length bytes.now)) (in_memory self.old) (in_memory self.new) }
         ensures memory_crash { result ≡ Err DiskFault.Memory
-            → Passes moment_of MayLeaveNow LeftSince Same self.old self.new }
-        ensures cause { HasCause result (faults_of self.old) (faults_of self.new) }
+            → Passes Same (in_memory self.old) (in_memory self.new) }
+        ensures cause { HasCause result (in_memory self.old).faults (in_memory self.new).faults }
         ensures want { result ≡ Err DiskFault.Memory → ⊤ }
     {
         let bytes = ListOf::from_vec(Vec::from_slice(self.alloc, bytes)?);
@@ -200,14 +186,15 @@ impl Folder for MemFolder {
     fn cut(&mut self, name: FileName, len: u64) -> Result<(), DiskFault>
         ensures made { Answers (Request.Cut name len) self.old self.new result }
         ensures cut { OnOk result
-            (reads_of self.new ≡ option_map (λ files. with_cut files name len) (reads_of self.old)) }
-        ensures err { OnErr result (reads_of self.new ≡ reads_of self.old) }
+            ((in_memory self.new).files ≡ option_map (λ files. with_cut files name len)
+            (in_memory self.old).files) }
+        ensures err { OnErr result ((in_memory self.new).files ≡ (in_memory self.old).files) }
         ensures failed { result ≡ Err DiskFault.Failed
-            → Takes (CutOrNot name len) (reads_of self.old) (reads_of self.new) }
-        ensures crash { Passes moment_of MayLeaveNow LeftSince (CutOrNot name len) self.old self.new }
+            → Takes (CutOrNot name len) (in_memory self.old).files (in_memory self.new).files }
+        ensures crash { Passes (CutOrNot name len) (in_memory self.old) (in_memory self.new) }
         ensures memory_crash { result ≡ Err DiskFault.Memory
-            → Passes moment_of MayLeaveNow LeftSince Same self.old self.new }
-        ensures cause { HasCause result (faults_of self.old) (faults_of self.new) }
+            → Passes Same (in_memory self.old) (in_memory self.new) }
+        ensures cause { HasCause result (in_memory self.old).faults (in_memory self.new).faults }
         ensures want { result ≡ Err DiskFault.Memory → ⊤ }
     {
         self.make(Request::Cut { name, len })
@@ -215,10 +202,10 @@ impl Folder for MemFolder {
 
     fn sync(&mut self) -> Result<(), DiskFault>
         ensures made { Answers Request.Sync self.old self.new result }
-        ensures durable { OnOk result (IsSettled (reads_of self.new) (MayLeaveNow self.new)) }
-        ensures same { reads_of self.new ≡ reads_of self.old }
-        ensures crash { Passes moment_of MayLeaveNow LeftSince Same self.old self.new }
-        ensures cause { HasCause result (faults_of self.old) (faults_of self.new) }
+        ensures durable { OnOk result (IsSettled (in_memory self.new)) }
+        ensures same { (in_memory self.new).files ≡ (in_memory self.old).files }
+        ensures crash { Passes Same (in_memory self.old) (in_memory self.new) }
+        ensures cause { HasCause result (in_memory self.old).faults (in_memory self.new).faults }
         ensures want { result ≡ Err DiskFault.Memory → ⊤ }
     {
         self.make(Request::Sync)

@@ -17,7 +17,7 @@ use Rattle.dmtcp_top.proofs.loading.launch.Goals.{in-None, in-Some+in_ok-open-in
 use Rattle.dmtcp_top.proofs.loading.launch.Goals as goal
 
 pub returns-in_err-program-clause-looks : goal.returns-in_err-program-clause-looks
-returns-in_err-program-clause-looks g c = looks_none c.args.disk.now (g.met.F.Folder.only_now c.args.disk.now)
+returns-in_err-program-clause-looks g c = looks_none (g.F.Folder.seen c.args.disk.now)
 
 pub start-requires-clause-launched : goal.start-requires-clause-launched
 start-requires-clause-launched g c =
@@ -27,28 +27,28 @@ pub returns-in-Ok-clause-kept : goal.returns-in-Ok-clause-kept
 returns-in-Ok-clause-kept g c = elim c.match-settings.branch [
   | in-None w ↦ λ some. absurd (some (ap (λ (k : Keeper). k.schedule.every) w.keeper-is ∙ ap (λ (s : Schedule). s.every) w.new-keeper.ensures.schedule ∙ w.in-None.is))
   | in-Some+in_ok-open-in-Some w ↦ λ some.
-      subst (λ (k : Keeper). IsKept k (g.F.Folder.reads c.match-settings.disk) (g.F.Folder.may_leave c.match-settings.disk)) (sym w.keeper-is)
-      (subst (λ disk. IsKept w.keeper_of-keeper.result (g.F.Folder.reads disk) (g.F.Folder.may_leave disk)) (sym w.disk-is)
-      (kept w.keeper_of-keeper.result c.args.settings w.in_ok-open-in-Some.field-0 (g.F.Folder.reads w.open.new.disk) (g.F.Folder.may_leave w.open.new.disk) w.keeper_of-keeper.ensures.store
+      subst (λ (k : Keeper). IsKept k (g.F.Folder.seen c.match-settings.disk)) (sym w.keeper-is)
+      (subst (λ disk. IsKept w.keeper_of-keeper.result (g.F.Folder.seen disk)) (sym w.disk-is)
+      (kept w.keeper_of-keeper.result c.args.settings w.in_ok-open-in-Some.field-0 (g.F.Folder.seen w.open.new.disk) w.keeper_of-keeper.ensures.store
       w.keeper_of-keeper.ensures.fresh.tally w.in_ok-open-in-Some.ensures.opens.0 w.in_ok-open-in-Some.ensures.fits))
 ]
 
 pub returns-in-Ok-clause-looks : goal.returns-in-Ok-clause-looks
 returns-in-Ok-clause-looks g c = elim c.match-settings.branch [
   | in-None w ↦
-      subst (λ disk. OnlyLooks g.F.Folder.reads g.F.Folder.moment g.F.Folder.may_leave g.F.Folder.left_since g.F.Folder.faults c.args.disk.now disk) (sym w.disk-is)
-      (looks_none c.args.disk.now (g.met.F.Folder.only_now c.args.disk.now))
+      subst (λ disk. OnlyLooks (g.F.Folder.seen c.args.disk.now) (g.F.Folder.seen disk)) (sym w.disk-is)
+      (looks_none (g.F.Folder.seen c.args.disk.now))
   | in-Some+in_ok-open-in-Some w ↦
-      subst (λ disk. OnlyLooks g.F.Folder.reads g.F.Folder.moment g.F.Folder.may_leave g.F.Folder.left_since g.F.Folder.faults c.args.disk.now disk) (sym w.disk-is) w.open.ensures.looks
+      subst (λ disk. OnlyLooks (g.F.Folder.seen c.args.disk.now) (g.F.Folder.seen disk)) (sym w.disk-is) w.open.ensures.looks
 ]
 
 pub returns-clause-looks : goal.returns-clause-looks
 returns-clause-looks g c = elim c.match-settings.branch [
   | in-None w ↦
-      subst (λ disk. OnlyLooks g.F.Folder.reads g.F.Folder.moment g.F.Folder.may_leave g.F.Folder.left_since g.F.Folder.faults c.args.disk.now disk) (sym w.disk-is)
-      (looks_none c.args.disk.now (g.met.F.Folder.only_now c.args.disk.now))
+      subst (λ disk. OnlyLooks (g.F.Folder.seen c.args.disk.now) (g.F.Folder.seen disk)) (sym w.disk-is)
+      (looks_none (g.F.Folder.seen c.args.disk.now))
   | in-Some+in_ok-open-in-Some w ↦
-      subst (λ disk. OnlyLooks g.F.Folder.reads g.F.Folder.moment g.F.Folder.may_leave g.F.Folder.left_since g.F.Folder.faults c.args.disk.now disk) (sym w.disk-is) w.open.ensures.looks
+      subst (λ disk. OnlyLooks (g.F.Folder.seen c.args.disk.now) (g.F.Folder.seen disk)) (sym w.disk-is) w.open.ensures.looks
 ]
 
 opened : (folder : Option Folder) (every : Option ℕ) (info : Option SetInfo) → every ≢ None → IfSome folder (λ files. last files ≡ info) → Opens folder every (generation_of info)
@@ -59,7 +59,7 @@ opened (Some files) (Some every) info some same = ap generation_of (sym same)
 pub returns-in-Ok-clause-launches : goal.returns-in-Ok-clause-launches
 returns-in-Ok-clause-launches g c =
     let read = c.in_ok-program.ensures.reads in
-    let folder = g.F.Folder.reads c.args.disk.now in
+    let folder = (g.F.Folder.seen c.args.disk.now).files in
     let begun : (opening : ℕ) × (Opens folder c.args.settings.every opening × IsFresh c.match-settings.keeper c.args.settings opening) = elim c.match-settings.branch [
       | in-None w ↦ (
         0,

@@ -19,7 +19,7 @@ use Rattle.dmtcp_top.proofs.Sinks.{OnErr-map}
 use Rattle.dmtcp_top.proofs.Results.{OnOk-map}
 use Rattle.dmtcp_top.proofs.ImagedKernels.{nothing_on_the_way}
 use Rattle.dmtcp_top.proofs.Checkpoints.{outcome_tally, cut_tally}
-use Rattle.dmtcp_top.proofs.Served.{on_ok2, can_be_held, cut_made, refused_ok, refused_broken, completed_ok, completed_broken, late_ok, late_broken, kept_refused, kept_cut, kept_complete, kept_put, safe_open_refused, safe_put_complete, safe_put_refused, safe_no_images, raised}
+use Rattle.dmtcp_top.proofs.Served.{on_ok2, at_due, broken_at_due, can_be_held, cut_made, refused_ok, refused_broken, completed_ok, completed_broken, late_ok, late_broken, kept_refused, kept_cut, kept_complete, kept_put, safe_open_refused, safe_put_complete, safe_put_refused, safe_no_images, raised}
 use Rattle.dmtcp_top.proofs.keeper.Keeper.checkpoint.Goals as goal
 
 either : {A B P : Type 0} → A ⊎ B → (A → P) → (B → P) → P
@@ -43,17 +43,17 @@ returns-in-Err-clause-ok g c = on_ok2 c.conclude.result c.conclude.ensures.ok c.
     let opened = c.open.ensures.keeper in
     let r = Refused c.in-Err.cause in
     let held = can_be_held m c.requires.ready c.requires.alive in
-    let safe = safe_open_refused g' c.args.trace.now.records c.in-Err.cause first c.args.disk.now c.open.new.disk g.met.F.Folder.counts_now before.safe c.in-Err.ensures.kind c.open.ensures.nothing c.open.ensures.crash c.open.ensures.counts (λ is. c.open.ensures.cause (c.in-Err.is ∙ ap Err is)) in
-    refused_ok k.schedule g' (plain_of m) place k c.conclude.new.self c.args.trace.now c.conclude.new.trace sink had (g.L.Sink.taken c.args.log.now) (g.L.Sink.taken c.conclude.new.log) c.in-Err.cause first c.args.disk.now c.open.new.disk before waits held c.in-Err.ensures.kind
+    let safe = safe_open_refused g' c.args.trace.now.records c.in-Err.cause (g.F.Folder.seen first) (g.F.Folder.seen c.args.disk.now) (g.F.Folder.seen c.open.new.disk) before.safe c.in-Err.ensures.kind c.open.ensures.nothing c.open.ensures.crash c.open.ensures.counts (λ is. c.open.ensures.cause (c.in-Err.is ∙ ap Err is)) in
+    at_due before.running.due (refused_ok k.schedule g' (plain_of m) place k c.conclude.new.self c.args.trace.now c.conclude.new.trace sink had (g.L.Sink.seen c.args.log.now).taken (g.L.Sink.seen c.conclude.new.log).taken c.in-Err.cause (g.F.Folder.seen first) (g.F.Folder.seen c.args.disk.now) (g.F.Folder.seen c.open.new.disk) before waits held c.in-Err.ensures.kind
     c.conclude.ensures.trace (c.conclude.ensures.schedule ∙ ap (λ (x : Keeper). x.schedule) opened) (ap (λ (x : Keeper). x.lines) keeper ∙ ap (λ (x : Keeper). after x.lines r) opened) (ap (λ (x : Keeper). x.tally) keeper ∙ ap (λ (x : Keeper). tally_after x.tally r) opened)
-    (subst (λ (x : Keeper). Took (sunk (g.L.Sink.taken c.args.log.now) (g.L.Sink.taken c.conclude.new.log)) (line_of x.lines r)) opened took) safe)
+    (subst (λ (x : Keeper). Took (sunk (g.L.Sink.seen c.args.log.now).taken (g.L.Sink.seen c.conclude.new.log).taken) (line_of x.lines r)) opened took) safe))
 
 pub returns-in-Err-clause-kept : goal.returns-in-Err-clause-kept
 returns-in-Err-clause-kept g c = OnOk-map c.conclude.result (λ keeper.
     let k = c.args.self.now in
     let m = c.args.machine.now in
     let opened = c.open.ensures.keeper in
-    kept_refused k c.conclude.new.self (g.F.Folder.reads c.args.disk.now) (g.F.Folder.reads c.open.new.disk) (g.F.Folder.may_leave c.args.disk.now) (g.F.Folder.may_leave c.open.new.disk) c.requires.kept c.in-Err.ensures.err
+    kept_refused k c.conclude.new.self (g.F.Folder.seen c.args.disk.now) (g.F.Folder.seen c.open.new.disk) c.requires.kept c.in-Err.ensures.err
     (ap (λ (x : Keeper). x.store) keeper ∙ ap (λ (x : Keeper). x.store) opened)
     (ap (λ (x : Keeper). x.tally.greatest) keeper ∙ tally_same c.open.new.self.tally c.in-Err.cause ∙ ap (λ (x : Keeper). x.tally.greatest) opened) c.open.ensures.nothing.same) c.conclude.ensures.keeper
 
@@ -64,9 +64,9 @@ returns-in-Err-clause-err g c = OnErr-map c.conclude.result (λ front g' place s
     let opened = c.open.ensures.keeper in
     let r = Refused c.in-Err.cause in
     let held = can_be_held m c.requires.ready c.requires.alive in
-    let safe = safe_open_refused g' c.args.trace.now.records c.in-Err.cause first c.args.disk.now c.open.new.disk g.met.F.Folder.counts_now before.safe c.in-Err.ensures.kind c.open.ensures.nothing c.open.ensures.crash c.open.ensures.counts (λ is. c.open.ensures.cause (c.in-Err.is ∙ ap Err is)) in
-    refused_broken k.schedule g' (plain_of m) place k c.args.trace.now c.conclude.new.trace sink had (g.L.Sink.taken c.args.log.now) (g.L.Sink.taken c.conclude.new.log) c.in-Err.cause first c.args.disk.now c.open.new.disk before waits held c.in-Err.ensures.kind
-    c.conclude.ensures.trace (subst (λ (x : Keeper). TookFront (sunk (g.L.Sink.taken c.args.log.now) (g.L.Sink.taken c.conclude.new.log)) (line_of x.lines r)) opened front) safe) c.conclude.ensures.err
+    let safe = safe_open_refused g' c.args.trace.now.records c.in-Err.cause (g.F.Folder.seen first) (g.F.Folder.seen c.args.disk.now) (g.F.Folder.seen c.open.new.disk) before.safe c.in-Err.ensures.kind c.open.ensures.nothing c.open.ensures.crash c.open.ensures.counts (λ is. c.open.ensures.cause (c.in-Err.is ∙ ap Err is)) in
+    broken_at_due before.running.due (refused_broken k.schedule g' (plain_of m) place k c.args.trace.now c.conclude.new.trace sink had (g.L.Sink.seen c.args.log.now).taken (g.L.Sink.seen c.conclude.new.log).taken c.in-Err.cause (g.F.Folder.seen first) (g.F.Folder.seen c.args.disk.now) (g.F.Folder.seen c.open.new.disk) before waits held c.in-Err.ensures.kind
+    c.conclude.ensures.trace (subst (λ (x : Keeper). TookFront (sunk (g.L.Sink.seen c.args.log.now).taken (g.L.Sink.seen c.conclude.new.log).taken) (line_of x.lines r)) opened front) safe)) c.conclude.ensures.err
 
 pub returns-then-room-eq0-clause-ok : goal.returns-then-room-eq0-clause-ok
 returns-then-room-eq0-clause-ok g c = λ g' place sink had first before waits.
@@ -75,10 +75,10 @@ returns-then-room-eq0-clause-ok g c = λ g' place sink had first before waits.
     let opened = c.open.ensures.keeper in
     let marked = c.mark.ensures.keeper in
     let numbered : c.next-generation.result ≡ suc k.tally.greatest = c.next-generation.ensures ∙ c.in-Ok.ensures.ok.1 in
-    let at = cut_made k.schedule g' (plain_of m) place k c.mark.new.self c.args.trace.now c.mark.new.trace sink had (g.L.Sink.taken c.args.log.now) c.next-generation.result first c.args.disk.now c.open.new.disk g.met.F.Folder.counts_now before waits (can_be_held m c.requires.ready c.requires.alive) (nothing_on_the_way (plain_of m) (c.requires.ready.imaged c.requires.alive)).0 (nothing_on_the_way (plain_of m) (c.requires.ready.imaged c.requires.alive)).1 numbered
+    let at = cut_made k.schedule g' (plain_of m) place k c.mark.new.self c.args.trace.now c.mark.new.trace sink had (g.L.Sink.seen c.args.log.now).taken c.next-generation.result (g.F.Folder.seen first) (g.F.Folder.seen c.args.disk.now) (g.F.Folder.seen c.open.new.disk) before waits (can_be_held m c.requires.ready c.requires.alive) (nothing_on_the_way (plain_of m) (c.requires.ready.imaged c.requires.alive)).0 (nothing_on_the_way (plain_of m) (c.requires.ready.imaged c.requires.alive)).1 numbered
     c.mark.ensures.trace (ap (λ (x : Keeper). x.schedule) marked ∙ ap (λ (x : Keeper). x.schedule) opened) (ap (λ (x : Keeper). x.lines) marked ∙ ap (λ (x : Keeper). x.lines) opened)
     (ap (λ (x : Keeper). x.tally) marked ∙ ap (λ (x : Keeper). tally_after x.tally (Cut c.next-generation.result)) opened) c.open.ensures.nothing c.open.ensures.crash c.open.ensures.counts in
-    (at.now, inr (let room = c.room.ensures in let none = c.if-room-eq0.true in omega arith))
+    at_due before.running.due (at.now, inr (let room = c.room.ensures in let none = c.if-room-eq0.true in omega arith))
 
 pub returns-then-room-eq0-clause-kept : goal.returns-then-room-eq0-clause-kept
 returns-then-room-eq0-clause-kept g c =
@@ -88,7 +88,7 @@ returns-then-room-eq0-clause-kept g c =
     let marked = c.mark.ensures.keeper in
     let numbered : c.next-generation.result ≡ suc k.tally.greatest = c.next-generation.ensures ∙ c.in-Ok.ensures.ok.1 in
     let greatest : c.mark.new.self.tally.greatest ≡ c.next-generation.result = ap (λ (x : Keeper). x.tally.greatest) marked ∙ cut_tally c.open.new.self.tally c.next-generation.result in
-    kept_cut k c.mark.new.self (g.F.Folder.reads c.args.disk.now) (g.F.Folder.reads c.open.new.disk) (g.F.Folder.may_leave c.args.disk.now) (g.F.Folder.may_leave c.open.new.disk) c.requires.kept
+    kept_cut k c.mark.new.self (g.F.Folder.seen c.args.disk.now) (g.F.Folder.seen c.open.new.disk) c.requires.kept
     (ap (λ (x : Keeper). x.store) marked ∙ ap (λ (x : Keeper). x.store) opened) (greatest ∙ numbered) c.open.ensures.nothing.same
 
 pub conclude-requires-in-Ok-put-clause-work : goal.conclude-requires-in-Ok-put-clause-work
@@ -114,17 +114,17 @@ returns-in-Ok-put-clause-ok g c = on_ok2 c.conclude-in-Ok-put.result c.conclude-
     let opened = c.open.ensures.keeper in
     let marked = c.mark.ensures.keeper in
     let numbered : c.next-generation.result ≡ suc k.tally.greatest = c.next-generation.ensures ∙ c.in-Ok.ensures.ok.1 in
-    let at = cut_made k.schedule g' (plain_of m) place k c.mark.new.self c.args.trace.now c.mark.new.trace sink had (g.L.Sink.taken c.args.log.now) c.next-generation.result first c.args.disk.now c.open.new.disk g.met.F.Folder.counts_now before waits (can_be_held m c.requires.ready c.requires.alive) (nothing_on_the_way (plain_of m) (c.requires.ready.imaged c.requires.alive)).0 (nothing_on_the_way (plain_of m) (c.requires.ready.imaged c.requires.alive)).1 numbered
+    let at = cut_made k.schedule g' (plain_of m) place k c.mark.new.self c.args.trace.now c.mark.new.trace sink had (g.L.Sink.seen c.args.log.now).taken c.next-generation.result (g.F.Folder.seen first) (g.F.Folder.seen c.args.disk.now) (g.F.Folder.seen c.open.new.disk) before waits (can_be_held m c.requires.ready c.requires.alive) (nothing_on_the_way (plain_of m) (c.requires.ready.imaged c.requires.alive)).0 (nothing_on_the_way (plain_of m) (c.requires.ready.imaged c.requires.alive)).1 numbered
     c.mark.ensures.trace (ap (λ (x : Keeper). x.schedule) marked ∙ ap (λ (x : Keeper). x.schedule) opened) (ap (λ (x : Keeper). x.lines) marked ∙ ap (λ (x : Keeper). x.lines) opened)
     (ap (λ (x : Keeper). x.tally) marked ∙ ap (λ (x : Keeper). tally_after x.tally (Cut c.next-generation.result)) opened) c.open.ensures.nothing c.open.ensures.crash c.open.ensures.counts in
-    let above : ForSome (g.F.Folder.reads c.open.new.disk) (λ files. IfSome (last files) (λ info. info.generation ≤ c.next-generation.result)) =
+    let above : ForSome (g.F.Folder.seen c.open.new.disk).files (λ files. IfSome (last files) (λ info. info.generation ≤ c.next-generation.result)) =
     λ files is. raised files k.tally.greatest c.next-generation.result (omega arith) (c.requires.kept.above files (sym c.open.ensures.nothing.same ∙ is)) in
-    let safe_with : IsPut g.F.Folder.reads g.F.Folder.moment g.F.Folder.may_leave g.F.Folder.left_since (plain_of m) (next_generation c.in-Ok.store) c.put.result c.open.new.disk c.put.new.disk → _ = λ put.
-    safe_put_complete g' (plain_of m) c.mark.new.trace.records c.next-generation.result c.put.result c.in-Ok-put.store first c.open.new.disk c.put.new.disk g.met.F.Folder.counts_now g.met.F.Folder.reads_left at.now.safe at.at above c.in-Ok-put.is
-    (subst (λ n. IsPut g.F.Folder.reads g.F.Folder.moment g.F.Folder.may_leave g.F.Folder.left_since (plain_of m) n c.put.result c.open.new.disk c.put.new.disk) (sym c.next-generation.ensures) put) c.put.ensures.counts in
+    let safe_with : IsPut (plain_of m) (next_generation c.in-Ok.store) c.put.result (g.F.Folder.seen c.open.new.disk) (g.F.Folder.seen c.put.new.disk) → _ = λ put.
+    safe_put_complete g' (plain_of m) c.mark.new.trace.records c.next-generation.result c.put.result c.in-Ok-put.store (g.F.Folder.seen first) (g.F.Folder.seen c.open.new.disk) (g.F.Folder.seen c.put.new.disk) at.now.safe at.at above c.in-Ok-put.is
+    (subst (λ n. IsPut (plain_of m) n c.put.result (g.F.Folder.seen c.open.new.disk) (g.F.Folder.seen c.put.new.disk)) (sym c.next-generation.ensures) put) c.put.ensures.counts in
     let safe = either c.put.ensures.put safe_with (λ none. absurd (let ok = c.in-Ok-put.is in let failed = none.0 in cc)) in
-    completed_ok k.schedule g' (plain_of m) place c.mark.new.self c.conclude-in-Ok-put.new.self c.mark.new.trace c.conclude-in-Ok-put.new.trace sink had (g.L.Sink.taken c.args.log.now) (g.L.Sink.taken c.conclude-in-Ok-put.new.log) c.next-generation.result first c.open.new.disk c.put.new.disk at
-    c.conclude-in-Ok-put.ensures.trace c.conclude-in-Ok-put.ensures.schedule (ap (λ (x : Keeper). x.lines) keeper) (ap (λ (x : Keeper). x.tally) keeper) took safe)
+    at_due before.running.due (completed_ok k.schedule g' (plain_of m) place c.mark.new.self c.conclude-in-Ok-put.new.self c.mark.new.trace c.conclude-in-Ok-put.new.trace sink had (g.L.Sink.seen c.args.log.now).taken (g.L.Sink.seen c.conclude-in-Ok-put.new.log).taken c.next-generation.result (g.F.Folder.seen first) (g.F.Folder.seen c.open.new.disk) (g.F.Folder.seen c.put.new.disk) at
+    c.conclude-in-Ok-put.ensures.trace c.conclude-in-Ok-put.ensures.schedule (ap (λ (x : Keeper). x.lines) keeper) (ap (λ (x : Keeper). x.tally) keeper) took safe))
 
 pub returns-in-Ok-put-clause-err : goal.returns-in-Ok-put-clause-err
 returns-in-Ok-put-clause-err g c = OnErr-map c.conclude-in-Ok-put.result (λ front g' place sink had first before waits.
@@ -133,17 +133,17 @@ returns-in-Ok-put-clause-err g c = OnErr-map c.conclude-in-Ok-put.result (λ fro
     let opened = c.open.ensures.keeper in
     let marked = c.mark.ensures.keeper in
     let numbered : c.next-generation.result ≡ suc k.tally.greatest = c.next-generation.ensures ∙ c.in-Ok.ensures.ok.1 in
-    let at = cut_made k.schedule g' (plain_of m) place k c.mark.new.self c.args.trace.now c.mark.new.trace sink had (g.L.Sink.taken c.args.log.now) c.next-generation.result first c.args.disk.now c.open.new.disk g.met.F.Folder.counts_now before waits (can_be_held m c.requires.ready c.requires.alive) (nothing_on_the_way (plain_of m) (c.requires.ready.imaged c.requires.alive)).0 (nothing_on_the_way (plain_of m) (c.requires.ready.imaged c.requires.alive)).1 numbered
+    let at = cut_made k.schedule g' (plain_of m) place k c.mark.new.self c.args.trace.now c.mark.new.trace sink had (g.L.Sink.seen c.args.log.now).taken c.next-generation.result (g.F.Folder.seen first) (g.F.Folder.seen c.args.disk.now) (g.F.Folder.seen c.open.new.disk) before waits (can_be_held m c.requires.ready c.requires.alive) (nothing_on_the_way (plain_of m) (c.requires.ready.imaged c.requires.alive)).0 (nothing_on_the_way (plain_of m) (c.requires.ready.imaged c.requires.alive)).1 numbered
     c.mark.ensures.trace (ap (λ (x : Keeper). x.schedule) marked ∙ ap (λ (x : Keeper). x.schedule) opened) (ap (λ (x : Keeper). x.lines) marked ∙ ap (λ (x : Keeper). x.lines) opened)
     (ap (λ (x : Keeper). x.tally) marked ∙ ap (λ (x : Keeper). tally_after x.tally (Cut c.next-generation.result)) opened) c.open.ensures.nothing c.open.ensures.crash c.open.ensures.counts in
-    let above : ForSome (g.F.Folder.reads c.open.new.disk) (λ files. IfSome (last files) (λ info. info.generation ≤ c.next-generation.result)) =
+    let above : ForSome (g.F.Folder.seen c.open.new.disk).files (λ files. IfSome (last files) (λ info. info.generation ≤ c.next-generation.result)) =
     λ files is. raised files k.tally.greatest c.next-generation.result (omega arith) (c.requires.kept.above files (sym c.open.ensures.nothing.same ∙ is)) in
-    let safe_with : IsPut g.F.Folder.reads g.F.Folder.moment g.F.Folder.may_leave g.F.Folder.left_since (plain_of m) (next_generation c.in-Ok.store) c.put.result c.open.new.disk c.put.new.disk → _ = λ put.
-    safe_put_complete g' (plain_of m) c.mark.new.trace.records c.next-generation.result c.put.result c.in-Ok-put.store first c.open.new.disk c.put.new.disk g.met.F.Folder.counts_now g.met.F.Folder.reads_left at.now.safe at.at above c.in-Ok-put.is
-    (subst (λ n. IsPut g.F.Folder.reads g.F.Folder.moment g.F.Folder.may_leave g.F.Folder.left_since (plain_of m) n c.put.result c.open.new.disk c.put.new.disk) (sym c.next-generation.ensures) put) c.put.ensures.counts in
+    let safe_with : IsPut (plain_of m) (next_generation c.in-Ok.store) c.put.result (g.F.Folder.seen c.open.new.disk) (g.F.Folder.seen c.put.new.disk) → _ = λ put.
+    safe_put_complete g' (plain_of m) c.mark.new.trace.records c.next-generation.result c.put.result c.in-Ok-put.store (g.F.Folder.seen first) (g.F.Folder.seen c.open.new.disk) (g.F.Folder.seen c.put.new.disk) at.now.safe at.at above c.in-Ok-put.is
+    (subst (λ n. IsPut (plain_of m) n c.put.result (g.F.Folder.seen c.open.new.disk) (g.F.Folder.seen c.put.new.disk)) (sym c.next-generation.ensures) put) c.put.ensures.counts in
     let safe = either c.put.ensures.put safe_with (λ none. absurd (let ok = c.in-Ok-put.is in let failed = none.0 in cc)) in
-    completed_broken k.schedule g' (plain_of m) place c.mark.new.self c.mark.new.trace c.conclude-in-Ok-put.new.trace sink had (g.L.Sink.taken c.args.log.now) (g.L.Sink.taken c.conclude-in-Ok-put.new.log) c.next-generation.result first c.open.new.disk c.put.new.disk at
-    c.conclude-in-Ok-put.ensures.trace front safe) c.conclude-in-Ok-put.ensures.err
+    broken_at_due before.running.due (completed_broken k.schedule g' (plain_of m) place c.mark.new.self c.mark.new.trace c.conclude-in-Ok-put.new.trace sink had (g.L.Sink.seen c.args.log.now).taken (g.L.Sink.seen c.conclude-in-Ok-put.new.log).taken c.next-generation.result (g.F.Folder.seen first) (g.F.Folder.seen c.open.new.disk) (g.F.Folder.seen c.put.new.disk) at
+    c.conclude-in-Ok-put.ensures.trace front safe)) c.conclude-in-Ok-put.ensures.err
 
 pub returns-in-Ok-put-clause-kept : goal.returns-in-Ok-put-clause-kept
 returns-in-Ok-put-clause-kept g c = OnOk-map c.conclude-in-Ok-put.result (λ keeper.
@@ -153,10 +153,10 @@ returns-in-Ok-put-clause-kept g c = OnOk-map c.conclude-in-Ok-put.result (λ kee
     let marked = c.mark.ensures.keeper in
     let numbered : c.next-generation.result ≡ suc k.tally.greatest = c.next-generation.ensures ∙ c.in-Ok.ensures.ok.1 in
     let greatest : c.mark.new.self.tally.greatest ≡ c.next-generation.result = ap (λ (x : Keeper). x.tally.greatest) marked ∙ cut_tally c.open.new.self.tally c.next-generation.result in
-    let with_put = λ (put : IsPut g.F.Folder.reads g.F.Folder.moment g.F.Folder.may_leave g.F.Folder.left_since (plain_of m) (next_generation c.in-Ok.store) c.put.result c.open.new.disk c.put.new.disk).
-    kept_complete c.conclude-in-Ok-put.new.self c.in-Ok-put.store (next_generation c.in-Ok.store) put.images (g.F.Folder.reads c.put.new.disk) (g.F.Folder.may_leave c.put.new.disk) (ap (λ (x : Keeper). x.store) keeper)
+    let with_put = λ (put : IsPut (plain_of m) (next_generation c.in-Ok.store) c.put.result (g.F.Folder.seen c.open.new.disk) (g.F.Folder.seen c.put.new.disk)).
+    kept_complete c.conclude-in-Ok-put.new.self c.in-Ok-put.store (next_generation c.in-Ok.store) put.images (g.F.Folder.seen c.put.new.disk) (ap (λ (x : Keeper). x.store) keeper)
     (ap (λ (x : Keeper). x.tally.greatest) keeper ∙ tally_complete c.mark.new.self.tally c.next-generation.result ∙ greatest ∙ c.next-generation.ensures) c.in-Ok-put.ensures.ok.0 c.in-Ok-put.ensures.ok.1
-    (subst (λ (r : Result Known Cause). OnOk r (ForSome (g.F.Folder.reads c.put.new.disk) (λ files. HasSet (last_set files) (next_generation c.in-Ok.store) put.images))) c.in-Ok-put.is put.stored) in
+    (subst (λ (r : Result Known Cause). OnOk r (ForSome (g.F.Folder.seen c.put.new.disk).files (λ files. HasSet (last_set files) (next_generation c.in-Ok.store) put.images))) c.in-Ok-put.is put.stored) in
     either c.put.ensures.put with_put (λ none. absurd (let ok = c.in-Ok-put.is in let failed = none.0 in cc))) c.conclude-in-Ok-put.ensures.keeper
 
 pub returns-in-Err-put-clause-ok : goal.returns-in-Err-put-clause-ok
@@ -166,19 +166,20 @@ returns-in-Err-put-clause-ok g c = on_ok2 c.conclude-in-Err-put.result c.conclud
     let opened = c.open.ensures.keeper in
     let marked = c.mark.ensures.keeper in
     let numbered : c.next-generation.result ≡ suc k.tally.greatest = c.next-generation.ensures ∙ c.in-Ok.ensures.ok.1 in
-    let at = cut_made k.schedule g' (plain_of m) place k c.mark.new.self c.args.trace.now c.mark.new.trace sink had (g.L.Sink.taken c.args.log.now) c.next-generation.result first c.args.disk.now c.open.new.disk g.met.F.Folder.counts_now before waits (can_be_held m c.requires.ready c.requires.alive) (nothing_on_the_way (plain_of m) (c.requires.ready.imaged c.requires.alive)).0 (nothing_on_the_way (plain_of m) (c.requires.ready.imaged c.requires.alive)).1 numbered
+    let at = cut_made k.schedule g' (plain_of m) place k c.mark.new.self c.args.trace.now c.mark.new.trace sink had (g.L.Sink.seen c.args.log.now).taken c.next-generation.result (g.F.Folder.seen first) (g.F.Folder.seen c.args.disk.now) (g.F.Folder.seen c.open.new.disk) before waits (can_be_held m c.requires.ready c.requires.alive) (nothing_on_the_way (plain_of m) (c.requires.ready.imaged c.requires.alive)).0 (nothing_on_the_way (plain_of m) (c.requires.ready.imaged c.requires.alive)).1 numbered
     c.mark.ensures.trace (ap (λ (x : Keeper). x.schedule) marked ∙ ap (λ (x : Keeper). x.schedule) opened) (ap (λ (x : Keeper). x.lines) marked ∙ ap (λ (x : Keeper). x.lines) opened)
     (ap (λ (x : Keeper). x.tally) marked ∙ ap (λ (x : Keeper). tally_after x.tally (Cut c.next-generation.result)) opened) c.open.ensures.nothing c.open.ensures.crash c.open.ensures.counts in
-    let above : ForSome (g.F.Folder.reads c.open.new.disk) (λ files. IfSome (last files) (λ info. info.generation ≤ c.next-generation.result)) =
+    let above : ForSome (g.F.Folder.seen c.open.new.disk).files (λ files. IfSome (last files) (λ info. info.generation ≤ c.next-generation.result)) =
     λ files is. raised files k.tally.greatest c.next-generation.result (omega arith) (c.requires.kept.above files (sym c.open.ensures.nothing.same ∙ is)) in
-    let safe_with : IsPut g.F.Folder.reads g.F.Folder.moment g.F.Folder.may_leave g.F.Folder.left_since (plain_of m) (next_generation c.in-Ok.store) c.put.result c.open.new.disk c.put.new.disk → _ = λ put.
-    safe_put_refused g' (plain_of m) c.mark.new.trace.records c.next-generation.result c.put.result c.in-Err-put.cause first c.open.new.disk c.put.new.disk g.met.F.Folder.counts_now g.met.F.Folder.reads_left at.now.safe at.at above c.in-Err-put.ensures.kind
-    (subst (λ n. IsPut g.F.Folder.reads g.F.Folder.moment g.F.Folder.may_leave g.F.Folder.left_since (plain_of m) n c.put.result c.open.new.disk c.put.new.disk) (sym c.next-generation.ensures) put) c.put.ensures.counts
+    let safe_with : IsPut (plain_of m) (next_generation c.in-Ok.store) c.put.result (g.F.Folder.seen c.open.new.disk) (g.F.Folder.seen c.put.new.disk) → _ = λ put.
+    safe_put_refused g' (plain_of m) c.mark.new.trace.records c.next-generation.result c.put.result c.in-Err-put.cause (g.F.Folder.seen first) (g.F.Folder.seen c.open.new.disk) (g.F.Folder.seen c.put.new.disk) at.now.safe at.at above c.in-Err-put.ensures.kind
+    (subst (λ n. IsPut (plain_of m) n c.put.result (g.F.Folder.seen c.open.new.disk) (g.F.Folder.seen c.put.new.disk)) (sym c.next-generation.ensures) put) c.put.ensures.counts
     (λ is. c.put.ensures.cause (c.in-Err-put.is ∙ ap Err is)) in
     let safe = either c.put.ensures.put safe_with (λ none. let memory : Memory ≡ c.in-Err-put.cause = let failed = none.0 in let is = c.in-Err-put.is in cc in
-    subst (λ cause. IsSafe g.F.Folder.reads g.F.Folder.moment g.F.Folder.may_leave g.F.Folder.left_since g.F.Folder.faults g' (c.mark.new.trace.records ++ Refused cause ∷ []) first c.put.new.disk) memory (safe_no_images g' c.mark.new.trace.records first c.open.new.disk c.put.new.disk at.now.safe none.1)) in
-    late_ok k.schedule g' (plain_of m) place c.mark.new.self c.conclude-in-Err-put.new.self c.mark.new.trace c.conclude-in-Err-put.new.trace sink had (g.L.Sink.taken c.args.log.now) (g.L.Sink.taken c.conclude-in-Err-put.new.log) c.next-generation.result c.in-Err-put.cause first c.open.new.disk c.put.new.disk at c.in-Err-put.ensures.kind
-    c.conclude-in-Err-put.ensures.trace c.conclude-in-Err-put.ensures.schedule (ap (λ (x : Keeper). x.lines) keeper) (ap (λ (x : Keeper). x.tally) keeper) took safe)
+    subst (λ cause. IsSafe g' (c.mark.new.trace.records ++ Refused cause ∷ []) (g.F.Folder.seen first) (g.F.Folder.seen c.put.new.disk)) memory (subst (λ disk. IsSafe g' (c.mark.new.trace.records ++ Refused Memory ∷ []) (g.F.Folder.seen first) (g.F.Folder.seen disk)) (sym none.1)
+    (safe_no_images g' c.mark.new.trace.records (g.F.Folder.seen first) (g.F.Folder.seen c.open.new.disk) at.now.safe))) in
+    at_due before.running.due (late_ok k.schedule g' (plain_of m) place c.mark.new.self c.conclude-in-Err-put.new.self c.mark.new.trace c.conclude-in-Err-put.new.trace sink had (g.L.Sink.seen c.args.log.now).taken (g.L.Sink.seen c.conclude-in-Err-put.new.log).taken c.next-generation.result c.in-Err-put.cause (g.F.Folder.seen first) (g.F.Folder.seen c.open.new.disk) (g.F.Folder.seen c.put.new.disk) at c.in-Err-put.ensures.kind
+    c.conclude-in-Err-put.ensures.trace c.conclude-in-Err-put.ensures.schedule (ap (λ (x : Keeper). x.lines) keeper) (ap (λ (x : Keeper). x.tally) keeper) took safe))
 
 pub returns-in-Err-put-clause-err : goal.returns-in-Err-put-clause-err
 returns-in-Err-put-clause-err g c = OnErr-map c.conclude-in-Err-put.result (λ front g' place sink had first before waits.
@@ -187,19 +188,20 @@ returns-in-Err-put-clause-err g c = OnErr-map c.conclude-in-Err-put.result (λ f
     let opened = c.open.ensures.keeper in
     let marked = c.mark.ensures.keeper in
     let numbered : c.next-generation.result ≡ suc k.tally.greatest = c.next-generation.ensures ∙ c.in-Ok.ensures.ok.1 in
-    let at = cut_made k.schedule g' (plain_of m) place k c.mark.new.self c.args.trace.now c.mark.new.trace sink had (g.L.Sink.taken c.args.log.now) c.next-generation.result first c.args.disk.now c.open.new.disk g.met.F.Folder.counts_now before waits (can_be_held m c.requires.ready c.requires.alive) (nothing_on_the_way (plain_of m) (c.requires.ready.imaged c.requires.alive)).0 (nothing_on_the_way (plain_of m) (c.requires.ready.imaged c.requires.alive)).1 numbered
+    let at = cut_made k.schedule g' (plain_of m) place k c.mark.new.self c.args.trace.now c.mark.new.trace sink had (g.L.Sink.seen c.args.log.now).taken c.next-generation.result (g.F.Folder.seen first) (g.F.Folder.seen c.args.disk.now) (g.F.Folder.seen c.open.new.disk) before waits (can_be_held m c.requires.ready c.requires.alive) (nothing_on_the_way (plain_of m) (c.requires.ready.imaged c.requires.alive)).0 (nothing_on_the_way (plain_of m) (c.requires.ready.imaged c.requires.alive)).1 numbered
     c.mark.ensures.trace (ap (λ (x : Keeper). x.schedule) marked ∙ ap (λ (x : Keeper). x.schedule) opened) (ap (λ (x : Keeper). x.lines) marked ∙ ap (λ (x : Keeper). x.lines) opened)
     (ap (λ (x : Keeper). x.tally) marked ∙ ap (λ (x : Keeper). tally_after x.tally (Cut c.next-generation.result)) opened) c.open.ensures.nothing c.open.ensures.crash c.open.ensures.counts in
-    let above : ForSome (g.F.Folder.reads c.open.new.disk) (λ files. IfSome (last files) (λ info. info.generation ≤ c.next-generation.result)) =
+    let above : ForSome (g.F.Folder.seen c.open.new.disk).files (λ files. IfSome (last files) (λ info. info.generation ≤ c.next-generation.result)) =
     λ files is. raised files k.tally.greatest c.next-generation.result (omega arith) (c.requires.kept.above files (sym c.open.ensures.nothing.same ∙ is)) in
-    let safe_with : IsPut g.F.Folder.reads g.F.Folder.moment g.F.Folder.may_leave g.F.Folder.left_since (plain_of m) (next_generation c.in-Ok.store) c.put.result c.open.new.disk c.put.new.disk → _ = λ put.
-    safe_put_refused g' (plain_of m) c.mark.new.trace.records c.next-generation.result c.put.result c.in-Err-put.cause first c.open.new.disk c.put.new.disk g.met.F.Folder.counts_now g.met.F.Folder.reads_left at.now.safe at.at above c.in-Err-put.ensures.kind
-    (subst (λ n. IsPut g.F.Folder.reads g.F.Folder.moment g.F.Folder.may_leave g.F.Folder.left_since (plain_of m) n c.put.result c.open.new.disk c.put.new.disk) (sym c.next-generation.ensures) put) c.put.ensures.counts
+    let safe_with : IsPut (plain_of m) (next_generation c.in-Ok.store) c.put.result (g.F.Folder.seen c.open.new.disk) (g.F.Folder.seen c.put.new.disk) → _ = λ put.
+    safe_put_refused g' (plain_of m) c.mark.new.trace.records c.next-generation.result c.put.result c.in-Err-put.cause (g.F.Folder.seen first) (g.F.Folder.seen c.open.new.disk) (g.F.Folder.seen c.put.new.disk) at.now.safe at.at above c.in-Err-put.ensures.kind
+    (subst (λ n. IsPut (plain_of m) n c.put.result (g.F.Folder.seen c.open.new.disk) (g.F.Folder.seen c.put.new.disk)) (sym c.next-generation.ensures) put) c.put.ensures.counts
     (λ is. c.put.ensures.cause (c.in-Err-put.is ∙ ap Err is)) in
     let safe = either c.put.ensures.put safe_with (λ none. let memory : Memory ≡ c.in-Err-put.cause = let failed = none.0 in let is = c.in-Err-put.is in cc in
-    subst (λ cause. IsSafe g.F.Folder.reads g.F.Folder.moment g.F.Folder.may_leave g.F.Folder.left_since g.F.Folder.faults g' (c.mark.new.trace.records ++ Refused cause ∷ []) first c.put.new.disk) memory (safe_no_images g' c.mark.new.trace.records first c.open.new.disk c.put.new.disk at.now.safe none.1)) in
-    late_broken k.schedule g' (plain_of m) place c.mark.new.self c.mark.new.trace c.conclude-in-Err-put.new.trace sink had (g.L.Sink.taken c.args.log.now) (g.L.Sink.taken c.conclude-in-Err-put.new.log) c.next-generation.result c.in-Err-put.cause first c.open.new.disk c.put.new.disk at c.in-Err-put.ensures.kind
-    c.conclude-in-Err-put.ensures.trace front safe) c.conclude-in-Err-put.ensures.err
+    subst (λ cause. IsSafe g' (c.mark.new.trace.records ++ Refused cause ∷ []) (g.F.Folder.seen first) (g.F.Folder.seen c.put.new.disk)) memory (subst (λ disk. IsSafe g' (c.mark.new.trace.records ++ Refused Memory ∷ []) (g.F.Folder.seen first) (g.F.Folder.seen disk)) (sym none.1)
+    (safe_no_images g' c.mark.new.trace.records (g.F.Folder.seen first) (g.F.Folder.seen c.open.new.disk) at.now.safe))) in
+    broken_at_due before.running.due (late_broken k.schedule g' (plain_of m) place c.mark.new.self c.mark.new.trace c.conclude-in-Err-put.new.trace sink had (g.L.Sink.seen c.args.log.now).taken (g.L.Sink.seen c.conclude-in-Err-put.new.log).taken c.next-generation.result c.in-Err-put.cause (g.F.Folder.seen first) (g.F.Folder.seen c.open.new.disk) (g.F.Folder.seen c.put.new.disk) at c.in-Err-put.ensures.kind
+    c.conclude-in-Err-put.ensures.trace front safe)) c.conclude-in-Err-put.ensures.err
 
 pub returns-in-Err-put-clause-kept : goal.returns-in-Err-put-clause-kept
 returns-in-Err-put-clause-kept g c = OnOk-map c.conclude-in-Err-put.result (λ keeper.
@@ -211,10 +213,10 @@ returns-in-Err-put-clause-kept g c = OnOk-map c.conclude-in-Err-put.result (λ k
     let greatest : c.mark.new.self.tally.greatest ≡ c.next-generation.result = ap (λ (x : Keeper). x.tally.greatest) marked ∙ cut_tally c.open.new.self.tally c.next-generation.result in
     let gone = ap (λ (x : Keeper). x.store) keeper ∙ ap (λ (x : Keeper). x.store) marked ∙ ap (λ (x : Keeper). x.store) opened in
     let last_greatest = ap (λ (x : Keeper). x.tally.greatest) keeper ∙ tally_same c.mark.new.self.tally c.in-Err-put.cause ∙ greatest in
-    let with_put = λ (put : IsPut g.F.Folder.reads g.F.Folder.moment g.F.Folder.may_leave g.F.Folder.left_since (plain_of m) (next_generation c.in-Ok.store) c.put.result c.open.new.disk c.put.new.disk).
-    kept_put c.conclude-in-Err-put.new.self (next_generation c.in-Ok.store) k.tally.greatest put.images (g.F.Folder.reads c.open.new.disk) (g.F.Folder.reads c.put.new.disk) (g.F.Folder.may_leave c.put.new.disk) gone
+    let with_put = λ (put : IsPut (plain_of m) (next_generation c.in-Ok.store) c.put.result (g.F.Folder.seen c.open.new.disk) (g.F.Folder.seen c.put.new.disk)).
+    kept_put c.conclude-in-Err-put.new.self (next_generation c.in-Ok.store) k.tally.greatest put.images (g.F.Folder.seen c.open.new.disk) (g.F.Folder.seen c.put.new.disk) gone
     (last_greatest ∙ c.next-generation.ensures) (let n = c.in-Ok.ensures.ok.1 in omega arith) (let n = c.in-Ok.ensures.ok.1 in omega arith)
     (λ files is. c.requires.kept.above files (sym c.open.ensures.nothing.same ∙ is)) put.told
-    (subst (λ (r : Result Known Cause). OnErr r (ForSome (g.F.Folder.reads c.open.new.disk) (λ before. ForSome (g.F.Folder.reads c.put.new.disk) (OldOrNew (last_set before) (next_generation c.in-Ok.store) put.images)))) c.in-Err-put.is put.refused) in
-    either c.put.ensures.put with_put (λ none. kept_cut k c.conclude-in-Err-put.new.self (g.F.Folder.reads c.args.disk.now) (g.F.Folder.reads c.put.new.disk) (g.F.Folder.may_leave c.args.disk.now) (g.F.Folder.may_leave c.put.new.disk) c.requires.kept gone (last_greatest ∙ numbered)
-    (ap g.F.Folder.reads none.1 ∙ c.open.ensures.nothing.same))) c.conclude-in-Err-put.ensures.keeper
+    (subst (λ (r : Result Known Cause). OnErr r (ForSome (g.F.Folder.seen c.open.new.disk).files (λ before. ForSome (g.F.Folder.seen c.put.new.disk).files (OldOrNew (last_set before) (next_generation c.in-Ok.store) put.images)))) c.in-Err-put.is put.refused) in
+    either c.put.ensures.put with_put (λ none. kept_cut k c.conclude-in-Err-put.new.self (g.F.Folder.seen c.args.disk.now) (g.F.Folder.seen c.put.new.disk) c.requires.kept gone (last_greatest ∙ numbered)
+    (ap (λ disk. (g.F.Folder.seen disk).files) none.1 ∙ c.open.ensures.nothing.same))) c.conclude-in-Err-put.ensures.keeper

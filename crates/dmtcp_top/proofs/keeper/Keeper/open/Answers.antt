@@ -4,7 +4,7 @@ use Rattle.dmtcp_top.proofs.Served.{reopened_next}
 use Rattle.dmtcp_top.proofs.keeper.Keeper.open.Goals as goal
 
 pub open_store-requires : goal.open_store-requires
-open_store-requires g c = none_above (g.F.Folder.reads c.args.disk.now) c.args.self.now.tally.greatest c.requires.kept.above
+open_store-requires g c = none_above (g.F.Folder.seen c.args.disk.now).files c.args.self.now.tally.greatest c.requires.kept.above
 
 pub returns-in-Some-clause-ok : goal.returns-in-Some-clause-ok
 returns-in-Some-clause-ok g c = c.requires.kept.fits c.in-Some.store (sym c.take.ensures.value ∙ c.in-Some.is)
@@ -17,6 +17,7 @@ returns-in-Some-clause-nothing g c = record {
     now = λ image left. (image, left, refl);
     since = λ t image le left. inl left;
     keeps = λ t image le left. left;
+    wants = λ want. want;
   };
 }
 

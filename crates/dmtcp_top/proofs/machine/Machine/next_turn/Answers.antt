@@ -1,7 +1,8 @@
+use Rattle.std.specs.Option.{option_or}
 use Rattle.std.proofs.Common.{sym, ap, ◌∙◌}
 use Rattle.std.specs.Prelude.{option_map}
 use Rattle.dmtcp_top.specs.Machines.{plain_of}
-use Rattle.dmtcp_top.specs.Rounds.{InTurn, or_else, new_round}
+use Rattle.dmtcp_top.specs.Rounds.{InTurn, new_round}
 use Rattle.dmtcp_top.proofs.NextTurns.{next_is, next_of, no_next}
 use Rattle.dmtcp_top.proofs.machine.Machine.next_turn.Goals as goal
 
@@ -15,4 +16,4 @@ pub returns-in-Err-clause-place : goal.returns-in-Err-clause-place
 returns-in-Err-clause-place c here p processes threads =
     let m = c.args.self.now in
     c.new_round.ensures.place
-    ∙ sym (next_is m here c.args.later p processes threads ∙ ap (λ o. or_else (option_map InTurn o) (new_round (plain_of m))) (sym c.in-Err.ensures.turn))
+    ∙ sym (next_is m here c.args.later p processes threads ∙ ap (λ o. option_or (option_map InTurn o) (new_round (plain_of m))) (sym c.in-Err.ensures.turn))

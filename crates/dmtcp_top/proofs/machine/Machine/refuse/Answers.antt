@@ -1,6 +1,6 @@
 use Rattle.std.proofs.Common.{◌≤◌, None, refl, sym, ap, subst, ◌∙◌}
 use Rattle.std.specs.Prelude.{IfSome}
-use Rattle.plain_process.specs.Buffers.{written_spans}
+use Rattle.plain_process.specs.Buffers.{filled_spans}
 use Rattle.plain_process.specs.Put.{CanTake, put, error}
 use Rattle.plain_process.specs.Valid.{CanAddAs}
 use Rattle.plain_machine.proofs.MemoryPages.{no_bytes_taken}
@@ -13,7 +13,7 @@ use Rattle.dmtcp_top.proofs.machine.Machine.refuse.Goals as goal
 pub answer-requires-clause-writable : goal.answer-requires-clause-writable
 answer-requires-clause-writable c =
     let memory = c.args.self.now.guest.user.memory in
-    subst (CanTake memory (written_spans memory c.args.request.now)) (sym c.clear.ensures) (no_bytes_taken memory (written_spans memory c.args.request.now))
+    subst (CanTake memory (filled_spans memory c.args.request.now)) (sym c.clear.ensures) (no_bytes_taken memory (filled_spans memory c.args.request.now))
 
 pub answer-requires-clause-added : goal.answer-requires-clause-added
 answer-requires-clause-added c = subst (CanAddAs c.args.self.now.guest.user) (sym (error_adds_nothing c.args.request.now 14)) tt

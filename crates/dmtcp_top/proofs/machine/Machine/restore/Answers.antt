@@ -1,7 +1,8 @@
 use Rattle.std.proofs.Common.{◌≡◌, ◌<◌, ◌≤◌, ◌^◌, Some, length, sym, ap, subst, ◌∙◌}
 use Rattle.std.specs.Prelude.{All}
-use Rattle.image_codec.specs.declared.process_image.ProcImage.{ProcImage}
-use Rattle.image_codec.specs.ProcessImages.{SpellsProcess, pid_at, tids_at}
+use Rattle.image_process.specs.declared.process_image.ProcImage.{ProcImage}
+use Rattle.image_process.specs.ProcessImages.{SpellsProcess, pid_at, tids_at}
+use Rattle.image_process.proofs.ProcessFiles.{image_of}
 use Rattle.guest_proc.proofs.FittingImages.{image_numbers, image_few}
 use Rattle.dmtcp_top.specs.declared.machine.Machine.{Machine}
 use Rattle.dmtcp_top.proofs.Restored.{the_image, last_image, guest_of, restored_state_is, restored_is_ready}
@@ -24,7 +25,7 @@ of_image-requires-clause-numbers c =
     let is = the_image s c.args.decoded.procs c.requires.spelled in
     let popped = last_image s c.args.decoded.procs is c.into_vec-images.result.items c.into_vec-images.result.len c.pop.result c.into_vec-images.ensures c.into_vec-images.result.ok.0 c.pop.ensures.value in
     let same = one_value c.in-Some.image is.image (sym c.in-Some.is ∙ popped) in
-    subst (λ (image : ProcImage). All (λ page. page.number < 2 ^ 20) image.pages) (sym same) (image_numbers (pid_at s 2) (tids_at s 2) is.image is.process.keeps)
+    subst (λ (image : ProcImage). All (λ page. page.number < 2 ^ 20) image.pages) (sym same) (image_numbers (pid_at s 2) (tids_at s 2) is.image (image_of (pid_at s 2) (tids_at s 2) is.text is.image is.process))
 
 pub of_image-requires-clause-few : goal.of_image-requires-clause-few
 of_image-requires-clause-few c =
@@ -32,7 +33,7 @@ of_image-requires-clause-few c =
     let is = the_image s c.args.decoded.procs c.requires.spelled in
     let popped = last_image s c.args.decoded.procs is c.into_vec-images.result.items c.into_vec-images.result.len c.pop.result c.into_vec-images.ensures c.into_vec-images.result.ok.0 c.pop.ensures.value in
     let same = one_value c.in-Some.image is.image (sym c.in-Some.is ∙ popped) in
-    subst (λ (image : ProcImage). length image.pages ≤ 2048) (sym same) (image_few (pid_at s 2) (tids_at s 2) is.image is.process.keeps)
+    subst (λ (image : ProcImage). length image.pages ≤ 2048) (sym same) (image_few (pid_at s 2) (tids_at s 2) is.image (image_of (pid_at s 2) (tids_at s 2) is.text is.image is.process))
 
 pub returns-clause-state : goal.returns-clause-state
 returns-clause-state c =

@@ -11,7 +11,7 @@ pub returns-in-Some-clause-ok : goal.returns-in-Some-clause-ok
 returns-in-Some-clause-ok g c =
     let m = c.args.self.now in
     let n = c.deliver.new.self in
-    let taken = g.O.Sink.taken c.args.out.now in
+    let taken = (g.O.Sink.seen c.args.out.now).taken in
     first_notes m n c.args.turn c.in-Some.signal (placed n c.same_turn.result) c.args.trace.now c.deliver.new.trace (sunk taken taken) c.in-Some.is (c.deliver.ensures.took taken)
     (c.same_turn.ensures.place (place_of m c.args.turn) (sym c.deliver.ensures.same.pid) refl refl refl)
 
@@ -25,7 +25,7 @@ pub returns-in-Whole-clause-ok : goal.returns-in-Whole-clause-ok
 returns-in-Whole-clause-ok g c =
     let m = c.args.self.now in
     let n = c.run_quantum.new.self in
-    let taken = g.O.Sink.taken c.args.out.now in
+    let taken = (g.O.Sink.seen c.args.out.now).taken in
     let ran = c.run_quantum.ensures in
     user_notes m n c.args.turn (placed n c.after_quantum.result) ran.took.0 c.args.trace.now c.run_quantum.new.trace (sunk taken taken) c.in_default.is c.requires.turn.stopped
     (stands_not (user_step m.guest.user c.args.turn.thread.0) (sym c.look.ensures ∙ c.in-Whole.is)) ran.same.pid (ran.took.1 taken)
@@ -35,7 +35,7 @@ pub returns-in_ok-call-in-Asks-clause-ok : goal.returns-in_ok-call-in-Asks-claus
 returns-in_ok-call-in-Asks-clause-ok g c =
     let m = c.args.self.now in
     let n = c.call.new.self in
-    call_notes m n c.args.turn (placed n c.next_turn.result) c.args.trace.now c.call.new.trace (sunk (g.O.Sink.taken c.args.out.now) (g.O.Sink.taken c.call.new.out)) c.in_default.is c.in_ok-call-in-Asks.ensures.ok
+    call_notes m n c.args.turn (placed n c.next_turn.result) c.args.trace.now c.call.new.trace (sunk (g.O.Sink.seen c.args.out.now).taken (g.O.Sink.seen c.call.new.out).taken) c.in_default.is c.in_ok-call-in-Asks.ensures.ok
     (c.next_turn.ensures.place (place_of m c.args.turn) (sym c.call.ensures.same.pid) refl refl)
 
 pub returns-in-Trapped-clause-ok : goal.returns-in-Trapped-clause-ok
@@ -43,7 +43,7 @@ returns-in-Trapped-clause-ok g c =
     let m = c.args.self.now in
     let n = c.deliver-in-Trapped.new.self in
     let t = c.args.turn.thread in
-    let taken = g.O.Sink.taken c.args.out.now in
+    let taken = (g.O.Sink.seen c.args.out.now).taken in
     trap_notes m n c.args.turn c.in-Trapped.signal (placed n c.next_turn-in-Trapped.result) c.args.trace.now c.deliver-in-Trapped.new.trace (sunk taken taken) c.in_default.is c.requires.alive
     (trapped_at (user_step m.guest.user t.0) c.in-Trapped.signal (sym c.look.ensures ∙ c.in-Trapped.is)) (c.deliver-in-Trapped.ensures.took taken)
     (c.next_turn-in-Trapped.ensures.place (place_of m c.args.turn) (sym c.deliver-in-Trapped.ensures.same.pid) refl refl)

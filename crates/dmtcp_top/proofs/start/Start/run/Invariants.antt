@@ -10,16 +10,16 @@ use Rattle.dmtcp_top.proofs.start.Start.run.Given as goal
 
 abbrev pub invariant-loop-record : goal.invariant-loop-record
 invariant-loop-record g l = record {
-  under : (now : IsUnderWay g.F.Folder.reads g.F.Folder.moment g.F.Folder.may_leave g.F.Folder.left_since g.F.Folder.faults l.initial.self.keeper.schedule (plain_of l.initial.self.machine) (plain_of l.self.machine) (placed l.self.machine l.turn) l.self.keeper l.trace
-      (sunk (g.O.Sink.taken l.initial.out) (g.O.Sink.taken l.out)) (sunk (g.L.Sink.taken l.initial.log) (g.L.Sink.taken l.log)) l.initial.disk l.disk) × IsSettled now.running.requests l.trace;
+  under : (now : IsUnderWay l.initial.self.keeper.schedule (plain_of l.initial.self.machine) (plain_of l.self.machine) (placed l.self.machine l.turn) l.self.keeper l.trace
+      (sunk (g.O.Sink.seen l.initial.out).taken (g.O.Sink.seen l.out).taken) (sunk (g.L.Sink.seen l.initial.log).taken (g.L.Sink.seen l.log).taken) (g.F.Folder.seen l.initial.disk) (g.F.Folder.seen l.disk)) × IsSettled now.running.requests l.trace;
   turn : IfSome l.turn (HasTurn l.self.machine);
   still : l.turn ≡ None → new_round (plain_of l.self.machine) ≡ None;
   ready : IsReady l.self.machine;
   scheduled : l.self.keeper.schedule ≡ l.initial.self.keeper.schedule;
-  kept : l.self.keeper.schedule.every ≢ None → IsKept l.self.keeper (g.F.Folder.reads l.disk) (g.F.Folder.may_leave l.disk);
+  kept : l.self.keeper.schedule.every ≢ None → IsKept l.self.keeper (g.F.Folder.seen l.disk);
   untouched : l.initial.self.keeper.schedule.every ≡ None → l.disk ≡ l.initial.disk;
   size : length l.trace.records + l.trace.room ≡ l.room;
   left : l.trace.room + l._record ≤ l.room;
-  later : g.O.Sink.faults l.initial.out ≤ g.O.Sink.faults l.out;
-  log_later : g.L.Sink.faults l.initial.log ≤ g.L.Sink.faults l.log;
+  later : (g.O.Sink.seen l.initial.out).faults ≤ (g.O.Sink.seen l.out).faults;
+  log_later : (g.L.Sink.seen l.initial.log).faults ≤ (g.L.Sink.seen l.log).faults;
 }

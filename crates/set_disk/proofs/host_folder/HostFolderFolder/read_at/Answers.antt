@@ -4,4 +4,4 @@ use Rattle.set_disk.proofs.UntoldPasses.{untold_passes}
 use Rattle.set_disk.proofs.host_folder.HostFolderFolder.read_at.Goals as goal
 
 pub returns-clause-crash : goal.returns-clause-crash
-returns-clause-crash g c = untold_passes Same (λ files. refl) c.args.self.now c.count.new.self
+returns-clause-crash g c = untold_passes Same (λ files. refl) c.args.self.now.faults c.count.new.self.faults

@@ -1,0 +1,23 @@
+-- What the next sync of a folder of the host has to make durable.
+--     files_owed owed      the files, none where it is all that the folder holds
+--     owes_folder owed     the folder itself is synced too, since it has a new entry (`man 2 fsync`)
+--     with_file name       these files and that one, which stands among them once
+use Rattle.std.specs.Prelude.{Bool, true, ◌&&◌, if◌then◌else◌, ◌==◌, List, [], ◌∷◌, ◌++◌, Option, Some, None}
+use Rattle.std.specs.List.{list_any}
+use Rattle.set_disk.specs.declared.file_name.FileName.{FileName}
+use Rattle.set_disk.specs.declared.owed.Owed.{Owed}
+use Rattle.set_disk.specs.declared.owed.Owed.TheVariants.{All, Changes}
+
+abbrev pub files_owed : Owed → Option (List FileName)
+files_owed All = None
+files_owed (Changes files has_new_entry) = Some files.items
+
+abbrev pub owes_folder : Owed → Bool
+owes_folder All = true
+owes_folder (Changes files has_new_entry) = has_new_entry
+
+abbrev pub is_name : FileName → FileName → Bool
+is_name name q = (q.slot == name.slot) && (q.index == name.index)
+
+abbrev pub with_file : FileName → List FileName → List FileName
+with_file name files = if list_any (is_name name) files then files else files ++ name ∷ []
