@@ -6,7 +6,8 @@ import signal
 from model.bits import WORD_LIMIT
 from model.memory import EXECUTE, READ, WRITE, Memory
 from model.numbers import FUTEX_WAIT, FUTEX_WAKE, Number, futex_operation
-from model.state import ACCESS_MODE, A7, Thread
+from model.objects import ACCESS_MODE
+from model.state import A7, Thread
 
 LAST_ERROR = 4095
 TEXT_SHOWN = 40

@@ -11,8 +11,9 @@ use crate::conn::Conn;
 use crate::conn_fault::ConnFault;
 use crate::maker::Maker;
 use crate::unsupported::least_unsupported;
+use id_maps::{ByConn, ByDesc, ByPid};
 use std::alloc::{AllocError, Global};
-use sys_abi::{ByConn, ByDesc, ByPid, ConnId, DescId, Fd, Kind, VPid, VirtAddr};
+use sys_abi::{ConnId, DescId, Fd, Kind, VPid, VirtAddr};
 
 /// The channels, the addresses of bound sockets and listeners, and the makers of all processes.
 #[derive(Drop)]

@@ -3,9 +3,10 @@ ghost use Rattle.std.specs.FinMap as map;
 ghost use Rattle.discovery.specs.Directories.{place_of, is_asked, with_place, with_look_up};
 
 use crate::publication::Publication;
+use id_maps::ByConn;
 use std::alloc::{AllocError, Global};
 use std::marker::Model;
-use sys_abi::{ByConn, ConnId, RealAddr};
+use sys_abi::{ConnId, RealAddr};
 
 /// The addresses at which channels can be reached, by the channels' names.
 #[derive(Drop)]

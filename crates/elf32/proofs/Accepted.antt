@@ -10,14 +10,14 @@ use Rattle.std.specs.Prelude.{if◌then◌else◌}
 use Rattle.elf32.specs.declared.fault.ElfReason.{ElfReason}
 use Rattle.elf32.specs.declared.program.Segment.{Segment}
 use Rattle.elf32.specs.declared.program_header.ProgramHeader.{ProgramHeader}
-use Rattle.elf32.specs.Faults.{first_of, needs}
+use Rattle.elf32.specs.Faults.{first_some, needs}
 use Rattle.elf32.specs.FileHeader.{e_phnum}
 use Rattle.elf32.specs.Pages.{range_of, page_count}
 use Rattle.elf32.specs.ProgramHeaders.{program_header, place_of, describes_memory, memory_of, segment_of, segments_of, segments_before}
 use Rattle.elf32.specs.Programs.{IsWellPlaced, IsApart}
 use Rattle.elf32.specs.Ranges.{meets}
 use Rattle.elf32.specs.Rules.{is_well_placed, memory_rules, rules_at, file_header_rules, program_header_rules, first_fault}
-use Rattle.elf32.proofs.FirstOf.{first_of-head, first_of-tail, first_of-front, first_of-back}
+use Rattle.elf32.proofs.FirstSome.{first_some-head, first_some-tail, first_some-front, first_some-back}
 use Rattle.elf32.proofs.PageCounts.{pages_below-empty}
 
 needs-holds : (holds : Bool) (reason : ElfReason) (place : ℕ) → needs holds reason place ≡ None → holds ≡ true
@@ -58,13 +58,13 @@ placed file h memory good =
     }
 
 push-accepted : (file : List ℕ) (before : List Segment) (place : ℕ) (h : ProgramHeader) → AreAccepted before → describes_memory h ≡ true →
-    first_of (memory_rules file before place h) ≡ None → AreAccepted (before ++ segment_of file h ∷ [])
+    first_some (memory_rules file before place h) ≡ None → AreAccepted (before ++ segment_of file h ∷ [])
 unfolding memory_rules
 push-accepted file before place h good memory rules =
-    let well = needs-holds _ _ _ (first_of-head _ _ rules) in
-    let rest = first_of-tail _ _ rules in
-    let alone = needs-holds _ _ _ (first_of-head _ _ rest) in
-    let few = needs-holds _ _ _ (first_of-head _ _ (first_of-tail _ _ rest)) in
+    let well = needs-holds _ _ _ (first_some-head _ _ rules) in
+    let rest = first_some-tail _ _ rules in
+    let alone = needs-holds _ _ _ (first_some-head _ _ rest) in
+    let few = needs-holds _ _ _ (first_some-head _ _ (first_some-tail _ _ rest)) in
     let apart : list_any (λ s. meets (range_of s) (memory_of h)) before ≡ false = grind arith in
     record {
       placed = All-push IsWellPlaced before (segment_of file h) good.placed (placed file h memory well);
@@ -73,27 +73,27 @@ push-accepted file before place h good memory rules =
     }
 
 step-accepted : (file : List ℕ) (before : List Segment) (place : ℕ) (h : ProgramHeader) → AreAccepted before →
-    first_of (rules_at file before place h) ≡ None → AreAccepted (before ++ segments_of file h)
+    first_some (rules_at file before place h) ≡ None → AreAccepted (before ++ segments_of file h)
 unfolding rules_at
 step-accepted file before place h good rules =
     elim (describes_memory h) as
-    (λ b. describes_memory h ≡ b → first_of (if b then memory_rules file before place h else []) ≡ None → AreAccepted (before ++ (if b then segment_of file h ∷ [] else []))) [
+    (λ b. describes_memory h ≡ b → first_some (if b then memory_rules file before place h else []) ≡ None → AreAccepted (before ++ (if b then segment_of file h ∷ [] else []))) [
       | true ↦ λ is rest. push-accepted file before place h good is rest
       | false ↦ λ _ _. subst AreAccepted (sym (append-nil before)) good
     ]
-    refl (first_of-tail _ _ rules)
+    refl (first_some-tail _ _ rules)
 
-headers-accepted : (file : List ℕ) (n : ℕ) → first_of (program_header_rules file n) ≡ None → AreAccepted (segments_before file n)
+headers-accepted : (file : List ℕ) (n : ℕ) → first_some (program_header_rules file n) ≡ None → AreAccepted (segments_before file n)
 unfolding program_header_rules segments_before
 headers-accepted file zero rules = none-accepted
 headers-accepted file (suc n) rules =
     step-accepted file (segments_before file n) (place_of file n) (program_header file n)
-    (headers-accepted file n (first_of-front (program_header_rules file n) _ rules))
-    (first_of-back (program_header_rules file n) _ rules)
+    (headers-accepted file n (first_some-front (program_header_rules file n) _ rules))
+    (first_some-back (program_header_rules file n) _ rules)
 
 -- the segments of a file that keeps the rules
 pub segments-accepted : (file : List ℕ) (segments : List Segment) → segments ≡ segments_before file (e_phnum file) → first_fault file ≡ None → AreAccepted segments
 unfolding first_fault
 segments-accepted file segments is rules =
     rw is (headers-accepted file (e_phnum file)
-    (first_of-back (file_header_rules file) _ (first_of-front (file_header_rules file ++ program_header_rules file (e_phnum file)) _ rules)))
+    (first_some-back (file_header_rules file) _ (first_some-front (file_header_rules file ++ program_header_rules file (e_phnum file)) _ rules)))

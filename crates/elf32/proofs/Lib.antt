@@ -1,6 +1,6 @@
 pub mod Accepted
 pub mod Bytes
-pub mod FirstOf
+pub mod FirstSome
 pub mod HeaderRules
 pub mod PageCounts
 pub mod ProgramPages

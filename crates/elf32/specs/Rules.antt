@@ -12,7 +12,7 @@ use Rattle.elf32.specs.declared.program.Segment.{Segment as MemorySegment}
 use Rattle.elf32.specs.declared.program_header.ProgramHeader.{ProgramHeader}
 use Rattle.elf32.specs.declared.program_header.SegmentType.{SegmentType}
 use Rattle.elf32.specs.declared.program_header.SegmentType.TheVariants.{Load, Dynamic as DynamicType, Interpreter, Other}
-use Rattle.elf32.specs.Faults.{needs, first_of}
+use Rattle.elf32.specs.Faults.{needs, first_some}
 use Rattle.elf32.specs.FileHeader.{e_type, e_machine, e_entry, e_phoff, e_flags, e_phentsize, e_phnum}
 use Rattle.elf32.specs.Pages.{range_of, page_count, page_rights}
 use Rattle.elf32.specs.ProgramHeaders.{place_of, program_header, describes_memory, memory_of, segment_of, segments_before}
@@ -22,7 +22,8 @@ use Rattle.elf32.specs.Ranges.{meets}
 unfoldable pub bytes_are : List ℕ → ℕ → List ℕ → ElfReason → Option ElfFault
 bytes_are file place [] reason = None
 bytes_are file place (byte ∷ bytes) reason =
-    first_of (needs (slice_index file place == byte) reason place ∷ bytes_are file (place + 1) bytes reason ∷ [])
+    first_some
+    (needs (slice_index file place == byte) reason place ∷ bytes_are file (place + 1) bytes reason ∷ [])
 
 -- e_ident begins with ELFMAG, 7F and "ELF". EI_CLASS is ELFCLASS32, EI_DATA ELFDATA2LSB and EI_VERSION EV_CURRENT, all 1.
 -- EM_RISCV is 243, ET_EXEC 2. Of e_flags the RISC-V ELF psABI gives bit 0 to RVC, bits 1 and 2 to the floating point ABI
@@ -71,7 +72,8 @@ rules_at file before place h =
 unfoldable pub program_header_rules : List ℕ → ℕ → List (Option ElfFault)
 program_header_rules file zero = []
 program_header_rules file (suc n) =
-    program_header_rules file n ++ rules_at file (segments_before file n) (place_of file n) (program_header file n)
+    program_header_rules file n
+    ++ rules_at file (segments_before file n) (place_of file n) (program_header file n)
 
 -- an instruction has 4 bytes, and the first lies in a page that may be executed, by PF_X, which is 1
 abbrev pub is_entry : ℕ → List MemorySegment → Bool
@@ -81,4 +83,6 @@ abbrev pub entry_rule : List ℕ → Option ElfFault
 entry_rule file = needs (is_entry (e_entry file) (segments_before file (e_phnum file))) Segment 24
 
 unfoldable pub first_fault : List ℕ → Option ElfFault
-first_fault file = first_of (file_header_rules file ++ program_header_rules file (e_phnum file) ++ entry_rule file ∷ [])
+first_fault file =
+    first_some
+    (file_header_rules file ++ program_header_rules file (e_phnum file) ++ entry_rule file ∷ [])

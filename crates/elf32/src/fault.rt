@@ -1,6 +1,6 @@
 ghost use Rattle.std.specs.Prelude.{◌≡◌, ℕ, codes, IsTrue, OnOk, Some};
 ghost use Rattle.std.specs.Result.{result_err};
-ghost use Rattle.elf32.specs.Faults.{fault_at, needs, no_memory, word_of};
+ghost use Rattle.elf32.specs.Faults.{fault_at, needs, no_memory, reason_text};
 
 use std::alloc::AllocError;
 use std::fmt;
@@ -36,7 +36,7 @@ pub enum ElfReason {
 impl ElfReason {
     /// The reason as one word in lower case, as a log line shows it.
     pub fn word(self) -> &'static str
-        ensures { result.now ≡ word_of self }
+        ensures { result.now ≡ reason_text self }
     {
         match self {
             ElfReason::Short => "short",
@@ -55,7 +55,7 @@ impl ElfReason {
 }
 
 impl fmt::Display for ElfReason {
-    ghost output = { λ reason. Some (word_of reason) };
+    ghost output = { λ reason. Some (reason_text reason) };
 
     fn fmt<W: fmt::Write>(&self, f: &mut fmt::Formatter<W>) -> fmt::Result {
         f.write_str(self.word())

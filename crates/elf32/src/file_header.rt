@@ -1,6 +1,6 @@
 ghost use Rattle.std.specs.Prelude.{◌≡◌, ◌+◌, ◌*◌, ◌≤◌, length, IfOk};
 ghost use Rattle.std.specs.Result.{result_err};
-ghost use Rattle.elf32.specs.Faults.{first_of};
+ghost use Rattle.elf32.specs.Faults.{first_some};
 ghost use Rattle.elf32.specs.FileHeader.{header_of};
 ghost use Rattle.elf32.specs.Rules.{bytes_are, file_header_rules};
 
@@ -58,9 +58,9 @@ impl FileHeader {
     pub const MAX_PROGRAM_HEADERS: u16 = 64;
 
     /// Reads the header at the beginning of the file.
-    #[tactic(auto, using(std::proofs::lemmas::Bool::Decides::nat_tests), unfolding(crate::specs::Faults::first_of))]
+    #[tactic(auto, using(std::proofs::lemmas::Bool::Decides::nat_tests), unfolding(crate::specs::Faults::first_some))]
     pub fn read(file: &[u8]) -> Result<FileHeader, ElfFault>
-        ensures rules { result_err result ≡ first_of (file_header_rules file.now) }
+        ensures rules { result_err result ≡ first_some (file_header_rules file.now) }
         ensures fields { IfOk result (λ header. header ≡ header_of file.now) }
         ensures table { IfOk result (λ header. header.phoff + 32 * header.phnum ≤ length file.now) }
     {

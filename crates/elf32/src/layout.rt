@@ -26,7 +26,7 @@ pub struct Layout {
 }
 
 impl Layout {
-    ghost use Rattle.elf32.specs.Faults.{first_of, Reports};
+    ghost use Rattle.elf32.specs.Faults.{first_some, Reports};
     ghost use Rattle.elf32.specs.ProgramHeaders.{describes_memory, header_at, segment_of, segments_of};
     ghost use Rattle.elf32.specs.Rules.{memory_rules, rules_at};
 
@@ -43,7 +43,7 @@ impl Layout {
     /// beside the headers before it.
     pub fn add(&mut self, alloc: Global, file: &[u8], place: usize) -> Result<(), ElfFault>
         requires { place + 32 ≤ length file.now }
-        ensures rules { Reports result (first_of (rules_at file.now self.old.segments place (header_at file.now place))) }
+        ensures rules { Reports result (first_some (rules_at file.now self.old.segments place (header_at file.now place))) }
         ensures added { OnOk result (self.new.segments ≡ self.old.segments ++ segments_of file.now (header_at file.now place)) }
     {
         let header = ProgramHeader::at(file, place);
@@ -56,9 +56,9 @@ impl Layout {
     }
 
     /// How many pages there are with what the header at this place describes.
-    #[tactic(auto, unfolding(crate::specs::Faults::first_of, crate::specs::Rules::rules_at))]
+    #[tactic(auto, unfolding(crate::specs::Faults::first_some, crate::specs::Rules::rules_at))]
     fn pages_with(&self, file: &[u8], place: usize, header: &ProgramHeader) -> Result<u64, ElfFault>
-        ensures rules { result_err result ≡ first_of (rules_at file.now self.now.segments place header.now) }
+        ensures rules { result_err result ≡ first_some (rules_at file.now self.now.segments place header.now) }
         ensures pages { IfOk result (λ pages. pages ≡ page_count (self.now.segments ++ segments_of file.now header.now)) }
         ensures within { IfOk result (λ pages. pages ≤ 1536) }
         ensures bytes { OnOk result (describes_memory header.now ≡ true → header.now.offset + header.now.filesz ≤ length file.now) }
@@ -72,7 +72,7 @@ impl Layout {
     }
 
     /// How many pages there are with the memory that the header at this place describes.
-    #[tactic(auto, using(std::proofs::lemmas::Bool::Decides::nat_tests), unfolding(crate::specs::Faults::first_of, crate::specs::Rules::memory_rules))]
+    #[tactic(auto, using(std::proofs::lemmas::Bool::Decides::nat_tests), unfolding(crate::specs::Faults::first_some, crate::specs::Rules::memory_rules))]
     fn pages_with_memory(
         &self,
         file: &[u8],
@@ -80,7 +80,7 @@ impl Layout {
         header: &ProgramHeader,
     ) -> Result<u64, ElfFault>
         requires { 0 < header.now.memsz }
-        ensures rules { result_err result ≡ first_of (memory_rules file.now self.now.segments place header.now) }
+        ensures rules { result_err result ≡ first_some (memory_rules file.now self.now.segments place header.now) }
         ensures pages { IfOk result (λ pages. pages ≡ page_count (self.now.segments ++ segment_of file.now header.now ∷ [])) }
         ensures within { IfOk result (λ pages. pages ≤ 1536) }
         ensures bytes { OnOk result (header.now.offset + header.now.filesz ≤ length file.now) }

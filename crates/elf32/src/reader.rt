@@ -1,5 +1,5 @@
 ghost use Rattle.std.specs.Prelude.{◌≡◌, ℕ, ◌+◌, ◌*◌, ◌<◌, ◌≤◌, ◌++◌, ◌⊎◌, length, IsTrue, All, AllPairs, IfOk, OnOk, IfErr, None, Some};
-ghost use Rattle.elf32.specs.Faults.{first_of, no_memory, Reports};
+ghost use Rattle.elf32.specs.Faults.{first_some, no_memory, Reports};
 ghost use Rattle.elf32.specs.FileHeader.{header_of, e_phnum};
 ghost use Rattle.elf32.specs.Pages.{page_count};
 ghost use Rattle.elf32.specs.ProgramHeaders.{segments_before, segments_of, header_at};
@@ -49,7 +49,7 @@ fn read_segments(
 ) -> Result<ListOf<Segment>, ElfFault>
     requires fields { header ≡ header_of file.now }
     requires table { header.phoff + 32 * header.phnum ≤ length file.now }
-    ensures rules { Reports result (first_of (program_header_rules file.now header.phnum)) }
+    ensures rules { Reports result (first_some (program_header_rules file.now header.phnum)) }
     ensures segments { IfOk result (λ segments. segments ≡ segments_before file.now header.phnum) }
 {
     let mut layout = Layout::new(alloc);

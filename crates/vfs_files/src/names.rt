@@ -3,9 +3,9 @@ ghost use Rattle.std.specs.Option.{option_map_or};
 ghost use Rattle.std.specs.FinMap as map;
 ghost use Rattle.vfs_files.specs.Names.{IsNameOf, without_file};
 
+use id_maps::ByName;
 use std::alloc::{AllocError, Global};
 use std::marker::Model;
-use sys_abi::ByName;
 use views::list_of::ListOf;
 use views::number_map::NumberMap;
 

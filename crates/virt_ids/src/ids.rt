@@ -7,9 +7,10 @@ ghost use Rattle.virt_ids.specs.Pairs.{IsTaken, IsOneToOne};
 use crate::by_real_address::ByRealAddress;
 use crate::by_real_pid::ByRealPid;
 use crate::id_fault::IdFault;
+use id_maps::ByAddress;
 use std::alloc::Global;
 use std::marker::Model;
-use sys_abi::{ByAddress, RealAddr, RealPid, VirtAddr};
+use sys_abi::{RealAddr, RealPid, VirtAddr};
 use views::number_map::NumberMap;
 
 /// The pairs of virtual and real numbers of processes and threads, and of virtual and real addresses. A look-up on

@@ -7,7 +7,8 @@ ghost use Rattle.wire_net.specs.Channels as words;
 use crate::channel::Channel;
 use crate::limits::ACCEPTING_SIDE;
 use crate::listener::ConnQueue;
-use sys_abi::{ByConn, ConnId};
+use id_maps::ByConn;
+use sys_abi::ConnId;
 
 /// Closes an end of a channel, and tells whether the channel has an open end then, or isn't there.
 fn close_end(channels: &mut ByConn<Channel>, id: ConnId, side: u8) -> bool

@@ -7,7 +7,8 @@ ghost use Rattle.wire_net.specs.Networks as answers;
 use crate::channel::Channel;
 use crate::net_fault::NetFault;
 use crate::place::Place;
-use sys_abi::{ByConn, Dir, Transfer};
+use id_maps::ByConn;
+use sys_abi::{Dir, Transfer};
 
 pub(crate) fn send_on(channels: &mut ByConn<Channel>, d: Dir, piece: &[u8]) -> Result<u32, NetFault>
     ensures answer { result ≡ answers.send_answer_on (words.direction_at channels.old d) (length piece.now) }

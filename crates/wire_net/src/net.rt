@@ -15,9 +15,10 @@ use crate::listening::{accept_at, has_room, new_listener, next_port, wait_at};
 use crate::moving::{end_on, move_on, receive_on, send_on, stop_reading_on};
 use crate::net_fault::NetFault;
 use crate::place::Place;
+use id_maps::ByConn;
 use std::alloc::{AllocError, Global};
 use std::marker::Model;
-use sys_abi::{ByConn, ConnId, Dir, RealAddr, Transfer};
+use sys_abi::{ConnId, Dir, RealAddr, Transfer};
 
 /// The network between the nodes: listeners by their ports, and channels by their names.
 #[derive(Drop)]

@@ -1,11 +1,12 @@
 //! The trace of a call, replayed by the plain machine from a start that is made here by hand.
+use id_maps::ByPid;
 use plain_machine::{FIRST_PID, Plain, PlainKernel};
 use plain_process::{Frame, Regs, SignalAction, ThreadPart, UserPart};
 use plain_replay::{ReplayFault, replay};
 use std::alloc::{AllocError, Global};
 use std::fmt::Write;
 use sys_abi::page::PAGE_SIZE;
-use sys_abi::{ByPid, Page, Record, VPid};
+use sys_abi::{Page, Record, VPid};
 use views::list_of::ListOf;
 use views::number_map::NumberMap;
 use worked_guests::fault::CaseFault;

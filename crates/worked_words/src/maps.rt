@@ -1,9 +1,7 @@
 use crate::asserting::same;
+use id_maps::{ByAddress, ByConn, ByDesc, ByDir, ByName, ByPid, BySlot};
 use std::test::Fail;
-use sys_abi::{
-    ByAddress, ByConn, ByDesc, ByDir, ByName, ByPid, BySlot, ConnId, DescId, Dir, Slot, VPid,
-    VirtAddr,
-};
+use sys_abi::{ConnId, DescId, Dir, Slot, VPid, VirtAddr};
 use views::duplicate::Duplicate;
 use views::list_of::ListOf;
 

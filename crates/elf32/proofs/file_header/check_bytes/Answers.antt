@@ -1,5 +1,5 @@
 use Rattle.std.proofs.Common.{sym, ◌∙◌}
-use Rattle.elf32.proofs.FirstOf.{result_err-exit}
+use Rattle.elf32.proofs.FirstSome.{result_err-exit}
 use Rattle.elf32.proofs.Bytes.{bytes_are-more, bytes_are-found, bytes_are-end}
 use Rattle.elf32.proofs.file_header.check_bytes.Goals as goal
 

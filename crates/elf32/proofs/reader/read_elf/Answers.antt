@@ -1,7 +1,7 @@
 use Rattle.std.proofs.Common.{sym, ap, ◌∙◌, inr}
 use Rattle.elf32.specs.ProgramHeaders.{segments_before}
 use Rattle.elf32.proofs.Accepted.{AreAccepted, segments-accepted}
-use Rattle.elf32.proofs.FirstOf.{Reports-exit}
+use Rattle.elf32.proofs.FirstSome.{Reports-exit}
 use Rattle.elf32.proofs.WholeFile.{first_fault-header, first_fault-segments, first_fault-starts}
 use Rattle.elf32.proofs.reader.read_elf.Goals as goal
 

@@ -1,8 +1,8 @@
 use Rattle.std.proofs.Common.{refl, ap, ◌∙◌}
-use Rattle.elf32.specs.Faults.{first_of}
+use Rattle.elf32.specs.Faults.{first_some}
 use Rattle.elf32.specs.ProgramHeaders.{segments_before}
 use Rattle.elf32.specs.Rules.{program_header_rules}
-use Rattle.elf32.proofs.FirstOf.{Reports-exit}
+use Rattle.elf32.proofs.FirstSome.{Reports-exit}
 use Rattle.elf32.proofs.HeaderRules.{rules-step, rules-exit, segments-step}
 use Rattle.elf32.proofs.reader.read_segments.Goals as goal
 
@@ -13,7 +13,7 @@ returns-in_err-add-clause-rules c =
     c.loop-index.invariant.rules c.in_err-add.ensures.rules)
 
 pub loop-index-init : goal.loop-index-init
-unfolding first_of program_header_rules segments_before
+unfolding first_some program_header_rules segments_before
 loop-index-init c = record { rules = refl; segments = c.new-layout.ensures }
 
 pub loop-index-preserved : goal.loop-index-preserved
