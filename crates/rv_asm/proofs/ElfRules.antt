@@ -10,13 +10,13 @@ use Rattle.elf32.specs.declared.fault.ElfReason.TheVariants.{Magic, Class, Machi
 use Rattle.elf32.specs.declared.program.Segment.{Segment}
 use Rattle.elf32.specs.declared.program_header.ProgramHeader.{ProgramHeader}
 use Rattle.elf32.specs.declared.program_header.SegmentType.TheVariants.{Load}
-use Rattle.elf32.specs.Faults.{needs, first_of}
+use Rattle.elf32.specs.Faults.{needs, first_some}
 use Rattle.elf32.specs.Fields.{half_at, word_at}
 use Rattle.elf32.specs.FileHeader.{e_type, e_machine, e_entry, e_phoff, e_flags, e_phentsize, e_phnum}
 use Rattle.elf32.specs.Pages.{touches, is_touched, pages_below, page_count, page_rights}
 use Rattle.elf32.specs.ProgramHeaders.{type_of, place_of, program_header, header_at, describes_memory, segment_of, segments_of, segments_before}
 use Rattle.elf32.specs.Rules.{bytes_are, file_header_rules, program_header_rules, rules_at, memory_rules, is_well_placed, entry_rule, is_entry, first_fault}
-use Rattle.elf32.proofs.FirstOf.{first_of-none, first_of-one, first_of-none_append}
+use Rattle.elf32.proofs.FirstSome.{first_some-none, first_some-one, first_some-none_append}
 use Rattle.elf32.proofs.PageCounts.{pages_below-suc}
 use Rattle.rv_asm.specs.Files.{headers}
 
@@ -90,17 +90,17 @@ AllNone : List (Option ElfFault) → Type 0
 AllNone [] = Unit {0}
 AllNone (x ∷ xs) = (x ≡ None) × AllNone xs
 
-all_none : (xs : List (Option ElfFault)) → AllNone xs → first_of xs ≡ None
-unfolding AllNone first_of
+all_none : (xs : List (Option ElfFault)) → AllNone xs → first_some xs ≡ None
+unfolding AllNone first_some
 all_none [] h = refl
-all_none (x ∷ xs) h = first_of-none x xs h.0 ∙ all_none xs h.1
+all_none (x ∷ xs) h = first_some-none x xs h.0 ∙ all_none xs h.1
 
 magic_ok : (entry size : ℕ) (body : List ℕ) → bytes_are (headers entry size ++ body) 0 (0x7F ∷ codes "ELF") Magic ≡ None
-unfolding headers bytes_are needs first_of
+unfolding headers bytes_are needs first_some
 magic_ok entry size body = refl
 
 class_ok : (entry size : ℕ) (body : List ℕ) → bytes_are (headers entry size ++ body) 4 (1 ∷ 1 ∷ 1 ∷ []) Class ≡ None
-unfolding headers bytes_are needs first_of
+unfolding headers bytes_are needs first_some
 class_ok entry size body = refl
 
 machine_ok : (entry size : ℕ) (body : List ℕ) → needs (e_machine (headers entry size ++ body) == 243) Machine 18 ≡ None
@@ -126,7 +126,7 @@ phnum_ok entry size body = refl
 table_fits : (off num len : ℕ) → off ≡ 52 → num ≡ 1 → 84 ≤ len → off + 32 * num ≤ len
 table_fits off num len h k l = omega (arith, h, k, l)
 
-header_ok : (entry size : ℕ) (body : List ℕ) → 84 ≤ length (headers entry size ++ body) → first_of (file_header_rules (headers entry size ++ body)) ≡ None
+header_ok : (entry size : ℕ) (body : List ℕ) → 84 ≤ length (headers entry size ++ body) → first_some (file_header_rules (headers entry size ++ body)) ≡ None
 unfolding AllNone
 header_ok entry size body h =
     all_none (file_header_rules (headers entry size ++ body)) (
@@ -200,7 +200,7 @@ placed_ok : (file : List ℕ) (size : ℕ) → length file ≡ size → size ≤
 placed_ok file size len small =
     and_from _ _ (and_from _ _ (and_from _ _ (at_most (0 + size) (length file) (omega arith)) (at_most size size (omega arith))) refl) (at_most (65536 + size) 0x4000_0000 (omega arith))
 
-memory_ok : (file : List ℕ) (size : ℕ) → length file ≡ size → size ≤ 4194304 → first_of (memory_rules file [] 52 (loads size)) ≡ None
+memory_ok : (file : List ℕ) (size : ℕ) → length file ≡ size → size ≤ 4194304 → first_some (memory_rules file [] 52 (loads size)) ≡ None
 unfolding memory_rules AllNone
 memory_ok file size len small =
     all_none (memory_rules file [] 52 (loads size)) (
@@ -214,15 +214,15 @@ memory_ok file size len small =
 describes : (size : ℕ) → 84 ≤ size → describes_memory (loads size) ≡ true
 describes size h = below 0 size (omega arith)
 
-rules_by : (file : List ℕ) (size : ℕ) (t : Bool) → describes_memory (loads size) ≡ t → 84 ≤ size → first_of (memory_rules file [] 52 (loads size)) ≡ None
-    → first_of (if t then memory_rules file [] 52 (loads size) else []) ≡ None
+rules_by : (file : List ℕ) (size : ℕ) (t : Bool) → describes_memory (loads size) ≡ t → 84 ≤ size → first_some (memory_rules file [] 52 (loads size)) ≡ None
+    → first_some (if t then memory_rules file [] 52 (loads size) else []) ≡ None
 rules_by file size true is h rules = rules
 rules_by file size false is h rules = absurd (false≢true (sym is ∙ describes size h))
 
-rules_ok : (file : List ℕ) (size : ℕ) → length file ≡ size → 84 ≤ size → size ≤ 4194304 → first_of (rules_at file [] 52 (loads size)) ≡ None
+rules_ok : (file : List ℕ) (size : ℕ) → length file ≡ size → 84 ≤ size → size ≤ 4194304 → first_some (rules_at file [] 52 (loads size)) ≡ None
 unfolding rules_at
 rules_ok file size len least small =
-    first_of-none _ _ (needs-true _ _ _ refl)
+    first_some-none _ _ (needs-true _ _ _ refl)
     ∙ rules_by file size (describes_memory (loads size)) refl least (memory_ok file size len small)
 
 -- ---- the entry
@@ -262,11 +262,11 @@ place_first entry size body = ap (λ p. p + 32 * 0) (phoff_field entry size body
 header_first : (entry size : ℕ) (body : List ℕ) → size < 2 ^ 32 → program_header (file_of entry size body) 0 ≡ loads size
 header_first entry size body small = ap (header_at (file_of entry size body)) (place_first entry size body) ∙ header_is entry size body small
 
-rules_at-by : (file : List ℕ) (size place : ℕ) (h : ProgramHeader) → place ≡ 52 → h ≡ loads size → first_of (rules_at file [] 52 (loads size)) ≡ None → first_of (rules_at file [] place h) ≡ None
-rules_at-by file size place h p is rules = ap (λ n. first_of (rules_at file [] n h)) p ∙ ap (λ (x : ProgramHeader). first_of (rules_at file [] 52 x)) is ∙ rules
+rules_at-by : (file : List ℕ) (size place : ℕ) (h : ProgramHeader) → place ≡ 52 → h ≡ loads size → first_some (rules_at file [] 52 (loads size)) ≡ None → first_some (rules_at file [] place h) ≡ None
+rules_at-by file size place h p is rules = ap (λ n. first_some (rules_at file [] n h)) p ∙ ap (λ (x : ProgramHeader). first_some (rules_at file [] 52 x)) is ∙ rules
 
-one_table : (entry size : ℕ) (body : List ℕ) → size < 2 ^ 32 → first_of (rules_at (file_of entry size body) [] 52 (loads size)) ≡ None
-    → first_of (program_header_rules (file_of entry size body) 1) ≡ None
+one_table : (entry size : ℕ) (body : List ℕ) → size < 2 ^ 32 → first_some (rules_at (file_of entry size body) [] 52 (loads size)) ≡ None
+    → first_some (program_header_rules (file_of entry size body) 1) ≡ None
 unfolding program_header_rules segments_before
 one_table entry size body small rules =
     rules_at-by (file_of entry size body) size (place_of (file_of entry size body) 0) (program_header (file_of entry size body) 0)
@@ -292,11 +292,11 @@ headed entry size body fits least most len may =
     let file = file_of entry size body in
     let small : size < 2 ^ 32 = omega (arith, most) in
     let phnum = phnum_field entry size body in
-    let table : first_of (program_header_rules file (e_phnum file)) ≡ None =
-    ap (λ n. first_of (program_header_rules file n)) phnum ∙ one_table entry size body small (rules_ok file size len least most) in
+    let table : first_some (program_header_rules file (e_phnum file)) ≡ None =
+    ap (λ n. first_some (program_header_rules file n)) phnum ∙ one_table entry size body small (rules_ok file size len least most) in
     let segments : segments_before file (e_phnum file) ≡ one_segment file size ∷ [] = ap (segments_before file) phnum ∙ one_list entry size body small least in
     let head = header_ok entry size body (omega (arith, len, least)) in
-    first_of-none_append (file_header_rules file ++ program_header_rules file (e_phnum file)) (entry_rule file ∷ [])
-    (first_of-none_append (file_header_rules file) (program_header_rules file (e_phnum file)) head ∙ table)
-    ∙ first_of-one (entry_rule file)
+    first_some-none_append (file_header_rules file ++ program_header_rules file (e_phnum file)) (entry_rule file ∷ [])
+    (first_some-none_append (file_header_rules file) (program_header_rules file (e_phnum file)) head ∙ table)
+    ∙ first_some-one (entry_rule file)
     ∙ entry_none file entry size (e_entry file) 0 (segments_before file (e_phnum file)) (entry_field entry size body fits) segments may
