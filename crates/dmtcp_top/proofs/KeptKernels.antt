@@ -15,9 +15,10 @@ use Rattle.sys_abi.specs.declared.request.Request.TheVariants.{Write, Exit, Exit
 use Rattle.sys_abi.proofs.OrderLaws.{vpid_total, vpid_exact}
 use Rattle.plain_machine.specs.declared.kernel.PlainKernel.{PlainKernel}
 use Rattle.plain_tables.specs.declared.process.Process.{Process}
+use Rattle.plain_tables.specs.declared.description.Description.{Description}
 use Rattle.plain_tables.specs.declared.description.Object.{Object}
 use Rattle.plain_tables.specs.declared.description.Object.TheVariants.{Console}
-use Rattle.plain_process.specs.Attempts.{Try, Fails, NotReady, Gives, need, found}
+use Rattle.plain_process.specs.Attempts.{Try, Fails, NotReady, Gives, and_then, need, found}
 use Rattle.plain_machine.specs.Attempts.{Served, refused, settled}
 use Rattle.plain_tables.specs.Tables.{pid, is_live_process, may_write, signals_of, with_signals, taken_from, raised_at, raised_for_all, changed_by, without_thread_entry, with_thread_entry}
 use Rattle.plain_machine.specs.Kernel.{is_live, description_at, at_process, after_take, after_raise, after_raise_for_all, is_neighbour, thread_count, has_thread, with_next_thread}
@@ -27,16 +28,8 @@ use Rattle.plain_machine.specs.Rows.Write.{write_row, write_object}
 use Rattle.plain_machine.specs.Rows.End.{exit_row, exit_group_row}
 use Rattle.plain_machine.specs.Rows.Send.{is_above_zero, may_be_sent, kill_row, tgkill_row}
 use Rattle.plain_machine.specs.Rows.Numbers.{getpid_row, getppid_row}
-use Rattle.plain_machine.specs.Rows.Channels.{pipe2_row, socketpair_row}
-use Rattle.plain_machine.specs.Rows.Connections.{accept_row, connect_row}
-use Rattle.plain_machine.specs.Rows.Counters.{eventfd2_row}
-use Rattle.plain_machine.specs.Rows.Descriptors.{dup_row, dup3_row, fcntl_row, close_row}
-use Rattle.plain_machine.specs.Rows.Files.{openat_row, unlinkat_row, lseek_row}
-use Rattle.plain_machine.specs.Rows.Read.{read_row}
-use Rattle.plain_machine.specs.Rows.Sockets.{socket_row, bind_row, listen_row, getsockname_row, getpeername_row, setsockopt_row, shutdown_row}
-use Rattle.plain_machine.specs.Rows.Wait.{wait4_row}
 use Rattle.plain_machine.specs.Rows.Clone.{THREAD_LIMIT, LAST_ID, cloned, clone_thread, clone_by, clone_row}
-use Rattle.plain_machine.specs.Serve.{row, serve}
+use Rattle.plain_machine.specs.Serve.{row, row_answer, makes_no_process, is_console, is_on_console, is_built, serve}
 use Rattle.plain_machine.specs.Valid.{IsKernel}
 use Rattle.plain_process.proofs.Giving.{Giving, gives, nothing}
 use Rattle.plain_machine.proofs.Trying.{Trying, succeeds, fails, after}
@@ -127,14 +120,20 @@ module _ (k : PlainKernel) (p : VPid) (whole : IsKernel k) (alive : is_live k p 
   settled_kept NotReady holds = nothing
   settled_kept (Gives served) holds = gives served (holds.each served refl)
 
-  write_kept : (t fd count : ℕ) (given : List ℕ) → Trying (write_row k p t fd count given) Kept
+  on_console : (there : Option Description) (next : Description → Try Served) → is_on_console there ≡ true
+      → ((description : Description) → is_console description.object ≡ true → Trying (next description) Kept) → Trying (and_then (found there EBADF) next) Kept
+  unfolding and_then found
+  on_console None next is holds = fails EBADF
+  on_console (Some description) next is holds = holds description is
+
+  write_kept : (t fd count : ℕ) (given : List ℕ) → is_on_console (description_at k p fd) ≡ true → Trying (write_row k p t fd count given) Kept
   unfolding write_row write_object
-  write_kept t fd count given =
-      after (found (description_at k p fd) EBADF) (λ description there. after (need (may_write description.flags) EBADF) (λ allowed can. shown description.object))
+  write_kept t fd count given is =
+      on_console (description_at k p fd) _ is (λ description console. after (need (may_write description.flags) EBADF) (λ allowed can. shown description.object console))
     where
-      shown : (object : Object) → Trying (write_object k object given) Kept
-      shown Console = succeeds _ same_kernel
-      shown _ = fails ENOSYS
+      shown : (object : Object) → is_console object ≡ true → Trying (write_object k object given) Kept
+      shown Console console = succeeds _ same_kernel
+      shown _ console = true_false (sym console)
 
   raise_kept : (q : VPid) (t s : ℕ) → is_live k q ≡ true → KeepsImage k (after_raise k q t s) p
   unfolding after_raise
@@ -186,19 +185,24 @@ module _ (k : PlainKernel) (p : VPid) (whole : IsKernel k) (alive : is_live k p 
       let (process, known) = live_process k p alive in
       change_keeps_image k p (with_thread_entry k.next_id) (k.next_id + 1) process known refl refl (omega arith) image is))
 
-  form_kept : (flags : ℕ) (form : Option CloneForm) → Trying (clone_by k p flags form) Kept
-  form_kept flags None = fails EINVAL
-  form_kept flags (Some Fork) = fails ENOSYS
-  form_kept flags (Some Thread) = clone_kept flags
+  -- of a call that is served so far
+  built_kept : (built : Bool) (attempt : Try Served) → (built ≡ true → Trying attempt Kept) → Giving (cond built (settled k attempt) (Some (refused k ENOSYS))) Kept
+  built_kept true attempt holds = settled_kept attempt (holds refl)
+  built_kept false attempt holds = gives _ same_kernel
+
+  form_kept : (flags : ℕ) (form : Option CloneForm) → makes_no_process form ≡ true → Trying (clone_by k p flags form) Kept
+  form_kept flags None is = fails EINVAL
+  form_kept flags (Some Fork) is = true_false (sym is)
+  form_kept flags (Some Thread) is = clone_kept flags
 
   serve_kept : (t : ℕ) (q : Request) (given : List ℕ) → Giving (serve k p t q given) Kept
-  unfolding serve row exit_group_row clone_row getpid_row getppid_row eventfd2_row dup_row dup3_row fcntl_row unlinkat_row openat_row close_row pipe2_row lseek_row read_row socket_row socketpair_row bind_row listen_row accept_row connect_row getsockname_row getpeername_row setsockopt_row shutdown_row wait4_row
-  serve_kept t (Write fd buffer count) given = settled_kept (write_row k p t fd count given) (write_kept t fd count given)
+  unfolding serve row_answer is_built row exit_group_row clone_row getpid_row getppid_row
+  serve_kept t (Write fd buffer count) given = built_kept (is_on_console (description_at k p fd)) (write_row k p t fd count given) (write_kept t fd count given)
   serve_kept t (ExitGroup code) given = gives _ (end_kept (exit_status code))
   serve_kept t (Exit code) given = exit_kept t code
   serve_kept t (Kill number s) given = settled_kept (kill_row k p number s) (kill_kept number s)
   serve_kept t (Tgkill number tid s) given = settled_kept (tgkill_row k p number tid s) (tgkill_kept number tid s)
-  serve_kept t (Clone flags stack parent_tid tls child_tid) given = settled_kept (clone_row k p flags) (form_kept flags (clone_form flags))
+  serve_kept t (Clone flags stack parent_tid tls child_tid) given = built_kept (makes_no_process (clone_form flags)) (clone_row k p flags) (form_kept flags (clone_form flags))
   serve_kept t _ given = gives _ same_kernel
 
   pub kept_by_serve : (t : ℕ) (q : Request) (given : List ℕ) (served : Served) → IsAsked k p t q given → serve k p t q given ≡ Some served → IsKept k served.kernel p

@@ -13,8 +13,8 @@ use Rattle.guest_proc.specs.Guests.{GuestPart, delivered_by, part_after}
 use Rattle.plain_process.specs.declared.user_part.UserPart.{UserPart}
 use Rattle.plain_machine.specs.declared.plain.Plain.{Plain}
 use Rattle.plain_machine.specs.declared.kernel.PlainKernel.{PlainKernel}
-use Rattle.plain_rows.specs.declared.answer.Answer.{Answer}
-use Rattle.plain_rows.specs.Answers.{served_by}
+use Rattle.plain_machine.specs.declared.answer.Answer.{Answer}
+use Rattle.plain_machine.specs.Answers.{served_by}
 use Rattle.plain_process.specs.Steps.{Asks, user_step, waits}
 use Rattle.plain_process.specs.Buffers.{lent}
 use Rattle.plain_process.specs.Put.{put, put_fault}

@@ -8,8 +8,8 @@ use Rattle.sys_abi.specs.declared.reply.Reply.{Reply}
 use Rattle.sys_abi.specs.declared.request.Request.{Request}
 use Rattle.sys_abi.specs.declared.request.Request.TheVariants.{Clone}
 use Rattle.plain_machine.specs.declared.kernel.PlainKernel.{PlainKernel}
-use Rattle.plain_rows.specs.declared.answer.Answer.{Answer}
-use Rattle.plain_rows.specs.Answers.{answer_told, served_by}
+use Rattle.plain_machine.specs.declared.answer.Answer.{Answer}
+use Rattle.plain_machine.specs.Answers.{answer_told, served_by}
 use Rattle.sys_abi.specs.declared.transfer.TheConstants.{TRANSFER_LIMIT}
 use Rattle.plain_process.specs.Steps.{Asks, user_step}
 use Rattle.plain_machine.specs.RowLaws.{IsServed}

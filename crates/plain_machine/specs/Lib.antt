@@ -1,3 +1,4 @@
+pub mod Answers
 pub mod Attempts
 pub mod Kernel
 pub mod Rows

@@ -17,6 +17,7 @@
 //! Not claimed: that any hardware or kernel behaves so.
 #![tactic(auto)]
 
+pub mod answer;
 pub mod closing;
 pub mod end;
 pub mod kernel;
@@ -27,6 +28,7 @@ pub mod plain;
 pub mod start;
 pub mod threads;
 
+pub use answer::{Answer, Attempt, RowResult};
 pub use kernel::PlainKernel;
 pub use laws::{kernel_laws, run_laws};
 pub use plain::Plain;

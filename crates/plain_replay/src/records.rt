@@ -20,7 +20,7 @@ use plain_machine::plain::Plain;
 use plain_memory::lending::lent;
 use plain_process::memory::Frame;
 use plain_process::user_part::UserPart;
-use plain_rows::Answer;
+use plain_machine::Answer;
 use plain_steps::steps::{UserStep, user_step, user_steps};
 use plain_tables::channel::Direction;
 use std::alloc::{AllocError, Global};

@@ -1,9 +1,9 @@
 ghost use Rattle.std.specs.Prelude.{◌≡◌};
 ghost use Rattle.std.specs.FinMap as map;
 ghost use Rattle.plain_machine.specs.Rows.Numbers as rows;
-ghost use Rattle.plain_rows.specs.Answers.{RowTold, KeepsUnlessGives};
+ghost use Rattle.plain_machine.specs.Answers.{RowTold, KeepsUnlessGives};
 
-use crate::answer::Attempt;
+use plain_machine::answer::Attempt;
 use plain_machine::{NOBODY, PlainKernel};
 use std::alloc::Global;
 use sys_abi::VPid;

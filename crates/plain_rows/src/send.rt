@@ -1,9 +1,9 @@
 ghost use Rattle.std.specs.Prelude.{◌≡◌};
 ghost use Rattle.plain_machine.specs.Rows.Send as rows;
-ghost use Rattle.plain_rows.specs.Answers.{RowTold, KeepsUnlessGives};
+ghost use Rattle.plain_machine.specs.Answers.{RowTold, KeepsUnlessGives};
 
-use crate::answer::Attempt;
 use plain_machine::PlainKernel;
+use plain_machine::answer::Attempt;
 use std::alloc::Global;
 use sys_abi::errors::{EINVAL, ESRCH};
 use sys_abi::{Signal, Tid, VPid};

@@ -26,7 +26,7 @@ use Rattle.plain_machine.specs.Kernel.{has_thread, thread_count, with_next_threa
 use Rattle.plain_machine.specs.Valid.{IsKernel}
 use Rattle.plain_machine.specs.RowLaws.{with_one, IsAnswer, MayAdd, there_after}
 use Rattle.plain_machine.specs.Rows.Clone.{THREAD_LIMIT, LAST_ID, number_if, number_bytes, cloned, clone_thread, clone_by, clone_row}
-use Rattle.plain_machine.specs.Serve.{row, is_ready}
+use Rattle.plain_machine.specs.Serve.{row, row_is_ready}
 use Rattle.plain_process.proofs.MemoryBounds.{low_bytes_are}
 use Rattle.plain_machine.proofs.Trying.{Trying, succeeds, fails, after}
 use Rattle.plain_machine.proofs.LocalReplies.{needed}
@@ -54,7 +54,7 @@ room_for_numbers false true parent child number = omega arith
 room_for_numbers false false parent child number = tt
 
 -- an error adds and makes nothing
-error_quiet : (t flags stack parent tls child e : ℕ) → IsQuiet t (Clone flags stack parent tls child) (error e)
+pub error_quiet : (t flags stack parent tls child e : ℕ) → IsQuiet t (Clone flags stack parent tls child) (error e)
 unfolding there_after added_thread made_by
 error_quiet t flags stack parent tls child e = record { threads = λ u was. by_form (clone_form flags) u was; adds = no_thread (clone_form flags); makes = no_child (clone_form flags) }
   where
@@ -125,5 +125,5 @@ module _ (k : PlainKernel) (p : VPid) (t flags stack parent tls child : ℕ) (gi
   form_settles (Some Thread) = tested k _ EAGAIN _ refl
 
   pub clone_law : RowLaw k p t (Clone flags stack parent tls child) given
-  unfolding row clone_row is_ready
+  unfolding row clone_row row_is_ready
   clone_law = row_law k p t call given (error_quiet t flags stack parent tls child) (form_served (clone_form flags) refl) (form_settles (clone_form flags))

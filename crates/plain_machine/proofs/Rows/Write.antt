@@ -15,7 +15,7 @@ use Rattle.plain_process.specs.Buffers.{filled_spans}
 use Rattle.plain_machine.specs.Kernel.{description_at}
 use Rattle.plain_machine.specs.RowLaws.{IsAnswer}
 use Rattle.plain_machine.specs.Rows.Write.{write_object, write_row, is_write_ready}
-use Rattle.plain_machine.specs.Serve.{row, is_ready}
+use Rattle.plain_machine.specs.Serve.{row, row_is_ready}
 use Rattle.plain_machine.proofs.Trying.{Trying, succeeds, fails, after}
 use Rattle.plain_machine.proofs.MemoryPages.{no_bytes_taken}
 use Rattle.plain_machine.proofs.RowBounds.{RowLaw, Meets, row_law, quiet, stays, same_processes, Settles, tested, looked_up}
@@ -46,7 +46,7 @@ module _ (k : PlainKernel) (p : VPid) (t fd buffer count : ℕ) (given : List �
   object_settles _ = refl
 
   pub write_law : RowLaw k p t (Write fd buffer count) given
-  unfolding row write_row is_ready is_write_ready
+  unfolding row write_row row_is_ready is_write_ready
   write_law = row_law k p t (Write fd buffer count) given (λ e. quiet t (Write fd buffer count) _ refl)
       (after (found (description_at k p fd) EBADF) (λ description there. after (need (may_write description.flags) EBADF) (λ allowed can. object_served description.object)))
       (looked_up k (description_at k p fd) EBADF _ (λ description. tested k (may_write description.flags) EBADF _ (object_settles description.object)))

@@ -2,7 +2,7 @@ use Rattle.std.specs.Prelude.{is_some}
 use Rattle.views.proofs.MapLaws.{true_false}
 use Rattle.std.proofs.Common.{◌≡◌, ◌≤◌, [], ◌++◌, length, None, if◌then◌else◌, refl, sym, ap, subst, ◌∙◌, arith}
 use Rattle.guest_proc.specs.Guests.{GuestPart}
-use Rattle.plain_rows.specs.Answers.{answer_told}
+use Rattle.plain_machine.specs.Answers.{answer_told}
 use Rattle.plain_process.specs.Buffers.{filled_spans}
 use Rattle.plain_process.specs.Put.{CanTake, put}
 use Rattle.plain_machine.specs.Serve.{serve}

@@ -1,7 +1,7 @@
 ghost use Rattle.std.specs.Prelude.{◌≡◌, false, []};
 ghost use Rattle.sys_abi.specs.declared.reply.Reply.TheVariants.{Value};
-ghost use Rattle.plain_rows.specs.Answers.{settled_told};
-ghost use Rattle.plain_rows.specs.declared.answer.Attempt.TheVariants as an_attempt;
+ghost use Rattle.plain_machine.specs.Answers.{settled_told};
+ghost use Rattle.plain_machine.specs.declared.answer.Attempt.TheVariants as an_attempt;
 
 use std::alloc::{AllocError, Global};
 use sys_abi::{Errno, Reply};
@@ -29,11 +29,11 @@ pub enum Attempt {
 }
 
 /// What a row's function answers.
-pub(crate) type RowResult = Result<Attempt, AllocError>;
+pub type RowResult = Result<Attempt, AllocError>;
 
 impl Attempt {
     /// A row that gives a number alone.
-    pub(crate) fn value(alloc: Global, number: u32) -> Attempt
+    pub fn value(alloc: Global, number: u32) -> Attempt
         ensures { result ≡ an_attempt.Gives (record { reply = Value number; bytes = []; is_shown = false }) }
     {
         Attempt::Gives(Answer {
@@ -44,7 +44,7 @@ impl Attempt {
     }
 
     /// A row that refuses.
-    pub(crate) fn fails(error: u16) -> Attempt
+    pub fn fails(error: u16) -> Attempt
         ensures { result ≡ an_attempt.Fails (record { 0 = error }) }
     {
         Attempt::Fails(Errno(error))
@@ -52,7 +52,7 @@ impl Attempt {
 }
 
 /// The answer of a row: an error is one too, and there is none where the call waits.
-pub(crate) fn settled(alloc: Global, attempt: Attempt) -> Option<Answer>
+pub fn settled(alloc: Global, attempt: Attempt) -> Option<Answer>
     ensures { result ≡ settled_told attempt }
 {
     match attempt {

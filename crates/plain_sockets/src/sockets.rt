@@ -1,16 +1,16 @@
 ghost use Rattle.std.specs.Prelude.{◌≡◌, IfOk};
 ghost use Rattle.plain_machine.specs.Rows.Sockets as rows;
-ghost use Rattle.plain_rows.specs.Answers.{attempt_told, RowTold, KeepsUnlessGives};
+ghost use Rattle.plain_machine.specs.Answers.{attempt_told, RowTold, KeepsUnlessGives};
 
-use crate::answer::{Attempt, RowResult};
 use plain_machine::PlainKernel;
+use plain_machine::answer::{Attempt, RowResult};
 use std::alloc::Global;
 use sys_abi::VPid;
 use sys_abi::errors::ENOSYS;
 
 /// socket (`man 2 socket`). Not built yet.
 #[tactic(auto, unfolding(plain_machine::specs::Rows::Sockets::socket_row))]
-pub(crate) fn socket(
+pub fn socket(
     kernel: &mut PlainKernel,
     alloc: Global,
     p: VPid,
@@ -26,7 +26,7 @@ pub(crate) fn socket(
 
 /// bind (`man 2 bind`), to this address. Not built yet.
 #[tactic(auto, unfolding(plain_machine::specs::Rows::Sockets::bind_row))]
-pub(crate) fn bind(
+pub fn bind(
     kernel: &mut PlainKernel,
     alloc: Global,
     p: VPid,
@@ -43,13 +43,7 @@ pub(crate) fn bind(
 
 /// listen (`man 2 listen`). Not built yet.
 #[tactic(auto, unfolding(plain_machine::specs::Rows::Sockets::listen_row))]
-pub(crate) fn listen(
-    kernel: &mut PlainKernel,
-    alloc: Global,
-    p: VPid,
-    fd: u32,
-    backlog: u32,
-) -> RowResult
+pub fn listen(kernel: &mut PlainKernel, alloc: Global, p: VPid, fd: u32, backlog: u32) -> RowResult
     ensures row { IfOk result (RowTold (rows.listen_row kernel.old p fd backlog) kernel.new) }
     ensures kept { IfOk result (λ attempt. KeepsUnlessGives attempt kernel.old kernel.new) }
 {
@@ -58,7 +52,7 @@ pub(crate) fn listen(
 
 /// getsockname (`man 2 getsockname`), into this much room. Not built yet.
 #[tactic(auto, unfolding(plain_machine::specs::Rows::Sockets::getsockname_row))]
-pub(crate) fn getsockname(
+pub fn getsockname(
     kernel: &mut PlainKernel,
     alloc: Global,
     p: VPid,
@@ -74,7 +68,7 @@ pub(crate) fn getsockname(
 
 /// getpeername (`man 2 getpeername`), into this much room. Not built yet.
 #[tactic(auto, unfolding(plain_machine::specs::Rows::Sockets::getpeername_row))]
-pub(crate) fn getpeername(
+pub fn getpeername(
     kernel: &mut PlainKernel,
     alloc: Global,
     p: VPid,
@@ -90,7 +84,7 @@ pub(crate) fn getpeername(
 
 /// setsockopt (`man 2 setsockopt`). Not built yet.
 #[tactic(auto, unfolding(plain_machine::specs::Rows::Sockets::setsockopt_row))]
-pub(crate) fn setsockopt(kernel: &mut PlainKernel, alloc: Global, p: VPid, fd: u32) -> RowResult
+pub fn setsockopt(kernel: &mut PlainKernel, alloc: Global, p: VPid, fd: u32) -> RowResult
     ensures row { IfOk result (RowTold (rows.setsockopt_row kernel.old p fd) kernel.new) }
     ensures kept { IfOk result (λ attempt. KeepsUnlessGives attempt kernel.old kernel.new) }
 {
@@ -99,13 +93,7 @@ pub(crate) fn setsockopt(kernel: &mut PlainKernel, alloc: Global, p: VPid, fd: u
 
 /// shutdown (`man 2 shutdown`). Not built yet.
 #[tactic(auto, unfolding(plain_machine::specs::Rows::Sockets::shutdown_row))]
-pub(crate) fn shutdown(
-    kernel: &mut PlainKernel,
-    alloc: Global,
-    p: VPid,
-    fd: u32,
-    how: u32,
-) -> RowResult
+pub fn shutdown(kernel: &mut PlainKernel, alloc: Global, p: VPid, fd: u32, how: u32) -> RowResult
     ensures row { IfOk result (RowTold (rows.shutdown_row kernel.old p fd how) kernel.new) }
     ensures kept { IfOk result (λ attempt. KeepsUnlessGives attempt kernel.old kernel.new) }
 {

@@ -1,16 +1,16 @@
 ghost use Rattle.std.specs.Prelude.{IfOk};
 ghost use Rattle.plain_machine.specs.Rows.Descriptors as rows;
-ghost use Rattle.plain_rows.specs.Answers.{RowTold, KeepsUnlessGives};
+ghost use Rattle.plain_machine.specs.Answers.{RowTold, KeepsUnlessGives};
 
-use crate::answer::{Attempt, RowResult};
 use plain_machine::PlainKernel;
+use plain_machine::answer::{Attempt, RowResult};
 use std::alloc::Global;
 use sys_abi::VPid;
 use sys_abi::errors::ENOSYS;
 
 /// dup (`man 2 dup`). Not built yet.
 #[tactic(auto, unfolding(plain_machine::specs::Rows::Descriptors::dup_row))]
-pub(crate) fn dup(kernel: &mut PlainKernel, alloc: Global, p: VPid, fd: u32) -> RowResult
+pub fn dup(kernel: &mut PlainKernel, alloc: Global, p: VPid, fd: u32) -> RowResult
     ensures row { IfOk result (RowTold (rows.dup_row kernel.old p fd) kernel.new) }
     ensures kept { IfOk result (λ attempt. KeepsUnlessGives attempt kernel.old kernel.new) }
 {
@@ -19,7 +19,7 @@ pub(crate) fn dup(kernel: &mut PlainKernel, alloc: Global, p: VPid, fd: u32) -> 
 
 /// dup3 (`man 2 dup`). Not built yet.
 #[tactic(auto, unfolding(plain_machine::specs::Rows::Descriptors::dup3_row))]
-pub(crate) fn dup3(
+pub fn dup3(
     kernel: &mut PlainKernel,
     alloc: Global,
     p: VPid,
@@ -35,7 +35,7 @@ pub(crate) fn dup3(
 
 /// fcntl (`man 2 fcntl`). Not built yet.
 #[tactic(auto, unfolding(plain_machine::specs::Rows::Descriptors::fcntl_row))]
-pub(crate) fn fcntl(
+pub fn fcntl(
     kernel: &mut PlainKernel,
     alloc: Global,
     p: VPid,
@@ -51,7 +51,7 @@ pub(crate) fn fcntl(
 
 /// close (`man 2 close`). Not built yet.
 #[tactic(auto, unfolding(plain_machine::specs::Rows::Descriptors::close_row))]
-pub(crate) fn close(kernel: &mut PlainKernel, alloc: Global, p: VPid, fd: u32) -> RowResult
+pub fn close(kernel: &mut PlainKernel, alloc: Global, p: VPid, fd: u32) -> RowResult
     ensures row { IfOk result (RowTold (rows.close_row kernel.old p fd) kernel.new) }
     ensures kept { IfOk result (λ attempt. KeepsUnlessGives attempt kernel.old kernel.new) }
 {

@@ -1,16 +1,16 @@
 ghost use Rattle.std.specs.Prelude.{IfOk};
 ghost use Rattle.plain_machine.specs.Rows.Counters as rows;
-ghost use Rattle.plain_rows.specs.Answers.{RowTold, KeepsUnlessGives};
+ghost use Rattle.plain_machine.specs.Answers.{RowTold, KeepsUnlessGives};
 
-use crate::answer::{Attempt, RowResult};
 use plain_machine::PlainKernel;
+use plain_machine::answer::{Attempt, RowResult};
 use std::alloc::Global;
 use sys_abi::VPid;
 use sys_abi::errors::ENOSYS;
 
 /// eventfd2 (`man 2 eventfd`). Not built yet.
 #[tactic(auto, unfolding(plain_machine::specs::Rows::Counters::eventfd2_row))]
-pub(crate) fn eventfd2(
+pub fn eventfd2(
     kernel: &mut PlainKernel,
     alloc: Global,
     p: VPid,

@@ -1,9 +1,9 @@
 ghost use Rattle.std.specs.Prelude.{◌≡◌, ◌++◌, IfOk, OnOk};
 ghost use Rattle.plain_machine.specs.Rows.Clone as rows;
-ghost use Rattle.plain_rows.specs.Answers.{RowTold, KeepsUnlessGives};
+ghost use Rattle.plain_machine.specs.Answers.{RowTold, KeepsUnlessGives};
 
-use crate::answer::{Answer, Attempt, RowResult};
 use plain_machine::PlainKernel;
+use plain_machine::answer::{Answer, Attempt, RowResult};
 use std::alloc::{AllocError, Global};
 use sys_abi::errors::{EAGAIN, EINVAL, ENOSYS};
 use sys_abi::flags::{CLONE_CHILD_SETTID, CLONE_PARENT_SETTID};
@@ -18,7 +18,7 @@ const LAST_ID: u32 = 0x7FFF_FFFF;
 
 /// clone (`man 2 clone`): a thread more for the caller's process. A fork isn't built yet.
 #[tactic(auto, unfolding(plain_machine::specs::Rows::Clone::clone_row))]
-pub(crate) fn clone(kernel: &mut PlainKernel, alloc: Global, p: VPid, flags: u32) -> RowResult
+pub fn clone(kernel: &mut PlainKernel, alloc: Global, p: VPid, flags: u32) -> RowResult
     ensures row { IfOk result (RowTold (rows.clone_row kernel.old p flags) kernel.new) }
     ensures kept { IfOk result (λ attempt. KeepsUnlessGives attempt kernel.old kernel.new) }
 {

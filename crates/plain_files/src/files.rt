@@ -1,16 +1,16 @@
 ghost use Rattle.std.specs.Prelude.{◌≡◌, IfOk};
 ghost use Rattle.plain_machine.specs.Rows.Files as rows;
-ghost use Rattle.plain_rows.specs.Answers.{attempt_told, RowTold, KeepsUnlessGives};
+ghost use Rattle.plain_machine.specs.Answers.{attempt_told, RowTold, KeepsUnlessGives};
 
-use crate::answer::{Attempt, RowResult};
 use plain_machine::PlainKernel;
+use plain_machine::answer::{Attempt, RowResult};
 use std::alloc::Global;
 use sys_abi::VPid;
 use sys_abi::errors::ENOSYS;
 
 /// openat (`man 2 openat`), of this path. Not built yet.
 #[tactic(auto, unfolding(plain_machine::specs::Rows::Files::openat_row))]
-pub(crate) fn openat(
+pub fn openat(
     kernel: &mut PlainKernel,
     alloc: Global,
     p: VPid,
@@ -27,7 +27,7 @@ pub(crate) fn openat(
 
 /// unlinkat (`man 2 unlinkat`), of this path. Not built yet.
 #[tactic(auto, unfolding(plain_machine::specs::Rows::Files::unlinkat_row))]
-pub(crate) fn unlinkat(
+pub fn unlinkat(
     kernel: &mut PlainKernel,
     alloc: Global,
     p: VPid,
@@ -44,7 +44,7 @@ pub(crate) fn unlinkat(
 
 /// lseek (`man 2 lseek`). Not built yet.
 #[tactic(auto, unfolding(plain_machine::specs::Rows::Files::lseek_row))]
-pub(crate) fn lseek(
+pub fn lseek(
     kernel: &mut PlainKernel,
     alloc: Global,
     p: VPid,

@@ -1,16 +1,16 @@
 ghost use Rattle.std.specs.Prelude.{◌≡◌, IfOk};
 ghost use Rattle.plain_machine.specs.Rows.Connections as rows;
-ghost use Rattle.plain_rows.specs.Answers.{attempt_told, KeepsUnlessGives};
+ghost use Rattle.plain_machine.specs.Answers.{attempt_told, KeepsUnlessGives};
 
-use crate::answer::{Attempt, RowResult};
 use plain_machine::PlainKernel;
+use plain_machine::answer::{Attempt, RowResult};
 use std::alloc::Global;
 use sys_abi::errors::ENOSYS;
 use sys_abi::{Given, VPid};
 
 /// accept (`man 2 accept`), with this much room for the address. Not built yet.
 #[tactic(auto, unfolding(plain_machine::specs::Rows::Connections::accept_row))]
-pub(crate) fn accept(
+pub fn accept(
     kernel: &mut PlainKernel,
     alloc: Global,
     p: VPid,
@@ -27,7 +27,7 @@ pub(crate) fn accept(
 
 /// connect (`man 2 connect`), to this address. Not built yet.
 #[tactic(auto, unfolding(plain_machine::specs::Rows::Connections::connect_row))]
-pub(crate) fn connect(
+pub fn connect(
     kernel: &mut PlainKernel,
     alloc: Global,
     p: VPid,
@@ -44,7 +44,7 @@ pub(crate) fn connect(
 
 /// Whether an accept doesn't wait.
 #[tactic(auto, unfolding(plain_machine::specs::Rows::Connections::is_accept_ready))]
-pub(crate) fn is_accept_ready(kernel: &PlainKernel, p: VPid, fd: u32) -> bool
+pub fn is_accept_ready(kernel: &PlainKernel, p: VPid, fd: u32) -> bool
     ensures { result ≡ rows.is_accept_ready kernel.now p fd }
 {
     true
@@ -52,13 +52,7 @@ pub(crate) fn is_accept_ready(kernel: &PlainKernel, p: VPid, fd: u32) -> bool
 
 /// Whether a connect doesn't wait.
 #[tactic(auto, unfolding(plain_machine::specs::Rows::Connections::is_connect_ready))]
-pub(crate) fn is_connect_ready(
-    kernel: &PlainKernel,
-    p: VPid,
-    fd: u32,
-    length: u32,
-    front: &Given,
-) -> bool
+pub fn is_connect_ready(kernel: &PlainKernel, p: VPid, fd: u32, length: u32, front: &Given) -> bool
     ensures { result ≡ rows.is_connect_ready kernel.now p fd length front.now }
 {
     true

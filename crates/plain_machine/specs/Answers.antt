@@ -9,9 +9,9 @@ use Rattle.sys_abi.specs.declared.reply.Reply.TheVariants.{Error}
 use Rattle.plain_machine.specs.declared.kernel.PlainKernel.{PlainKernel}
 use Rattle.plain_process.specs.Attempts.{Try, Fails, NotReady, Gives}
 use Rattle.plain_machine.specs.Attempts.{Served}
-use Rattle.plain_rows.specs.declared.answer.Answer.{Answer}
-use Rattle.plain_rows.specs.declared.answer.Attempt.{Attempt}
-use Rattle.plain_rows.specs.declared.answer.Attempt.TheVariants as of_code
+use Rattle.plain_machine.specs.declared.answer.Answer.{Answer}
+use Rattle.plain_machine.specs.declared.answer.Attempt.{Attempt}
+use Rattle.plain_machine.specs.declared.answer.Attempt.TheVariants as of_code
 
 abbrev pub served_by : PlainKernel → List ℕ → Answer → Served
 served_by k given answer = record {

@@ -1,10 +1,10 @@
 ghost use Rattle.std.specs.Prelude.{◌≡◌, ◌≤◌, length, IfOk};
 ghost use Rattle.sys_abi.specs.declared.transfer.TheConstants.{TRANSFER_LIMIT};
 ghost use Rattle.plain_machine.specs.Rows.Write as rows;
-ghost use Rattle.plain_rows.specs.Answers.{attempt_told, KeepsUnlessGives};
+ghost use Rattle.plain_machine.specs.Answers.{attempt_told, KeepsUnlessGives};
 
-use crate::answer::{Answer, Attempt, RowResult};
 use plain_machine::PlainKernel;
+use plain_machine::answer::{Answer, Attempt, RowResult};
 use plain_tables::description::Object;
 use std::alloc::Global;
 use sys_abi::errors::{EBADF, ENOSYS};
@@ -13,7 +13,7 @@ use views::list_of::ListOf;
 
 /// write (`man 2 write`), of these bytes, by a thread that asks for so many.
 #[tactic(auto, unfolding(plain_machine::specs::Rows::Write::write_row, plain_machine::specs::Rows::Write::write_object, plain_process::specs::Attempts::and_then, plain_process::specs::Attempts::need, plain_process::specs::Attempts::found))]
-pub(crate) fn write(
+pub fn write(
     kernel: &mut PlainKernel,
     alloc: Global,
     p: VPid,
@@ -45,13 +45,7 @@ pub(crate) fn write(
 
 /// Whether a write doesn't wait, by the front of what it is given.
 #[tactic(auto, unfolding(plain_machine::specs::Rows::Write::is_write_ready))]
-pub(crate) fn is_write_ready(
-    kernel: &PlainKernel,
-    p: VPid,
-    fd: u32,
-    count: u32,
-    front: &Given,
-) -> bool
+pub fn is_write_ready(kernel: &PlainKernel, p: VPid, fd: u32, count: u32, front: &Given) -> bool
     ensures { result ≡ rows.is_write_ready kernel.now p fd count front.now }
 {
     true

@@ -1,0 +1,10 @@
+//! The calls on descriptors and files that a kernel part serves, on plain data: a function a row, which
+//! changes the kernel part in place.
+//!
+//! Proved: each function's answer is the row of its call, and it changes nothing unless it gives. After want of
+//! memory the kernel part may be any: who must keep it serves a copy. No row is built yet: each answers
+//! ENOSYS.
+#![tactic(auto)]
+
+pub mod descriptors;
+pub mod files;
