@@ -1,5 +1,4 @@
 ghost use Rattle.std.specs.Prelude.{◌≡◌, ◌<◌, ◌^◌, IfOk, if◌then◌else◌};
-ghost use Rattle.plain_process.specs.Put.{made_as, made_by};
 ghost use Rattle.plain_process.specs.Threads as words;
 ghost use Rattle.std.specs.FinMap as map;
 
@@ -9,30 +8,10 @@ use plain_process::threads::{after_call, new_clear_tid, new_regs};
 use plain_process::user_part::{ThreadPart, UserPart};
 use std::alloc::{AllocError, Global};
 use sys_abi::flags::CLONE_CHILD_SETTID;
-use sys_abi::{CloneForm, Reply, Request, Tid, clone_form};
+use sys_abi::{Request, Tid};
 use views::duplicate::Duplicate;
 use views::list_of::ListOf;
 use views::number_map::NumberMap;
-
-/// The number of the child that an answer makes: that which a fork answers.
-#[tactic(auto, unfolding(plain_process::specs::Put::made_by))]
-pub fn made_by(request: &Request, reply: Reply) -> Option<u32>
-    ensures { result ≡ made_by request.now reply }
-{
-    match *request {
-        Request::Clone { flags, .. } => made_as(reply, clone_form(flags)),
-        _ => None,
-    }
-}
-
-fn made_as(reply: Reply, form: Option<CloneForm>) -> Option<u32>
-    ensures { result ≡ made_as reply form }
-{
-    match (reply, form) {
-        (Reply::Value(new), Some(CloneForm::Fork)) => Some(new),
-        _ => None,
-    }
-}
 
 /// The part of the child that a fork makes of a process, of which the child has the calling thread alone, under its own
 /// number (`man 2 fork`). The process's part is that before the call's answer.

@@ -1,9 +1,9 @@
 //! The calls on descriptors and files that a kernel part serves, on plain data: a function a row, which
 //! changes the kernel part in place.
 //!
-//! Proved: each function's answer is the row of its call, and it changes nothing unless it gives. After want of
-//! memory the kernel part may be any: who must keep it serves a copy. No row is built yet: each answers
-//! ENOSYS.
+//! Proved: each function's answer is the row of its call, and it changes nothing unless it gives. After want
+//! of memory the kernel part may be any: who must keep it serves a copy. Closing a descriptor and taking a
+//! name away take no memory.
 #![tactic(auto)]
 
 pub mod descriptors;

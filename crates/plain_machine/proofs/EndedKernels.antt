@@ -18,7 +18,7 @@ use Rattle.plain_tables.specs.Tables.{NOBODY, Processes, pid, is_live_process, h
 use Rattle.plain_tables.specs.Ends.{is_child_of, is_zombie_child, orphan, orphaned, zombie}
 use Rattle.plain_tables.specs.Valid.Processes.{AreProcesses, FitsLife}
 use Rattle.plain_machine.specs.Kernel.{DESCRIPTOR_LIMIT, is_live, has_thread, after_raise_for_all, without_process}
-use Rattle.plain_machine.specs.Ends.{closed_below, with_zombie, left_to, left_by, without_holds, ended}
+use Rattle.plain_machine.specs.Ends.{closed_below, with_zombie, left_to, left_by, without_holds, after_end}
 use Rattle.plain_machine.specs.Kernels.{IsKernel}
 use Rattle.plain_tables.proofs.Orphans.{orphan_life, orphan_threads, look_up}
 use Rattle.plain_tables.proofs.Changes.{changed_other, changed_test}
@@ -37,9 +37,9 @@ no_thread threads u none =
     let empty : threads ≡ map.empty = map.empty_of_len threads none in
     ap (λ (m : map.FinMap nat_cmp ℕ). is_some (map.get m u)) empty ∙ ap is_some (map.get-empty {X = ℕ} nat_cmp u)
 
-zombie_threads : (life : Life) (threads : map.FinMap nat_cmp ℕ) (pending u : ℕ) → lives life ≡ false → FitsLife life threads pending → is_some (map.get threads u) ≡ false
-zombie_threads Live threads pending u dead fits = true_false dead
-zombie_threads (Zombie status) threads pending u dead fits = no_thread threads u fits.0
+pub no_thread_of : (life : Life) (threads : map.FinMap nat_cmp ℕ) (pending u : ℕ) → lives life ≡ false → FitsLife life threads pending → is_some (map.get threads u) ≡ false
+no_thread_of Live threads pending u dead fits = true_false dead
+no_thread_of (Zombie status) threads pending u dead fits = no_thread threads u fits.0
 
 -- the children of a process without their parent
 child_died : (child alive : Bool) → (child && not alive) ≡ true → alive ≡ false
@@ -64,7 +64,7 @@ module _ (p : VPid) (next_id : ℕ) (processes : Processes) (are : AreProcesses 
   thread_by u (Some old) there = chosen (is_zombie_child p old) refl
     where
       chosen : (b : Bool) → is_zombie_child p old ≡ b → has_thread_in u (option_map (orphan p) (cond (not b) (Some old) None)) ≡ is_some (map.get old.threads u)
-      chosen true gone = sym (zombie_threads old.life old.threads old.pending u (child_died (is_child_of p old) (lives old.life) gone) (are.each r old there).life)
+      chosen true gone = sym (no_thread_of old.life old.threads old.pending u (child_died (is_child_of p old) (lives old.life) gone) (are.each r old there).life)
       chosen false stays = ap (λ threads. is_some (map.get threads u)) (orphan_threads p old)
 
   orphans_live : is_live_process (map.get (orphaned p processes) r) ≡ is_live_process (map.get processes r)
@@ -124,8 +124,8 @@ module _ (k left : PlainKernel) (p : VPid) (status : ℕ) (kept : Left k left) w
       chosen true = as_zombie parent
       chosen false = without_it
 
-pub kernel_ended : (k : PlainKernel) (p : VPid) (status : ℕ) → IsKernel k → is_live k p ≡ true → Ended k p (ended k p status)
-unfolding is_live ended
+pub kernel_ended : (k : PlainKernel) (p : VPid) (status : ℕ) → IsKernel k → is_live k p ≡ true → Ended k p (after_end k p status)
+unfolding is_live after_end
 kernel_ended k p status is alive = by_found (map.get k.processes p) alive
   where
     by_found : (found : Option Process) → is_live_process found ≡ true → Ended k p (left_by (without_holds k p) p status found)

@@ -20,7 +20,7 @@ use Rattle.plain_process.specs.declared.user_part.UserPart.{UserPart}
 use Rattle.plain_process.specs.declared.user_part.ThreadPart.{ThreadPart}
 use Rattle.plain_machine.specs.Attempts.{Served}
 use Rattle.plain_machine.specs.Kernel.{is_live, after_take}
-use Rattle.plain_machine.specs.Ends.{ended}
+use Rattle.plain_machine.specs.Ends.{after_end}
 use Rattle.plain_process.specs.Put.{made_by, put}
 use Rattle.plain_tables.specs.Tables.{pid}
 use Rattle.plain_process.specs.Deliveries.{Delivery, Enters, Ignores, Kills, traps_with}
@@ -79,7 +79,7 @@ module _ (g : Plain) (q p : VPid) (apart : q ≢ p) (new : q ≢ pid g.kernel.ne
   delivered_leaves : (h : Plain) (d : Delivery) → map.get h.users q ≡ map.get g.users q → IsLeft q g.users (quiet (delivered h p d))
   delivered_leaves h (Enters user) same alive = get_insert_other vpid_total vpid_exact h.users p user q apart ∙ same
   delivered_leaves h Ignores same alive = same
-  delivered_leaves h (Kills status) same alive = kept (ended h.kernel p status) h.users same alive
+  delivered_leaves h (Kills status) same alive = kept (after_end h.kernel p status) h.users same alive
 
   pending_leaves : (t s : ℕ) (user : UserPart) (found : Option ThreadPart) → Leaves q g.users (outcome_of_pending g p t s user found)
   pending_leaves t s user None = nothing

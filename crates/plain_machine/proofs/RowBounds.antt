@@ -24,7 +24,7 @@ use Rattle.plain_process.specs.Put.{added_thread, made_by, error}
 use Rattle.plain_process.specs.Valid.{IsWord}
 use Rattle.plain_machine.specs.Attempts.{Served, refused, settled}
 use Rattle.plain_machine.specs.Kernel.{is_live, has_thread, at_process}
-use Rattle.plain_machine.specs.Ends.{ended}
+use Rattle.plain_machine.specs.Ends.{after_end}
 use Rattle.plain_machine.specs.Valid.{IsKernel}
 use Rattle.plain_machine.specs.RowLaws.{IsAsked, IsAnswer, IsServed, IsMade, MayAdd, there_after}
 use Rattle.plain_machine.specs.Serve.{row, row_answer, row_is_ready, front_of}
@@ -113,7 +113,7 @@ module _ (k : PlainKernel) (p : VPid) (t : ℕ) (q : Request) (given : List ℕ)
   }
 
   -- the caller's process ends
-  pub ends : (status : ℕ) → status < 2 ^ 32 → served.kernel ≡ ended k p status → added_thread q served.reply ≡ None → made_by q served.reply ≡ None → IsServed k p t q given served
+  pub ends : (status : ℕ) → status < 2 ^ 32 → served.kernel ≡ after_end k p status → added_thread q served.reply ≡ None → made_by q served.reply ≡ None → IsServed k p t q given served
   ends status word is adds makes =
       let over = kernel_ended k p status asked.kernel asked.alive in
       let same : served.kernel.next_id ≡ k.next_id = ap (λ (after : PlainKernel). after.next_id) is ∙ over.next_id in

@@ -20,7 +20,7 @@ use Rattle.plain_process.specs.declared.user_part.UserPart.{UserPart}
 use Rattle.plain_process.specs.declared.user_part.ThreadPart.{ThreadPart}
 use Rattle.plain_machine.specs.Attempts.{Served}
 use Rattle.plain_machine.specs.Kernel.{is_live, has_thread, after_take}
-use Rattle.plain_machine.specs.Ends.{ended}
+use Rattle.plain_machine.specs.Ends.{after_end}
 use Rattle.plain_process.specs.Steps.{UserStep, Stepped, Asks, Trapped, Waits, NoThread, user_step, user_steps}
 use Rattle.plain_process.specs.Buffers.{lent}
 use Rattle.plain_process.specs.Put.{made_by, put}
@@ -98,8 +98,8 @@ living_valid users next kernel are there agree =
 ended_valid : (g : Plain) (p : VPid) (status : ℕ) → IsValid g → is_live g.kernel p ≡ true → status < 2 ^ 32 → IsValid (ended_by_signal g p status)
 ended_valid g p status is alive word =
     let over = kernel_ended g.kernel p status is.kernel alive in
-    let other : (q : VPid) → is_live (ended g.kernel p status) q ≡ true → q ≢ p = λ q lives same. true_false (sym lives ∙ ap (is_live (ended g.kernel p status)) same ∙ over.gone) in
-    living_valid g.users (ended g.kernel p status) (whole_ended g.kernel p status is.kernel alive word) is.users
+    let other : (q : VPid) → is_live (after_end g.kernel p status) q ≡ true → q ≢ p = λ q lives same. true_false (sym lives ∙ ap (is_live (after_end g.kernel p status)) same ∙ over.gone) in
+    living_valid g.users (after_end g.kernel p status) (whole_ended g.kernel p status is.kernel alive word) is.users
     (λ q lives. is.alive q ∙ sym (over.live q (other q lives)) ∙ lives)
     (λ q user found lives u. known_threads g q user is found u ∙ sym (over.threads q u (other q lives)))
 

@@ -22,7 +22,7 @@ use Rattle.plain_tables.specs.Ends.{is_child_of, is_zombie_child, orphan, orphan
 use Rattle.plain_tables.specs.Valid.Processes.{AreProcesses, AreMakers, AreParents, HasParent, IsParent}
 use Rattle.plain_tables.specs.Valid.Descriptions.{AreHolders, IsOwner}
 use Rattle.plain_machine.specs.Kernel.{DESCRIPTOR_LIMIT, is_live, at_process, without_process, after_raise_for_all, thread_count}
-use Rattle.plain_machine.specs.Ends.{closed_below, without_owner, without_children, with_zombie, left_to, left_by, without_holds, ended, thread_ended}
+use Rattle.plain_machine.specs.Ends.{closed_below, without_owner, without_children, with_zombie, left_to, left_by, without_holds, after_end, thread_ended}
 use Rattle.plain_machine.specs.Kernels.{IsKernel}
 use Rattle.plain_tables.proofs.Changes.{each_changed}
 use Rattle.plain_tables.proofs.AlikeProcesses.{AreAlike, Was, changed_alike}
@@ -288,8 +288,8 @@ module _ (k : PlainKernel) (p : VPid) (status : ℕ) (is : IsKernel k) (alive : 
         chosen true hears = whole_waited hears
         chosen false none = whole_without_process left p whole_left_over left_childless left_holders left_owners
 
-  pub whole_ended : IsKernel (ended k p status)
-  unfolding ended left closed
+  pub whole_ended : IsKernel (after_end k p status)
+  unfolding after_end left closed
   whole_ended = by_found (map.get k.processes p) refl
     where
       by_found : (found : Option Process) → map.get k.processes p ≡ found → IsKernel (left_by (without_holds k p) p status found)
@@ -300,7 +300,7 @@ pub whole_thread_ended : (k : PlainKernel) (p : VPid) (t status : ℕ) → IsKer
 unfolding thread_ended
 whole_thread_ended k p t status is alive word = chosen (nat_le (thread_count k p) 1) refl
   where
-    chosen : (b : Bool) → nat_le (thread_count k p) 1 ≡ b → IsKernel (cond b (ended k p status) (at_process k p (without_thread_entry t)))
+    chosen : (b : Bool) → nat_le (thread_count k p) 1 ≡ b → IsKernel (cond b (after_end k p status) (at_process k p (without_thread_entry t)))
     chosen true last = whole_ended k p status is alive word
     chosen false others =
         let some : 1 < thread_count k p = grind (arith, nat_tests, others) in

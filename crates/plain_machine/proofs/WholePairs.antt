@@ -102,7 +102,7 @@ module _ (descriptions : Descriptions) (listeners : Listeners) (channels : Chann
         absurd (old_conn conn joined.0 joined.1 refl)
     not_queued a one found false other = refl
 
-    none_pending : is_pending listeners conn ≡ false
+    pub none_pending : is_pending listeners conn ≡ false
     none_pending = none_among-values address_total address_exact (is_queued conn) listeners (λ a one found. not_queued a one found (is_queued conn one) refl)
 
     unnamed : (s : ℕ) → is_named descriptions listeners conn s ≡ false
@@ -176,7 +176,7 @@ module _ (descriptions : Descriptions) (listeners : Listeners) (channels : Chann
     }
 
 -- a listener's descriptions, beside a new stream
-listeners_with : (descriptions : Descriptions) (listeners : Listeners) (channels : Channels) (d : DescId) (x : Description) → map.get descriptions d ≡ None → ((a : VirtAddr) → is_listener_at a x.object ≡ false)
+pub listeners_with : (descriptions : Descriptions) (listeners : Listeners) (channels : Channels) (d : DescId) (x : Description) → map.get descriptions d ≡ None → ((a : VirtAddr) → is_listener_at a x.object ≡ false)
     → AreListeners descriptions listeners channels → AreListeners (map.insert descriptions d x) listeners channels
 listeners_with descriptions listeners channels d x new no_listener is = record {
   each = is.each;

@@ -1,7 +1,7 @@
 -- Processes end, and make others.
 -- Source: `man 2 exit`, `man 2 wait4`, `man 2 fork`; that the zombies of a parent that ends go with it is
 -- this project's own rule.
---     ended k p status            p ends: its descriptors close from 0 on, what it owned has no owner, its
+--     after_end k p status        p ends: its descriptors close from 0 on, what it owned has no owner, its
 --                                 children have no parent and its zombies go; then it is a zombie, of which
 --                                 its live parent hears by a signal, or it is gone
 --     thread_ended k p t status   a thread ends, and the last one takes its process with it
@@ -46,8 +46,8 @@ left_by k p status (Some process) = left_to k p status (pid process.parent)
 abbrev pub without_holds : PlainKernel → VPid → PlainKernel
 without_holds k p = without_children (without_owner (closed_below k p DESCRIPTOR_LIMIT) p) p
 
-unfoldable pub ended : PlainKernel → VPid → ℕ → PlainKernel
-ended k p status = left_by (without_holds k p) p status (map.get k.processes p)
+unfoldable pub after_end : PlainKernel → VPid → ℕ → PlainKernel
+after_end k p status = left_by (without_holds k p) p status (map.get k.processes p)
 
 -- the status that a code of exit gives (`man 2 wait4`)
 abbrev pub exit_status : ℕ → ℕ
@@ -55,7 +55,7 @@ exit_status code = code % 256 * 256
 
 unfoldable pub thread_ended : PlainKernel → VPid → ℕ → ℕ → PlainKernel
 thread_ended k p t status =
-    if nat_le (thread_count k p) 1 then ended k p status else at_process k p (without_thread_entry t)
+    if nat_le (thread_count k p) 1 then after_end k p status else at_process k p (without_thread_entry t)
 
 unfoldable pub after_fork : PlainKernel → VPid → PlainKernel
 after_fork k p = record k {

@@ -13,7 +13,7 @@ use Rattle.plain_process.specs.Attempts.{Try, Gives, found, ◌>>=◌}
 use Rattle.plain_tables.specs.declared.description.Descriptor.{Descriptor}
 use Rattle.plain_tables.specs.declared.description.Description.{Description}
 use Rattle.plain_tables.specs.declared.description.Object.{Object}
-use Rattle.plain_tables.specs.Tables.{Descriptors, pid, slot, is_live_process, pending_in, taken_from, raised_at, raised_for_all, changed_at, thread_count_in, has_thread_in, with_thread_entry, same_host, counted}
+use Rattle.plain_tables.specs.Tables.{Descriptors, pid, slot, is_live_process, pending_in, taken_from, raised_at, raised_for_all, changed_at, thread_count_in, has_thread_in, with_thread_entry, same_host, made_more}
 
 -- the process is there and has not ended
 unfoldable pub is_live : PlainKernel → VPid → Bool
@@ -62,7 +62,7 @@ has_numbers k p = nat_lt (made_of k p) (2 ^ 32 - 4)
 
 -- a process has made n things more
 abbrev pub numbered : PlainKernel → VPid → ℕ → PlainKernel
-numbered k p n = record k { makers = changed_at k.makers p (counted n) }
+numbered k p n = record k { makers = changed_at k.makers p (made_more n) }
 
 abbrev pub with_descriptor : PlainKernel → VPid → ℕ → Descriptor → PlainKernel
 with_descriptor k p fd descriptor = record k { descriptors = map.insert k.descriptors (slot p fd) descriptor }

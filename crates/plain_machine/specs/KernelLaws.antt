@@ -26,7 +26,7 @@ use Rattle.plain_tables.specs.Valid.Datagrams.{IsCounter}
 use Rattle.plain_machine.specs.Kernel.{is_live, thread_count, has_thread, after_take, after_raise, after_raise_for_all, with_next_thread, numbered, with_descriptor, placed}
 use Rattle.plain_machine.specs.Channels.{with_direction, with_channel, arrived_more}
 use Rattle.plain_machine.specs.Closing.{close_fd}
-use Rattle.plain_machine.specs.Ends.{ended, thread_ended, after_fork}
+use Rattle.plain_machine.specs.Ends.{after_end, thread_ended, after_fork}
 use Rattle.plain_machine.specs.Start.{NamedFile, PROGRAM_LIMIT, start_kernel}
 use Rattle.plain_machine.specs.Kernels.{IsKernel, AreNamed}
 
@@ -61,7 +61,7 @@ ThreadEndKeeps = (k : PlainKernel) (p : VPid) (t status : ℕ) → IsKernel k �
 
 abbrev pub EndKeeps : Type 0
 EndKeeps = (k : PlainKernel) (p : VPid) (status : ℕ) → IsKernel k → is_live k p ≡ true → status < 2 ^ 32
-    → IsKernel (ended k p status)
+    → IsKernel (after_end k p status)
 
 abbrev pub ForkKeeps : Type 0
 ForkKeeps = (k : PlainKernel) (p : VPid) → IsKernel k → is_live k p ≡ true → map.len k.processes < 128

@@ -19,7 +19,7 @@ use Rattle.plain_process.specs.declared.user_part.UserPart.{UserPart}
 use Rattle.plain_process.specs.declared.user_part.ThreadPart.{ThreadPart}
 use Rattle.plain_machine.specs.Attempts.{Served}
 use Rattle.plain_machine.specs.Kernel.{is_live, pending, after_take}
-use Rattle.plain_machine.specs.Ends.{ended}
+use Rattle.plain_machine.specs.Ends.{after_end}
 use Rattle.plain_process.specs.Steps.{UserStep, Asks, Trapped, Waits, user_step, user_steps}
 use Rattle.plain_process.specs.Buffers.{lent}
 use Rattle.plain_process.specs.Put.{made_by, put, put_fault}
@@ -113,7 +113,7 @@ is_unready g p t user (Asks q) = waits_at g p t q (lent user.memory q)
 is_unready g p t user _ = false
 
 abbrev pub ended_by_signal : Plain → VPid → ℕ → Plain
-ended_by_signal g p status = living (record { kernel = ended g.kernel p status; users = g.users })
+ended_by_signal g p status = living (record { kernel = after_end g.kernel p status; users = g.users })
 
 abbrev pub delivered : Plain → VPid → Delivery → Plain
 delivered g p (Enters user) = with_user g p user

@@ -79,7 +79,7 @@ row_is_ready k p t (Read fd buffer count) front = is_read_ready k p fd count
 row_is_ready k p t (Write fd buffer count) front = is_write_ready k p fd count front
 row_is_ready k p t (Accept fd address length) front = is_accept_ready k p fd
 row_is_ready k p t (Connect fd address length) front = is_connect_ready k p fd length front
-row_is_ready k p t (Wait4 number status options usage) front = is_wait4_ready k p number options
+row_is_ready k p t (Wait4 number status options usage) front = is_wait4_ready k p number options usage
 row_is_ready k p t _ front = true
 
 -- the calls that are served so far: of files, sockets and processes there are the console and threads alone

@@ -22,9 +22,9 @@ impl PlainKernel {
     /// Ends a process: its descriptors close, what it owned has no owner, its children have no parent and its zombies
     /// go; then it is a zombie with this status, of which its live parent hears by a signal, or without one it is gone.
     /// Takes no memory.
-    #[tactic(auto, unfolding(crate::specs::Ends::ended))]
+    #[tactic(auto, unfolding(crate::specs::Ends::after_end))]
     pub fn end_process(&mut self, alloc: Global, p: VPid, status: u32)
-        ensures { self.new ≡ words.ended self.old p status }
+        ensures { self.new ≡ words.after_end self.old p status }
     {
         let Some(process) = self.processes.get(p) else {
             self.leave_all(alloc, p);

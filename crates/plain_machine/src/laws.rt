@@ -1,9 +1,12 @@
 ghost use Rattle.plain_machine.specs.Laws.{RecordIsLocal, StartIsValid, StepKeepsValid, RunOfOneMore, ConsoleOfOneMore, ReadIsLaunched, StartIsUser, UserStepsKeepUser, PutKeepsUser, FaultKeepsUser, LocalKeepsUser, DeliveryKeepsUser, AskedIsRequest, WaitersAreFew, StandsAsked, EachIsServed, ReadyByFront, ServeAdds};
+ghost use Rattle.plain_machine.specs.BirthLaws.{BirthsAreForks, EndsAreOwn};
 ghost use Rattle.plain_machine.specs.KernelLaws.{StartIsKernel, TakeKeeps, RaiseKeeps, RaiseForAllKeeps, NextThreadKeeps, ThreadEndKeeps, EndKeeps, ForkKeeps, CloseKeeps, AgainKeeps, PlacedKeeps, NumberedKeeps, PairKeeps, ArrivalKeeps};
 
 /// The laws of runs, for proofs about traces. It does nothing.
 pub fn run_laws()
     ensures local { RecordIsLocal }
+    ensures births { BirthsAreForks }
+    ensures ends { EndsAreOwn }
     ensures start { StartIsValid }
     ensures valid { StepKeepsValid }
     ensures run { RunOfOneMore }

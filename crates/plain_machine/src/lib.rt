@@ -11,22 +11,30 @@
 //! that goes with it. `kernel_laws` has what each word keeps of a valid kernel part. `run_laws` has the laws of
 //! runs: a start is valid, each step keeps valid, a process's part stays fit over its steps and its calls'
 //! answers, each call that a valid state serves leaves and answers what one law says, the first 16 bytes that a
-//! call reads tell whether it waits, a record of one process leaves every other process's part, and a run and
-//! its console take one more record at a trace's end. The rows of write, exit, exit_group, kill, tgkill,
+//! call reads tell whether it waits, a record of one process leaves every other process's part, a process begins
+//! by a fork alone and ends by its own records alone, and a run and its console take one more record at a trace's
+//! end. The rows of write, exit, exit_group, kill, tgkill,
 //! getpid, getppid and clone of a thread are built, and each other call that the kernel serves answers ENOSYS.
 //! Not claimed: that any hardware or kernel behaves so.
 #![tactic(auto)]
 
 pub mod answer;
 pub mod closing;
+pub mod commands;
+pub mod descriptors;
 pub mod end;
+pub mod file_laws;
+pub mod forks;
 pub mod kernel;
 pub mod laws;
 pub mod look_ups;
+pub mod new_end;
 pub mod pending;
 pub mod plain;
 pub mod start;
+pub mod stream_laws;
 pub mod threads;
+pub mod waiting;
 
 pub use answer::{Answer, Attempt, RowResult};
 pub use kernel::PlainKernel;
@@ -35,3 +43,4 @@ pub use plain::Plain;
 pub use plain_tables::NOBODY;
 pub use start::FIRST_PID;
 pub use sys_abi::Life;
+pub use waiting::Waiting;

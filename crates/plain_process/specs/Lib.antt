@@ -7,6 +7,7 @@ pub mod Rows
 pub mod Buffers
 pub mod Replies
 pub mod Threads
+pub mod Twins
 pub mod Put
 pub mod Pages
 pub mod Deliveries

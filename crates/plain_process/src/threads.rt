@@ -1,7 +1,7 @@
 //! What a call's answer, a clone and a wake do to a thread's registers and to the list of those that wait (`man 2 clone`,
 //! `man 2 futex`).
 ghost use Rattle.std.specs.Prelude.{◌≡◌, ◌<◌, if◌then◌else◌};
-ghost use Rattle.plain_process.specs.Put.{added_thread, added_by};
+ghost use Rattle.plain_process.specs.Put.{added_thread, added_by, made_as, made_by};
 ghost use Rattle.plain_process.specs.Registers as registers;
 ghost use Rattle.plain_process.specs.Threads as words;
 ghost use Rattle.sys_abi.specs.Flags.{has_flag};
@@ -117,6 +117,26 @@ fn added_by(reply: Reply, form: Option<CloneForm>) -> Option<u32>
 {
     match (reply, form) {
         (Reply::Value(new), Some(CloneForm::Thread)) => Some(new),
+        _ => None,
+    }
+}
+
+/// The number of the child that an answer makes: that which a fork answers.
+#[tactic(auto, unfolding(crate::specs::Put::made_by))]
+pub fn made_by(request: &Request, reply: Reply) -> Option<u32>
+    ensures { result ≡ made_by request.now reply }
+{
+    match *request {
+        Request::Clone { flags, .. } => made_as(reply, clone_form(flags)),
+        _ => None,
+    }
+}
+
+fn made_as(reply: Reply, form: Option<CloneForm>) -> Option<u32>
+    ensures { result ≡ made_as reply form }
+{
+    match (reply, form) {
+        (Reply::Value(new), Some(CloneForm::Fork)) => Some(new),
         _ => None,
     }
 }

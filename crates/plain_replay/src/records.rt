@@ -12,15 +12,16 @@ ghost use Rattle.plain_replay.specs.Replays.{after_told, state_of};
 
 use id_maps::ByPid;
 use plain_calls::delivering::{deliver, look, traps_with};
-use plain_calls::forking::{child_of, made_by};
+use plain_calls::forking::child_of;
 use plain_calls::local::local_row;
 use plain_calls::putting::{put, put_fault};
+use plain_machine::Answer;
 use plain_machine::kernel::PlainKernel;
 use plain_machine::plain::Plain;
 use plain_memory::lending::lent;
 use plain_process::memory::Frame;
+use plain_process::threads::made_by;
 use plain_process::user_part::UserPart;
-use plain_machine::Answer;
 use plain_steps::steps::{UserStep, user_step, user_steps};
 use plain_tables::channel::Direction;
 use std::alloc::{AllocError, Global};

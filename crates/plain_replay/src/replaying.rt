@@ -7,14 +7,17 @@ use crate::records::step;
 use plain_machine::plain::Plain;
 use std::alloc::{AllocError, Global};
 use sys_abi::Record;
+use thiserror::Error;
 use views::duplicate::Duplicate;
 
 /// Why a trace gives no state.
-#[derive(Clone, Copy, Debug, PartialEq, Eq)]
+#[derive(Clone, Copy, Debug, PartialEq, Eq, Error)]
 pub enum ReplayFault {
     /// The record of this number is the first that is no step, counted from 0.
+    #[error("the record of number {0} is no step")]
     Refused(u64),
     /// There was not enough memory.
+    #[error("out of memory")]
     Memory,
 }
 

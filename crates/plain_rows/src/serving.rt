@@ -140,7 +140,12 @@ fn is_ready_by_row(kernel: &PlainKernel, p: VPid, t: Tid, request: &Request, fro
         Request::Write { fd, count, .. } => is_write_ready(kernel, p, fd, count, front),
         Request::Accept { fd, .. } => is_accept_ready(kernel, p, fd),
         Request::Connect { fd, length, .. } => is_connect_ready(kernel, p, fd, length, front),
-        Request::Wait4 { pid, options, .. } => is_wait4_ready(kernel, p, pid, options),
+        Request::Wait4 {
+            pid,
+            options,
+            usage,
+            ..
+        } => is_wait4_ready(kernel, p, pid, options, usage),
         _ => true,
     }
 }

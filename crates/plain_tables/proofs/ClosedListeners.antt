@@ -42,13 +42,13 @@ shrinks_then a b c first later = record {
   ends = λ conn host is. first.ends conn host (later.ends conn host is);
 }
 
-distinct_tail : (conn : ConnId) (rest : List ConnId) → AllPairs (λ c later. c ≢ later) (conn ∷ rest) → AllPairs (λ c later. c ≢ later) rest
+pub distinct_tail : (conn : ConnId) (rest : List ConnId) → AllPairs (λ c later. c ≢ later) (conn ∷ rest) → AllPairs (λ c later. c ≢ later) rest
 distinct_tail conn rest pairs = λ i j d before below. pairs (suc i) (suc j) d (omega arith) (omega arith)
 
-distinct_head : (conn : ConnId) (rest : List ConnId) → AllPairs (λ c later. c ≢ later) (conn ∷ rest) → All (λ later. conn ≢ later) rest
+pub distinct_head : (conn : ConnId) (rest : List ConnId) → AllPairs (λ c later. c ≢ later) (conn ∷ rest) → All (λ later. conn ≢ later) rest
 distinct_head conn rest pairs = λ i d below. pairs zero (suc i) d (omega arith) (omega arith)
 
-none_queued : (conn : ConnId) (queue : List ConnId) → All (λ later. conn ≢ later) queue → list_any (eq_by_cmp conn_cmp conn) queue ≡ false
+pub none_queued : (conn : ConnId) (queue : List ConnId) → All (λ later. conn ≢ later) queue → list_any (eq_by_cmp conn_cmp conn) queue ≡ false
 none_queued conn [] all = refl
 none_queued conn (c ∷ rest) all =
     ap (λ b. b || list_any (eq_by_cmp conn_cmp conn) rest) (other_key conn_total conn_exact conn c (All-head (λ later. conn ≢ later) c rest all))

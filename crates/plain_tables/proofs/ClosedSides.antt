@@ -18,7 +18,7 @@ use Rattle.plain_tables.specs.declared.channel.ChannelKind.TheVariants.{Pipe}
 use Rattle.plain_tables.specs.declared.channel.Direction.{Direction}
 use Rattle.plain_tables.specs.Tables.{Channels, Directions, changed_at}
 use Rattle.plain_tables.specs.Objects.{dir, end_of}
-use Rattle.plain_tables.specs.Closing.{with_closed, with_end, without_reader, quiet, closed_channels_by, closed_channels, closed_directions_by, closed_directions}
+use Rattle.plain_tables.specs.Closing.{with_closed, with_end, without_reader, silenced, closed_channels_by, closed_channels, closed_directions_by, closed_directions}
 use Rattle.plain_tables.specs.Valid.Channels.{AreChannels, IsDirection, IsClosed, HasAddress}
 use Rattle.plain_tables.proofs.Entries.{each_with, there_same, as_many, len_without, still_there, not_removed}
 use Rattle.plain_tables.proofs.Changes.{each_changed, changed_test, changed_other, changed_from}
@@ -86,8 +86,8 @@ module _ (directions : Directions) (conn : ConnId) (side : ℕ) where
       })
       (λ at old there. record { old = old; there = there; empty = λ is. is; ended = λ is. is; unread = λ is. is; fits = λ is. is })
 
-  quieter : Each (quiet directions conn side) (Quieter directions)
-  unfolding quiet ended_one
+  quieter : Each (silenced directions conn side) (Quieter directions)
+  unfolding silenced ended_one
   quieter = each_changed dir_total dir_exact ended_one (dir conn (1 - side)) without_reader (Quieter directions)
       (λ one there.
       let was = quieter_first (dir conn (1 - side)) one there in
@@ -101,19 +101,19 @@ module _ (directions : Directions) (conn : ConnId) (side : ℕ) where
       })
       quieter_first
 
-  quiet_same : (at : Dir) → is_some (map.get (quiet directions conn side) at) ≡ is_some (map.get directions at)
-  unfolding quiet ended_one
+  quiet_same : (at : Dir) → is_some (map.get (silenced directions conn side) at) ≡ is_some (map.get directions at)
+  unfolding silenced ended_one
   quiet_same at = changed_test dir_total dir_exact ended_one (dir conn (1 - side)) without_reader is_some (λ one there. refl) at
       ∙ changed_test dir_total dir_exact directions (dir conn side) with_end is_some (λ one there. refl) at
 
-  unread_there : (direction : Direction) → map.get (quiet directions conn side) (dir conn (1 - side)) ≡ Some direction → direction.unread ≡ true
-  unfolding quiet ended_one
+  unread_there : (direction : Direction) → map.get (silenced directions conn side) (dir conn (1 - side)) ≡ Some direction → direction.unread ≡ true
+  unfolding silenced ended_one
   unread_there direction found =
       let from = changed_from dir_total dir_exact ended_one (dir conn (1 - side)) without_reader direction found in
       ap (λ (d : Direction). d.unread) from.2
 
-  ended_there : side < 2 → (direction : Direction) → map.get (quiet directions conn side) (dir conn side) ≡ Some direction → direction.ended ≡ true
-  unfolding quiet ended_one
+  ended_there : side < 2 → (direction : Direction) → map.get (silenced directions conn side) (dir conn side) ≡ Some direction → direction.ended ≡ true
+  unfolding silenced ended_one
   ended_there low direction found =
       let apart : dir conn side ≢ dir conn (1 - side) = λ same. let number : side ≡ 1 - side = ap (λ (d : Dir). d.side) same in omega arith in
       let first : map.get ended_one (dir conn side) ≡ Some direction = sym (changed_other dir_total dir_exact ended_one (dir conn (1 - side)) without_reader (dir conn side) apart) ∙ found in
@@ -125,7 +125,7 @@ module _ (channels : Channels) (directions : Directions) (conn : ConnId) (side :
   known_there = ap is_some known
 
   -- the other side is open
-  half_keeps : (half : Channel) → IsHalf channel half side → (end_of channel (1 - side)).is_open ≡ true → AreChannels (map.insert channels conn half) (quiet directions conn side)
+  half_keeps : (half : Channel) → IsHalf channel half side → (end_of channel (1 - side)).is_open ≡ true → AreChannels (map.insert channels conn half) (silenced directions conn side)
   half_keeps half has goes =
       let old = is.addresses conn channel known in
       record {
@@ -146,8 +146,8 @@ module _ (channels : Channels) (directions : Directions) (conn : ConnId) (side :
             let at_conn : map.get (map.insert channels conn half) conn ≡ Some ch = subst (λ x. map.get (map.insert channels conn half) x ≡ Some ch) here found in
             let same : half ≡ ch = let put = get_insert_same conn_total conn_exact channels conn half in cc in
             let shut_half : (end_of half s).is_open ≡ false = subst (λ w. (end_of w s).is_open ≡ false) (sym same) shut in
-            subst (λ x. IsClosed (map.get (quiet directions conn side) (dir x s)) (map.get (quiet directions conn side) (dir x (1 - s)))) (sym here)
-            (sides (λ t. (end_of half t).is_open ≡ false → IsClosed (map.get (quiet directions conn side) (dir conn t)) (map.get (quiet directions conn side) (dir conn (1 - t)))) side low
+            subst (λ x. IsClosed (map.get (silenced directions conn side) (dir x s)) (map.get (silenced directions conn side) (dir x (1 - s)))) (sym here)
+            (sides (λ t. (end_of half t).is_open ≡ false → IsClosed (map.get (silenced directions conn side) (dir conn t)) (map.get (silenced directions conn side) (dir conn (1 - t)))) side low
             (λ closed. record { ended = ended_there directions conn side low; unread = unread_there directions conn side })
             (λ closed. true_false (sym (sym closed ∙ has.other ∙ goes)))
             s below shut_half))
@@ -221,9 +221,9 @@ module _ (channels : Channels) (directions : Directions) (conn : ConnId) (side :
   unfolding closed_channels
   channels_are b is = ap (closed_channels_by channels conn side) known ∙ ap (λ x. cond x (map.insert channels conn (with_closed side channel)) (map.remove channels conn)) is
 
-  directions_are : (b : Bool) → (end_of channel (1 - side)).is_open ≡ b → closed_directions channels directions conn side ≡ cond b (quiet directions conn side) gone_directions
+  directions_are : (b : Bool) → (end_of channel (1 - side)).is_open ≡ b → closed_directions channels directions conn side ≡ cond b (silenced directions conn side) gone_directions
   unfolding closed_directions gone_directions
-  directions_are b is = ap (closed_directions_by directions conn side) known ∙ ap (λ x. cond x (quiet directions conn side) gone_directions) is
+  directions_are b is = ap (closed_directions_by directions conn side) known ∙ ap (λ x. cond x (silenced directions conn side) gone_directions) is
 
   pub closed_keeps : AreChannels (closed_channels channels conn side) (closed_directions channels directions conn side)
   closed_keeps = chosen (end_of channel (1 - side)).is_open refl

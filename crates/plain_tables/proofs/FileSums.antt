@@ -81,5 +81,14 @@ pub sum_with : (files : Files) (file : ℕ) (bytes : List ℕ) → sum_by length
 unfolding bytes_of
 sum_with files file bytes = let e = bytes_of-insert files file bytes in omega (arith, e)
 
+-- other bytes of a file that is there
+pub sum_replaced : (files : Files) (file : ℕ) (old bytes : List ℕ) → map.get files file ≡ Some old
+    → sum_by length (map.values (map.insert files file bytes)) + length old ≡ sum_by length (map.values files) + length bytes
+unfolding bytes_of
+sum_replaced files file old bytes known =
+    let e = bytes_of-insert files file bytes in
+    let same = ap (λ found. length (unwrap_or found [])) known in
+    omega (arith, e, same)
+
 pub sum_none : sum_by length (map.values (map.empty {X = List ℕ} {R = nat_cmp})) ≡ 0
 sum_none = ap (λ (values : List (List ℕ)). sum_by length values) (values-empty nat_cmp_total nat_cmp-IsAntisymmetric {X = List ℕ})

@@ -21,3 +21,5 @@ pub mod SharedDescriptors
 pub mod CountedMakers
 pub mod NewChannels
 pub mod OpenedStreams
+pub mod SocketObjects
+pub mod Queues

@@ -1,6 +1,7 @@
 -- A child has its parent's descriptors.
---     shared_was, shared_kept      look-ups after a fork      shared_descriptors, shared_descriptions, shared_holders, shared_hosts
-use Rattle.std.proofs.Common.{◌≡◌, ◌≢◌, ℕ, ◌<◌, true, refl, sym, ap, subst, ◌∙◌, inl, inr, ⊎_elim}
+--     shared_was, shared_kept, shared_own      look-ups after a fork, those of others than the child, those of the parent
+--     shared_next      one number after the other      shared_descriptors, shared_descriptions, shared_holders, shared_hosts
+use Rattle.std.proofs.Common.{◌≡◌, ◌≢◌, ℕ, ◌+◌, ◌<◌, true, refl, sym, ap, subst, ◌∙◌, inl, inr, arith, ⊎_elim}
 use Rattle.std.specs.Prelude.{◌==◌, ◌⊎◌, zero, suc, Option, Some, None, option_map}
 use Rattle.std.specs.FinMap as map
 use Rattle.views.proofs.MapLaws.{get_insert_same, get_insert_other, same_or_other, true_false}
@@ -52,6 +53,29 @@ module _ (p child : VPid) (descriptors : Descriptors) where
   unfolding shared_below
   shared_kept zero at other = refl
   shared_kept (suc n) at other = kept_by n at (shared_below p child descriptors n) other (shared_kept n at other) (map.get descriptors (slot p n))
+
+  -- the parent's own, whoever is the child
+  own_by : (n fd : ℕ) (rest : Descriptors) → map.get rest (slot p fd) ≡ map.get descriptors (slot p fd) → (parents : Option Descriptor) → map.get descriptors (slot p n) ≡ parents
+      → map.get (shared_at child n parents rest) (slot p fd) ≡ map.get descriptors (slot p fd)
+  own_by n fd rest earlier None there = earlier
+  own_by n fd rest earlier (Some x) there = ⊎_elim
+      (λ here.
+      let same_fd : fd ≡ n = ap (λ (s : Slot). s.fd) here in
+      ap (map.get (map.insert rest (slot child n) x)) here ∙ get_insert_same slot_total slot_exact rest (slot child n) x ∙ sym there ∙ ap (λ m. map.get descriptors (slot p m)) (sym same_fd))
+      (λ other. get_insert_other slot_total slot_exact rest (slot child n) x (slot p fd) other ∙ earlier)
+      (same_or_other slot_total slot_exact (slot p fd) (slot child n))
+
+  pub shared_own : (n fd : ℕ) → map.get (shared_below p child descriptors n) (slot p fd) ≡ map.get descriptors (slot p fd)
+  unfolding shared_below
+  shared_own zero fd = refl
+  shared_own (suc n) fd = own_by n fd (shared_below p child descriptors n) (shared_own n fd) (map.get descriptors (slot p n)) refl
+
+  -- one number more, where those below it are shared
+  pub shared_next : (n : ℕ) (shared : Descriptors) → shared ≡ shared_below p child descriptors n → shared_at child n (map.get shared (slot p n)) shared ≡ shared_below p child descriptors (n + 1)
+  unfolding shared_below
+  shared_next n shared is =
+      let next : suc n ≡ n + 1 = omega arith in
+      ap (λ ds. shared_at child n (map.get ds (slot p n)) ds) is ∙ ap (λ found. shared_at child n found (shared_below p child descriptors n)) (shared_own n n) ∙ ap (shared_below p child descriptors) next
 
 -- hosts alone decide
 abbrev pub host_at : Option Maker → Option ℕ

@@ -29,8 +29,8 @@ abbrev pub without_reader : Direction → Direction
 without_reader direction = record { left = []; arrived = 0; ended = direction.ended; unread = true }
 
 -- a side sends no more, and reads no more
-unfoldable pub quiet : Directions → ConnId → ℕ → Directions
-quiet directions conn side =
+unfoldable pub silenced : Directions → ConnId → ℕ → Directions
+silenced directions conn side =
     changed_at (changed_at directions (dir conn side) with_end) (dir conn (1 - side)) without_reader
 
 -- a channel of which no side is open is gone
@@ -47,7 +47,7 @@ closed_channels channels conn side = closed_channels_by channels conn side (map.
 abbrev pub closed_directions_by : Directions → ConnId → ℕ → Option Channel → Directions
 closed_directions_by directions conn side None = directions
 closed_directions_by directions conn side (Some channel) =
-    if (end_of channel (1 - side)).is_open then quiet directions conn side else
+    if (end_of channel (1 - side)).is_open then silenced directions conn side else
     map.remove (map.remove directions (dir conn 0)) (dir conn 1)
 
 unfoldable pub closed_directions : Channels → Directions → ConnId → ℕ → Directions

@@ -145,5 +145,5 @@ same_host (Some a) (Some b) = a.host == b.host
 same_host _ _ = false
 
 -- a process that has made n things more
-abbrev pub counted : ℕ → Maker → Maker
-counted n maker = record { host = maker.host; made = maker.made + n }
+abbrev pub made_more : ℕ → Maker → Maker
+made_more n maker = record { host = maker.host; made = maker.made + n }

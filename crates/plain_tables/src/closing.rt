@@ -56,7 +56,8 @@ fn across(side: u8) -> u8
     if side == 0 { 1 } else { 0 }
 }
 
-fn end_at(directions: &mut ByDir<Direction>, at: Dir)
+/// Nothing more is sent in a direction that is there. Takes no memory.
+pub fn end_at(directions: &mut ByDir<Direction>, at: Dir)
     ensures { directions.new ≡ changed_at directions.old at words.with_end }
 {
     if let Some(direction) = directions.get_mut(at) {
@@ -64,7 +65,8 @@ fn end_at(directions: &mut ByDir<Direction>, at: Dir)
     }
 }
 
-fn stop_reading_at(directions: &mut ByDir<Direction>, alloc: Global, at: Dir)
+/// Nothing more is read in a direction that is there. Takes no memory.
+pub fn stop_reading_at(directions: &mut ByDir<Direction>, alloc: Global, at: Dir)
     ensures { directions.new ≡ changed_at directions.old at words.without_reader }
 {
     if let Some(direction) = directions.get_mut(at) {
@@ -72,10 +74,10 @@ fn stop_reading_at(directions: &mut ByDir<Direction>, alloc: Global, at: Dir)
     }
 }
 
-/// A side sends no more, and reads no more.
-#[tactic(auto, unfolding(crate::specs::Closing::quiet))]
-fn quiet(directions: &mut ByDir<Direction>, alloc: Global, conn: ConnId, side: u8)
-    ensures { directions.new ≡ words.quiet directions.old conn side }
+/// A side sends no more, and reads no more. Takes no memory.
+#[tactic(auto, unfolding(crate::specs::Closing::silenced))]
+pub fn quiet(directions: &mut ByDir<Direction>, alloc: Global, conn: ConnId, side: u8)
+    ensures { directions.new ≡ words.silenced directions.old conn side }
 {
     end_at(directions, Dir { conn, side });
     stop_reading_at(

@@ -15,7 +15,8 @@ use views::number_map::NumberMap;
 pub const NOBODY: u32 = 1;
 
 impl Process {
-    fn is_child_of(&self, p: VPid) -> bool
+    /// Whether that one is its parent.
+    pub fn is_child_of(&self, p: VPid) -> bool
         ensures { result ≡ words.is_child_of p self.now }
     {
         self.parent == p.0

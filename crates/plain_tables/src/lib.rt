@@ -13,6 +13,7 @@ pub mod channel;
 pub mod closing;
 pub mod description;
 pub mod ends;
+pub mod forks;
 pub mod pending;
 pub mod process;
 pub mod threads;

@@ -34,17 +34,14 @@ impl Page {
         })
     }
 
-    /// The page with these bytes.
+    /// The page with these bytes, which are copied once.
     pub fn of_slice(alloc: Global, bytes: &[u8]) -> Result<Page, AllocError>
         requires { length bytes.now ≡ PAGE_SIZE }
         ensures { IfOk result (λ page. page ≡ bytes.now) }
     {
-        let Ok(array) = <&[u8; PAGE_SIZE]>::try_from(bytes) else {
-            unreachable!();
-        };
-        Ok(Page {
-            bytes: Box::new(alloc, *array)?,
-        })
+        let mut page = Box::new(alloc, [0; PAGE_SIZE])?;
+        page.copy_from_slice(bytes);
+        Ok(Page { bytes: page })
     }
 
     #[inline]

@@ -1,7 +1,6 @@
 use crate::asserting::{bytes, counts, replies, same, says};
-use plain_machine::{FIRST_PID, NOBODY, PlainKernel};
+use plain_machine::{Answer, FIRST_PID, NOBODY, PlainKernel};
 use plain_replay::{Served, serve_slowly};
-use plain_machine::Answer;
 use plain_rows::{is_ready, serve};
 use std::alloc::{AllocError, Global};
 use std::process::Abort;

@@ -5,7 +5,7 @@ use Rattle.std.specs.FinMap as map
 use Rattle.std.proofs.lemmas.Bool.Decides.{nat_tests}
 use Rattle.std.proofs.lemmas.List.Elements.{All-nil, All-append}
 use Rattle.sys_abi.specs.declared.identity.VPid.{VPid}
-use Rattle.sys_abi.specs.declared.errors.TheConstants.{EAGAIN, EINVAL, ENOSYS}
+use Rattle.sys_abi.specs.declared.errors.TheConstants.{EAGAIN, EINVAL}
 use Rattle.sys_abi.specs.declared.flags.TheConstants.{CLONE_PARENT_SETTID, CLONE_CHILD_SETTID}
 use Rattle.sys_abi.specs.declared.cloning.CloneForm.{CloneForm}
 use Rattle.sys_abi.specs.declared.cloning.CloneForm.TheVariants.{Fork, Thread}
@@ -16,16 +16,17 @@ use Rattle.sys_abi.specs.Clones.{clone_form}
 use Rattle.sys_abi.specs.Flags.{has_flag}
 use Rattle.plain_machine.specs.declared.kernel.PlainKernel.{PlainKernel}
 use Rattle.plain_tables.specs.declared.process.Process.{Process}
-use Rattle.plain_tables.specs.Tables.{has_thread_in, with_thread_entry}
+use Rattle.plain_tables.specs.Tables.{is_live_process, has_thread_in, with_thread_entry}
 use Rattle.plain_process.specs.Attempts.{need}
-use Rattle.plain_process.specs.Buffers.{span_if, thread_spans, clone_fills, fills_of, size_of, filled_spans, lent}
+use Rattle.plain_process.specs.Buffers.{span_if, clone_fills, fills_of, filled_spans}
 use Rattle.plain_process.specs.Memory.{Memory}
-use Rattle.plain_process.specs.Put.{added_by, added_thread, made_as, made_by, error, CanTake}
+use Rattle.plain_process.specs.Put.{added_by, added_thread, made_as, made_by, error}
 use Rattle.plain_process.specs.Valid.{IsByte}
-use Rattle.plain_machine.specs.Kernel.{has_thread, thread_count, with_next_thread}
+use Rattle.plain_machine.specs.Kernel.{is_live, has_thread, thread_count, with_next_thread}
+use Rattle.plain_machine.specs.Ends.{after_fork}
 use Rattle.plain_machine.specs.Valid.{IsKernel}
-use Rattle.plain_machine.specs.RowLaws.{with_one, IsAnswer, MayAdd, there_after}
-use Rattle.plain_machine.specs.Rows.Clone.{THREAD_LIMIT, LAST_ID, number_if, number_bytes, cloned, clone_thread, clone_by, clone_row}
+use Rattle.plain_machine.specs.RowLaws.{with_one, IsAsked, IsAnswer, IsServed, IsMade, MayAdd, there_after}
+use Rattle.plain_machine.specs.Rows.Clone.{THREAD_LIMIT, PROCESS_LIMIT, LAST_ID, number_if, number_bytes, cloned, forked, clone_thread, clone_process, clone_by, clone_row}
 use Rattle.plain_machine.specs.Serve.{row, row_is_ready}
 use Rattle.plain_process.proofs.MemoryBounds.{low_bytes_are}
 use Rattle.plain_machine.proofs.Trying.{Trying, succeeds, fails, after}
@@ -34,7 +35,9 @@ use Rattle.plain_machine.proofs.MemoryPages.{FitsSpans}
 use Rattle.plain_machine.proofs.CallBounds.{lent_room}
 use Rattle.plain_machine.proofs.ThreadKeys.{there_with}
 use Rattle.plain_machine.proofs.WholeChanges.{whole_next_thread}
-use Rattle.plain_machine.proofs.RowBounds.{RowLaw, Meets, row_law, IsQuiet, changed, Settles, tested}
+use Rattle.plain_machine.proofs.WholeForks.{whole_fork}
+use Rattle.plain_machine.proofs.ForkedKernels.{forked_other, forked_child, child_has}
+use Rattle.plain_machine.proofs.RowBounds.{RowLaw, Meets, row_law, IsQuiet, next_is_other, changed, Settles, tested}
 
 -- the bytes of a new number, for each place that is wanted
 number_if_are : (wanted : Bool) (number : ℕ) → All IsByte (number_if wanted number)
@@ -52,6 +55,14 @@ room_for_numbers true true parent child number = omega arith
 room_for_numbers true false parent child number = omega arith
 room_for_numbers false true parent child number = omega arith
 room_for_numbers false false parent child number = tt
+
+few_of_one : (wanted : Bool) (number : ℕ) → length (number_if wanted number) ≤ 4
+few_of_one true number = omega arith
+few_of_one false number = omega arith
+
+room_for_one : (wanted : Bool) (place number : ℕ) → FitsSpans (span_if wanted place) (length (number_if wanted number))
+room_for_one true place number = omega arith
+room_for_one false place number = tt
 
 -- an error adds and makes nothing
 pub error_quiet : (t flags stack parent tls child e : ℕ) → IsQuiet t (Clone flags stack parent tls child) (error e)
@@ -113,15 +124,62 @@ module _ (k : PlainKernel) (p : VPid) (t flags stack parent tls child : ℕ) (gi
               (ap (made_as (Value k.next_id)) form);
         }))
 
+  module _ (form : clone_form flags ≡ Some Fork) where
+    child_fits : (memory : Memory) → FitsSpans (filled_spans memory call) (length (number_if (has_flag flags CLONE_PARENT_SETTID) k.next_id))
+    unfolding fills_of
+    child_fits memory = subst (λ f. FitsSpans (clone_fills flags parent child f) (length (number_if (has_flag flags CLONE_PARENT_SETTID) k.next_id))) (sym form)
+        (room_for_one (has_flag flags CLONE_PARENT_SETTID) parent k.next_id)
+
+    child_answer : IsKernel k → IsAnswer call given (forked k p flags)
+    child_answer is = record {
+      reply = let last = is.numbers.last_id in omega arith;
+      bytes = number_if_are (has_flag flags CLONE_PARENT_SETTID) k.next_id;
+      short = let few = few_of_one (has_flag flags CLONE_PARENT_SETTID) k.next_id in omega arith;
+      room = λ memory reads. lent_room memory call given (number_if (has_flag flags CLONE_PARENT_SETTID) k.next_id) reads (child_fits memory);
+      is_shown = false;
+      console = refl;
+    }
+
+    next_rises : k.next_id ≤ (after_fork k p).next_id
+    unfolding after_fork
+    next_rises = omega arith
+
+    -- the others live as before, and so does the caller with its threads
+    child_made : IsAsked k p t call given → IsKernel (after_fork k p) → IsServed k p t call given (forked k p flags)
+    unfolding is_live there_after added_thread made_by
+    child_made asked whole = record {
+      kernel = whole;
+      answer = child_answer asked.kernel;
+      live = λ r other new. ap is_live_process (forked_other k p r new);
+      elsewhere = λ r u other new. ap (has_thread_in u) (forked_other k p r new);
+      here = λ u alive. ap (has_thread_in u) (forked_other k p p (λ same. next_is_other k asked.kernel p asked.alive (sym same)))
+          ∙ sym (ap (λ f. with_one (added_by (Value k.next_id) f) u (has_thread k p u)) form);
+      made = subst (IsMade k (after_fork k p)) (sym (ap (made_as (Value k.next_id)) form)) (refl, ap is_live_process (forked_child k p), child_has k p);
+      adds = subst (MayAdd k p) (sym (ap (added_by (Value k.next_id)) form)) tt;
+      later = next_rises;
+    }
+
+    process_served : Trying (clone_process k p flags) (Meets k p t call given)
+    unfolding clone_process
+    process_served =
+        after (need (nat_lt (map.len k.processes) PROCESS_LIMIT && nat_lt k.next_id LAST_ID) EAGAIN) (λ done allowed.
+        let tests = needed _ EAGAIN done allowed in
+        let few : map.len k.processes < 128 = grind (arith, nat_tests, tests) in
+        let last : k.next_id + 1 < 2 ^ 31 = grind (arith, nat_tests, tests) in
+        succeeds (forked k p flags) (record {
+          short = let few = few_of_one (has_flag flags CLONE_PARENT_SETTID) k.next_id in omega arith;
+          law = λ asked. child_made asked (whole_fork k p asked.kernel asked.alive few last);
+        }))
+
   form_served : (form : Option CloneForm) → clone_form flags ≡ form → Trying (clone_by k p flags form) (Meets k p t call given)
   form_served None is = fails EINVAL
-  form_served (Some Fork) is = fails ENOSYS
+  form_served (Some Fork) is = process_served is
   form_served (Some Thread) is = thread_served is
 
   form_settles : (form : Option CloneForm) → Settles k (clone_by k p flags form)
-  unfolding clone_thread
+  unfolding clone_thread clone_process
   form_settles None = refl
-  form_settles (Some Fork) = refl
+  form_settles (Some Fork) = tested k _ EAGAIN _ refl
   form_settles (Some Thread) = tested k _ EAGAIN _ refl
 
   pub clone_law : RowLaw k p t (Clone flags stack parent tls child) given

@@ -9,7 +9,7 @@ use Rattle.plain_machine.specs.declared.kernel.PlainKernel.{PlainKernel}
 use Rattle.plain_tables.specs.Tables.{without_thread_entry}
 use Rattle.plain_process.specs.Put.{added_thread, made_by}
 use Rattle.plain_machine.specs.Kernel.{at_process, thread_count}
-use Rattle.plain_machine.specs.Ends.{exit_status, ended, thread_ended}
+use Rattle.plain_machine.specs.Ends.{exit_status, after_end, thread_ended}
 use Rattle.plain_machine.specs.RowLaws.{there_after}
 use Rattle.plain_machine.specs.Rows.End.{exit_group_row, exit_row}
 use Rattle.plain_machine.specs.Serve.{row, row_answer, row_is_ready}
@@ -26,14 +26,14 @@ module _ (k : PlainKernel) (p : VPid) (t code : ℕ) (given : List ℕ) where
   pub exit_group_law : RowLaw k p t (ExitGroup code) given
   unfolding row exit_group_row row_is_ready added_thread made_by
   exit_group_law = row_law k p t (ExitGroup code) given (λ e. quiet t (ExitGroup code) _ refl)
-      (succeeds _ (meets k p t (ExitGroup code) given (ended k p (exit_status code)) 0 (λ asked. omega arith)
+      (succeeds _ (meets k p t (ExitGroup code) given (after_end k p (exit_status code)) 0 (λ asked. omega arith)
       (λ asked answer. ends k p t (ExitGroup code) given asked _ answer (exit_status code) (exit_small code) refl refl refl)))
       refl
 
   exit_meets : (last : Bool) → nat_le (thread_count k p) 1 ≡ last
-      → Meets k p t (Exit code) given (record { kernel = cond last (ended k p (exit_status code)) (at_process k p (without_thread_entry t)); reply = Value 0; bytes = []; console = [] })
+      → Meets k p t (Exit code) given (record { kernel = cond last (after_end k p (exit_status code)) (at_process k p (without_thread_entry t)); reply = Value 0; bytes = []; console = [] })
   unfolding added_thread made_by there_after
-  exit_meets true one = meets k p t (Exit code) given (ended k p (exit_status code)) 0 (λ asked. omega arith)
+  exit_meets true one = meets k p t (Exit code) given (after_end k p (exit_status code)) 0 (λ asked. omega arith)
       (λ asked answer. ends k p t (Exit code) given asked _ answer (exit_status code) (exit_small code) refl refl refl)
   exit_meets false one =
       let others : 1 < thread_count k p = grind (arith, nat_tests, one) in

@@ -1,9 +1,11 @@
--- clone(flags, stack, parent_tid, tls, child_tid) (`man 2 clone`): a thread gets the next number, which is
--- written where the flags ask for it. No process makes a child yet.
+-- clone(flags, stack, parent_tid, tls, child_tid) (`man 2 clone`): a thread or a child gets the next number.
+-- A thread's is written where the flags ask for it, a child's in its parent at one place alone: the other one
+-- is the child's own.
 use Rattle.std.specs.Prelude.{◌&&◌, ℕ, ◌-◌, ◌^◌, nat_lt, List, [], ◌++◌, Option, Some, None, Bool, if◌then◌else◌}
+use Rattle.std.specs.FinMap as map
 use Rattle.sys_abi.specs.declared.identity.VPid.{VPid}
 use Rattle.sys_abi.specs.declared.reply.Reply.TheVariants.{Value}
-use Rattle.sys_abi.specs.declared.errors.TheConstants.{EAGAIN, EINVAL, ENOSYS}
+use Rattle.sys_abi.specs.declared.errors.TheConstants.{EAGAIN, EINVAL}
 use Rattle.sys_abi.specs.declared.flags.TheConstants.{CLONE_PARENT_SETTID, CLONE_CHILD_SETTID}
 use Rattle.sys_abi.specs.declared.cloning.CloneForm.{CloneForm}
 use Rattle.sys_abi.specs.declared.cloning.CloneForm.TheVariants.{Fork, Thread}
@@ -13,10 +15,15 @@ use Rattle.plain_process.specs.Memory.{low_bytes}
 use Rattle.plain_process.specs.Attempts.{Try, Fails, Gives, need, ◌>>◌}
 use Rattle.plain_machine.specs.Attempts.{Served}
 use Rattle.plain_machine.specs.Kernel.{thread_count, with_next_thread}
+use Rattle.plain_machine.specs.Ends.{after_fork}
 use Rattle.sys_abi.specs.Flags.{has_flag}
 
 abbrev pub THREAD_LIMIT : ℕ
 THREAD_LIMIT = 64
+
+-- those that have ended and are still there count too
+abbrev pub PROCESS_LIMIT : ℕ
+PROCESS_LIMIT = 128
 
 -- numbers of processes and threads are below this one
 abbrev pub LAST_ID : ℕ
@@ -44,9 +51,22 @@ clone_thread k p flags = do
   need (nat_lt (thread_count k p) THREAD_LIMIT && nat_lt k.next_id LAST_ID) EAGAIN
   Gives (cloned k p flags)
 
+abbrev pub forked : PlainKernel → VPid → ℕ → Served
+forked k p flags = record {
+  kernel = after_fork k p;
+  reply = Value k.next_id;
+  bytes = number_if (has_flag flags CLONE_PARENT_SETTID) k.next_id;
+  console = [];
+}
+
+unfoldable pub clone_process : PlainKernel → VPid → ℕ → Try Served
+clone_process k p flags = do
+  need (nat_lt (map.len k.processes) PROCESS_LIMIT && nat_lt k.next_id LAST_ID) EAGAIN
+  Gives (forked k p flags)
+
 abbrev pub clone_by : PlainKernel → VPid → ℕ → Option CloneForm → Try Served
 clone_by k p flags None = Fails EINVAL
-clone_by k p flags (Some Fork) = Fails ENOSYS
+clone_by k p flags (Some Fork) = clone_process k p flags
 clone_by k p flags (Some Thread) = clone_thread k p flags
 
 unfoldable pub clone_row : PlainKernel → VPid → ℕ → Try Served

@@ -5,10 +5,10 @@ use Rattle.sys_abi.specs.declared.identity.VPid.{VPid}
 use Rattle.plain_machine.specs.declared.kernel.PlainKernel.{PlainKernel}
 use Rattle.plain_process.specs.Attempts.{Try}
 use Rattle.plain_machine.specs.Attempts.{Served, replied}
-use Rattle.plain_machine.specs.Ends.{exit_status, ended, thread_ended}
+use Rattle.plain_machine.specs.Ends.{exit_status, after_end, thread_ended}
 
 unfoldable pub exit_group_row : PlainKernel → VPid → ℕ → Try Served
-exit_group_row k p code = replied (ended k p (exit_status code)) 0
+exit_group_row k p code = replied (after_end k p (exit_status code)) 0
 
 unfoldable pub exit_row : PlainKernel → VPid → ℕ → ℕ → Try Served
 exit_row k p t code = replied (thread_ended k p t (exit_status code)) 0

@@ -10,10 +10,17 @@ use Rattle.plain_machine.proofs.Asking.{stands_asked, serve_adds}
 use Rattle.plain_machine.proofs.EachRow.{each_is_served, ready_by_front}
 use Rattle.plain_machine.proofs.RunLaws.{run_of_one_more, console_of_one_more}
 use Rattle.plain_machine.proofs.Locality.{record_is_local}
+use Rattle.plain_machine.proofs.Births.{births_are_forks, ends_are_own}
 use Rattle.plain_machine.proofs.laws.run_laws.Goals as goal
 
 pub returns-clause-local : goal.returns-clause-local
 returns-clause-local c = record_is_local
+
+pub returns-clause-births : goal.returns-clause-births
+returns-clause-births c = births_are_forks
+
+pub returns-clause-ends : goal.returns-clause-ends
+returns-clause-ends c = ends_are_own
 
 pub returns-clause-start : goal.returns-clause-start
 returns-clause-start c = start_is_valid

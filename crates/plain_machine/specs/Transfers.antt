@@ -1,0 +1,5 @@
+pub mod Answers
+pub mod Counters
+pub mod Datagrams
+pub mod Files
+pub mod Streams

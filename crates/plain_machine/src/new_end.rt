@@ -1,0 +1,7 @@
+/// An end of a channel that a call makes: the descriptor that refers to it, its side, and its status flags.
+#[derive(Clone, Copy, Debug, PartialEq, Eq)]
+pub struct NewEnd {
+    pub fd: u32,
+    pub side: u8,
+    pub flags: u32,
+}
