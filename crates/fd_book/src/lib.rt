@@ -10,8 +10,8 @@
 //!
 //! Proved: all of that. To look up, to close and to change a description or a flag takes no memory: none of these calls
 //! has an answer for want of it. Not proved: how long a call takes; a look-up goes down a tree to the process's table
-//! and is an index there, and the descriptions stand in a slab. `man 2 dup`, `man 2 close` and `man 2 fcntl` are the
-//! standards that the words restate.
+//! and is an index there, and that of a description goes down a tree to its place in a slab. `man 2 dup`, `man 2 close`
+//! and `man 2 fcntl` are the standards that the words restate.
 #![tactic(auto)]
 
 pub mod book;

@@ -1,4 +1,2 @@
 pub mod HandedOut
-pub mod Lends
-pub mod Passes
 pub mod Waits

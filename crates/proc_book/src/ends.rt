@@ -1,15 +1,17 @@
 //! The end of a process.
-ghost use Rattle.std.specs.Prelude.{◌≡◌};
-ghost use Rattle.proc_book.specs.Changes.{at_key};
+ghost use Rattle.std.specs.Prelude.{◌≡◌, not};
+ghost use Rattle.views.specs.Maps.{map_values, retain};
+ghost use Rattle.real_maps.specs.Changes.{at_key};
 ghost use Rattle.proc_book.specs.Processes as process;
 ghost use Rattle.proc_book.specs.Ends as words;
 
-use crate::process_map::ProcessMap;
+use crate::process::Process;
+use real_maps::ByRealPid;
 use std::alloc::Global;
 use sys_abi::signals::SIGCHLD;
 use sys_abi::{RealPid, Signal};
 
-pub(crate) fn is_live_at(processes: &ProcessMap, p: RealPid) -> bool
+pub(crate) fn is_live_at(processes: &ByRealPid<Process>, p: RealPid) -> bool
     ensures { result ≡ words.is_live_at processes.now p }
 {
     match processes.get(p) {
@@ -19,7 +21,7 @@ pub(crate) fn is_live_at(processes: &ProcessMap, p: RealPid) -> bool
 }
 
 /// Makes the signal pending for a process, or for this thread of it, if it is there.
-pub(crate) fn raise_at(processes: &mut ProcessMap, p: RealPid, t: Option<u32>, s: Signal)
+pub(crate) fn raise_at(processes: &mut ByRealPid<Process>, p: RealPid, t: Option<u32>, s: Signal)
     ensures { processes.new ≡ at_key processes.old p (process.raised t s.0) }
 {
     if let Some(process) = processes.get_mut(p) {
@@ -27,7 +29,7 @@ pub(crate) fn raise_at(processes: &mut ProcessMap, p: RealPid, t: Option<u32>, s
     }
 }
 
-fn make_zombie(processes: &mut ProcessMap, alloc: Global, p: RealPid, status: u32)
+fn make_zombie(processes: &mut ByRealPid<Process>, alloc: Global, p: RealPid, status: u32)
     ensures { processes.new ≡ at_key processes.old p (process.zombie status) }
 {
     if let Some(process) = processes.get_mut(p) {
@@ -35,16 +37,30 @@ fn make_zombie(processes: &mut ProcessMap, alloc: Global, p: RealPid, status: u3
     }
 }
 
-fn orphan(processes: &mut ProcessMap, p: RealPid)
+/// Drops the zombies among the children of a process.
+fn drop_zombies_of(processes: &mut ByRealPid<Process>, p: RealPid)
+    ensures { processes.new ≡ retain (λ r process. not (words.is_zombie_child p process)) processes.old }
+{
+    processes.retain_values(|_, process| !process.is_zombie_child_of(p));
+}
+
+/// Leaves the children of a process without a parent.
+fn orphan_children_of(processes: &mut ByRealPid<Process>, p: RealPid)
+    ensures { processes.new ≡ map_values (words.orphan p) processes.old }
+{
+    processes.retain_values(|_, process| process.orphan(p));
+}
+
+fn orphan(processes: &mut ByRealPid<Process>, p: RealPid)
     ensures { processes.new ≡ words.orphaned p processes.old }
 {
-    processes.drop_zombies_of(p);
-    processes.orphan_children_of(p);
+    drop_zombies_of(processes, p);
+    orphan_children_of(processes, p);
 }
 
 /// Leaves the process as a zombie for its live parent, which gets a signal; without one it is gone.
 fn leave(
-    processes: &mut ProcessMap,
+    processes: &mut ByRealPid<Process>,
     alloc: Global,
     p: RealPid,
     status: u32,
@@ -65,7 +81,7 @@ fn leave(
 }
 
 /// The process ends, if it lives.
-pub(crate) fn end(processes: &mut ProcessMap, alloc: Global, p: RealPid, status: u32)
+pub(crate) fn end(processes: &mut ByRealPid<Process>, alloc: Global, p: RealPid, status: u32)
     ensures { processes.new ≡ words.after_end processes.old p status }
 {
     let Some(process) = processes.get(p) else {

@@ -14,7 +14,6 @@ mod ends;
 pub mod limits;
 mod proc_fault;
 mod process;
-mod process_map;
 mod procs;
 mod waiting;
 

@@ -1,7 +1,7 @@
 ghost use Rattle.std.specs.Prelude.{◌≡◌, ◌+◌, ◌≤◌, ◌<◌, ◌^◌, true, false, Ok, Err, find, length, replicate, IfOk, OnOk, OnErr, IsOkUnless, option_and_then, is_some, if◌then◌else◌};
 ghost use Rattle.std.specs.FinMap as map;
 ghost use Rattle.proc_book.specs.declared.limits.TheConstants.{PROCESS_LIMIT, THREAD_LIMIT};
-ghost use Rattle.proc_book.specs.Changes.{at_key};
+ghost use Rattle.real_maps.specs.Changes.{at_key};
 ghost use Rattle.proc_book.specs.Ends.{is_live_at, after_end};
 ghost use Rattle.proc_book.specs.Procs as words;
 
@@ -9,8 +9,8 @@ use crate::ends::{end, raise_at};
 use crate::limits::{PROCESS_LIMIT, THREAD_LIMIT};
 use crate::proc_fault::ProcFault;
 use crate::process::Process;
-use crate::process_map::ProcessMap;
 use crate::waiting::{Waiting, wait_for};
+use real_maps::ByRealPid;
 use std::alloc::{AllocError, Global};
 use std::marker::Model;
 use sys_abi::{Life, RealPid, Signal};
@@ -19,7 +19,7 @@ use sys_abi::{Life, RealPid, Signal};
 #[derive(Drop)]
 pub struct Procs {
     alloc: Global,
-    processes: ProcessMap,
+    processes: ByRealPid<Process>,
     next: Vec<u64>,
 }
 
@@ -43,7 +43,7 @@ impl Procs {
         let next = vec![in alloc; u64::from(pid_base); nodes as usize]?;
         Ok(Procs {
             alloc,
-            processes: ProcessMap::new(alloc),
+            processes: ByRealPid::new(alloc),
             next,
         })
     }
@@ -237,7 +237,7 @@ fn is_above(above: Option<RealPid>, r: RealPid) -> bool
     }
 }
 
-fn can_raise(processes: &ProcessMap, p: RealPid, t: Option<u32>) -> bool
+fn can_raise(processes: &ByRealPid<Process>, p: RealPid, t: Option<u32>) -> bool
     ensures { result ≡ words.can_raise processes.now p t }
 {
     match processes.get(p) {
@@ -246,7 +246,7 @@ fn can_raise(processes: &ProcessMap, p: RealPid, t: Option<u32>) -> bool
     }
 }
 
-fn take_at(processes: &mut ProcessMap, p: RealPid, t: u32, s: Signal) -> bool
+fn take_at(processes: &mut ByRealPid<Process>, p: RealPid, t: u32, s: Signal) -> bool
     ensures had { result ≡ words.is_taken processes.old p t s.0 }
     ensures taken { processes.new ≡ words.after_take processes.old p t s.0 }
 {
@@ -256,7 +256,7 @@ fn take_at(processes: &mut ProcessMap, p: RealPid, t: u32, s: Signal) -> bool
     }
 }
 
-fn end_thread_at(processes: &mut ProcessMap, p: RealPid, t: u32)
+fn end_thread_at(processes: &mut ByRealPid<Process>, p: RealPid, t: u32)
     ensures { processes.new ≡ words.after_end_thread processes.old p t }
 {
     if let Some(process) = processes.get_mut(p) {
@@ -264,7 +264,11 @@ fn end_thread_at(processes: &mut ProcessMap, p: RealPid, t: u32)
     }
 }
 
-fn add_thread_at(processes: &mut ProcessMap, p: RealPid, number: u32) -> Result<(), ProcFault>
+fn add_thread_at(
+    processes: &mut ByRealPid<Process>,
+    p: RealPid,
+    number: u32,
+) -> Result<(), ProcFault>
     requires { is_some (map.get processes.old p) ≡ true }
     ensures refused { THREAD_LIMIT ≤ words.threads_at processes.old p → result ≡ Err ProcFault.Full }
     ensures granted { words.threads_at processes.old p < THREAD_LIMIT → IsOkUnless result ProcFault.Memory }

@@ -2,7 +2,8 @@ ghost use Rattle.std.specs.Prelude.{◌≡◌, None};
 ghost use Rattle.std.specs.FinMap as map;
 ghost use Rattle.proc_book.specs.Procs as words;
 
-use crate::process_map::ProcessMap;
+use crate::process::Process;
+use real_maps::ByRealPid;
 use sys_abi::{Life, RealPid};
 
 /// What a wait finds.
@@ -16,7 +17,11 @@ pub(crate) enum Waiting {
 }
 
 /// What a wait of a process finds, for this child or for any.
-pub(crate) fn wait_for(processes: &ProcessMap, p: RealPid, child: Option<RealPid>) -> Waiting
+pub(crate) fn wait_for(
+    processes: &ByRealPid<Process>,
+    p: RealPid,
+    child: Option<RealPid>,
+) -> Waiting
     ensures { result ≡ words.wait_for processes.now p child }
 {
     match child {
@@ -25,7 +30,7 @@ pub(crate) fn wait_for(processes: &ProcessMap, p: RealPid, child: Option<RealPid
     }
 }
 
-fn wait_by(processes: &ProcessMap, p: RealPid, child: RealPid) -> Waiting
+fn wait_by(processes: &ByRealPid<Process>, p: RealPid, child: RealPid) -> Waiting
     ensures { result ≡ words.wait_by p child (map.get processes.now child) }
 {
     match processes.get(child) {
@@ -44,7 +49,7 @@ fn wait_of(r: RealPid, life: Life) -> Waiting
     }
 }
 
-fn wait_any(processes: &ProcessMap, p: RealPid) -> Waiting
+fn wait_any(processes: &ByRealPid<Process>, p: RealPid) -> Waiting
     ensures { result ≡ words.wait_any p (map.entries processes.now) }
 {
     let mut found = Waiting::NoChild;

@@ -4,10 +4,9 @@ ghost use Rattle.std.specs.FinMap as map;
 ghost use Rattle.sys_abi.specs.declared.identity.VirtAddr.{VirtAddr};
 ghost use Rattle.virt_ids.specs.Pairs.{IsTaken, IsOneToOne};
 
-use crate::by_real_address::ByRealAddress;
-use crate::by_real_pid::ByRealPid;
 use crate::id_fault::IdFault;
 use id_maps::ByAddress;
+use real_maps::{ByRealAddress, ByRealPid};
 use std::alloc::Global;
 use std::marker::Model;
 use sys_abi::{RealAddr, RealPid, VirtAddr};

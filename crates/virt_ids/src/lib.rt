@@ -12,8 +12,6 @@
 //! Nothing here restates a standard.
 #![tactic(auto)]
 
-mod by_real_address;
-mod by_real_pid;
 pub mod id_fault;
 pub mod ids;
 

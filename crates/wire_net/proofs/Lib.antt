@@ -1,5 +1,4 @@
 pub mod ClosedEnds
-pub mod Lends
 pub mod NetworkParts
 pub mod PortsInUse
 pub mod RoomLaws

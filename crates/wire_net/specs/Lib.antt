@@ -1,12 +1,10 @@
 pub mod AgentSteps
-pub mod Changes
 pub mod Channels
 pub mod CutRooms
 pub mod Directions
 pub mod DrainedNets
 pub mod Ends
 pub mod Laws
-pub mod LentListener
 pub mod Listeners
 pub mod Networks
 pub mod Noted

@@ -23,7 +23,6 @@ mod lane;
 mod laws;
 pub mod limits;
 mod listener;
-mod listener_map;
 mod listening;
 mod moving;
 mod net;

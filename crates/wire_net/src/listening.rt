@@ -2,14 +2,14 @@
 ghost use Rattle.std.specs.Prelude.{◌≡◌, ◌≤◌, not, nat_le, length, OnOk, OnErr, MatchOption, option_map};
 ghost use Rattle.std.specs.FinMap as map;
 ghost use Rattle.wire_net.specs.declared.limits.TheConstants.{PORT_BASE_LIMIT};
-ghost use Rattle.wire_net.specs.Changes.{at_key};
+ghost use Rattle.real_maps.specs.Changes.{at_key};
 ghost use Rattle.wire_net.specs.Listeners as words;
 ghost use Rattle.wire_net.specs.Networks.{accept_answer};
 
 use crate::limits::PORT_COUNT;
 use crate::listener::{ConnQueue, Listener};
-use crate::listener_map::ListenerMap;
 use crate::net_fault::NetFault;
+use real_maps::ByRealAddress;
 use std::alloc::{AllocError, Global};
 use sys_abi::{ConnId, RealAddr};
 
@@ -24,7 +24,11 @@ pub(crate) fn new_listener(alloc: Global, backlog: u32) -> Listener
 }
 
 /// The first port of the node at which nobody listens.
-pub(crate) fn next_port(listeners: &ListenerMap, node: u32, base: u32) -> Option<RealAddr>
+pub(crate) fn next_port(
+    listeners: &ByRealAddress<Listener>,
+    node: u32,
+    base: u32,
+) -> Option<RealAddr>
     requires { base ≤ PORT_BASE_LIMIT }
     ensures { MatchOption result (words.AllPortsUsed listeners.now node base) (words.IsNextPort listeners.now node base) }
 {
@@ -38,7 +42,7 @@ pub(crate) fn next_port(listeners: &ListenerMap, node: u32, base: u32) -> Option
 }
 
 /// Whether one more connection may wait at the port, if somebody listens there.
-pub(crate) fn has_room(listeners: &ListenerMap, at: RealAddr) -> Option<bool>
+pub(crate) fn has_room(listeners: &ByRealAddress<Listener>, at: RealAddr) -> Option<bool>
     ensures { result ≡ option_map (λ listener. not (nat_le listener.backlog (length listener.queue))) (map.get listeners.now at) }
 {
     let listener = listeners.get(at)?;
@@ -47,7 +51,7 @@ pub(crate) fn has_room(listeners: &ListenerMap, at: RealAddr) -> Option<bool>
 
 /// One more connection waits at the port, if somebody listens there.
 pub(crate) fn wait_at(
-    listeners: &mut ListenerMap,
+    listeners: &mut ByRealAddress<Listener>,
     at: RealAddr,
     id: ConnId,
 ) -> Result<(), AllocError>
@@ -61,7 +65,10 @@ pub(crate) fn wait_at(
 }
 
 /// The oldest connection that waits at the port waits no more.
-pub(crate) fn accept_at(listeners: &mut ListenerMap, at: RealAddr) -> Result<ConnId, NetFault>
+pub(crate) fn accept_at(
+    listeners: &mut ByRealAddress<Listener>,
+    at: RealAddr,
+) -> Result<ConnId, NetFault>
     ensures answer { result ≡ accept_answer (map.get listeners.old at) }
     ensures ok { OnOk result (listeners.new ≡ at_key listeners.old at words.without_first) }
     ensures err { OnErr result (listeners.new ≡ listeners.old) }

@@ -1,7 +1,7 @@
 ghost use Rattle.std.specs.Prelude.{◌≡◌, ◌↔◌, ◌<◌, ◌≤◌, ◌⊎◌, min, take, length, Ok, Err, IsSome, IsNone, IfSome, IfNone, IfOk, IfErr, OnOk, OnErr, IsOkUnless};
 ghost use Rattle.std.specs.FinMap as map;
 ghost use Rattle.wire_net.specs.declared.limits.TheConstants.{ACCEPTING_SIDE, CHANNEL_LIMIT, NODE_LIMIT, PORT_BASE_LIMIT};
-ghost use Rattle.wire_net.specs.Changes.{at_key};
+ghost use Rattle.real_maps.specs.Changes.{at_key};
 ghost use Rattle.wire_net.specs.Channels as channels;
 ghost use Rattle.wire_net.specs.Directions as directions;
 ghost use Rattle.wire_net.specs.Listeners as listeners;
@@ -10,12 +10,13 @@ ghost use Rattle.wire_net.specs.Networks as words;
 use crate::channel::Channel;
 use crate::closing::{drop_end, drop_pending};
 use crate::limits::CHANNEL_LIMIT;
-use crate::listener_map::ListenerMap;
+use crate::listener::Listener;
 use crate::listening::{accept_at, has_room, new_listener, next_port, wait_at};
 use crate::moving::{end_on, move_on, receive_on, send_on, stop_reading_on};
 use crate::net_fault::NetFault;
 use crate::place::Place;
 use id_maps::ByConn;
+use real_maps::ByRealAddress;
 use std::alloc::{AllocError, Global};
 use std::marker::Model;
 use sys_abi::{ConnId, Dir, RealAddr, Transfer};
@@ -26,7 +27,7 @@ pub struct Net {
     pub(crate) alloc: Global,
     pub(crate) nodes: u32,
     pub(crate) port_base: u32,
-    pub(crate) listeners: ListenerMap,
+    pub(crate) listeners: ByRealAddress<Listener>,
     pub(crate) channels: ByConn<Channel>,
 }
 
@@ -55,7 +56,7 @@ impl Net {
             alloc,
             nodes,
             port_base,
-            listeners: ListenerMap::new(alloc),
+            listeners: ByRealAddress::new(alloc),
             channels: ByConn::new(alloc),
         })
     }

@@ -46,6 +46,56 @@ fn a_folder_of_the_host(rt: HostRuntime) -> Result<(), Fail> {
     Ok(())
 }
 
+/// Asserts what a file has after a cut of `abcdef` and a write.
+fn assert_cut(
+    rt: &(impl Files<File = File> + AllocGlobal + Abort),
+    len: u64,
+    at: u64,
+    bytes: &[u8],
+    want: &str,
+) -> Result<(), Fail> {
+    let mut folder = HostFolder::new(rt, rt.alloc(), PLACE)?;
+    folder.write_at(NAME, 0, b"abcdef")?;
+    folder.cut(NAME, len)?;
+    folder.write_at(NAME, at, bytes)?;
+    let text = shown(rt.alloc(), &mut folder, NAME)?;
+    same(rt, (len, at, text.as_str()), (len, at, want));
+    Ok(())
+}
+
+/// A cut is made by the write that follows it at the file's new end, and else before what follows.
+#[test]
+fn cuts_before_writes(rt: HostRuntime) -> Result<(), Fail> {
+    assert_cut(&rt, 0, 0, b"ABCDEF", "ABCDEF")?;
+    assert_cut(&rt, 2, 2, b"C", "abC")?;
+    assert_cut(&rt, 2, 2, b"CDEFGH", "abCDEFGH")?;
+    assert_cut(&rt, 3, 0, b"A", "Abc")?;
+    fs::remove_dir_all(&rt, PLACE)?;
+    Ok(())
+}
+
+/// Cuts a file, and then does something else than write it.
+fn cut_alone(rt: &(impl Files<File = File> + AllocGlobal)) -> Result<(), Fail> {
+    let mut folder = HostFolder::new(rt, rt.alloc(), PLACE)?;
+    folder.write_at(NAME, 0, b"abcdef")?;
+    folder.cut(NAME, 4)?;
+    folder.cut(OTHER, 0)?;
+    folder.write_at(OTHER, 0, b"other")?;
+    folder.cut(NAME, 3)?;
+    folder.sync()?;
+    Ok(())
+}
+
+#[test]
+fn cuts_before_other_calls(rt: HostRuntime) -> Result<(), Fail> {
+    cut_alone(&rt)?;
+    let text = fs::read_to_string(&rt, "worked_folders_one/s0_1.img")?;
+    same(&rt, text.as_str(), "abc");
+    assert_shown(&rt, OTHER, "other")?;
+    fs::remove_dir_all(&rt, PLACE)?;
+    Ok(())
+}
+
 #[test]
 fn a_folder_that_cannot_be_made_fails(rt: HostRuntime) -> Result<(), Fail> {
     let mut nowhere = HostFolder::new(&rt, rt.alloc(), "worked_folders_missing/folder")?;

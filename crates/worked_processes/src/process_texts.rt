@@ -6,6 +6,7 @@ use views::list_of::ListOf;
 
 const ZEROS: [u8; 4096] = [0; 4096];
 
+/// `addi a7, zero, 139`, `ecall`.
 const RETURN_CODE: [u8; 8] = [0x93, 0x08, 0xB0, 0x08, 0x73, 0x00, 0x00, 0x00];
 
 /// The page that a handler returns to.

@@ -14,7 +14,9 @@ use std::process::Abort;
 use std::test::Fail;
 use sys_abi::{Reply, Request, Tid, VPid};
 
-/// Writes `hello` by two calls, from one segment that is the whole file, at 0x10000.
+/// Writes `hello` by two calls, from one segment that is the whole file, at 0x10000. The code begins at byte 84:
+/// `addi a0, zero, 1`, `auipc a1, 0`, `addi a1, a1, 32`, `addi a2, zero, 6`, `addi a7, zero, 64`, `ecall`,
+/// `addi a0, zero, 0`, `addi a7, zero, 94`, `ecall`.
 const HELLO: [u8; 126] = [
     0x7F, 0x45, 0x4C, 0x46, 0x01, 0x01, 0x01, 0x00, 0x00, 0x00, 0x00, 0x00, 0x00, 0x00, 0x00, 0x00,
     0x02, 0x00, 0xF3, 0x00, 0x01, 0x00, 0x00, 0x00, 0x54, 0x00, 0x01, 0x00, 0x34, 0x00, 0x00, 0x00,
@@ -76,9 +78,9 @@ fn the_guest_of_an_image_runs_on_the_same(rt: HostRuntime) -> Result<(), Fail> {
 const STACK: u32 = 0x7FFF_FFE0;
 
 /// A word on that stack's page.
-const WORD: u32 = 0x7FFF_F000;
+pub const WORD: u32 = 0x7FFF_F000;
 
-const NEW: Tid = Tid(40_001);
+pub const NEW: Tid = Tid(40_001);
 
 /// The word of a thread that is there to be cleared at its end, a stack and a thread pointer of its own.
 const CLONE: Request = Request::Clone {
@@ -91,7 +93,7 @@ const CLONE: Request = Request::Clone {
 
 /// Adds a thread by a clone of the first one's.
 #[tactic(auto, using(guest_proc::proofs::Putting::is_free))]
-fn add_thread(alloc: Global, guest: &mut Guest) -> Result<(), Fail> {
+pub fn add_thread(alloc: Global, guest: &mut Guest) -> Result<(), Fail> {
     guest.reserve_thread(alloc)?;
     if !guest.has_thread(THREAD) || guest.has_thread(NEW) {
         return Err(Fail::from("other threads"));
@@ -106,11 +108,11 @@ fn add_thread(alloc: Global, guest: &mut Guest) -> Result<(), Fail> {
     Ok(())
 }
 
-fn image_of(alloc: Global, guest: &Guest) -> Result<Box<ProcImage>, AllocError> {
+pub fn image_of(alloc: Global, guest: &Guest) -> Result<Box<ProcImage>, AllocError> {
     Ok(Box::new(alloc, guest.image(alloc)?)?)
 }
 
-fn thread_of(image: &ProcImage, t: Tid) -> Result<&ThreadPart, Fail> {
+pub fn thread_of(image: &ProcImage, t: Tid) -> Result<&ThreadPart, Fail> {
     for thread in &image.threads {
         if thread.tid == t.0 {
             return Ok(&thread.part);

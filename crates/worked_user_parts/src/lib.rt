@@ -1,4 +1,5 @@
-//! Worked calls on what a guest is made of: its memory, and its own part with its threads.
+//! Worked calls on what a guest is made of: its memory, and its own part with its threads; and programs that write their own
+//! code.
 //!
 //! Each test is named by what it shows. Nothing is proved here but that the tests are safe and end.
 #![tactic(auto)]
@@ -6,8 +7,12 @@
 #[cfg(test)]
 mod asserts;
 #[cfg(test)]
+mod children;
+#[cfg(test)]
 mod guests;
 #[cfg(test)]
 mod local_calls;
+#[cfg(test)]
+mod own_code;
 #[cfg(test)]
 mod spaces;

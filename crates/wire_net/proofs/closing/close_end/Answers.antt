@@ -2,7 +2,7 @@ use Rattle.std.proofs.Common.{ap, ◌∙◌}
 use Rattle.std.specs.FinMap as map
 use Rattle.views.proofs.Outcomes.{on_some}
 use Rattle.wire_net.specs.Channels.{without_end, stays_open}
-use Rattle.wire_net.proofs.Lends.{changed-found}
+use Rattle.real_maps.proofs.Lends.{changed-found}
 use Rattle.wire_net.proofs.closing.close_end.Goals as goal
 
 pub returns-clause-open : goal.returns-clause-open

@@ -3,7 +3,7 @@ use Rattle.std.specs.FinMap as map
 use Rattle.views.proofs.Outcomes.{on_some}
 use Rattle.wire_net.specs.Directions.{after_end}
 use Rattle.wire_net.specs.Channels.{at_side}
-use Rattle.wire_net.proofs.Lends.{changed-found}
+use Rattle.real_maps.proofs.Lends.{changed-found}
 use Rattle.wire_net.proofs.moving.end_on.Goals as goal
 
 pub returns-in-Some : goal.returns-in-Some

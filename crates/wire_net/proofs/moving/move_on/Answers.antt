@@ -6,7 +6,7 @@ use Rattle.views.proofs.Outcomes.{on_some}
 use Rattle.wire_net.specs.Directions.{after_move}
 use Rattle.wire_net.specs.Channels.{direction_of, at_side}
 use Rattle.wire_net.specs.Networks.{bytes_on}
-use Rattle.wire_net.proofs.Lends.{changed-found}
+use Rattle.real_maps.proofs.Lends.{changed-found}
 use Rattle.wire_net.proofs.moving.move_on.Goals as goal
 
 pub returns-clause-moved : goal.returns-clause-moved

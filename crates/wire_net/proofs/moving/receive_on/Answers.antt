@@ -8,7 +8,7 @@ use Rattle.sys_abi.proofs.OrderLaws.{conn_total, conn_exact}
 use Rattle.wire_net.specs.Directions.{after_receive}
 use Rattle.wire_net.specs.Channels.{direction_of, at_side}
 use Rattle.wire_net.specs.Networks.{receive_answer_on, received_on}
-use Rattle.wire_net.proofs.Lends.{changed-found}
+use Rattle.real_maps.proofs.Lends.{changed-found}
 use Rattle.wire_net.proofs.moving.receive_on.Goals as goal
 
 pub returns-clause-answer : goal.returns-clause-answer

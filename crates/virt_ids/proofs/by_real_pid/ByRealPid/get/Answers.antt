@@ -1,6 +1,0 @@
-use Rattle.views.proofs.TreeMaps.{get-seen}
-use Rattle.virt_ids.proofs.by_real_pid.ByRealPid.get.Goals as goal
-use Rattle.sys_abi.proofs.OrderLaws.{real_pid_total}
-
-pub returns : goal.returns
-returns g c = get-seen real_pid_total c.self.inside.entries c.args.self.now c.args.key _ c.get.ensures.value c.self.view_is
