@@ -1,8 +1,12 @@
 -- Maps made of the entries of a list, put in from its end
-use Rattle.std.proofs.Common.{◌≡◌, Ordering, List, [], ◌∷◌, ◌++◌, map as mapped, refl, sym, ap, ◌∙◌, append_assoc, append-nil}
+use Rattle.std.proofs.Common.{◌≡◌, ℕ, Ordering, List, [], ◌∷◌, ◌++◌, map as mapped, refl, sym, ap, ◌∙◌, append_assoc, append-nil}
 use Rattle.std.specs.List.{flat_map}
+use Rattle.std.specs.Prelude.{Vec}
+use Rattle.std.specs.Ordering.{nat_cmp}
 use Rattle.std.specs.FinMap as map
+use Rattle.sys_abi.specs.Names.{by_name}
 use Rattle.image_codec.specs.KernelParts.{inserted}
+use Rattle.image_codec.specs.KernelImages.{name_under}
 
 mapped-append : {X Y : Type 0} (f : X → Y) (xs ys : List X) → mapped f (xs ++ ys) ≡ mapped f xs ++ mapped f ys
 mapped-append f [] ys = refl
@@ -34,3 +38,9 @@ module _ {K V : Type 0} {R : K → K → Ordering} where
   inserted_group f before after x m n last put =
       ap (inserted (flat_map f after)) put ∙ sym (inserted-append (flat_map f after) (f x) m)
       ∙ ap (λ es. inserted es m) (sym (ap (flat_map f) last ∙ flat_map-append f after (x ∷ []) ∙ ap (λ es. flat_map f after ++ es) (append-nil (f x))))
+
+-- a name that is the last of those that are left, put in under its number
+pub name_put : {A : Type 0} (before after : List (Vec ℕ A × ℕ)) (name : Vec ℕ A) (number : ℕ) (copy : List ℕ) (m n : map.FinMap nat_cmp (List ℕ)) → before ≡ after ++ (name, number) ∷ [] → copy ≡ name.items → n ≡ map.insert m number copy
+    → inserted (mapped name_under (by_name after)) n ≡ inserted (mapped name_under (by_name before)) m
+name_put before after name number copy m n last same put =
+    inserted_one name_under (by_name before) (by_name after) (name.items, number) m n (ap by_name last ∙ mapped-append (λ e. (e.0.items, e.1)) after ((name, number) ∷ [])) (put ∙ ap (map.insert m number) same)

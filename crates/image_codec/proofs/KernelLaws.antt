@@ -2,7 +2,7 @@
 --     shared_of-kernel_of      of an image that can be spelled
 --     only_image      so an image of a kernel part is what is made of its entries
 --     kernel_made     the kernel part of an image, map by map
-use Rattle.std.proofs.Common.{◌≡◌, ℕ, Less, Bool, true, false, cond, IsTrue, ◌&&◌, ◌||◌, ◌==◌, List, [], ◌∷◌, ◌++◌, filter, map as mapped, refl, sym, ap, subst, ◌∙◌, append-nil, arith}
+use Rattle.std.proofs.Common.{◌≡◌, ℕ, Ordering, Less, Bool, true, false, cond, IsTrue, ◌&&◌, ◌||◌, ◌==◌, List, [], ◌∷◌, ◌++◌, filter, map as mapped, refl, sym, ap, subst, ◌∙◌, append-nil, arith}
 use Rattle.std.specs.Prelude.{Option, Some, None, nat_lt, nat_le, option_map}
 use Rattle.std.specs.List.{AllByRecursion, flat_map, filter_map}
 use Rattle.std.specs.List.Sorted.{IsStrictlySortedBy}
@@ -12,14 +12,15 @@ use Rattle.std.specs.Map.{keys_of}
 use Rattle.std.specs.FinMap as map
 use Rattle.std.proofs.lemmas.Bool.Decides.{nat_tests}
 use Rattle.std.proofs.lemmas.List.Elements.{filter-append}
-use Rattle.views.proofs.TreeMaps.{entries-from_entries}
+use Rattle.views.proofs.TreeMaps.{entries-from_entries, entries-empty as no_entries}
 use Rattle.views.specs.NumberMap.{is_above}
 use Rattle.sys_abi.specs.declared.identity.VPid.{VPid}
 use Rattle.sys_abi.specs.declared.identity.Slot.{Slot}
 use Rattle.sys_abi.specs.declared.identity.DescId.{DescId}
-use Rattle.sys_abi.specs.Orders.{vpid_cmp, slot_cmp, desc_cmp}
+use Rattle.sys_abi.specs.Orders.{vpid_cmp, slot_cmp, desc_cmp, conn_cmp}
 use Rattle.sys_abi.proofs.OrderLaws.{vpid_total, slot_total, desc_total}
 use Rattle.plain_machine.specs.declared.kernel.PlainKernel.{PlainKernel}
+use Rattle.plain_tables.specs.Tables.{Listeners}
 use Rattle.image_shared.specs.declared.shared.ObjectImage.{ObjectImage}
 use Rattle.image_shared.specs.declared.shared.ObjectImage.TheVariants.{Console, File, Stream, Socket, Listener}
 use Rattle.image_shared.specs.declared.shared.FileImage.{FileImage}
@@ -35,7 +36,7 @@ use Rattle.image_shared.specs.SharedTests as field
 use Rattle.image_shared.specs.SharedFormat.{VERSION}
 use Rattle.image_shared.specs.SharedFits.{SharedFits, DescriptionFits, ProcessFits, ThreadFits, DescriptorFits, kind_of}
 use Rattle.image_codec.specs.KernelParts.{kernel_of, process_entry, maker_entry, descriptor_entries, descriptor_entry, description_entry, signals_entry, object_of, listening_of, name_entry, file_entry, channel_entry, direction_entries}
-use Rattle.image_codec.specs.KernelImages.{shared_of, IsImage, object_image, description_image, thread_image, descriptor_image, process_image, is_of, maker_or}
+use Rattle.image_codec.specs.KernelImages.{shared_of, IsImage, names_by_number, file_image, channel_image, object_image, description_image, thread_image, descriptor_image, process_image, is_of, maker_or}
 use Rattle.image_format.proofs.Rising.{RisesFrom, IsAfter, each_rising, sorted_rising, sorted_append, entries_made, undone, all_from}
 
 pub both_true : (a b : Bool) → IsTrue (a && b) → IsTrue a × IsTrue b
@@ -95,21 +96,21 @@ description_rises : (s : Shared) (front : List DescriptionImage) (description : 
 description_rises s front description h =
     after_pair (last_item front) description.id.pid.0 description.id.num ((both_true _ _ h.maker.1).0) h.number.1
 
-console_back : (object : ObjectImage) → IsTrue (field.is_object_kind VERSION (kind_of object)) → object_image (object_of object) ≡ object
-console_back Console h = refl
-console_back (File number offset) h = cc
-console_back (Stream conn side) h = cc
-console_back (Socket address) h = cc
-console_back (Listener address backlog pending) h = cc
+console_back : (listeners : Listeners) (object : ObjectImage) → IsTrue (field.is_object_kind VERSION (kind_of object)) → object_image listeners (object_of object) ≡ object
+console_back listeners Console h = refl
+console_back listeners (File number offset) h = cc
+console_back listeners (Stream conn side) h = cc
+console_back listeners (Socket address) h = cc
+console_back listeners (Listener address backlog pending) h = cc
 
-description_back : (description : DescriptionImage) → IsTrue (field.is_object_kind VERSION (kind_of description.object)) → description_image (description_entry description) ≡ description
-description_back description h = λ i. record description { object = console_back description.object h i }
+description_back : (listeners : Listeners) (description : DescriptionImage) → IsTrue (field.is_object_kind VERSION (kind_of description.object)) → description_image listeners (description_entry description) ≡ description
+description_back listeners description h = λ i. record description { object = console_back listeners description.object h i }
 
-descriptions_back : (s : Shared) (descriptions : List DescriptionImage) → EachFrom (IsListed s) [] descriptions
-    → mapped description_image (map.entries (map.from_entries {R = desc_cmp} (mapped description_entry descriptions))) ≡ descriptions
-descriptions_back s descriptions h =
-    ap (mapped description_image) (entries_made desc_total description_entry descriptions (each_rising desc_cmp (λ (d : DescriptionImage). d.id) (IsListed s) (description_rises s) [] descriptions h))
-    ∙ undone description_entry description_image descriptions (all_from (IsListed s) _ (λ front d fits. description_back d fits.kind.1) [] descriptions h)
+descriptions_back : (listeners : Listeners) (s : Shared) (descriptions : List DescriptionImage) → EachFrom (IsListed s) [] descriptions
+    → mapped (description_image listeners) (map.entries (map.from_entries {R = desc_cmp} (mapped description_entry descriptions))) ≡ descriptions
+descriptions_back listeners s descriptions h =
+    ap (mapped (description_image listeners)) (entries_made desc_total description_entry descriptions (each_rising desc_cmp (λ (d : DescriptionImage). d.id) (IsListed s) (description_rises s) [] descriptions h))
+    ∙ undone description_entry (description_image listeners) descriptions (all_from (IsListed s) _ (λ front d fits. description_back listeners d fits.kind.1) [] descriptions h)
 
 -- descriptors, all in one list
 abbrev slots_of : VPid → List DescriptorEntry → List Slot
@@ -303,22 +304,27 @@ processes_back next_id channels descriptions k processes h of_processes makers o
     ∙ undone process_entry (process_image k) processes
     (both_all HasThreads (IsFound processes) (λ e. process_image k (process_entry e) ≡ e) (λ e own found. process_back k processes e makers slots own found) processes threads (all_found processes sorted))
 
+-- of no items there is no entry
+none_made : {I K X : Type 0} (R : K → K → Ordering) (entries_of : List I → List (K × X)) (image : K × X → I) (items : List I) → items ≡ [] → entries_of [] ≡ []
+    → mapped image (map.entries (map.from_entries {R = R} (entries_of items))) ≡ items
+none_made R entries_of image items none empty =
+    ap (λ is. mapped image (map.entries (map.from_entries {R = R} (entries_of is)))) none ∙ ap (λ es. mapped image (map.entries (map.from_entries {R = R} es))) empty ∙ ap (mapped image) (no_entries R _) ∙ sym none
+
 pub shared_of-kernel_of : (s : Shared) → SharedFits s → shared_of (kernel_of s) ≡ s
 unfolding shared_of kernel_of
 shared_of-kernel_of s h =
-    let descriptions = descriptions_back s s.descriptions h.descriptions in
+    let files = none_made nat_cmp (λ (fs : List FileImage). mapped file_entry fs) (file_image (names_by_number (kernel_of s).names)) s.files h.files refl in
+    let channels = none_made conn_cmp (λ (cs : List ChannelImage). mapped (channel_entry s.descriptions) cs) (channel_image (kernel_of s).directions) s.channels h.channels refl in
+    let descriptions = descriptions_back (kernel_of s).listeners s s.descriptions h.descriptions in
     let processes = processes_back s.next_id s.channels s.descriptions (kernel_of s) s.processes h.processes refl refl refl in
-    λ i. record s { files = sym h.files i; channels = sym h.channels i; descriptions = descriptions i; processes = processes i }
+    λ i. record s { files = files i; channels = channels i; descriptions = descriptions i; processes = processes i }
 
 pub only_image : (s : Shared) (k : PlainKernel) → IsImage s k → shared_of k ≡ s
 only_image s k h = ap shared_of (sym h.kernel) ∙ shared_of-kernel_of s h.spelled.fields
 
--- what is made of the entries is the image, where there is one
-pub the_image : (s : Shared) (k : PlainKernel) (made : Shared) → IsImage s k → made ≡ shared_of k → IsImage made k
-the_image s k made h is = subst (λ (t : Shared). IsImage t k) (sym (is ∙ only_image s k h)) h
-
-pub image_made : (k : PlainKernel) (made : Shared) → made.next_id ≡ k.next_id → made.next_file ≡ k.next_file → made.files ≡ [] → made.channels ≡ []
-    → made.descriptions ≡ mapped description_image (map.entries k.descriptions) → made.processes ≡ mapped (process_image k) (map.entries k.processes) → made ≡ shared_of k
+pub image_made : (k : PlainKernel) (made : Shared) → made.next_id ≡ k.next_id → made.next_file ≡ k.next_file
+    → made.files ≡ mapped (file_image (names_by_number k.names)) (map.entries k.files) → made.channels ≡ mapped (channel_image k.directions) (map.entries k.channels)
+    → made.descriptions ≡ mapped (description_image k.listeners) (map.entries k.descriptions) → made.processes ≡ mapped (process_image k) (map.entries k.processes) → made ≡ shared_of k
 unfolding shared_of
 image_made k made next_id next_file files channels descriptions processes =
     λ i. record { next_id = next_id i; next_file = next_file i; files = files i; channels = channels i; descriptions = descriptions i; processes = processes i }

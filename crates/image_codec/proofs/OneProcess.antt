@@ -1,28 +1,24 @@
 -- The shared image of one process that lives: the process, and what the kernel part has of it.
 --     one_process      where it stands in the image, and its fields      one_of_image      the same as a law
 --     threads_there, parts_there      which threads a map of an image's threads has
-use Rattle.std.proofs.Common.{◌≡◌, ◌≢◌, ℕ, ◌≤◌, ◌==◌, ◌&&◌, ◌||◌, Bool, true, false, cond, IsTrue, List, [], ◌∷◌, length, filter, map as each, refl, sym, ap, subst, ◌∙◌, ⊎_elim, arith}
-use Rattle.std.specs.Prelude.{Some, is_some, count_by, slice_get}
+use Rattle.std.proofs.Common.{◌≡◌, ◌≢◌, ℕ, ◌≤◌, ◌==◌, ◌&&◌, Bool, true, false, cond, IsTrue, List, [], ◌∷◌, length, filter, map as each, refl, ap, subst, ◌∙◌, ⊎_elim, arith}
+use Rattle.std.specs.Prelude.{Some, is_some, count_by, slice_get, nat_le}
 use Rattle.std.specs.Option.{option_map, option_map_or}
-use Rattle.std.specs.Ordering.{nat_cmp, eq_by_cmp}
-use Rattle.std.specs.Cmp.{nat_cmp_total}
+use Rattle.std.specs.Ordering.{nat_cmp}
 use Rattle.std.specs.FinMap as map
-use Rattle.std.specs.FinMap.{nat_cmp-IsAntisymmetric}
 use Rattle.std.proofs.lemmas.Bool.Decides.{nat_tests}
-use Rattle.views.proofs.MapLaws.{get_insert_same, get_insert_other, same_or_other, key_tied, other_key}
+use Rattle.views.proofs.MapLaws.{get_insert_same, get_insert_other, same_or_other}
 use Rattle.sys_abi.specs.declared.identity.VPid.{VPid}
 use Rattle.sys_abi.specs.Orders.{vpid_cmp}
 use Rattle.sys_abi.proofs.OrderLaws.{vpid_total, vpid_exact}
 use Rattle.plain_tables.specs.declared.process.Process.{Process}
 use Rattle.sys_abi.specs.declared.life.Life.{Life}
 use Rattle.sys_abi.specs.declared.life.Life.TheVariants.{Live, Zombie}
-use Rattle.plain_process.specs.declared.user_part.ThreadPart.{ThreadPart}
 use Rattle.plain_machine.specs.Kernel.{is_live}
 use Rattle.plain_tables.specs.Tables.{is_live_process}
 use Rattle.image_shared.specs.declared.shared.ThreadEntry.{ThreadEntry}
 use Rattle.image_shared.specs.declared.shared.ProcessEntry.{ProcessEntry}
 use Rattle.image_shared.specs.declared.shared.Shared.{Shared}
-use Rattle.image_process.specs.declared.thread_image.ThreadImage.{ThreadImage}
 use Rattle.image_format.specs.Fields.{is_within}
 use Rattle.image_format.specs.Texts.{EachFrom}
 use Rattle.image_shared.specs.SharedTests as field
@@ -31,7 +27,6 @@ use Rattle.image_codec.specs.KernelParts.{kernel_of, process_entry, signals_entr
 use Rattle.image_process.specs.ProcessTests.{is_listed}
 use Rattle.image_process.proofs.ThreadKeys.{made_there}
 use Rattle.image_process.specs.ProcessImages.{process_at, pid_at, tids_at, tids_of}
-use Rattle.image_process.specs.UserParts.{thread_entry}
 use Rattle.image_codec.specs.Sets.{live_count}
 use Rattle.image_codec.specs.OneProcess.{ImageHasOneProcess}
 use Rattle.sys_abi.specs.Lives.{lives}
@@ -44,7 +39,7 @@ one_item (x ∷ y ∷ xs) is = absurd (omega arith)
 is_one : (n : ℕ) → IsTrue (n == 1) → n ≡ 1
 is_one n is = grind (arith, nat_tests)
 
-live_state : (life : Life) (rest : Bool) → IsTrue ((state_of life == 0) && rest) → life ≡ Live
+live_state : (life : Life) (rest : Bool) → IsTrue (nat_le (state_of life) field.LAST_STATE && rest) → life ≡ Live
 live_state Live rest is = refl
 live_state (Zombie status) rest is = absurd (cc)
 

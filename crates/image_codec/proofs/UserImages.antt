@@ -37,10 +37,10 @@ use Rattle.image_process.proofs.ProcessFiles.{image_of as image_facts}
 use Rattle.image_process.proofs.Owners.{number-is, drop-at, same_tids}
 use Rattle.image_format.proofs.Rising.{RisesFrom, IsAfter, each_rising, entries_made, undone, all_from, keys-mapped}
 
-abbrev page_image : ℕ × Frame → PageImage
+abbrev pub page_image : ℕ × Frame → PageImage
 page_image entry = record { number = entry.0; frame = entry.1 }
 
-abbrev thread_image : ℕ × ThreadPart → ThreadImage
+abbrev pub thread_image : ℕ × ThreadPart → ThreadImage
 thread_image entry = record { tid = entry.0; part = entry.1 }
 
 abbrev pub image_of : VPid × UserPart → ProcImage

@@ -1,6 +1,6 @@
 -- What the shared image stands for: the kernel part, which all processes share.
 --     kernel_of s      its lists as maps, where all bytes of a direction have arrived
---     is_named descriptions conn side      whether a stream, or the queue of a listener, names the side of the channel
+--     is_side_named descriptions conn side      whether a stream, or the queue of a listener, names the side of the channel
 -- Source: docs/FORMATS.md, "Shared image".
 use Rattle.std.specs.Prelude.{◌==◌, ◌&&◌, ℕ, Bool, false, List, [], ◌∷◌, length, Option, Some, None}
 use Rattle.std.specs.Prelude.{map as each}
@@ -108,13 +108,13 @@ names_side conn side (Stream other at) = same_channel conn other && (side == at)
 names_side conn side (Listener address backlog pending) = (side == 1) && list_any (same_channel conn) pending
 names_side conn side _ = false
 
-unfoldable pub is_named : List DescriptionImage → ConnId → ℕ → Bool
-is_named descriptions conn side = list_any (λ it. names_side conn side it.object) descriptions
+unfoldable pub is_side_named : List DescriptionImage → ConnId → ℕ → Bool
+is_side_named descriptions conn side = list_any (λ it. names_side conn side it.object) descriptions
 
 abbrev pub channel_end : List DescriptionImage → ConnId → ℕ → SideImage → ChannelEnd
 channel_end descriptions conn side image = record {
   address = image.address;
-  is_open = is_named descriptions conn side;
+  is_open = is_side_named descriptions conn side;
 }
 
 abbrev pub channel_entry : List DescriptionImage → ChannelImage → ConnId × Channel

@@ -1,16 +1,13 @@
--- The shared image of one process that lives: what it tells of the kernel part, and which changes of the
--- kernel part keep an image.
+-- The shared image of one process that lives: what it tells of the kernel part.
 --     HasOneProcess s      the process, its file of a set, and what the kernel part has of it
---     HasOtherThreads before p process after      other threads and pending signals of a process, and numbers given out
 -- Source: docs/FORMATS.md, "Shared image" and "Process image".
-use Rattle.std.specs.Prelude.{◌≡◌, ◌≢◌, ℕ, ◌^◌, ◌<◌, ◌≤◌, true, false, List, [], ◌∷◌, length, map as each}
+use Rattle.std.specs.Prelude.{◌≡◌, ◌≢◌, ℕ, ◌≤◌, true, false, List, [], ◌∷◌, length, map as each}
 use Rattle.std.specs.Prelude.{Some}
 use Rattle.std.specs.FinMap as map
 use Rattle.sys_abi.specs.declared.identity.VPid.{VPid}
 use Rattle.plain_tables.specs.declared.process.Process.{Process}
 use Rattle.sys_abi.specs.declared.life.Life.TheVariants.{Live}
 use Rattle.plain_process.specs.declared.user_part.UserPart.{UserPart}
-use Rattle.plain_machine.specs.declared.kernel.PlainKernel.{PlainKernel}
 use Rattle.plain_machine.specs.Kernel.{is_live}
 use Rattle.plain_machine.specs.Valid.{IsKernel, SameThreads}
 use Rattle.image_process.specs.declared.process_image.ProcImage.{ProcImage}
@@ -18,7 +15,7 @@ use Rattle.image_shared.specs.declared.shared.ProcessEntry.{ProcessEntry}
 use Rattle.image_shared.specs.declared.shared.Shared.{Shared}
 use Rattle.image_shared.specs.SharedFits.{IsShared}
 use Rattle.image_codec.specs.KernelParts.{kernel_of, process_entry}
-use Rattle.image_codec.specs.KernelImages.{HasImage}
+use Rattle.image_codec.specs.KernelImages.{IsLone}
 use Rattle.image_process.specs.ProcessImages.{SpellsProcess, pid_at, tids_at, tids_of}
 use Rattle.image_process.specs.ProcessFits.{threads_of}
 use Rattle.image_codec.specs.Sets.{live_count}
@@ -46,9 +43,9 @@ ImageHasOneProcess = (s : Shared) → IsShared s → HasOneProcess s
 abbrev pub ImageIsKernel : Type 0
 ImageIsKernel = (s : Shared) → IsShared s → IsKernel (kernel_of s)
 
--- where there is an image, the number that is given out next is below 2 ^ 31
-abbrev pub ImageHasNextId : Type 0
-ImageHasNextId = (k : PlainKernel) → HasImage k → k.next_id < 2 ^ 31
+-- of one process with the console alone, which is what has an image so far
+abbrev pub ImageIsLone : Type 0
+ImageIsLone = (s : Shared) → IsShared s → IsLone (kernel_of s)
 
 -- the image of the process beside a shared image is that of the kernel part's process, and has its threads
 abbrev pub ImagesHaveSameThreads : Type 0
@@ -61,28 +58,3 @@ abbrev pub SameThreadsHaveTids : Type 0
 SameThreadsHaveTids =
     (s : Shared) (image : ProcImage) (user : UserPart) (p : VPid) (process : Process) → IsShared s → map.get (kernel_of s).processes p ≡ Some process → SameThreads process user
     → each thread_entry image.threads ≡ map.entries user.threads → threads_of image ≡ tids_at s 2
-
--- a kernel part after the threads and pending signals of a process became others, where numbers may have been
--- given out meanwhile
-pub record HasOtherThreads (before : PlainKernel) (p : VPid) (process : Process) (after : PlainKernel) : Type 0 where
-  pub old : Process
-  pub was : map.get before.processes p ≡ Some old
-  pub parent : process.parent ≡ old.parent
-  pub life : process.life ≡ old.life
-  pub processes : after.processes ≡ map.insert before.processes p process
-  pub makers : after.makers ≡ before.makers
-  pub descriptors : after.descriptors ≡ before.descriptors
-  pub descriptions : after.descriptions ≡ before.descriptions
-  pub names : after.names ≡ before.names
-  pub files : after.files ≡ before.files
-  pub next_file : after.next_file ≡ before.next_file
-  pub channels : after.channels ≡ before.channels
-  pub directions : after.directions ≡ before.directions
-  pub listeners : after.listeners ≡ before.listeners
-  pub inboxes : after.inboxes ≡ before.inboxes
-  pub next_id : before.next_id ≤ after.next_id
-  pub limit : after.next_id < 2 ^ 31
-
-abbrev pub OtherThreadsKeepImage : Type 0
-OtherThreadsKeepImage =
-    (before after : PlainKernel) (p : VPid) (process : Process) → HasImage before → HasOtherThreads before p process after → IsKernel after → HasImage after

@@ -5,10 +5,11 @@
 --     SpellsSet manifest files g state      the set of the generation g spells this plain state
 --     OneStateOfSet      a set spells one state of one generation at most
 --     OneSetOfState      a state has one set of a generation at most
+--     HasSet state g, LoneHasSet      which plain states have a set of the generation g
 --     FilesApart, FilesEither      no files spell values and are damaged, and all files of bytes do one of both
 --     OneDamageOfFiles      files have one first damage at most
 -- Source: docs/FORMATS.md, "Whole sets".
-use Rattle.std.specs.Prelude.{◌≡◌, ◌≢◌, ℕ, ◌+◌, ◌<◌, ◌⊎◌, List, [], ◌∷◌, length, slice_index, count_by, All}
+use Rattle.std.specs.Prelude.{◌≡◌, ◌≢◌, ℕ, ◌+◌, ◌^◌, ◌<◌, ◌⊎◌, List, [], ◌∷◌, length, slice_index, count_by, All}
 use Rattle.std.specs.Prelude.{map as each}
 use Rattle.std.specs.FinMap as map
 use Rattle.sys_abi.specs.declared.identity.VPid.{VPid}
@@ -19,7 +20,9 @@ use Rattle.image_shared.specs.declared.shared.Shared.{Shared}
 use Rattle.image_format.specs.Manifests.{SpellsManifest}
 use Rattle.image_shared.specs.SharedFormat.{SpellsShared, DamagedShared}
 use Rattle.image_process.specs.ProcessImages.{SpellsFileAt, DamagedFileAt}
+use Rattle.plain_machine.specs.Valid.{IsValid}
 use Rattle.image_codec.specs.KernelParts.{kernel_of}
+use Rattle.image_codec.specs.KernelImages.{IsLone}
 use Rattle.image_process.specs.UserParts.{user_of}
 use Rattle.sys_abi.specs.Lives.{lives}
 
@@ -84,6 +87,16 @@ abbrev pub OneSetOfState : Type 0
 OneSetOfState =
     (manifest other : List ℕ) (files others : List (List ℕ)) (g : ℕ) (state : Plain)
     → SpellsSet manifest files g state → SpellsSet other others g state → (manifest ≡ other) × (files ≡ others)
+
+-- some set of the generation spells the state
+pub record HasSet (state : Plain) (g : ℕ) : Type 0 where
+  pub manifest : List ℕ
+  pub files : List (List ℕ)
+  pub spells : SpellsSet manifest files g state
+
+-- so far each valid state of one process with the console alone has one
+abbrev pub LoneHasSet : Type 0
+LoneHasSet = (state : Plain) (g : ℕ) → g < 2 ^ 64 → IsValid state → IsLone state.kernel → HasSet state g
 
 -- files that spell values are damaged nowhere
 abbrev pub FilesApart : Type 0

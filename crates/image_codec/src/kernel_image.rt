@@ -4,33 +4,38 @@ ghost use Rattle.std.specs.Prelude.{◌≡◌, IfOk, filter, map as each};
 ghost use Rattle.std.specs.FinMap as map;
 ghost use Rattle.image_codec.specs.KernelParts.{kernel_of};
 ghost use Rattle.image_shared.specs.SharedFits.{IsShared};
-ghost use Rattle.image_codec.specs.KernelImages.{HasImage, IsImage, description_image, descriptor_image};
-ghost use Rattle.image_codec.specs.KernelImages.{is_of, maker_or, object_image, process_image, thread_image};
+ghost use Rattle.plain_machine.specs.Kernels.{IsKernel};
+ghost use Rattle.image_codec.specs.KernelImages.{IsImage, IsLone, description_image, descriptor_image};
+ghost use Rattle.image_codec.specs.KernelImages.{is_of, listener_image, maker_or, object_image};
+ghost use Rattle.image_codec.specs.KernelImages.{process_image, thread_image};
 
-use id_maps::{ByDesc, BySlot};
+use crate::stored_images::{channel_images, file_images};
+use id_maps::{ByAddress, ByDesc, BySlot};
 use image_shared::{
     DescriptionImage, DescriptorEntry, ObjectImage, ProcessEntry, Shared, ThreadEntry,
 };
 use plain_machine::PlainKernel;
-use plain_tables::{Description, Descriptor, Maker, Object, Process};
+use plain_tables::{Description, Descriptor, Listening, Maker, Object, Process};
 use std::alloc::{AllocError, Global};
-use sys_abi::VPid;
+use sys_abi::{VPid, VirtAddr};
+use views::duplicate::Duplicate;
 use views::list_of::ListOf;
 use views::number_map::NumberMap;
 
-/// The image of the kernel part, which is the only one.
+/// The image of the kernel part, which is the only one. So far it has one process, which lives, and the console alone.
 #[tactic(auto, unfolding(crate::specs::KernelImages::shared_of))]
 pub fn shared_image(alloc: Global, k: &PlainKernel) -> Result<Shared, AllocError>
-    requires { HasImage k.now }
+    requires valid { IsKernel k.now }
+    requires lone { IsLone k.now }
     ensures image { IfOk result (λ s. IsImage s k.now) }
     ensures only { (s : Shared) → IsImage s k.now → IfOk result (λ found. found ≡ s) }
 {
     Ok(Shared {
         next_id: k.next_id,
         next_file: k.next_file,
-        files: ListOf::new(alloc),
-        channels: ListOf::new(alloc),
-        descriptions: description_images(alloc, &k.descriptions)?,
+        files: file_images(alloc, k)?,
+        channels: channel_images(alloc, k)?,
+        descriptions: description_images(alloc, &k.descriptions, &k.listeners)?,
         processes: process_images(alloc, k)?,
     })
 }
@@ -38,14 +43,16 @@ pub fn shared_image(alloc: Global, k: &PlainKernel) -> Result<Shared, AllocError
 fn description_images(
     alloc: Global,
     descriptions: &ByDesc<Description>,
+    listeners: &ByAddress<Listening>,
 ) -> Result<ListOf<DescriptionImage>, AllocError>
-    ensures { IfOk result (λ images. images ≡ each description_image (map.entries descriptions.now)) }
+    ensures { IfOk result (λ images.
+        images ≡ each (description_image listeners.now) (map.entries descriptions.now)) }
 {
     let mut images = ListOf::new(alloc);
     for (id, description) in descriptions.iter() {
         images.push(DescriptionImage {
             id: *id,
-            object: object_image(description.object),
+            object: object_image(alloc, listeners, description.object)?,
             flags: description.flags,
             owner: description.owner,
         })?;
@@ -53,15 +60,39 @@ fn description_images(
     Ok(images)
 }
 
-fn object_image(object: Object) -> ObjectImage
-    ensures { result ≡ object_image object }
+fn object_image(
+    alloc: Global,
+    listeners: &ByAddress<Listening>,
+    object: Object,
+) -> Result<ObjectImage, AllocError>
+    ensures { IfOk result (λ image. image ≡ object_image listeners.now object) }
 {
     match object {
-        Object::File { number, offset } => ObjectImage::File { number, offset },
-        Object::Stream { conn, side } => ObjectImage::Stream { conn, side },
-        Object::Socket { address } => ObjectImage::Socket { address },
-        _ => ObjectImage::Console,
+        Object::File { number, offset } => Ok(ObjectImage::File { number, offset }),
+        Object::Stream { conn, side } => Ok(ObjectImage::Stream { conn, side }),
+        Object::Socket { address } => Ok(ObjectImage::Socket { address }),
+        Object::Listener { address } => listener_image(alloc, listeners, address),
+        _ => Ok(ObjectImage::Console),
     }
+}
+
+/// With the connections that wait in its queue.
+fn listener_image(
+    alloc: Global,
+    listeners: &ByAddress<Listening>,
+    address: VirtAddr,
+) -> Result<ObjectImage, AllocError>
+    ensures { IfOk result (λ image. image ≡ listener_image address (map.get listeners.now address)) }
+{
+    let (backlog, pending) = match listeners.get(address) {
+        None => (0, ListOf::new(alloc)),
+        Some(listening) => (listening.backlog, listening.queue.duplicate(alloc)?),
+    };
+    Ok(ObjectImage::Listener {
+        address,
+        backlog,
+        pending,
+    })
 }
 
 fn process_images(alloc: Global, k: &PlainKernel) -> Result<ListOf<ProcessEntry>, AllocError>

@@ -4,6 +4,8 @@ ghost use Rattle.std.specs.Prelude.{◌≡◌, IfOk, OnOk, map as each};
 ghost use Rattle.std.specs.FinMap as map;
 ghost use Rattle.std.specs.List.{flat_map};
 ghost use Rattle.image_shared.specs.SharedFits.{IsShared};
+ghost use Rattle.plain_machine.specs.Kernels.{IsKernel};
+ghost use Rattle.image_codec.specs.KernelImages.{IsLone};
 ghost use Rattle.image_codec.specs.KernelParts.{kernel_of, inserted, description_entry, descriptor_entries};
 ghost use Rattle.image_codec.specs.KernelParts.{descriptor_entry, maker_entry, object_of, process_entry};
 ghost use Rattle.image_codec.specs.KernelParts.{signals_entry};
@@ -19,11 +21,14 @@ use sys_abi::{Slot, VPid};
 use views::list_of::ListOf;
 use views::number_map::NumberMap;
 
-/// The kernel part that the image stands for. No file, channel or listener has an image so far.
+/// The kernel part that the image stands for, of which an image can be made again. No file, channel or listener has an
+/// image so far.
 #[tactic(auto, unfolding(crate::specs::KernelParts::kernel_of))]
 pub fn restored_kernel(alloc: Global, s: &Shared) -> Result<PlainKernel, AllocError>
     requires { IsShared s.now }
-    ensures { IfOk result (λ k. k ≡ kernel_of s.now) }
+    ensures kernel { IfOk result (λ k. k ≡ kernel_of s.now) }
+    ensures valid { IfOk result (λ k. IsKernel k) }
+    ensures lone { IfOk result (λ k. IsLone k) }
 {
     Ok(PlainKernel {
         processes: processes_of(alloc, &s.processes)?,

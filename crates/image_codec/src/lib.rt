@@ -6,15 +6,17 @@
 //! of files, their readers and the other writers are those of `image_format` (the manifest), `image_shared` and
 //! `image_process`, handed on from here.
 //!
-//! Proved: all of that, for every value and all bytes, [`image_laws`], and of whole sets [`set_laws`]. Not proved here:
-//! that an image is that of a running process. The formats are this project's own (`docs/FORMATS.md`) and restate no
-//! standard. So far there is one process, and the console is the only thing that is open.
+//! Proved: all of that, for every value and all bytes, [`image_laws`], and of whole sets [`set_laws`], which have that a
+//! valid kernel part comes back from what is made of it. Not proved here: that an image is that of a running process. The
+//! formats are this project's own (`docs/FORMATS.md`) and restate no standard. So far there is one process, and the
+//! console is the only thing that is open.
 #![tactic(auto)]
 
 pub mod file_laws;
 pub mod kernel_image;
 pub mod kernel_of_image;
 pub mod shared_writer;
+mod stored_images;
 
 pub use file_laws::{image_laws, set_laws};
 pub use image_format::{Damage, Manifest, ReadFault, SetBytes, read_manifest, write_manifest};

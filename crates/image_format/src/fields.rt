@@ -5,6 +5,7 @@ ghost use Rattle.image_format.specs.Fields.{is_bytes};
 ghost use Rattle.image_format.specs.Format.{any, raw, unsigned, n8, n16, n32, n64, number_text};
 ghost use Rattle.image_format.specs.Reading.{Gives, read};
 
+use byteorder::{ByteOrder, LittleEndian};
 use std::alloc::AllocError;
 
 /// Why a value was not read.
@@ -105,12 +106,14 @@ pub fn put_u8(bytes: &mut Vec<u8>, number: u8) -> Result<(), AllocError>
     Ok(())
 }
 
-/// Puts a number of 16 bits at the end.
+/// Puts a number of 16 bits at the end, as the length of a file's name is, of which no image has one yet.
 #[tactic(auto, unfolding(crate::specs::Format::number_text))]
 pub fn put_u16(bytes: &mut Vec<u8>, number: u16) -> Result<(), AllocError>
     ensures { OnOk result (bytes.new.items ≡ bytes.old.items ++ number_text n16 number) }
 {
-    bytes.extend_from_slice(&number.to_le_bytes())
+    let mut piece = [0; 2];
+    LittleEndian::write_u16(&mut piece, number);
+    bytes.extend_from_slice(&piece)
 }
 
 /// Puts a number of 32 bits at the end.
@@ -118,7 +121,9 @@ pub fn put_u16(bytes: &mut Vec<u8>, number: u16) -> Result<(), AllocError>
 pub fn put_u32(bytes: &mut Vec<u8>, number: u32) -> Result<(), AllocError>
     ensures { OnOk result (bytes.new.items ≡ bytes.old.items ++ number_text n32 number) }
 {
-    bytes.extend_from_slice(&number.to_le_bytes())
+    let mut piece = [0; 4];
+    LittleEndian::write_u32(&mut piece, number);
+    bytes.extend_from_slice(&piece)
 }
 
 /// Puts a number of 64 bits at the end.
@@ -126,7 +131,9 @@ pub fn put_u32(bytes: &mut Vec<u8>, number: u32) -> Result<(), AllocError>
 pub fn put_u64(bytes: &mut Vec<u8>, number: u64) -> Result<(), AllocError>
     ensures { OnOk result (bytes.new.items ≡ bytes.old.items ++ number_text n64 number) }
 {
-    bytes.extend_from_slice(&number.to_le_bytes())
+    let mut piece = [0; 8];
+    LittleEndian::write_u64(&mut piece, number);
+    bytes.extend_from_slice(&piece)
 }
 
 /// Puts the bytes at the end.

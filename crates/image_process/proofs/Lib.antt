@@ -1,9 +1,11 @@
 pub mod DistinctWaiters
+pub mod FittingParts
 pub mod HeapWalk
 pub mod LiveProcesses
 pub mod Owners
 pub mod ProcessFiles
 pub mod ProcessLaws
 pub mod ReturnContent
+pub mod RisingKeys
 pub mod ThreadKeys
 pub mod Waiting

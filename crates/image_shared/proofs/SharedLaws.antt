@@ -1,6 +1,6 @@
 -- The format of the shared image and its text say the same, and what a reading of it tells
-use Rattle.std.proofs.Common.{◌≡◌, ◌==◌, ◌&&◌, ℕ, ◌<◌, ◌⊎◌, Bool, true, false, IsTrue, List, [], ◌++◌, length, Ok, Err, refl, sym, ap, subst, ◌∙◌, append_assoc, append-nil, arith, lit<}
-use Rattle.std.specs.Prelude.{All}
+use Rattle.std.proofs.Common.{◌≡◌, ◌==◌, ◌&&◌, ℕ, ◌<◌, ◌⊎◌, Bool, true, false, cond, IsTrue, List, [], ◌++◌, length, Ok, Err, refl, sym, ap, subst, ◌∙◌, append_assoc, append-nil, arith, lit<}
+use Rattle.std.specs.Prelude.{All, nat_le}
 use Rattle.std.specs.List.{flat_map}
 use Rattle.std.proofs.lemmas.Bool.Decides.{nat_tests}
 use Rattle.std.proofs.lemmas.Slice.Eq.{bytes_eq-Decides}
@@ -114,24 +114,28 @@ life_back : (life : Life) → life ≡ format.life_of (state_of life) (status_of
 life_back Live = refl
 life_back (Zombie status) = refl
 
-lives : (state status : ℕ) → state ≡ 0 → format.life_of state status ≡ Live
-lives state status h = rw h refl
+-- a state that is allowed is 0 or 1
+one_of_two : (state : ℕ) → IsTrue (nat_le state 1) → (state == 0) ≡ false → state ≡ 1
+one_of_two state h other = grind (arith, nat_tests)
+
+within_states : (state : ℕ) (rest : Bool) → IsTrue (nat_le state field.LAST_STATE && rest) → IsTrue (nat_le state 1)
+within_states state rest h = let below = (both_true (nat_le state field.LAST_STATE) rest h).0 in grind (arith, nat_tests)
 
 state_is : (channels : List ChannelImage) (descriptions : List DescriptionImage) (number parent made state status : ℕ) (fate : Life)
     → IsTrue (field.is_state channels descriptions number parent made state) → fate ≡ format.life_of state status → state ≡ state_of fate
 state_is channels descriptions number parent made state status fate h is =
-    let none = is_zero state (both_true _ _ h).0 in
-    none ∙ sym (ap state_of (is ∙ lives state status none))
+    elim (state == 0) as (λ b. (state == 0) ≡ b → state ≡ state_of fate) [
+      | true ↦ λ e. is_zero state e ∙ sym (ap state_of (is ∙ ap (λ b. cond b Live (Zombie status)) e))
+      | false ↦ λ e. one_of_two state (within_states state _ h) e ∙ sym (ap state_of (is ∙ ap (λ b. cond b Live (Zombie status)) e))
+    ] refl
 
 status_is : (state status : ℕ) (fate : Life) → IsTrue (field.is_exit_status state status) → fate ≡ format.life_of state status → status ≡ status_of fate
 status_is state status fate h is =
     elim (state == 0) as (λ b. (state == 0) ≡ b → status ≡ status_of fate) [
       | true ↦ λ e.
           let none : status ≡ 0 = grind (arith, nat_tests) in
-          none ∙ sym (ap status_of (is ∙ lives state status (is_zero state e)))
-      | false ↦ λ e.
-          let zombie : format.life_of state status ≡ Zombie status = rw e refl in
-          sym (ap status_of (is ∙ zombie))
+          none ∙ sym (ap status_of (is ∙ ap (λ b. cond b Live (Zombie status)) e))
+      | false ↦ λ e. sym (ap status_of (is ∙ ap (λ b. cond b Live (Zombie status)) e))
     ] refl
 
 pub life_law : (channels : List ChannelImage) (descriptions : List DescriptionImage) (number parent made : ℕ)

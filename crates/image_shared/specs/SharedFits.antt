@@ -70,7 +70,7 @@ pub record ProcessFits (next_id : ℕ) (channels : List ChannelImage) (descripti
   pub host : FitsNumber field.is_host it.host
   pub made : FitsNumber any it.made
   pub life : LifeFits channels descriptions it.pid.0 it.parent it.made it.life
-  pub pending : FitsNumber (field.is_pending it.life) it.pending
+  pub pending : FitsNumber (field.is_pending_set it.life) it.pending
   pub thread_count : FitsNumber (field.is_thread_count it.life) (length it.threads)
   pub threads : EachFrom (ThreadFits next_id front) [] it.threads
   pub descriptor_count : FitsNumber (field.is_descriptor_count it.life) (length it.descriptors)

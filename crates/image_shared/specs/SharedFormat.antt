@@ -130,7 +130,7 @@ process next_id channels descriptions front = do
   host ← unsigned n32 field.is_host
   made ← unsigned n32 any
   fate ← life channels descriptions number parent made
-  pending ← unsigned n32 (field.is_pending fate)
+  pending ← unsigned n32 (field.is_pending_set fate)
   threads ← counted (field.is_thread_count fate) (thread next_id front)
   descriptors ← counted (field.is_descriptor_count fate) (descriptor descriptions)
   give (record {

@@ -48,11 +48,11 @@ last_file front = option_map (λ file. file.number) (last_item front)
 abbrev pub is_file_number : ℕ → List FileImage → ℕ → Bool
 is_file_number next_file front n = is_above (last_file front) n && is_within 1 (next_file - 1) n
 
-abbrev pub has_name : List ℕ → FileImage → Bool
-has_name name file = is_bytes name file.name
+abbrev pub file_has_name : List ℕ → FileImage → Bool
+file_has_name name file = is_bytes name file.name
 
 abbrev pub is_new_name : List FileImage → List ℕ → Bool
-is_new_name front name = (length name == 0) || not (list_any (has_name name) front)
+is_new_name front name = (length name == 0) || not (list_any (file_has_name name) front)
 
 abbrev pub is_file_name : List FileImage → List ℕ → Bool
 is_file_name front name = list_all (λ byte. not (byte == 0)) name && is_new_name front name
@@ -140,9 +140,14 @@ abbrev pub is_made : List ChannelImage → List DescriptionImage → ℕ → ℕ
 is_made channels descriptions pid made =
     is_above_channels pid made channels && is_above_descriptions pid made descriptions
 
--- 0 lives, 1 is a zombie, of which the parent will be asked: none has an image so far
+-- 0 lives, 1 is a zombie, which has a parent: none has an image so far
+abbrev pub LAST_STATE : ℕ
+LAST_STATE = 0
+
 abbrev pub is_state : List ChannelImage → List DescriptionImage → ℕ → ℕ → ℕ → ℕ → Bool
-is_state channels descriptions pid parent made state = (state == 0) && is_made channels descriptions pid made
+is_state channels descriptions pid parent made state =
+    nat_le state LAST_STATE
+    && (if state == 0 then is_made channels descriptions pid made else not (parent == 1))
 
 abbrev pub is_exit_status : ℕ → ℕ → Bool
 is_exit_status state n = not (state == 0) || (n == 0)
@@ -151,8 +156,8 @@ is_exit_status state n = not (state == 0) || (n == 0)
 abbrev pub is_signals : ℕ → Bool
 is_signals n = nat_lt n (2 ^ 31)
 
-abbrev pub is_pending : Life → ℕ → Bool
-is_pending life n = is_signals n && (lives life || (n == 0))
+abbrev pub is_pending_set : Life → ℕ → Bool
+is_pending_set life n = is_signals n && (lives life || (n == 0))
 
 -- a process that lives has 1 to 64 threads, and a zombie has none
 abbrev pub is_thread_count : Life → ℕ → Bool

@@ -17,6 +17,9 @@ const NOBODY: u32 = 1;
 
 const ACCESS_MODE: u32 = 3;
 
+/// A process lives (0) or is a zombie (1), of which none has an image so far.
+const LAST_STATE: u8 = 0;
+
 const THREAD_LIMIT: u32 = 64;
 
 pub fn is_given_out(next_id: u32, n: u32) -> bool
@@ -85,8 +88,8 @@ pub fn is_process_number(next_id: u32, front: &[ProcessEntry], n: u32) -> bool
     is_above && is_given_out(next_id, n) && !is_thread_of_some(front, n)
 }
 
-pub fn is_pending(life: Life, n: u32) -> bool
-    ensures { result ≡ field.is_pending life n }
+pub fn is_pending_set(life: Life, n: u32) -> bool
+    ensures { result ≡ field.is_pending_set life n }
 {
     n < 1 << 31 && (life.is_live() || n == 0)
 }
@@ -139,7 +142,7 @@ fn is_above_descriptions(descriptions: &[DescriptionImage], pid: u32, made: u32)
     descriptions.iter().all(|description| description.id.pid.0 != pid || description.id.num < made)
 }
 
-pub fn is_made(
+fn is_made(
     channels: &[ChannelImage],
     descriptions: &[DescriptionImage],
     pid: u32,
@@ -148,6 +151,28 @@ pub fn is_made(
     ensures { result ≡ field.is_made channels.now descriptions.now pid made }
 {
     is_above_channels(channels, pid, made) && is_above_descriptions(descriptions, pid, made)
+}
+
+/// Whether the state may be that of a process of this number: one that lives has given out no greater number, and a
+/// zombie has a parent.
+pub fn is_state(
+    channels: &[ChannelImage],
+    descriptions: &[DescriptionImage],
+    pid: u32,
+    parent: u32,
+    made: u32,
+    state: u8,
+) -> bool
+    ensures { result ≡ field.is_state channels.now descriptions.now pid parent made state }
+{
+    if state > LAST_STATE {
+        return false;
+    }
+    if state == 0 {
+        is_made(channels, descriptions, pid, made)
+    } else {
+        parent != NOBODY
+    }
 }
 
 pub fn is_thread_number(

@@ -12,7 +12,7 @@ use crate::shared::{
 };
 use crate::shared_fields::{
     is_description, is_description_maker, is_description_number, is_descriptor_count,
-    is_descriptor_number, is_made, is_next_id, is_parent, is_pending, is_process_number,
+    is_descriptor_number, is_next_id, is_parent, is_pending_set, is_process_number, is_state,
     is_status_flags, is_thread_count, is_thread_number, is_whole_shared,
 };
 use image_format::ReadFault;
@@ -236,7 +236,7 @@ fn descriptors_at<'a>(
     Ok((descriptors, rest))
 }
 
-/// No zombie has an image so far.
+/// Whether the process lives, or has ended with which status.
 #[tactic(auto, unfolding(crate::specs::SharedFormat::life, image_format::specs::Reading::read, image_format::specs::Reading::read_next, image_format::specs::Reading::read_if))]
 fn life_at<'a>(
     channels: &[ChannelImage],
@@ -249,12 +249,14 @@ fn life_at<'a>(
     ensures { Gives (λ x. (x.0, x.1.now)) result
         (read (format.life channels.now descriptions.now pid parent made) text.now) }
 {
-    let _ = parent;
     let (state, after_state) = u8_at(text)?;
-    if state != 0 || !is_made(channels, descriptions, pid, made) {
+    if !is_state(channels, descriptions, pid, parent, made, state) {
         return Err(Fault::Left(text.len()));
     }
     let (status, rest) = u32_at(after_state)?;
+    if state != 0 {
+        return Ok((Life::Zombie(status), rest));
+    }
     if status != 0 {
         return Err(Fault::Left(after_state.len()));
     }
@@ -288,7 +290,7 @@ fn process_at<'a>(
     let (made, after_made) = u32_at(after_host)?;
     let (life, after_life) = life_at(channels, descriptions, pid, parent, made, after_made)?;
     let (pending, after_pending) = u32_at(after_life)?;
-    if !is_pending(life, pending) {
+    if !is_pending_set(life, pending) {
         return Err(Fault::Left(after_life.len()));
     }
     let (threads, after_threads) = threads_at(alloc, next_id, front, life, after_pending)?;

@@ -8,7 +8,7 @@ use Rattle.std.specs.Prelude.{length, map, [], unwrap_or, Bool, true, false, if�
 use Rattle.std.proofs.lemmas.Bool.{cases_eq}
 use Rattle.std.proofs.lemmas.List.{length-map}
 use Rattle.std.proofs.lemmas.Bool.Decides.{nat_tests}
-use Rattle.set_disk.specs.Files.{Files}
+use Rattle.set_disk.specs.Files.{FolderFiles}
 use Rattle.image_store.specs.Slots.{manifest_of, file_count, info_of, later, last, slot_to_write}
 use Rattle.image_store.specs.SlotImages.{KeepsOthers, NoneOrKept, IsBeforePut, IsPut, IsInPut}
 use Rattle.image_store.specs.FoundSets.{FoundSet, file_at, files_from, set_of, last_set, IsSet, HasSet}
@@ -101,10 +101,10 @@ to_write_small None = omega arith
 to_write_small (Some i) = grind (arith, nat_tests)
 
 -- the slot's set in both folders
-abbrev pub Kept : Files → Files → ℕ → Type 0
+abbrev pub Kept : FolderFiles → FolderFiles → ℕ → Type 0
 Kept files image slot = info_of slot (manifest_of image slot) ≡ info_of slot (manifest_of files slot)
 
-module _ (files image : Files) where
+module _ (files image : FolderFiles) where
   both_same : (a b : Option SetInfo) → info_of 0 (manifest_of image 0) ≡ a → info_of 1 (manifest_of image 1) ≡ b → last image ≡ later a b
   unfolding last
   both_same a b first second = λ k. later (first k) (second k)
@@ -180,41 +180,41 @@ module _ (files image : Files) where
   ]
 
 -- the files of another slot
-other_files : (s : ℕ) (files image : Files) (slot : ℕ) → KeepsOthers s files image → slot ≢ s → file_at image slot ≡ file_at files slot
+other_files : (s : ℕ) (files image : FolderFiles) (slot : ℕ) → KeepsOthers s files image → slot ≢ s → file_at image slot ≡ file_at files slot
 other_files s files image slot keeps differs = λ i index. keeps.others (record { slot = slot; index = index }) differs i
 
 abbrev manifest_in : (ℕ → Option (List ℕ)) → List ℕ
 manifest_in there = unwrap_or (there 0) []
 
-pub other_manifest : (s : ℕ) (files image : Files) (slot : ℕ) → KeepsOthers s files image → slot ≢ s → manifest_of image slot ≡ manifest_of files slot
+pub other_manifest : (s : ℕ) (files image : FolderFiles) (slot : ℕ) → KeepsOthers s files image → slot ≢ s → manifest_of image slot ≡ manifest_of files slot
 other_manifest s files image slot keeps differs = ap manifest_in (other_files s files image slot keeps differs)
 
-other_kept : (s : ℕ) (files image : Files) (slot : ℕ) → KeepsOthers s files image → slot ≢ s → Kept files image slot
+other_kept : (s : ℕ) (files image : FolderFiles) (slot : ℕ) → KeepsOthers s files image → slot ≢ s → Kept files image slot
 other_kept s files image slot keeps differs = ap (info_of slot) (other_manifest s files image slot keeps differs)
 
-other_set : (s : ℕ) (files image : Files) (info : SetInfo) → KeepsOthers s files image → info.slot ≢ s → set_of image info ≡ set_of files info
+other_set : (s : ℕ) (files image : FolderFiles) (info : SetInfo) → KeepsOthers s files image → info.slot ≢ s → set_of image info ≡ set_of files info
 unfolding set_of
 other_set s files image info keeps differs =
     ap (λ (there : ℕ → Option (List ℕ)). let found : FoundSet = record { slot = info.slot; generation = info.generation; manifest = manifest_in there; files = files_from there 1 (file_count (manifest_in there)) } in found)
     (other_files s files image info.slot keeps differs)
 
-same_sets : (files image : Files) (found : Option SetInfo) → last image ≡ found → last files ≡ found → ((info : SetInfo) → found ≡ Some info → set_of image info ≡ set_of files info) → last_set image ≡ last_set files
+same_sets : (files image : FolderFiles) (found : Option SetInfo) → last image ≡ found → last files ≡ found → ((info : SetInfo) → found ≡ Some info → set_of image info ≡ set_of files info) → last_set image ≡ last_set files
 unfolding last_set
 same_sets files image None now was each = ap (option_map (set_of image)) now ∙ sym (ap (option_map (set_of files)) was)
 same_sets files image (Some info) now was each = ap (option_map (set_of image)) now ∙ ap Some (each info refl) ∙ sym (ap (option_map (set_of files)) was)
 
-pub set_stays : (files image : Files) → IsBeforePut (slot_to_write (last files)) files image → last_set image ≡ last_set files
+pub set_stays : (files image : FolderFiles) → IsBeforePut (slot_to_write (last files)) files image → last_set image ≡ last_set files
 set_stays files image before =
     let s = slot_to_write (last files) in
     let now : last image ≡ last files = last_stays files image (last files) refl (λ slot differs. other_kept s files image slot before.others differs) before.info in
     same_sets files image (last files) now refl (λ info is. other_set s files image info before.others (λ e. to_write_differs info (e ∙ ap slot_to_write is)))
 
-pub last_set_is : (files : Files) (info : SetInfo) → last files ≡ Some info → last_set files ≡ Some (set_of files info)
+pub last_set_is : (files : FolderFiles) (info : SetInfo) → last files ≡ Some info → last_set files ≡ Some (set_of files info)
 unfolding last_set
 last_set_is files info is = ap (option_map (set_of files)) is
 
 -- the set that was put
-pub put_last : (files image : Files) (text : List ℕ) (m : Manifest) (images : List (List ℕ)) → IsPut (slot_to_write (last files)) files text images image → SpellsManifest text m → IfSome (last files) (λ i. i.generation < m.generation) → last image ≡ Some (record { slot = slot_to_write (last files); generation = m.generation })
+pub put_last : (files image : FolderFiles) (text : List ℕ) (m : Manifest) (images : List (List ℕ)) → IsPut (slot_to_write (last files)) files text images image → SpellsManifest text m → IfSome (last files) (λ i. i.generation < m.generation) → last image ≡ Some (record { slot = slot_to_write (last files); generation = m.generation })
 put_last files image text m images put spelled less =
     let s = slot_to_write (last files) in
     let long : 16 ≤ length text = (let l = spelled_length text m spelled in omega arith) in
@@ -223,7 +223,7 @@ put_last files image text m images put spelled less =
     ∙ ap (λ g. let i : SetInfo = record { slot = s; generation = g } in Some i) (spelled_generation text m spelled) in
     last_new files image (last files) (record { slot = s; generation = m.generation }) refl (λ slot differs. other_kept s files image slot put.others differs) info less
 
-whole_set : (files image : Files) (s : ℕ) (text : List ℕ) (g : ℕ) (images : List (List ℕ)) → IsPut s files text images image → SpellsManifest text (record { generation = g; lengths = map length images }) → IsSet (set_of image (record { slot = s; generation = g })) g images
+whole_set : (files image : FolderFiles) (s : ℕ) (text : List ℕ) (g : ℕ) (images : List (List ℕ)) → IsPut s files text images image → SpellsManifest text (record { generation = g; lengths = map length images }) → IsSet (set_of image (record { slot = s; generation = g })) g images
 unfolding set_of
 whole_set files image s text g images put spelled = record {
   generation = refl;
@@ -231,11 +231,11 @@ whole_set files image s text g images put spelled = record {
   files = ap (files_from (file_at image s) 1) (ap file_count put.manifest ∙ spelled_count text _ spelled ∙ length-map images length) ∙ put.there;
 }
 
-pub put_set_is : (files image : Files) (text : List ℕ) (g : ℕ) (images : List (List ℕ)) → IsPut (slot_to_write (last files)) files text images image → SpellsManifest text (record { generation = g; lengths = map length images }) → IfSome (last files) (λ i. i.generation < g) → HasSet (last_set image) g images
+pub put_set_is : (files image : FolderFiles) (text : List ℕ) (g : ℕ) (images : List (List ℕ)) → IsPut (slot_to_write (last files)) files text images image → SpellsManifest text (record { generation = g; lengths = map length images }) → IfSome (last files) (λ i. i.generation < g) → HasSet (last_set image) g images
 put_set_is files image text g images put spelled less =
     let info : SetInfo = record { slot = slot_to_write (last files); generation = g } in
     (set_of image info, last_set_is image info (put_last files image text _ images put spelled less), whole_set files image (slot_to_write (last files)) text g images put spelled)
 
-pub old_or_new : (files image : Files) (text : List ℕ) (g : ℕ) (images : List (List ℕ)) → SpellsManifest text (record { generation = g; lengths = map length images }) → IfSome (last files) (λ i. i.generation < g) → IsInPut (slot_to_write (last files)) files text images image → OldOrNew (last_set files) g images image
+pub old_or_new : (files image : FolderFiles) (text : List ℕ) (g : ℕ) (images : List (List ℕ)) → SpellsManifest text (record { generation = g; lengths = map length images }) → IfSome (last files) (λ i. i.generation < g) → IsInPut (slot_to_write (last files)) files text images image → OldOrNew (last_set files) g images image
 old_or_new files image text g images spelled less (inl before) = inl (set_stays files image before)
 old_or_new files image text g images spelled less (inr put) = inr (put_set_is files image text g images put spelled less)

@@ -4,7 +4,7 @@
 use Rattle.std.proofs.Common.{◌≡◌, ℕ, ◌<◌, ◌≤◌, refl, sym, ap, ◌∙◌, subst, arith}
 use Rattle.std.specs.Prelude.{Bool, true, false, ◌&&◌, if◌then◌else◌, nat_lt, Option, Some, None, IfSome, option_map}
 use Rattle.std.proofs.lemmas.Bool.Decides.{nat_tests}
-use Rattle.set_disk.specs.Files.{Files}
+use Rattle.set_disk.specs.Files.{FolderFiles}
 use Rattle.image_store.specs.Slots.{info_of, manifest_of, later, last}
 use Rattle.image_store.specs.FoundSets.{last_set, set_of}
 use Rattle.image_store.specs.StoreStates.{NoneAbove, within_floor}
@@ -37,16 +37,16 @@ within_kept floor None within = refl
 within_kept floor (Some x) within = kept_by (nat_lt 0 floor && nat_lt floor x.generation) x (is_within floor x.generation within)
 
 -- no set above the floor
-none_above : (files : Files) (floor : ℕ) (found : Option SetInfo) → last files ≡ found → IfSome (last_set files) (λ set. set.generation ≤ floor) → IfSome found (λ i. i.generation ≤ floor)
+none_above : (files : FolderFiles) (floor : ℕ) (found : Option SetInfo) → last files ≡ found → IfSome (last_set files) (λ set. set.generation ≤ floor) → IfSome found (λ i. i.generation ≤ floor)
 unfolding last_set set_of
 none_above files floor None is within = tt
 none_above files floor (Some info) is within = let P : Option SetInfo → Type 0 = λ o. IfSome (option_map (set_of files) o) (λ set. set.generation ≤ floor) in subst P is within
 
-within_last : (files : Files) (floor : ℕ) → NoneAbove floor files → 0 < floor → IfSome (later (info_of 0 (manifest_of files 0)) (info_of 1 (manifest_of files 1))) (λ i. i.generation ≤ floor)
+within_last : (files : FolderFiles) (floor : ℕ) → NoneAbove floor files → 0 < floor → IfSome (later (info_of 0 (manifest_of files 0)) (info_of 1 (manifest_of files 1))) (λ i. i.generation ≤ floor)
 unfolding last
 within_last files floor none some = none_above files floor (later (info_of 0 (manifest_of files 0)) (info_of 1 (manifest_of files 1))) refl (none some)
 
-pub opened_last : (files : Files) (floor : ℕ) (a b c d : Option SetInfo) → NoneAbove floor files → info_of 0 (manifest_of files 0) ≡ a → info_of 1 (manifest_of files 1) ≡ b → c ≡ within_floor floor a → d ≡ within_floor floor b → last files ≡ later c d
+pub opened_last : (files : FolderFiles) (floor : ℕ) (a b c d : Option SetInfo) → NoneAbove floor files → info_of 0 (manifest_of files 0) ≡ a → info_of 1 (manifest_of files 1) ≡ b → c ≡ within_floor floor a → d ≡ within_floor floor b → last files ≡ later c d
 unfolding last
 opened_last files floor a b c d none first second within_a within_b =
     let each = λ (some : 0 < floor). below_later (info_of 0 (manifest_of files 0)) (info_of 1 (manifest_of files 1)) floor (within_last files floor none some) in

@@ -7,7 +7,7 @@
 --     settled_at, settled_same                    a settled folder
 use Rattle.std.proofs.Common.{◌≡◌, ℕ, inl, inr, refl, sym, ap, subst, ◌∙◌, arith}
 use Rattle.std.specs.Prelude.{Option, Some, None, option_map, is_some, IfSome, Result, Ok, Err, OnOk, OnErr}
-use Rattle.set_disk.specs.Files.{Files}
+use Rattle.set_disk.specs.Files.{FolderFiles}
 use Rattle.set_disk.specs.Crash.{AfterStep, IsSettled, Only, Same}
 use Rattle.set_disk.specs.Moments.{Passes, LeavesOnly}
 use Rattle.set_disk.specs.declared.disk_fault.DiskFault.{DiskFault}
@@ -15,12 +15,12 @@ use Rattle.set_disk.specs.SeenFolder.{SeenFolder}
 use Rattle.image_store.specs.StoreCrashes.{SameTold, ChangesNothing}
 use Rattle.set_disk.proofs.Stretches.{either}
 
-both_steps : {a b : SeenFolder} {R S T : Files → Files → Type 0} → Passes R a b → ((old mid new : Files) → R old mid → S mid new → T old new) → (image : Files) → AfterStep S b.may_leave image → AfterStep T a.may_leave image
+both_steps : {a b : SeenFolder} {R S T : FolderFiles → FolderFiles → Type 0} → Passes R a b → ((old mid new : FolderFiles) → R old mid → S mid new → T old new) → (image : FolderFiles) → AfterStep S b.may_leave image → AfterStep T a.may_leave image
 both_steps first both image (mid, left, second) =
     let from = first.now mid left in
     (from.0, from.1, both from.0 mid image from.2 second)
 
-pub passes_then : {a b c : SeenFolder} {R S : Files → Files → Type 0} (T : Files → Files → Type 0) → Passes R a b → Passes S b c → ((old new : Files) → R old new → T old new) → ((old mid new : Files) → R old mid → S mid new → T old new) → Passes T a c
+pub passes_then : {a b c : SeenFolder} {R S : FolderFiles → FolderFiles → Type 0} (T : FolderFiles → FolderFiles → Type 0) → Passes R a b → Passes S b c → ((old new : FolderFiles) → R old new → T old new) → ((old mid new : FolderFiles) → R old mid → S mid new → T old new) → Passes T a c
 passes_then T first second one both = record {
   later = let l = first.later in let m = second.later in omega arith;
   now = λ image left. both_steps first both image (second.now image left);
@@ -31,7 +31,7 @@ passes_then T first second one both = record {
   wants = λ want. first.wants (second.wants want);
 }
 
-pub passes_widen : {a b : SeenFolder} {R : Files → Files → Type 0} (T : Files → Files → Type 0) → Passes R a b → ((old new : Files) → R old new → T old new) → Passes T a b
+pub passes_widen : {a b : SeenFolder} {R : FolderFiles → FolderFiles → Type 0} (T : FolderFiles → FolderFiles → Type 0) → Passes R a b → ((old new : FolderFiles) → R old new → T old new) → Passes T a b
 passes_widen T call wider = record {
   later = call.later;
   now = λ image left. let it = call.now image left in (it.0, it.1, wider it.0 image it.2);
@@ -40,7 +40,7 @@ passes_widen T call wider = record {
   wants = call.wants;
 }
 
-pub passes_none : (T : Files → Files → Type 0) → ((files : Files) → T files files) → (d : SeenFolder) → Passes T d d
+pub passes_none : (T : FolderFiles → FolderFiles → Type 0) → ((files : FolderFiles) → T files files) → (d : SeenFolder) → Passes T d d
 passes_none T same d = record {
   later = omega arith;
   now = λ image left. (image, left, same image);
@@ -49,9 +49,9 @@ passes_none T same d = record {
   wants = λ want. want;
 }
 
-pub leaves_only : {a b : SeenFolder} {T : Files → Files → Type 0} (files : Files) (P : Files → Type 0) → Passes T a b → ((image : Files) → a.may_leave image → image ≡ files) → P files → ((image : Files) → T files image → P image) → LeavesOnly a b P
+pub leaves_only : {a b : SeenFolder} {T : FolderFiles → FolderFiles → Type 0} (files : FolderFiles) (P : FolderFiles → Type 0) → Passes T a b → ((image : FolderFiles) → a.may_leave image → image ≡ files) → P files → ((image : FolderFiles) → T files image → P image) → LeavesOnly a b P
 leaves_only {a} {b} {T} files P stretch only here leads =
-    let after : (image : Files) → AfterStep T a.may_leave image → P image = λ image it. leads image (subst (λ f. T f image) (only it.0 it.1) it.2) in
+    let after : (image : FolderFiles) → AfterStep T a.may_leave image → P image = λ image it. leads image (subst (λ f. T f image) (only it.0 it.1) it.2) in
     record {
       later = stretch.later;
       each = λ image left. either (stretch.since a.moment image (omega arith) left) (λ before. subst P (sym (only image (a.only_now image before))) here) (after image);
@@ -70,46 +70,46 @@ nothing_none d = record { same = refl; crash = passes_none Same (λ files. refl)
 pub nothing_call : {a b : SeenFolder} → b.files ≡ a.files → Passes Same a b → ChangesNothing a b
 nothing_call same crash = record { same = same; crash = crash }
 
-pub told_same : (old new : Option Files) → new ≡ old → SameTold old new
+pub told_same : (old new : Option FolderFiles) → new ≡ old → SameTold old new
 told_same old new is = ap is_some is
 
-pub told_then : (a b c : Option Files) → SameTold a b → SameTold b c → SameTold a c
+pub told_then : (a b c : Option FolderFiles) → SameTold a b → SameTold b c → SameTold a c
 told_then a b c first second = second ∙ first
 
 -- where it tells what it holds at the end, it did so at the start
-pub told_before : (old new : Option Files) (files : Files) → SameTold old new → new ≡ Some files → (before : Files) × (old ≡ Some before)
+pub told_before : (old new : Option FolderFiles) (files : FolderFiles) → SameTold old new → new ≡ Some files → (before : FolderFiles) × (old ≡ Some before)
 told_before None new files same is = absurd (Some-None (sym same ∙ ap is_some is))
   where
-    Some-None : is_some {T = Files} None ≡ is_some (Some files) → ⊥
+    Some-None : is_some {T = FolderFiles} None ≡ is_some (Some files) → ⊥
     Some-None e = (cc)
 told_before (Some before) new files same is = (before, refl)
 
-pub told_still : (old new : Option Files) (before : Files) → SameTold old new → old ≡ Some before → (files : Files) × (new ≡ Some files)
+pub told_still : (old new : Option FolderFiles) (before : FolderFiles) → SameTold old new → old ≡ Some before → (files : FolderFiles) × (new ≡ Some files)
 told_still old new before same is = at_new new (same ∙ ap is_some is)
   where
-    at_new : (new : Option Files) → is_some new ≡ is_some (Some before) → (files : Files) × (new ≡ Some files)
+    at_new : (new : Option FolderFiles) → is_some new ≡ is_some (Some before) → (files : FolderFiles) × (new ≡ Some files)
     at_new None e = absurd (cc)
     at_new (Some files) e = (files, refl)
 
 -- one change of what reads give after another
-pub reads_then : (a b c : Option Files) (f g h : Files → Files) → b ≡ option_map f a → c ≡ option_map g b → ((files : Files) → a ≡ Some files → g (f files) ≡ h files) → c ≡ option_map h a
+pub reads_then : (a b c : Option FolderFiles) (f g h : FolderFiles → FolderFiles) → b ≡ option_map f a → c ≡ option_map g b → ((files : FolderFiles) → a ≡ Some files → g (f files) ≡ h files) → c ≡ option_map h a
 reads_then None b c f g h first second same = second ∙ ap (option_map g) first
 reads_then (Some files) b c f g h first second same = second ∙ ap (option_map g) first ∙ ap Some (same files refl)
 
-pub reads_ok : {A : Type 0} (result : Result A DiskFault) (a b c : Option Files) (f g h : Files → Files) → b ≡ option_map f a → OnOk result (c ≡ option_map g b) → ((files : Files) → a ≡ Some files → g (f files) ≡ h files) → OnOk result (c ≡ option_map h a)
+pub reads_ok : {A : Type 0} (result : Result A DiskFault) (a b c : Option FolderFiles) (f g h : FolderFiles → FolderFiles) → b ≡ option_map f a → OnOk result (c ≡ option_map g b) → ((files : FolderFiles) → a ≡ Some files → g (f files) ≡ h files) → OnOk result (c ≡ option_map h a)
 reads_ok (Ok value) a b c f g h first second same = reads_then a b c f g h first second same
 reads_ok (Err fault) a b c f g h first second same = tt
 
 -- where a folder tells what it holds
-pub told_at : (P : Files → Type 0) (told : Option Files) (files : Files) → IfSome told P → told ≡ Some files → P files
-told_at P told files holds is = let Q : Option Files → Type 0 = λ o. IfSome o P in subst Q is holds
+pub told_at : (P : FolderFiles → Type 0) (told : Option FolderFiles) (files : FolderFiles) → IfSome told P → told ≡ Some files → P files
+told_at P told files holds is = let Q : Option FolderFiles → Type 0 = λ o. IfSome o P in subst Q is holds
 
 -- what a settled folder leaves, where it tells its content
-pub settled_at : (folder : SeenFolder) (files : Files) → IsSettled folder → folder.files ≡ Some files → Only files folder.may_leave
+pub settled_at : (folder : SeenFolder) (files : FolderFiles) → IsSettled folder → folder.files ≡ Some files → Only files folder.may_leave
 settled_at folder files settled is = told_at (λ f. Only f folder.may_leave) folder.files files settled is
 
 -- a settled folder stays settled while nothing changes
-pub settled_same : {a b : SeenFolder} (files : Files) → Passes Same a b → Only files a.may_leave → Only files b.may_leave
+pub settled_same : {a b : SeenFolder} (files : FolderFiles) → Passes Same a b → Only files a.may_leave → Only files b.may_leave
 settled_same files stretch only = λ image left. let it = stretch.now image left in it.2 ∙ only it.0 it.1
 
 pub on_err : {A E P : Type 0} (result : Result A E) → P → OnErr result P

@@ -9,7 +9,7 @@ use Rattle.std.proofs.lemmas.Bool.{cases_eq}
 use Rattle.std.proofs.lemmas.Bool.Decides.{nat_tests}
 use Rattle.std.proofs.lemmas.List.{drop_more, drop_at, get_or-take}
 use Rattle.std.proofs.lemmas.Option.{get_or_from_slice_get}
-use Rattle.set_disk.specs.Files.{Files, with_write}
+use Rattle.set_disk.specs.Files.{FolderFiles, with_write}
 use Rattle.set_disk.specs.Crash.{Torn, TornBytes}
 use Rattle.set_disk.specs.declared.file_name.FileName.{FileName}
 use Rattle.set_disk.proofs.FilesAfter.{contents-write, get-write_other}
@@ -29,16 +29,16 @@ pub record IsShut (manifest : List ℕ) : Type 0 where
   pub some : 0 < length manifest
   pub shut : slice_index manifest 0 ≢ 1
 
-pub others_same : (slot : ℕ) (files : Files) → KeepsOthers slot files files
+pub others_same : (slot : ℕ) (files : FolderFiles) → KeepsOthers slot files files
 others_same slot files = record { others = λ q other. refl }
 
-pub others_then : (slot : ℕ) (a b c : Files) → KeepsOthers slot a b → KeepsOthers slot b c → KeepsOthers slot a c
+pub others_then : (slot : ℕ) (a b c : FolderFiles) → KeepsOthers slot a b → KeepsOthers slot b c → KeepsOthers slot a c
 others_then slot a b c first second = record { others = λ q other. second.others q other ∙ first.others q other }
 
-others_torn : (slot at n : ℕ) (old new : Files) → Torn (manifest_name slot) at n old new → KeepsOthers slot old new
+others_torn : (slot at n : ℕ) (old new : FolderFiles) → Torn (manifest_name slot) at n old new → KeepsOthers slot old new
 others_torn slot at n old new torn = record { others = λ q other. torn.others q (other_name slot q other) }
 
-others_gate : (slot : ℕ) (old new : Files) → KeepsGate slot old new → KeepsOthers slot old new
+others_gate : (slot : ℕ) (old new : FolderFiles) → KeepsGate slot old new → KeepsOthers slot old new
 others_gate slot old new keeps = record { others = keeps.others }
 
 -- a torn gate: any byte, and the rest as it was
@@ -62,18 +62,18 @@ gate_none : (manifest : List ℕ) → gate_of manifest ≡ None → manifest ≡
 gate_none [] is = refl
 gate_none (b ∷ manifest) is = (cc)
 
-torn_gate : (slot : ℕ) (files image : Files) → Torn (manifest_name slot) 0 1 files image → slice_index (manifest_of files slot) 0 ≡ 1 → 0 < length (manifest_of files slot) → NoneOrKept files image slot
+torn_gate : (slot : ℕ) (files image : FolderFiles) → Torn (manifest_name slot) 0 1 files image → slice_index (manifest_of files slot) 0 ≡ 1 → 0 < length (manifest_of files slot) → NoneOrKept files image slot
 torn_gate slot files image torn one some = elim (cases_eq (slice_index (manifest_of image slot) 0) 1) [
   | inl same ↦ inr (ap (info_of slot) (torn_back (manifest_of files slot) (manifest_of image slot) torn.bytes some (same ∙ sym one)))
   | inr shut ↦ inl (info_shut slot (manifest_of image slot) shut)
 ]
 
-torn_none : (slot : ℕ) (files image : Files) → Torn (manifest_name slot) 0 1 files image → manifest_of files slot ≡ [] → NoneOrKept files image slot
+torn_none : (slot : ℕ) (files image : FolderFiles) → Torn (manifest_name slot) 0 1 files image → manifest_of files slot ≡ [] → NoneOrKept files image slot
 torn_none slot files image torn none =
     let short = torn.bytes.no_longer in let l : length (manifest_of files slot) ≡ 0 = ap length none in
     inl (info_short slot (manifest_of image slot) (omega arith))
 
-pub closing_image : (slot : ℕ) (gate : Option ℕ) (files image : Files) → gate_of (manifest_of files slot) ≡ gate → closing_step slot gate files image → IsBeforePut slot files image
+pub closing_image : (slot : ℕ) (gate : Option ℕ) (files image : FolderFiles) → gate_of (manifest_of files slot) ≡ gate → closing_step slot gate files image → IsBeforePut slot files image
 closing_image slot None files image is torn = record { others = others_torn slot 0 1 files image torn; info = torn_none slot files image torn (gate_none (manifest_of files slot) is) }
 closing_image slot (Some gate) files image is (inl same) = record {
   others = subst (KeepsOthers slot files) (sym same) (others_same slot files);
@@ -84,26 +84,26 @@ closing_image slot (Some gate) files image is (inr (one, torn)) =
     record { others = others_torn slot 0 1 files image torn; info = torn_gate slot files image torn (there.1 ∙ one) there.0 }
 
 -- after the gate is closed
-written_gate : (slot gate : ℕ) (files : Files) → manifest_of (with_write files (manifest_name slot) 0 (gate ∷ [])) slot ≡ gate ∷ drop 1 (manifest_of files slot)
+written_gate : (slot gate : ℕ) (files : FolderFiles) → manifest_of (with_write files (manifest_name slot) 0 (gate ∷ [])) slot ≡ gate ∷ drop 1 (manifest_of files slot)
 written_gate slot gate files = contents-write files (manifest_name slot) 0 (gate ∷ [])
 
-write_shut : (slot : ℕ) (files : Files) → IsShut (manifest_of (with_write files (manifest_name slot) 0 (0 ∷ [])) slot)
+write_shut : (slot : ℕ) (files : FolderFiles) → IsShut (manifest_of (with_write files (manifest_name slot) 0 (0 ∷ [])) slot)
 write_shut slot files =
     let is = written_gate slot 0 files in
     let first : slice_index (manifest_of (with_write files (manifest_name slot) 0 (0 ∷ [])) slot) 0 ≡ 0 = ap (λ bytes. slice_index bytes 0) is in
     record { some = omega (arith, ap length is); shut = λ one. omega arith }
 
-others_write : (slot gate : ℕ) (files : Files) → KeepsOthers slot files (with_write files (manifest_name slot) 0 (gate ∷ []))
+others_write : (slot gate : ℕ) (files : FolderFiles) → KeepsOthers slot files (with_write files (manifest_name slot) 0 (gate ∷ []))
 others_write slot gate files = record { others = λ q other. get-write_other files (manifest_name slot) 0 (gate ∷ []) q (other_name slot q other) }
 
-pub record IsClosed (slot : ℕ) (files closed : Files) : Type 0 where
+pub record IsClosed (slot : ℕ) (files closed : FolderFiles) : Type 0 where
   pub others : KeepsOthers slot files closed
   pub shut : IsShut (manifest_of closed slot)
 
-written_closed : (slot : ℕ) (files : Files) → IsClosed slot files (with_write files (manifest_name slot) 0 (0 ∷ []))
+written_closed : (slot : ℕ) (files : FolderFiles) → IsClosed slot files (with_write files (manifest_name slot) 0 (0 ∷ []))
 written_closed slot files = record { others = others_write slot 0 files; shut = write_shut slot files }
 
-closed_by : (slot gate : ℕ) (files : Files) (b : Bool) → gate_of (manifest_of files slot) ≡ Some gate → (b ≡ false → gate ≢ 1) → IsClosed slot files (if b then with_write files (manifest_name slot) 0 (0 ∷ []) else files)
+closed_by : (slot gate : ℕ) (files : FolderFiles) (b : Bool) → gate_of (manifest_of files slot) ≡ Some gate → (b ≡ false → gate ≢ 1) → IsClosed slot files (if b then with_write files (manifest_name slot) 0 (0 ∷ []) else files)
 closed_by slot gate files true is other = written_closed slot files
 closed_by slot gate files false is other =
     let there = gate_some (manifest_of files slot) gate is in
@@ -112,7 +112,7 @@ closed_by slot gate files false is other =
 not_one : (gate : ℕ) → (gate == 1) ≡ false → gate ≢ 1
 not_one gate is = grind (arith, nat_tests)
 
-pub closed_files : (slot : ℕ) (gate : Option ℕ) (files : Files) → gate_of (manifest_of files slot) ≡ gate → IsClosed slot files (with_closed slot gate files)
+pub closed_files : (slot : ℕ) (gate : Option ℕ) (files : FolderFiles) → gate_of (manifest_of files slot) ≡ gate → IsClosed slot files (with_closed slot gate files)
 closed_files slot None files is = written_closed slot files
 closed_files slot (Some gate) files is = closed_by slot gate files (gate == 1) is (not_one gate)
 
@@ -120,7 +120,7 @@ closed_files slot (Some gate) files is = closed_by slot gate files (gate == 1) i
 front_byte : (old new : List ℕ) → take 1 new ≡ take 1 old → slice_index new 0 ≡ slice_index old 0
 front_byte old new same = sym (get_or-take 1 new 0 0 (omega arith)) ∙ ap (λ bytes. slice_index bytes 0) same ∙ get_or-take 1 old 0 0 (omega arith)
 
-pub filling_image : (slot : ℕ) (files closed image : Files) → IsClosed slot files closed → KeepsGate slot closed image → IsBeforePut slot files image
+pub filling_image : (slot : ℕ) (files closed image : FolderFiles) → IsClosed slot files closed → KeepsGate slot closed image → IsBeforePut slot files image
 filling_image slot files closed image before keeps =
     let same = front_byte (manifest_of closed slot) (manifest_of image slot) (keeps.gate before.shut.some) in
     record {
@@ -129,7 +129,7 @@ filling_image slot files closed image before keeps =
     }
 
 -- the slot has all but its gate
-pub record IsFilled (slot : ℕ) (files : Files) (text : List ℕ) (images : List (List ℕ)) (filled : Files) : Type 0 where
+pub record IsFilled (slot : ℕ) (files : FolderFiles) (text : List ℕ) (images : List (List ℕ)) (filled : FolderFiles) : Type 0 where
   pub others : KeepsOthers slot files filled
   pub some : 0 < length (manifest_of filled slot)
   pub behind : drop 1 (manifest_of filled slot) ≡ drop 1 text
@@ -142,7 +142,7 @@ files_same f g index (suc n) same = λ i. same index (omega arith) i ∷ files_s
 behind_name : (slot index : ℕ) → 1 ≤ index → record { slot = slot; index = index } ≢ manifest_name slot
 behind_name slot index le same = let i : index ≡ 0 = ap (λ (n : FileName). n.index) same in absurd (omega arith)
 
-pub filled_files : (slot : ℕ) (files closed : Files) (text : List ℕ) (images : List (List ℕ)) → IsClosed slot files closed → IsFilled slot files text images (with_manifest slot text (with_images slot 1 images closed))
+pub filled_files : (slot : ℕ) (files closed : FolderFiles) (text : List ℕ) (images : List (List ℕ)) → IsClosed slot files closed → IsFilled slot files text images (with_manifest slot text (with_images slot 1 images closed))
 unfolding with_manifest
 filled_files slot files closed text images before =
     let name = manifest_name slot in
@@ -160,7 +160,7 @@ filled_files slot files closed text images before =
     }
 
 -- the gate of a filled slot
-module _ (slot : ℕ) (files : Files) (text : List ℕ) (images : List (List ℕ)) (filled : Files) (before : IsFilled slot files text images filled) (some : 0 < length text) (one : slice_index text 0 ≡ 1) (image : Files) (torn : Torn (manifest_name slot) 0 1 filled image) where
+module _ (slot : ℕ) (files : FolderFiles) (text : List ℕ) (images : List (List ℕ)) (filled : FolderFiles) (before : IsFilled slot files text images filled) (some : 0 < length text) (one : slice_index text 0 ≡ 1) (image : FolderFiles) (torn : Torn (manifest_name slot) 0 1 filled image) where
   others_now : KeepsOthers slot files image
   others_now = others_then slot files filled image before.others (others_torn slot 0 1 filled image torn)
 
@@ -179,17 +179,17 @@ module _ (slot : ℕ) (files : Files) (text : List ℕ) (images : List (List ℕ
     | inr shut ↦ inl (record { others = others_now; info = inl (info_shut slot (manifest_of image slot) shut) })
   ]
 
-pub opened_files : (slot : ℕ) (files : Files) (text : List ℕ) (images : List (List ℕ)) (filled : Files) → IsFilled slot files text images filled → 0 < length text → slice_index text 0 ≡ 1 → IsPut slot files text images (with_write filled (manifest_name slot) 0 (1 ∷ []))
+pub opened_files : (slot : ℕ) (files : FolderFiles) (text : List ℕ) (images : List (List ℕ)) (filled : FolderFiles) → IsFilled slot files text images filled → 0 < length text → slice_index text 0 ≡ 1 → IsPut slot files text images (with_write filled (manifest_name slot) 0 (1 ∷ []))
 opened_files slot files text images filled before some one =
     put_image slot files text images filled before some one (with_write filled (manifest_name slot) 0 (1 ∷ [])) (write_torn (manifest_name slot) 0 1 (1 ∷ []) filled refl)
     (ap (λ bytes. slice_index bytes 0) (written_gate slot 1 filled))
 
 -- the step of a gate that is closed by a write, and of one that stays
-pub closing_torn : (slot : ℕ) (gate : Option ℕ) (old new : Files) → (gate ≡ None) ⊎ (gate ≡ Some 1) → Torn (manifest_name slot) 0 1 old new → closing_step slot gate old new
+pub closing_torn : (slot : ℕ) (gate : Option ℕ) (old new : FolderFiles) → (gate ≡ None) ⊎ (gate ≡ Some 1) → Torn (manifest_name slot) 0 1 old new → closing_step slot gate old new
 closing_torn slot None old new is torn = torn
 closing_torn slot (Some gate) old new (inl is) torn = (cc)
 closing_torn slot (Some gate) old new (inr is) torn = inr (let one : gate ≡ 1 = cc in one, torn)
 
-pub closing_same : (slot : ℕ) (gate : Option ℕ) (found : ℕ) (files : Files) → gate ≡ Some found → closing_step slot gate files files
+pub closing_same : (slot : ℕ) (gate : Option ℕ) (found : ℕ) (files : FolderFiles) → gate ≡ Some found → closing_step slot gate files files
 closing_same slot None found files is = (cc)
 closing_same slot (Some gate) found files is = inl refl

@@ -6,7 +6,7 @@
 use Rattle.std.proofs.Common.{◌≡◌, ◌⊎◌, ℕ, suc, ◌+◌, ◌<◌, ◌≤◌, max, inl, inr, List, sym, subst, arith}
 use Rattle.std.specs.Prelude.{Option, Some, None, IfSome, option_map, slice_get, Result, Ok, Err, IfOk}
 use Rattle.std.specs.Option.{option_map_or}
-use Rattle.set_disk.specs.Files.{Files}
+use Rattle.set_disk.specs.Files.{FolderFiles}
 use Rattle.image_format.specs.declared.set_bytes.SetBytes.{SetBytes}
 use Rattle.image_store.specs.Slots.{last}
 use Rattle.image_store.specs.FoundSets.{FoundSet, HasSet, last_set, set_of}
@@ -25,7 +25,7 @@ unfolding generation_after
 within floor None g is = tt
 within floor (Some i) g is = omega arith
 
-old_below : (files : Files) (found : Option SetInfo) (g : ℕ) → last files ≡ found → IfSome found (λ i. i.generation ≤ g) → IfSome (last_set files) (λ set. set.generation ≤ g)
+old_below : (files : FolderFiles) (found : Option SetInfo) (g : ℕ) → last files ≡ found → IfSome found (λ i. i.generation ≤ g) → IfSome (last_set files) (λ set. set.generation ≤ g)
 unfolding last_set set_of
 old_below files None g is below = let P : Option SetInfo → Type 0 = λ o. IfSome (option_map (set_of files) o) (λ set. set.generation ≤ g) in subst P (sym is) tt
 old_below files (Some i) g is below = let P : Option SetInfo → Type 0 = λ o. IfSome (option_map (set_of files) o) (λ set. set.generation ≤ g) in subst P (sym is) below
@@ -33,7 +33,7 @@ old_below files (Some i) g is below = let P : Option SetInfo → Type 0 = λ o. 
 new_below : (found : Option FoundSet) (g : ℕ) (bytes : List (List ℕ)) → HasSet found g bytes → IfSome found (λ set. set.generation ≤ g)
 new_below found g bytes (set, is, whole) = let P : Option FoundSet → Type 0 = λ o. IfSome o (λ s. s.generation ≤ g) in subst P (sym is) (let same = whole.generation in omega arith)
 
-pub none_above : (store : Known) (files after : Files) (outcomes : Files → Type 0) (g : ℕ) (bytes : List (List ℕ)) → FitsFiles store files outcomes → g ≡ next_generation store → OldOrNew (last_set files) (next_generation store) bytes after → NoneAbove g after
+pub none_above : (store : Known) (files after : FolderFiles) (outcomes : FolderFiles → Type 0) (g : ℕ) (bytes : List (List ℕ)) → FitsFiles store files outcomes → g ≡ next_generation store → OldOrNew (last_set files) (next_generation store) bytes after → NoneAbove g after
 none_above store files after outcomes g bytes fits number (inl same) some =
     let P : Option FoundSet → Type 0 = λ o. IfSome o (λ set. set.generation ≤ g) in
     subst P (sym same) (old_below files store.last g fits.last (within store.floor store.last g number))

@@ -5,7 +5,7 @@
 use Rattle.std.proofs.Common.{◌≡◌, ℕ, inl, inr, List, length, refl, sym, ap, subst, ◌∙◌}
 use Rattle.std.specs.Prelude.{Option, Some, None, map, option_map, Result, Ok, Err, IfOk, IfErr}
 use Rattle.std.proofs.lemmas.Option.{same_Some}
-use Rattle.set_disk.specs.Files.{Files}
+use Rattle.set_disk.specs.Files.{FolderFiles}
 use Rattle.image_format.specs.declared.damage.Damage.{Damage as Place}
 use Rattle.image_format.specs.declared.manifest.Manifest.{Manifest}
 use Rattle.image_format.specs.declared.set_bytes.SetBytes.{SetBytes}
@@ -21,7 +21,7 @@ use Rattle.image_store.specs.declared.store_fault.StoreFault.{StoreFault}
 use Rattle.image_store.specs.declared.store_fault.StoreFault.TheVariants.{DiskFault, NoSet, Damaged, Memory}
 use Rattle.image_store.proofs.SetReadings.{same_somes, whole_none}
 
-pub last_info : (files : Files) → last files ≡ option_map info_in (last_set files)
+pub last_info : (files : FolderFiles) → last files ≡ option_map info_in (last_set files)
 unfolding last_set set_of
 last_info files = at_found (last files)
   where

@@ -6,7 +6,7 @@ use Rattle.std.proofs.Common.{◌≡◌, ℕ, suc, inl, inr, List, [], ◌∷◌
 use Rattle.std.specs.Prelude.{Bool, true, false, if◌then◌else◌, ◌==◌, Option, Some, None, map, Result, Err}
 use Rattle.std.proofs.lemmas.Bool.Decides.{nat_tests}
 use Rattle.std.specs.Option.{option_or}
-use Rattle.set_disk.specs.Files.{Files}
+use Rattle.set_disk.specs.Files.{FolderFiles}
 use Rattle.image_format.specs.declared.damage.Damage.{Damage as Place}
 use Rattle.image_format.specs.declared.manifest.Manifest.{Manifest}
 use Rattle.image_format.specs.declared.set_bytes.SetBytes.{SetBytes}
@@ -45,7 +45,7 @@ same_somes [] (y ∷ ys) is = (cc)
 same_somes (x ∷ xs) [] is = (cc)
 same_somes (x ∷ xs) (y ∷ ys) is = let rest : map Some xs ≡ map Some ys = cc in let more = same_somes xs ys rest in let one : x ≡ y = cc in (λ i. one i ∷ more i)
 
-module _ (files : Files) (info : SetInfo) where
+module _ (files : FolderFiles) (info : SetInfo) where
   abbrev text : List ℕ
   text = manifest_of files info.slot
 

@@ -7,7 +7,7 @@
 --     HasSet found generation files   there is one, and it is that
 use Rattle.std.specs.Prelude.{◌≡◌, ℕ, zero, suc, List, [], ◌∷◌, length, map, Option, Some, option_map}
 use Rattle.std.specs.FinMap as files_by_name
-use Rattle.set_disk.specs.Files.{Files}
+use Rattle.set_disk.specs.Files.{FolderFiles}
 use Rattle.image_format.specs.Manifests.{SpellsManifest}
 use Rattle.image_store.specs.Slots.{manifest_of, file_count, last}
 use Rattle.image_store.specs.declared.set_info.SetInfo.{SetInfo}
@@ -19,7 +19,7 @@ pub record FoundSet : Type 0 where
   pub files : List (Option (List ℕ))
 
 -- the file of a slot at an index, if it is there
-abbrev pub file_at : Files → ℕ → ℕ → Option (List ℕ)
+abbrev pub file_at : FolderFiles → ℕ → ℕ → Option (List ℕ)
 file_at files slot index = files_by_name.get files (record { slot = slot; index = index })
 
 -- so many files, from an index on
@@ -28,7 +28,7 @@ files_from there index zero = []
 files_from there index (suc n) = there index ∷ files_from there (suc index) n
 
 -- the manifest names the files from 1 up to its count
-unfoldable pub set_of : Files → SetInfo → FoundSet
+unfoldable pub set_of : FolderFiles → SetInfo → FoundSet
 set_of files info = record {
   slot = info.slot;
   generation = info.generation;
@@ -36,7 +36,7 @@ set_of files info = record {
   files = files_from (file_at files info.slot) 1 (file_count (manifest_of files info.slot));
 }
 
-unfoldable pub last_set : Files → Option FoundSet
+unfoldable pub last_set : FolderFiles → Option FoundSet
 last_set files = option_map (set_of files) (last files)
 
 pub record IsSet (found : FoundSet) (g : ℕ) (bytes : List (List ℕ)) : Type 0 where

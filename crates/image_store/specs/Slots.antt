@@ -13,14 +13,14 @@
 use Rattle.std.specs.Prelude.{ℕ, Bool, ◌&&◌, if◌then◌else◌, ◌==◌, nat_lt, nat_le, List, length, take, drop}
 use Rattle.std.specs.Prelude.{slice_get, slice_index, Option, Some, None}
 use Rattle.std.specs.Int.{w32, w64, from_le_bytes}
-use Rattle.set_disk.specs.Files.{Files, contents}
+use Rattle.set_disk.specs.Files.{FolderFiles, contents}
 use Rattle.set_disk.specs.declared.file_name.FileName.{FileName}
 use Rattle.image_store.specs.declared.set_info.SetInfo.{SetInfo}
 
 abbrev pub manifest_name : ℕ → FileName
 manifest_name slot = record { slot = slot; index = 0 }
 
-abbrev pub manifest_of : Files → ℕ → List ℕ
+abbrev pub manifest_of : FolderFiles → ℕ → List ℕ
 manifest_of files slot = contents files (manifest_name slot)
 
 abbrev pub gate_of : List ℕ → Option ℕ
@@ -46,7 +46,7 @@ later None b = b
 later (Some a) None = Some a
 later (Some a) (Some b) = if nat_lt a.generation b.generation then Some b else Some a
 
-unfoldable pub last : Files → Option SetInfo
+unfoldable pub last : FolderFiles → Option SetInfo
 last files = later (info_of 0 (manifest_of files 0)) (info_of 1 (manifest_of files 1))
 
 unfoldable pub slot_to_write : Option SetInfo → ℕ

@@ -5,18 +5,18 @@
 --                                               they gave, and a crash leaves what it could leave before
 --     SameTold old new                          the folder goes on to tell its content, or to tell none
 use Rattle.std.specs.Prelude.{◌≡◌, ◌⊎◌, ℕ, List, Option, is_some}
-use Rattle.set_disk.specs.Files.{Files}
+use Rattle.set_disk.specs.Files.{FolderFiles}
 use Rattle.set_disk.specs.Crash.{Same}
 use Rattle.set_disk.specs.Moments.{Passes}
 use Rattle.set_disk.specs.SeenFolder.{SeenFolder}
 use Rattle.image_store.specs.FoundSets.{FoundSet, last_set, HasSet}
 
-abbrev pub OldOrNew : Option FoundSet → ℕ → List (List ℕ) → Files → Type 0
+abbrev pub OldOrNew : Option FoundSet → ℕ → List (List ℕ) → FolderFiles → Type 0
 OldOrNew before generation bytes image = (last_set image ≡ before) ⊎ HasSet (last_set image) generation bytes
 
 pub record ChangesNothing (old new : SeenFolder) : Type 0 where
   pub same : new.files ≡ old.files
   pub crash : Passes Same old new
 
-abbrev pub SameTold : Option Files → Option Files → Type 0
+abbrev pub SameTold : Option FolderFiles → Option FolderFiles → Type 0
 SameTold old new = is_some new ≡ is_some old

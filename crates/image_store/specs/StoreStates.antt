@@ -13,7 +13,7 @@
 use Rattle.std.specs.Prelude.{◌≡◌, ℕ, suc, ◌<◌, ◌≤◌, max, ◌&&◌, if◌then◌else◌, ◌==◌, nat_lt, Option, Some}
 use Rattle.std.specs.Prelude.{None, IfSome}
 use Rattle.std.specs.Option.{option_map_or, ForSome}
-use Rattle.set_disk.specs.Files.{Files}
+use Rattle.set_disk.specs.Files.{FolderFiles}
 use Rattle.set_disk.specs.Crash.{Only}
 use Rattle.set_disk.specs.SeenFolder.{SeenFolder}
 use Rattle.image_store.specs.Slots.{gate_of, manifest_of, last}
@@ -48,7 +48,7 @@ unfoldable pub within_floor : ℕ → Option SetInfo → Option SetInfo
 within_floor floor None = None
 within_floor floor (Some info) = if nat_lt 0 floor && nat_lt floor info.generation then None else Some info
 
-pub record FitsFiles (store : Known) (files : Files) (images : Files → Type 0) : Type 0 where
+pub record FitsFiles (store : Known) (files : FolderFiles) (images : FolderFiles → Type 0) : Type 0 where
   pub settled : Only files images
   pub first : gate_of (manifest_of files 0) ≡ store.first
   pub second : gate_of (manifest_of files 1) ≡ store.second
@@ -57,5 +57,5 @@ pub record FitsFiles (store : Known) (files : Files) (images : Files → Type 0)
 abbrev pub FitsFolder : Known → SeenFolder → Type 0
 FitsFolder store folder = ForSome folder.files (λ files. FitsFiles store files folder.may_leave)
 
-abbrev pub NoneAbove : ℕ → Files → Type 0
+abbrev pub NoneAbove : ℕ → FolderFiles → Type 0
 NoneAbove floor files = 0 < floor → IfSome (last_set files) (λ set. set.generation ≤ floor)

@@ -1,5 +1,5 @@
 ghost use Rattle.std.specs.Prelude.{◌≡◌, Option, option_map};
-ghost use Rattle.set_disk.specs.Files.{Files};
+ghost use Rattle.set_disk.specs.Files.{FolderFiles};
 ghost use Rattle.image_store.specs.Slots.{last};
 ghost use Rattle.image_store.specs.FoundSets.{FoundSet, last_set};
 ghost use Rattle.image_store.specs.StoreLaws.{info_in, IsOneSet, IsApart, IsOnePlace};
@@ -8,7 +8,7 @@ ghost use Rattle.image_store.specs.StoreLaws.{info_in, IsOneSet, IsApart, IsOneP
 /// together. It does nothing.
 pub fn store_laws()
     // The set that counts has the slot and the generation that count.
-    ensures info { (files : Files) → last files ≡ option_map info_in (last_set files) }
+    ensures info { (files : FolderFiles) → last files ≡ option_map info_in (last_set files) }
 
     // A set is whole in one way, or damaged at one place, and not both.
     ensures one { (found : Option FoundSet) → IsOneSet found }

@@ -1,6 +1,6 @@
 ghost use Rattle.std.specs.Prelude.{◌≡◌, ◌↔◌, ℕ, suc, ◌-◌, ◌^◌, ◌<◌, ◌≤◌, List, Some, None, Err, length, IfOk, IfErr, IfSome, OnOk, OnErr, IsErrOf, IsSomeAnd};
 ghost use Rattle.std.specs.Option.{ForSome};
-ghost use Rattle.set_disk.specs.Files.{Files};
+ghost use Rattle.set_disk.specs.Files.{FolderFiles};
 ghost use Rattle.set_disk.specs.Moments.{LeavesOnly};
 ghost use Rattle.image_format.specs.declared.damage.Damage.{Damage as Place};
 ghost use Rattle.image_store.specs.Slots.{later, slot_to_write};
@@ -129,7 +129,7 @@ impl Store {
 
         // After Ok each crash leaves the new one, and reads give it.
         ensures durable { OnOk result (ForSome (F.seen disk.old).files
-            (λ _. (image : Files) → (F.seen disk.new).may_leave image
+            (λ _. (image : FolderFiles) → (F.seen disk.new).may_leave image
             → HasSet (last_set image) (next_generation self) set.now.files)) }
         ensures stored { OnOk result (ForSome (F.seen disk.new).files
             (λ files. HasSet (last_set files) (next_generation self) set.now.files)) }

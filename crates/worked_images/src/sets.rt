@@ -13,7 +13,7 @@ use views::list_of::ListOf;
 /// The image of process 40000 with no page but the one that a handler returns to.
 fn process_bytes(alloc: Global) -> Result<Vec<u8>, AllocError> {
     let mut bytes = b"DMTPRC01".to_vec(alloc)?;
-    // The process, its break from 0 to 0, and the page 0x80000 with rights 5.
+    // The process, its break from 0 to 0, and the page 0x80000 with rights 5: `addi a7, zero, 139`, `ecall`.
     bytes.extend_from_slice(&[0x40, 0x9C, 0, 0, 0, 0, 0, 0, 0, 0, 0, 0])?;
     bytes.extend_from_slice(&[1, 0, 0, 0, 0, 0, 8, 0, 5])?;
     bytes.extend_from_slice(&[0x93, 0x08, 0xB0, 0x08, 0x73, 0, 0, 0])?;

@@ -1,5 +1,4 @@
-use Rattle.image_codec.proofs.ImageKernels.{image_is_kernel, image_has_next_id}
-use Rattle.image_codec.proofs.KeptImages.{other_threads_keep_image}
+use Rattle.image_codec.proofs.ImageKernels.{image_is_kernel, image_is_lone}
 use Rattle.image_format.proofs.ManifestLaws as manifest
 use Rattle.image_codec.proofs.OneProcess.{one_of_image}
 use Rattle.image_process.proofs.ProcessFiles as process
@@ -33,14 +32,11 @@ returns-clause-one c = one_of_image
 pub returns-clause-kernel : goal.returns-clause-kernel
 returns-clause-kernel c = image_is_kernel
 
-pub returns-clause-next_id : goal.returns-clause-next_id
-returns-clause-next_id c = image_has_next_id
+pub returns-clause-lone : goal.returns-clause-lone
+returns-clause-lone c = image_is_lone
 
 pub returns-clause-threads : goal.returns-clause-threads
 returns-clause-threads c = images_have_same_threads
 
 pub returns-clause-tids : goal.returns-clause-tids
 returns-clause-tids c = same_threads_have_tids
-
-pub returns-clause-kept : goal.returns-clause-kept
-returns-clause-kept c = other_threads_keep_image

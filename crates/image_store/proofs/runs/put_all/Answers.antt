@@ -1,6 +1,6 @@
 use Rattle.std.proofs.Common.{inl, refl, sym, ap, ◌∙◌, arith}
 use Rattle.std.proofs.lemmas.Option.{same_Some, slice_get_read}
-use Rattle.set_disk.specs.Files.{Files}
+use Rattle.set_disk.specs.Files.{FolderFiles}
 use Rattle.set_disk.specs.Crash.{Same}
 use Rattle.set_disk.proofs.Stretches.{joins, weakens}
 use Rattle.image_store.specs.FoundSets.{last_set}
@@ -24,7 +24,7 @@ loop-set-init g c = record {
 
 pub returns-in_err-store-clause-crash : goal.returns-in_err-store-clause-crash
 returns-in_err-store-clause-crash g c = λ files is.
-    let P = λ (image : Files). IsOneOf (last_set files) (next_generation c.args.store) c.args.sets.now (last_set image) in
+    let P = λ (image : FolderFiles). IsOneOf (last_set files) (next_generation c.args.store) c.args.sets.now (last_set image) in
     let still = told_still (g.F.Folder.seen c.args.disk.now).files (g.F.Folder.seen c.loop-set.disk).files files c.loop-set.invariant.told is in
     let was = c.loop-set.invariant.reads files is still.0 still.1 in
     let there = slice_get_read c.args.sets.now _ c.loop-set.set-index c.set-item.result refl c.loop-set-test.true c.set-item.is in
@@ -45,7 +45,7 @@ loop-set-preserved g c =
           (c.loop-set.invariant.reads files is still.0 still.1) (c.put_or_open.ensures.reads still.0 still.1 after is_after);
       count = counts_then c.loop-set.invariant.count (counts c.put_or_open.ensures.cause);
       crash = λ files is.
-          let P = λ (image : Files). IsOneOf (last_set files) (next_generation c.args.store) c.args.sets.now (last_set image) in
+          let P = λ (image : FolderFiles). IsOneOf (last_set files) (next_generation c.args.store) c.args.sets.now (last_set image) in
           let still = told_still (g.F.Folder.seen c.args.disk.now).files (g.F.Folder.seen c.loop-set.disk).files files c.loop-set.invariant.told is in
           let was = c.loop-set.invariant.reads files is still.0 still.1 in
           joins (g.F.Folder.seen c.args.disk.now) (g.F.Folder.seen c.loop-set.disk) (g.F.Folder.seen c.put_or_open.new.disk) P (c.loop-set.invariant.crash files is)

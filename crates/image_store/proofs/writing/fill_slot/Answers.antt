@@ -1,5 +1,5 @@
 use Rattle.std.proofs.Common.{◌<◌, length, sym, subst}
-use Rattle.set_disk.specs.Files.{Files}
+use Rattle.set_disk.specs.Files.{FolderFiles}
 use Rattle.set_disk.proofs.Stretches.{some_of}
 use Rattle.image_store.specs.Slots.{manifest_of}
 use Rattle.image_store.specs.SlotWrites.{KeepsGate, with_images}
@@ -15,7 +15,7 @@ pub write_body-requires-clause-gate : goal.write_body-requires-clause-gate
 write_body-requires-clause-gate g c = λ files is.
     let slot = c.args.slot in
     let from = some_of _ (with_images slot 1 c.args.images.now) files c.in_ok-write_images.ensures.written is in
-    subst (λ (f : Files). 0 < length (manifest_of f slot)) from.2 (images_gate slot c.args.images.now from.0 (c.requires.gate from.0 from.1))
+    subst (λ (f : FolderFiles). 0 < length (manifest_of f slot)) from.2 (images_gate slot c.args.images.now from.0 (c.requires.gate from.0 from.1))
 
 pub returns-in_err-write_body-clause-crash : goal.returns-in_err-write_body-clause-crash
 returns-in_err-write_body-clause-crash g c =

@@ -1,7 +1,7 @@
 use Rattle.std.proofs.Common.{◌≡◌, ℕ, List, ◌+◌, ◌∙◌, ap, arith, refl}
 use Rattle.std.specs.Prelude.{option_map}
 use Rattle.std.specs.FinMap as files_by_name
-use Rattle.set_disk.specs.Files.{Files}
+use Rattle.set_disk.specs.Files.{FolderFiles}
 use Rattle.image_store.specs.SlotWrites.{KeepsManifest, OnlyFile}
 use Rattle.image_store.proofs.Causes.{counts, counts_none, counts_then}
 use Rattle.image_store.proofs.Passing.{passes_then, passes_none, told_then}
@@ -18,7 +18,7 @@ loop-i-init g c = record {
 }
 
 -- the writes so far and one more
-one_more : (slot i : ℕ) (a b c : Files) → KeepsManifest slot a b → OnlyFile (record { slot = slot; index = i + 1 }) b c → KeepsManifest slot a c
+one_more : (slot i : ℕ) (a b c : FolderFiles) → KeepsManifest slot a b → OnlyFile (record { slot = slot; index = i + 1 }) b c → KeepsManifest slot a c
 one_more slot i a b c first second = manifest_then slot a b c first (manifest_only slot (i + 1) b c (omega arith) second)
 
 pub returns-in_err-write_file-clause-crash : goal.returns-in_err-write_file-clause-crash

@@ -1,7 +1,7 @@
 use Rattle.std.proofs.Common.{◌≡◌, ◌<◌, [], ◌∷◌, ap, ◌∙◌, sym, subst, length}
 use Rattle.std.specs.Prelude.{option_map}
 use Rattle.std.proofs.lemmas.Option.{same_Some}
-use Rattle.set_disk.specs.Files.{Files, with_write}
+use Rattle.set_disk.specs.Files.{FolderFiles, with_write}
 use Rattle.set_disk.proofs.FilesAfter.{on_ok_then}
 use Rattle.set_disk.proofs.Stretches.{joins, some_of}
 use Rattle.image_store.specs.Slots.{manifest_name, manifest_of}
@@ -19,7 +19,7 @@ pub fill_slot-requires-clause-gate : goal.fill_slot-requires-clause-gate
 fill_slot-requires-clause-gate g c = λ closed is.
     let slot = c.args.slot in
     let from = some_of (g.F.Folder.seen c.args.disk.now).files (with_closed slot c.args.gate) closed c.in_ok-close_gate.ensures.closed is in
-    subst (λ (f : Files). 0 < length (manifest_of f slot)) from.2 (closed_files slot c.args.gate from.0 (c.requires.gate from.0 from.1)).shut.some
+    subst (λ (f : FolderFiles). 0 < length (manifest_of f slot)) from.2 (closed_files slot c.args.gate from.0 (c.requires.gate from.0 from.1)).shut.some
 
 pub returns-in_err-fill_slot-clause-crash : goal.returns-in_err-fill_slot-clause-crash
 returns-in_err-fill_slot-clause-crash g c = λ files is.

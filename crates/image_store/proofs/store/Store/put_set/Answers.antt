@@ -1,6 +1,6 @@
 use Rattle.std.proofs.Common.{length, inl, refl, ap, sym, subst, ◌∙◌, arith}
 use Rattle.std.specs.Prelude.{slice_index}
-use Rattle.set_disk.specs.Files.{Files}
+use Rattle.set_disk.specs.Files.{FolderFiles}
 use Rattle.set_disk.specs.Crash.{Same}
 use Rattle.set_disk.proofs.Stretches.{told_then as where_told, weakens}
 use Rattle.image_store.specs.FoundSets.{last_set, HasSet}
@@ -78,5 +78,5 @@ returns-clause-durable g c = λ files is image left.
     let after = still.0 in
     let ready = ready_of c.args.self files _ c.self.inside.last c.slot_to_write-slot.result c.next-generation.result c.deref.result.now c.in_ok-manifest.manifest.items c.as_slice-images.result.now c.args.set.now.files (c.requires.fits files is) (ap (λ (k : Known). k.last) c.self.view_is) c.slot_to_write-slot.ensures c.next-generation.ensures c.deref.ensures.value c.in_ok-manifest.ensures c.as_slice-images.ensures in
     let only = settled_at (g.F.Folder.seen c.write_set.new.disk) after c.in_ok-write_set.ensures.durable still.1 in
-    subst (λ (f : Files). HasSet (last_set f) (next_generation c.args.self) c.args.set.now.files) (sym (only image left))
+    subst (λ (f : FolderFiles). HasSet (last_set f) (next_generation c.args.self) c.args.set.now.files) (sym (only image left))
     (ready_set files _ _ _ _ _ _ ready after (c.in_ok-write_set.ensures.written files is after still.1))
