@@ -6,7 +6,7 @@ use plain_process::{Frame, Right};
 use sys_abi::page::PAGE_SIZE;
 
 /// Whether rights have the one that an access needs.
-#[inline]
+#[inline(always)]
 pub fn allows(right: Right, rights: u8) -> bool
     ensures { result ≡ allowed right rights }
 {
@@ -18,7 +18,7 @@ pub fn allows(right: Right, rights: u8) -> bool
 }
 
 /// The number that `size` bytes of a frame spell.
-#[inline]
+#[inline(always)]
 pub fn number_at(frame: &Frame, offset: usize, size: u32) -> u32
     requires size { (size ≡ 1) ⊎ (size ≡ 2) ⊎ (size ≡ 4) }
     requires inside { offset + size ≤ 4096 }
@@ -32,8 +32,22 @@ pub fn number_at(frame: &Frame, offset: usize, size: u32) -> u32
     }
 }
 
-/// Puts the first `size` bytes of a number into a frame.
+/// The number that four bytes of a page spell.
 #[inline]
+pub fn word_in(page: &[u8], offset: usize) -> u32
+    requires { offset + 4 ≤ length page.now }
+    ensures { result ≡ little_endian (bytes_from page.now offset 4) }
+{
+    u32::from_le_bytes([
+        page[offset],
+        page[offset + 1],
+        page[offset + 2],
+        page[offset + 3],
+    ])
+}
+
+/// Puts the first `size` bytes of a number into a frame.
+#[inline(always)]
 pub fn put_number(frame: &mut Frame, offset: usize, size: u32, value: u32)
     requires size { (size ≡ 1) ⊎ (size ≡ 2) ⊎ (size ≡ 4) }
     requires inside { offset + size ≤ 4096 }

@@ -35,7 +35,7 @@ impl FrameBlock {
         }
     }
 
-    #[inline]
+    #[inline(always)]
     pub fn get(&self, at: usize) -> Option<&Frame>
         ensures { option_copied result ≡ slice_index_or self.now at None }
     {
@@ -65,7 +65,7 @@ impl FrameBlock {
     }
 
     /// Puts the first `size` bytes of a number into the frame at a place, where there is one.
-    #[inline]
+    #[inline(always)]
     pub fn put_number(&mut self, at: usize, offset: usize, size: u32, value: u32)
         requires size { (size ≡ 1) ⊎ (size ≡ 2) ⊎ (size ≡ 4) }
         requires inside { offset + size ≤ 4096 }

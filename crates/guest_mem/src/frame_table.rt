@@ -57,7 +57,7 @@ impl FrameTable {
         self.count
     }
 
-    #[inline]
+    #[inline(always)]
     pub fn get(&self, page: u32) -> Option<&Frame>
         ensures { option_copied result ≡ map.get self.now page }
     {
@@ -102,7 +102,7 @@ impl FrameTable {
     }
 
     /// Puts the first `size` bytes of a number into the frame of a page, where there is one.
-    #[inline]
+    #[inline(always)]
     pub fn put_number(&mut self, page: u32, offset: usize, size: u32, value: u32)
         requires size { (size ≡ 1) ⊎ (size ≡ 2) ⊎ (size ≡ 4) }
         requires inside { offset + size ≤ 4096 }

@@ -10,11 +10,13 @@
 #![tactic(auto)]
 
 mod access;
+pub mod code;
 mod frame_block;
 mod frame_table;
 pub mod mem_fault;
 mod runs;
 pub mod space;
 
+pub use code::Code;
 pub use mem_fault::MemFault;
 pub use space::Space;

@@ -12,6 +12,7 @@ ghost use Rattle.guest_mem.specs.FrameTable.{start_of, IsNextPage};
 ghost use Rattle.guest_mem.specs.Pages.{IsFree, without_pages};
 
 use crate::access::{allows, number_at, room_in_page};
+use crate::code::Code;
 use crate::frame_table::FrameTable;
 use crate::mem_fault::MemFault;
 use plain_process::{Frame, Right};
@@ -98,7 +99,7 @@ impl Space {
     }
 
     /// The number that the `size` bytes at an address spell, the least significant first. It needs the right to read.
-    #[inline]
+    #[inline(always)]
     pub fn load(&self, address: u32, size: u32) -> Result<u32, MemFault>
         requires { (size ≡ 1) ⊎ (size ≡ 2) ⊎ (size ≡ 4) }
         ensures value { result_ok result ≡ load_of self.now address size }
@@ -109,7 +110,7 @@ impl Space {
     }
 
     /// The instruction word at an address. It needs the right to execute.
-    #[inline]
+    #[inline(always)]
     pub fn fetch(&self, address: u32) -> Result<u32, MemFault>
         ensures value { result_ok result ≡ fetch_of self.now address }
         ensures refused { result_err result ≡ refusal self.now right.Execute address 4 }
@@ -117,7 +118,22 @@ impl Space {
         self.read(Right::Execute, address, 4)
     }
 
-    #[inline]
+    /// The page of an address, where it is there and may be executed.
+    #[inline(always)]
+    pub fn code(&self, address: u32) -> Option<Code<'_>>
+        ensures { IfSome result (λ code. code ≡ self.now) }
+    {
+        match self.frame(Right::Execute, address / 4096) {
+            Ok(frame) => Some(Code {
+                space: self,
+                start: address - address % 4096,
+                bytes: frame.page.as_slice(),
+            }),
+            Err(_) => None,
+        }
+    }
+
+    #[inline(always)]
     fn read(&self, right: Right, address: u32, size: u32) -> Result<u32, MemFault>
         requires { (size ≡ 1) ⊎ (size ≡ 2) ⊎ (size ≡ 4) }
         ensures value { result_ok result ≡ option_map little_endian (bytes_at self.now right address size) }
@@ -132,7 +148,7 @@ impl Space {
         Ok(number_at(frame, offset, size))
     }
 
-    #[inline]
+    #[inline(always)]
     pub fn page(&self, page: u32) -> Option<&Frame>
         ensures { option_copied result ≡ map.get self.now page }
     {
@@ -140,7 +156,7 @@ impl Space {
     }
 
     /// The frame of a page, where it has the right.
-    #[inline]
+    #[inline(always)]
     fn frame(&self, right: Right, page: u32) -> Result<&Frame, MemFault>
         ensures { result_map_both (λ frame. frame.now) (λ fault. fault) result ≡ granted right (map.get self.now page) }
     {
@@ -212,7 +228,7 @@ impl Space {
 
     /// Puts the first `size` bytes of a number at an address, the least significant first. It needs the right to write.
     /// A refused store writes no byte.
-    #[inline]
+    #[inline(always)]
     pub fn store(&mut self, address: u32, size: u32, value: u32) -> Result<(), MemFault>
         requires { (size ≡ 1) ⊎ (size ≡ 2) ⊎ (size ≡ 4) }
         ensures told { memory_after self.old address size value ≡ stored result self.new }
@@ -228,7 +244,7 @@ impl Space {
         Ok(())
     }
 
-    #[inline]
+    #[inline(always)]
     fn put(&mut self, address: u32, size: u32, value: u32)
         requires size { (size ≡ 1) ⊎ (size ≡ 2) ⊎ (size ≡ 4) }
         requires inside { address % 4096 + size ≤ 4096 }

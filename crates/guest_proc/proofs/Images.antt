@@ -21,6 +21,7 @@ use Rattle.image_process.specs.declared.page_image.PageImage.{PageImage}
 use Rattle.image_process.specs.declared.process_image.ProcImage.{ProcImage}
 use Rattle.image_process.specs.UserParts.{page_entry, thread_entry, user_of}
 use Rattle.views.proofs.MapLaws.{key_tied, other_key}
+pub use Rattle.image_process.proofs.RisingKeys.{front, back, rising, past_front, lt_true}
 
 -- the map of a map's entries is that map
 pub from_own_entries : {X : Type 0} (m : map.FinMap nat_cmp X) → map.from_entries {R = nat_cmp} (map.entries m) ≡ m
@@ -33,23 +34,6 @@ above last es = filter (λ e. is_above last e.0) es
 abbrev keys_in : {X : Type 0} → List (ℕ × X) → List ℕ
 keys_in es = each (λ e. e.0) es
 
-pub front : (a b : Bool) → T (a && b) → T a
-front true b both = tt
-front false b both = absurd both
-
-pub back : (a b : Bool) → T (a && b) → T b
-back true b both = both
-back false b both = absurd both
-
-pub rising : (x y : ℕ) → T (is_lt (nat_cmp x y)) → x < y
-rising x y is = elim (nat_lt x y) as (λ b. nat_lt x y ≡ b → T (is_lt (cond b Less (cond (x == y) Equal Greater))) → x < y) [
-  | true ↦ λ e h. below e
-  | false ↦ λ e h. absurd (elim (x == y) as (λ b. T (is_lt (cond b Equal Greater)) → ⊥) [ true ↦ λ h. h | false ↦ λ h. h ] h)
-] refl is
-  where
-    below : nat_lt x y ≡ true → x < y
-    below e = grind (arith, nat_tests, e)
-
 -- each key after one that passes comes after it too
 passes_after : (last : Option ℕ) (k n : ℕ) → is_above last k ≡ true → k < n → is_above last n ≡ true
 passes_after None k n passes after = refl
@@ -58,9 +42,6 @@ passes_after (Some key) k n passes after = let first : key < k = grind (arith, n
 before_passing : (last : Option ℕ) (k n : ℕ) → is_above last k ≡ false → is_above last n ≡ true → k < n
 before_passing None k n fails passes = cc
 before_passing (Some key) k n fails passes = grind (arith, nat_tests, fails, passes)
-
-pub lt_true : (k n : ℕ) → k < n → nat_lt k n ≡ true
-lt_true k n less = grind (arith, nat_tests, less)
 
 lt_false : (k n : ℕ) → n ≤ k → nat_lt k n ≡ false
 lt_false k n less = grind (arith, nat_tests, less)
@@ -108,9 +89,6 @@ module _ {X : Type 0} where
   at_front : (e : ℕ × X) (es : List (ℕ × X)) (v : X) → map.find nat_cmp e.0 (e ∷ es) ≡ Some v → e.1 ≡ v
   at_front e es v is =
       let here : map.find nat_cmp e.0 (e ∷ es) ≡ Some e.1 = ap (λ b. cond b (Some e.1) (map.find nat_cmp e.0 es)) (key_tied nat_cmp_total map.nat_cmp-IsAntisymmetric e.0) in cc
-
-  pub past_front : (n : ℕ) (e : ℕ × X) (es : List (ℕ × X)) → e.0 < n → map.find nat_cmp n (e ∷ es) ≡ map.find nat_cmp n es
-  past_front n e es after = ap (λ b. cond b (Some e.1) (map.find nat_cmp n es)) (other_key nat_cmp_total map.nat_cmp-IsAntisymmetric n e.0 (λ is. omega arith))
 
   next_at : (last : Option ℕ) (n : ℕ) (v : X) (e : ℕ × X) (es : List (ℕ × X)) → T (is_sorted nat_cmp (e ∷ es)) → is_above last e.0 ≡ true → e.0 ≡ n → map.find nat_cmp n (e ∷ es) ≡ Some v
       → e ∷ above last es ≡ (n, v) ∷ above (Some n) (e ∷ es)

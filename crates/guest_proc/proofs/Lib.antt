@@ -5,13 +5,11 @@ pub mod Putting
 pub mod Entering
 pub mod Waking
 pub mod Texts
-pub mod Runs
 pub mod Lift
 pub mod LendLemmas
 pub mod GuestLemmas
 pub mod Loading
 pub mod Images
-pub mod FittingImages
 pub mod RebuiltUsers
 pub mod Breaks
 pub mod StackLemmas
@@ -22,3 +20,5 @@ pub mod LocalThreads
 pub mod LocalCalls
 pub mod OtherCalls
 pub mod LocalAnswers
+pub mod Fronts
+pub mod OnlyThreads

@@ -33,7 +33,7 @@ use Rattle.image_process.proofs.DistinctWaiters.{waiters_among, waiters_apart}
 use Rattle.image_process.proofs.ThreadKeys.{parts_there}
 use Rattle.image_process.proofs.ProcessFiles.{text_of}
 use Rattle.image_process.proofs.Owners.{same_tids}
-use Rattle.guest_proc.proofs.FittingImages.{page_there, image_few, from_eq, from_le, from_lt, and_first, and_second, first_of}
+use Rattle.image_process.proofs.FittingParts.{page_there, image_few, from_eq, from_le, from_lt, and_first, and_second, first_of}
 use Rattle.plain_process.proofs.StartPages.{all_tail}
 
 -- the bytes of pages in a text

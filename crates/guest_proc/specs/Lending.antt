@@ -1,5 +1,5 @@
 -- How the bytes that a call reads are lent: as a span of the memory.
-use Rattle.std.specs.Prelude.{◌≡◌, ℕ, ◌≤◌, List, Option, Some, None, is_some, true}
+use Rattle.std.specs.Prelude.{◌≡◌, ℕ, ◌≤◌, List, ◌++◌, take, replicate, Option, Some, None, is_some, true}
 use Rattle.sys_abi.specs.declared.transfer.TheConstants.{TRANSFER_LIMIT}
 use Rattle.plain_process.specs.declared.memory.Right.TheVariants.{Read}
 use Rattle.plain_process.specs.declared.buffers.Span.{Span}
@@ -15,3 +15,7 @@ IsTextLength memory address (Some length) text = (text ≡ bytes_at memory Read 
 abbrev pub IsSpanOf : Memory → Option Span → Option (List ℕ) → Type 0
 IsSpanOf memory None bytes = bytes ≡ None
 IsSpanOf memory (Some at) bytes = (bytes ≡ bytes_at memory Read at.address at.length) × (is_some bytes ≡ true) × (at.length ≤ TRANSFER_LIMIT)
+
+-- the first 16 of these bytes, with zeros where they are fewer
+abbrev pub IsFrontOf : List ℕ → List ℕ → Type 0
+IsFrontOf given front = take 16 (given ++ replicate 16 0) ≡ front

@@ -3,6 +3,5 @@ pub mod Running
 pub mod Lending
 pub mod Rows
 pub mod Threads
-pub mod Peeking
 pub mod Looking
 pub mod Local

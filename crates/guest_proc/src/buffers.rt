@@ -10,13 +10,16 @@ ghost use Rattle.guest_proc.specs.Lending.{IsSpanOf, IsTextLength, CanHold, CanT
 use guest_mem::Space;
 use plain_process::{Right, Source, Span, Spans, fills_of, length_place, reads_of, writes_of};
 use sys_abi::{Reply, Request, Transfer};
+use thiserror::Error;
 
 /// Why a call's bytes were not lent.
-#[derive(Clone, Copy, Debug, PartialEq, Eq)]
+#[derive(Clone, Copy, Debug, PartialEq, Eq, Error)]
 pub enum LendFault {
     /// A buffer of the call is not readable or writable as it needs (EFAULT).
+    #[error("a buffer of the call can't be read or written")]
     Fault,
     /// Memory was wanted. Nothing wants memory while it lends yet.
+    #[error("out of memory")]
     Memory,
 }
 
@@ -107,7 +110,7 @@ pub fn filled_spans(space: &Space, request: &Request) -> Spans
     fills_of(request, size_of(space, request))
 }
 
-fn put_bytes(space: &mut Space, address: u32, bytes: &[u8])
+pub fn put_bytes(space: &mut Space, address: u32, bytes: &[u8])
     requires { CanHold space.old address bytes.now }
     ensures { space.new ≡ with_bytes space.old address bytes.now }
 {

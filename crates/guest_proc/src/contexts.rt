@@ -44,6 +44,15 @@ impl Contexts {
         Ok(Contexts { saved })
     }
 
+    /// A copy of them, with room for 64 too.
+    pub fn copy(&self, alloc: Global) -> Result<Contexts, AllocError>
+        ensures { IfOk result (λ copy. copy ≡ self.now) }
+    {
+        let mut saved = Vec::with_capacity(alloc, CONTEXT_LIMIT)?;
+        saved.extend_from_slice(self.saved.as_slice())?;
+        Ok(Contexts { saved })
+    }
+
     pub fn len(&self) -> usize
         ensures { result ≡ length self.now }
     {

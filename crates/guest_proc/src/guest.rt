@@ -1,4 +1,4 @@
-ghost use Rattle.std.specs.Prelude.{◌≡◌, ◌≢◌, ◌↔◌, ◌<◌, ◌≤◌, ◌^◌, ℕ, List, Option, length, map as each, All, Some, None, Err, IfOk, OnErr, OnOk, false, find, option_map};
+ghost use Rattle.std.specs.Prelude.{◌≡◌, ◌≢◌, ◌↔◌, ◌<◌, ◌≤◌, ◌^◌, ℕ, List, Option, length, map as each, All, Some, None, Err, IfOk, IfSome, OnErr, OnOk, false, find, option_map};
 ghost use Rattle.std.specs.FinMap as map;
 ghost use Rattle.views.specs.NumberMap.{is_above};
 ghost use Rattle.elf32.specs.Pages.{page_count};
@@ -11,22 +11,23 @@ ghost use Rattle.image_process.specs.ProcessImages.{SpellsProcess};
 ghost use Rattle.image_process.specs.ProcessFits.{HasImage};
 ghost use Rattle.image_process.specs.UserParts.{user_of, page_entry, thread_entry};
 ghost use Rattle.guest_proc.specs.Guests.{HasThread, Tells, ran_at};
+ghost use Rattle.guest_proc.specs.Lending.{IsFrontOf};
 
 use crate::buffers::{LendFault, lend_from};
-use crate::image::space_of;
+use crate::front::front_from;
+use crate::image::{memory_images, space_of};
 use crate::look::look_at;
-use crate::ram::Ram;
 use crate::ran::{Ran, ran_of};
-use crate::run::run_instructions;
 use crate::start::{break_of, start_actions, start_space, start_threads};
 use crate::threads::Threads;
 use crate::waiters::Waiters;
 use elf32::Program;
+use guest_run::{Ram, run_instructions};
 use image_process::ProcImage;
 use plain_process::{Regs, SignalAction};
 use std::alloc::{AllocError, Global};
 use std::marker::Model;
-use sys_abi::{Request, Tid, Transfer, VPid};
+use sys_abi::{Given, Request, Tid, Transfer, VPid};
 use views::duplicate::Duplicate;
 use views::list_of::ListOf;
 
@@ -111,7 +112,7 @@ impl Guest {
             pid: self.pid,
             break_start: self.break_start,
             break_end: self.break_end,
-            pages: self.ram.images(alloc)?,
+            pages: memory_images(alloc, &self.ram)?,
             actions: self.actions.duplicate(alloc)?,
             waiters: self.waiters.to_list(alloc)?,
             threads: self.threads.images(alloc)?,
@@ -251,5 +252,15 @@ impl Guest {
         ensures same { self.new ≡ self.old }
     {
         lend_from(&self.ram.space, request, transfer)
+    }
+
+    /// The front of the bytes that `lend` would lend, with zeros where they are fewer; None where it would answer a fault.
+    /// Whether the call waits hangs on no later byte.
+    pub fn front(&self, request: &Request) -> Option<Given>
+        ensures fault { (result ≡ None) ↔ (lent self.now.user.memory request.now ≡ None) }
+        ensures front { IfSome result (λ front. (given : List ℕ)
+            → lent self.now.user.memory request.now ≡ Some given → IsFrontOf given front) }
+    {
+        front_from(&self.ram.space, request)
     }
 }

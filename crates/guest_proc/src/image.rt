@@ -7,14 +7,24 @@ use crate::contexts::Contexts;
 use crate::load::insert_page;
 use crate::rows::{Row, put_row};
 use guest_mem::Space;
+use guest_run::Ram;
 use image_process::{PageImage, ThreadImage};
 use plain_process::ThreadPart;
 use std::alloc::{AllocError, Global};
 use views::duplicate::Duplicate;
 use views::list_of::ListOf;
 
+/// Copies of the pages of a process's memory, in rising order of their numbers.
+pub fn memory_images(alloc: Global, ram: &Ram) -> Result<ListOf<PageImage>, AllocError>
+    ensures entries { IfOk result (λ pages. each page_entry pages ≡ map.entries ram.now) }
+    ensures numbers { IfOk result (All (λ page. page.number < 2 ^ 20)) }
+    ensures few { IfOk result (λ pages. length pages ≤ 2048) }
+{
+    page_images(alloc, &ram.space)
+}
+
 /// Copies of the pages of a space, in rising order of their numbers.
-pub fn page_images(alloc: Global, space: &Space) -> Result<ListOf<PageImage>, AllocError>
+fn page_images(alloc: Global, space: &Space) -> Result<ListOf<PageImage>, AllocError>
     ensures entries { IfOk result (λ pages. each page_entry pages ≡ map.entries space.now) }
     ensures numbers { IfOk result (All (λ page. page.number < 2 ^ 20)) }
     ensures few { IfOk result (λ pages. length pages ≤ 2048) }

@@ -2,10 +2,8 @@ ghost use Rattle.std.specs.Prelude.{◌≡◌};
 ghost use Rattle.plain_process.specs.Steps.{effect_at};
 ghost use Rattle.guest_proc.specs.Looking.{ran_by};
 
-use crate::peek::outcome_of;
-use crate::ram::Ram;
 use crate::ran::Ran;
-use crate::run::{SIGNAL_FAULT, SIGNAL_ILLEGAL};
+use guest_run::{Ram, SIGNAL_FAULT, SIGNAL_ILLEGAL, outcome_of};
 use plain_process::Regs;
 use rv_isa::{Outcome, decode};
 use sys_abi::{Signal, request_of};

@@ -1,7 +1,7 @@
 ghost use Rattle.std.specs.Prelude.{◌≡◌};
 ghost use Rattle.guest_proc.specs.Running.{ran_told};
 
-use crate::run::Stop;
+use guest_run::Stop;
 use plain_process::Regs;
 use sys_abi::{Request, Signal, request_of};
 

@@ -1,4 +1,4 @@
-ghost use Rattle.std.specs.Prelude.{◌≡◌, ◌-◌, ◌<◌, ◌≤◌, ◌↔◌, ◌∷◌, ◌++◌, [], None, length, map as each, max, find, is_some, option_map, option_and_then, IsTrue, IfSome, IfOk, OnOk, OnErr};
+ghost use Rattle.std.specs.Prelude.{◌≡◌, ◌-◌, ◌<◌, ◌≤◌, ◌↔◌, ◌∷◌, ◌++◌, ℕ, [], Some, None, length, map as each, max, find, is_some, option_map, option_and_then, IsTrue, IfSome, IfOk, OnOk, OnErr};
 ghost use Rattle.std.specs.Option.{option_copied};
 ghost use Rattle.std.specs.FinMap as map;
 ghost use Rattle.views.specs.NumberMap.{is_above};
@@ -7,6 +7,9 @@ ghost use Rattle.plain_process.specs.Deliveries.{CONTEXT_LIMIT};
 ghost use Rattle.plain_process.specs.Local.{with_clear_tid};
 ghost use Rattle.plain_process.specs.Rows.Handlers.{last_context, with_mask};
 ghost use Rattle.plain_process.specs.Steps.{with_regs};
+ghost use Rattle.plain_process.specs.declared.user_part.ThreadPart.{ThreadPart};
+ghost use Rattle.plain_process.specs.Threads.{child_thread};
+ghost use Rattle.plain_process.specs.Twins.{alone};
 ghost use Rattle.guest_proc.specs.Rows.{part_of};
 ghost use Rattle.guest_proc.specs.Threads.{at_thread, with_contexts, earlier, fresh};
 
@@ -16,6 +19,7 @@ use crate::rows::{
     Row, count, next_above, pop_context, push_context, put_row, remove_row, row_of, set_clear_tid,
     set_mask, set_regs,
 };
+use crate::twins::{only_row, settle_only};
 use image_process::ThreadImage;
 use plain_process::{Context, Regs};
 use std::alloc::{AllocError, Global};
@@ -200,6 +204,35 @@ impl Threads {
             };
             let _ = put_row(&mut self.rows, row);
         }
+    }
+
+    /// A copy of one thread alone, with room of its own, if it is there.
+    pub fn twin(&self, alloc: Global, t: u32) -> Result<Threads, AllocError>
+        ensures { IfOk result (λ twin. twin ≡ record { threads = alone t (map.get self.now.threads t); spare = 0 }) }
+    {
+        match self.row(t) {
+            None => Ok(Threads::new(alloc)),
+            Some(row) => Ok(Threads {
+                rows: only_row(alloc, t, row)?,
+                spare: None,
+            }),
+        }
+    }
+
+    /// The one thread that is there goes on as a fork's child with this number, behind the call with these arguments.
+    pub fn settle(&mut self, number: u32, flags: u32, stack: u32, tls: u32, child_tid: u32)
+        ensures threads { (t : ℕ) (caller : ThreadPart) → self.old.threads ≡ alone t (Some caller)
+            → self.new.threads ≡ alone number (Some (child_thread caller flags stack tls child_tid)) }
+        ensures spare { self.new.spare ≡ self.old.spare }
+    {
+        settle_only(
+            self.rows.as_mut_slice(),
+            number,
+            flags,
+            stack,
+            tls,
+            child_tid,
+        );
     }
 
     /// The thread is gone. The room is as before.

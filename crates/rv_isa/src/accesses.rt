@@ -96,7 +96,7 @@ pub fn load_signed_half<M: GuestMemory>(
 }
 
 /// SB, SH, SW: stores the lowest `size` bytes of `value`.
-#[inline]
+#[inline(always)]
 pub fn store<M: GuestMemory>(
     regs: &mut Regs,
     memory: &mut M,

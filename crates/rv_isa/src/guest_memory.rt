@@ -2,12 +2,16 @@ ghost use Rattle.std.specs.Prelude.{◌≡◌, ℕ, ◌<◌, ◌*◌, ◌^◌, E
 ghost use Rattle.plain_process.specs.Memory.{Memory, load, store};
 ghost use Rattle.rv_isa.specs.Accesses.{IsAccessSize, IsLoaded, IsStored};
 
+use thiserror::Error;
+
 /// Why an access was not made.
-#[derive(Clone, Copy)]
+#[derive(Clone, Copy, Debug, Error)]
 pub enum AccessFault {
     /// A page of it is missing or lacks the right.
+    #[error("a page is missing or lacks the right")]
     Fault,
     /// Memory of the machine that runs the guest ran out.
+    #[error("out of memory")]
     Memory,
 }
 

@@ -3,7 +3,8 @@
 //! `word W` tells the row of a word, its operands and the word of that instruction, `immediate W` its
 //! immediate, `row of W` with four operands the word of that row's instruction, `rows` how many words of
 //! the three opcode fields have a row, and `do W` with a1, a2 and the first bytes of memory what the word
-//! comes to and what it changes. Other lines are remarks.
+//! comes to and what it changes. A line may end with the word's assembly in brackets, which is for the
+//! reader. Other lines are remarks.
 //!
 //! The expected output holds tables that were worked out elsewhere: they hold the table of the contracts
 //! to the manual.
@@ -17,6 +18,14 @@ mod words;
 use crate::effects::print_effect;
 use crate::words::{print_immediate, print_row_count, print_spelling, print_word};
 use std::io;
+
+/// The case without its assembly.
+fn case_of(line: &str) -> &str {
+    match line.split_once(" (") {
+        Some((case, _)) => case,
+        None => line,
+    }
+}
 
 fn print_answer(rt: &impl Print, line: &str) -> io::Result<()> {
     if let Some(word) = line.strip_prefix("word ") {
@@ -41,7 +50,7 @@ fn main(rt: HostRuntime) -> io::Result<()> {
     for line in rt.lines(rt.alloc()) {
         let line = line?;
         print!(rt; "{line}")?;
-        print_answer(&rt, line.as_str())?;
+        print_answer(&rt, case_of(line.as_str()))?;
         println!(rt)?;
     }
     Ok(())

@@ -4,7 +4,7 @@ use Rattle.plain_process.specs.declared.user_part.UserPart.{UserPart}
 use Rattle.plain_process.specs.Valid.{IsUser}
 use Rattle.guest_proc.specs.Guests.{GuestPart}
 use Rattle.guest_proc.proofs.Images.{part_of}
-use Rattle.guest_proc.proofs.FittingImages.{image_fits}
+use Rattle.image_process.proofs.FittingParts.{image_fits}
 use Rattle.guest_proc.proofs.guest.Guest.image.Goals as goal
 
 pub returns-clause-user : goal.returns-clause-user
@@ -16,7 +16,7 @@ returns-clause-user c =
       threads = c.self.inside.threads.threads;
       actions = c.self.inside.actions;
       waiters = c.self.inside.waiters;
-    }) c.in_ok-images.ensures.entries c.in_ok-images-2.ensures refl refl c.in_ok-duplicate.ensures c.in_ok-to_list.ensures
+    }) c.in_ok-memory_images.ensures.entries c.in_ok-images.ensures refl refl c.in_ok-duplicate.ensures c.in_ok-to_list.ensures
     ∙ ap (λ (g : GuestPart). g.user) c.self.view_is
 
 pub returns-clause-fits : goal.returns-clause-fits
@@ -31,8 +31,8 @@ returns-clause-fits c is some =
     } in
     let seen = ap (λ (g : GuestPart). g.user) (sym c.self.view_is) in
     image_fits _ user (record {
-      pages = c.in_ok-images.ensures.entries;
-      threads = c.in_ok-images-2.ensures;
+      pages = c.in_ok-memory_images.ensures.entries;
+      threads = c.in_ok-images.ensures;
       break_start = refl;
       break_end = refl;
       actions = c.in_ok-duplicate.ensures;

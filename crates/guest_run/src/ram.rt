@@ -1,15 +1,9 @@
-ghost use Rattle.std.specs.Prelude.{◌≡◌, ◌<◌, ◌≤◌, ◌^◌, ℕ, Option, length, map as each, All, IfOk};
-ghost use Rattle.std.specs.FinMap as map;
+ghost use Rattle.std.specs.Prelude.{◌≡◌, IfSome};
 ghost use Rattle.plain_process.specs.Memory.{Memory, fetch};
-ghost use Rattle.image_process.specs.UserParts.{page_entry};
 
-use crate::image::page_images;
-use guest_mem::Space;
-use image_process::PageImage;
+use guest_mem::{Code, Space};
 use rv_isa::{AccessFault, GuestMemory};
-use std::alloc::{AllocError, Global};
 use std::marker::Model;
-use views::list_of::ListOf;
 
 /// An address space as the memory of the processor.
 #[derive(Drop)]
@@ -32,20 +26,19 @@ impl Model for Ram {
 
 impl Ram {
     /// The word of the instruction at an address.
-    #[inline]
+    #[inline(always)]
     pub fn fetch(&self, address: u32) -> Option<u32>
         ensures { result ≡ fetch self.now address }
     {
         self.space.fetch(address).ok()
     }
 
-    /// Copies of its pages, in rising order of their numbers.
-    pub fn images(&self, alloc: Global) -> Result<ListOf<PageImage>, AllocError>
-        ensures entries { IfOk result (λ pages. each page_entry pages ≡ map.entries self.now) }
-        ensures numbers { IfOk result (All (λ page. page.number < 2 ^ 20)) }
-        ensures few { IfOk result (λ pages. length pages ≤ 2048) }
+    /// The page of an address, where it is there and may be executed.
+    #[inline(always)]
+    pub fn code(&self, address: u32) -> Option<Code<'_>>
+        ensures { IfSome result (λ code. code ≡ self.now) }
     {
-        page_images(alloc, &self.space)
+        self.space.code(address)
     }
 }
 
@@ -54,7 +47,7 @@ impl GuestMemory for Ram {
 
     ghost may_want = { λ _. ⊥ };
 
-    #[inline]
+    #[inline(always)]
     fn load(&self, address: u32, size: u32) -> Result<u32, AccessFault> {
         match self.space.load(address, size) {
             Ok(value) => Ok(value),
@@ -62,7 +55,7 @@ impl GuestMemory for Ram {
         }
     }
 
-    #[inline]
+    #[inline(always)]
     fn store(&mut self, address: u32, size: u32, value: u32) -> Result<(), AccessFault> {
         match self.space.store(address, size, value) {
             Ok(()) => Ok(()),

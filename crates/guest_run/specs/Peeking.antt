@@ -4,8 +4,8 @@ use Rattle.plain_process.specs.Memory.{Memory, store}
 use Rattle.plain_process.specs.Instructions.{Effect, Next as ToNext, Calls, Traps}
 use Rattle.rv_isa.specs.declared.outcome.Outcome.{Outcome}
 use Rattle.rv_isa.specs.declared.outcome.Outcome.TheVariants.{Next, Call, Trap}
-use Rattle.guest_proc.specs.declared.peek.Peek.{Peek}
-use Rattle.guest_proc.specs.declared.peek.Pending.{Pending}
+use Rattle.guest_run.specs.declared.peek.Peek.{Peek}
+use Rattle.guest_run.specs.declared.peek.Pending.{Pending}
 
 abbrev pub after_pending : Memory → Option Pending → Memory
 after_pending memory None = memory

@@ -1,6 +1,6 @@
 ghost use Rattle.std.specs.Prelude.{◌≡◌, None};
 ghost use Rattle.plain_process.specs.Instructions.{effect};
-ghost use Rattle.guest_proc.specs.Peeking.{memory_of, IsTaken, IsOutcomeOf};
+ghost use Rattle.guest_run.specs.Peeking.{memory_of, IsTaken, IsOutcomeOf};
 
 use crate::ram::Ram;
 use plain_process::{Insn, Regs};
