@@ -10,7 +10,7 @@ use Rattle.std.proofs.lemmas.List.{take-append-le, drop-append-le, take_all, len
 use Rattle.std.proofs.lemmas.List.Sums.{fold-append}
 use Rattle.std.proofs.Math.ListN.{drop_of_length-le}
 use Rattle.std.proofs.Math.Seq.{take-suc}
-use Rattle.set_disk.specs.Files.{Files}
+use Rattle.set_disk.specs.Files.{FolderFiles}
 use Rattle.set_disk.specs.Crash.{AfterStep}
 use Rattle.set_disk.specs.History.{after_call, after_filled, filled_by, done, reads_after, settles, counted, settled_count, durable, pending, torn_by, Leaves, MayLeave, with_pending, FILLER}
 use Rattle.set_disk.specs.declared.request.Request.{Request}
@@ -35,7 +35,7 @@ pub settled-within : (calls : List Call) → settled_count calls ≤ length call
 settled-within [] = omega arith
 settled-within (c ∷ calls) = counted_within (settles c) (settled_count calls) (length calls) (settled-within calls)
 
-done_torn : (request : Request) (is_done : Bool) (files : Files) → torn_by request files (if is_done then done request files else files)
+done_torn : (request : Request) (is_done : Bool) (files : FolderFiles) → torn_by request files (if is_done then done request files else files)
 done_torn Look true files = refl
 done_torn Look false files = refl
 done_torn (Write name at bytes) true files = write_torn name at (length bytes) bytes files refl
@@ -45,43 +45,43 @@ done_torn (Cut name len) false files = inl refl
 done_torn Sync true files = refl
 done_torn Sync false files = refl
 
-filled_torn : (request : Request) (is_done : Bool) (files : Files) → torn_by request files (filled_by request is_done files)
+filled_torn : (request : Request) (is_done : Bool) (files : FolderFiles) → torn_by request files (filled_by request is_done files)
 filled_torn Look is_done files = refl
 filled_torn (Write name at bytes) is_done files = write_torn name at (length bytes) (replicate (length bytes) FILLER) files (length-replicate _ _)
 filled_torn (Cut name len) true files = inr refl
 filled_torn (Cut name len) false files = inl refl
 filled_torn Sync is_done files = refl
 
-pub reads_leave : (files : Files) (calls : List Call) → Leaves files calls (reads_after files calls)
+pub reads_leave : (files : FolderFiles) (calls : List Call) → Leaves files calls (reads_after files calls)
 reads_leave files [] = refl
 reads_leave files (call ∷ later) = (after_call files call, done_torn call.request call.done files, reads_leave (after_call files call) later)
 
-pub filled_leave : (files : Files) (calls : List Call) → Leaves files calls (fold after_filled files calls)
+pub filled_leave : (files : FolderFiles) (calls : List Call) → Leaves files calls (fold after_filled files calls)
 filled_leave files [] = refl
 filled_leave files (call ∷ later) = (after_filled files call, filled_torn call.request call.done files, filled_leave (after_filled files call) later)
 
 -- nothing was done
-pub none_torn : (request : Request) (files : Files) → torn_by request files files
+pub none_torn : (request : Request) (files : FolderFiles) → torn_by request files files
 none_torn Look files = refl
 none_torn (Write name at bytes) files = same_torn name at (length bytes) files
 none_torn (Cut name len) files = inl refl
 none_torn Sync files = refl
 
-pub none_leave : (files : Files) (calls : List Call) → Leaves files calls files
+pub none_leave : (files : FolderFiles) (calls : List Call) → Leaves files calls files
 none_leave files [] = refl
 none_leave files (call ∷ later) = (files, none_torn call.request files, none_leave files later)
 
-pub pending_leave : (pattern : ℕ) (files : Files) (calls : List Call) → Leaves files calls (with_pending pattern files calls)
+pub pending_leave : (pattern : ℕ) (files : FolderFiles) (calls : List Call) → Leaves files calls (with_pending pattern files calls)
 pending_leave zero files calls = none_leave files calls
 pending_leave (suc zero) files calls = reads_leave files calls
 pending_leave (suc (suc n)) files calls = filled_leave files calls
 
-pub Leaves-push : (files : Files) (calls : List Call) (call : Call) (image : Files) → Leaves files (calls ++ call ∷ []) image → AfterStep (torn_by call.request) (Leaves files calls) image
+pub Leaves-push : (files : FolderFiles) (calls : List Call) (call : Call) (image : FolderFiles) → Leaves files (calls ++ call ∷ []) image → AfterStep (torn_by call.request) (Leaves files calls) image
 Leaves-push files [] call image (next, torn, is) = (files, refl, subst (torn_by call.request files) (sym is) torn)
 Leaves-push files (c ∷ calls) call image (next, torn, rest) =
     let after = Leaves-push next calls call image rest in (after.0, (next, torn, after.1), after.2)
 
-pub reads-push : (start : Files) (calls : List Call) (call : Call) → reads_after start (calls ++ call ∷ []) ≡ after_call (reads_after start calls) call
+pub reads-push : (start : FolderFiles) (calls : List Call) (call : Call) → reads_after start (calls ++ call ∷ []) ≡ after_call (reads_after start calls) call
 reads-push start calls call = fold-append after_call start calls (call ∷ [])
 
 count_without : (calls : List Call) (call : Call) → settles call ≡ false → settled_count (calls ++ call ∷ []) ≡ settled_count calls
@@ -90,7 +90,7 @@ count_without calls call no_sync = settled-push calls call ∙ ap (λ b. if b th
 count_with : (calls : List Call) (call : Call) → settles call ≡ true → settled_count (calls ++ call ∷ []) ≡ suc (length calls)
 count_with calls call sync = settled-push calls call ∙ ap (λ b. if b then suc (length calls) else settled_count calls) sync
 
-pub durable-push : (start : Files) (calls : List Call) (call : Call) → settles call ≡ false → durable start (calls ++ call ∷ []) ≡ durable start calls
+pub durable-push : (start : FolderFiles) (calls : List Call) (call : Call) → settles call ≡ false → durable start (calls ++ call ∷ []) ≡ durable start calls
 durable-push start calls call no_sync =
     ap (λ n. reads_after start (take n (calls ++ call ∷ []))) (count_without calls call no_sync)
     ∙ ap (reads_after start) (take-append-le (settled_count calls) calls (call ∷ []) (settled-within calls))
@@ -99,7 +99,7 @@ pub pending-push : (calls : List Call) (call : Call) → settles call ≡ false 
 pending-push calls call no_sync =
     ap (λ n. drop n (calls ++ call ∷ [])) (count_without calls call no_sync) ∙ drop-append-le (settled_count calls) calls (call ∷ []) (settled-within calls)
 
-pub durable-settled : (start : Files) (calls : List Call) (call : Call) → settles call ≡ true → durable start (calls ++ call ∷ []) ≡ reads_after start (calls ++ call ∷ [])
+pub durable-settled : (start : FolderFiles) (calls : List Call) (call : Call) → settles call ≡ true → durable start (calls ++ call ∷ []) ≡ reads_after start (calls ++ call ∷ [])
 durable-settled start calls call sync =
     ap (λ n. reads_after start (take n (calls ++ call ∷ []))) (count_with calls call sync)
     ∙ ap (reads_after start) (take_all (suc (length calls)) (calls ++ call ∷ []) (omega (arith, length-append calls (call ∷ []))))
@@ -109,7 +109,7 @@ pending-settled calls call sync =
     ap (λ n. drop n (calls ++ call ∷ [])) (count_with calls call sync) ∙ drop_of_length-le (calls ++ call ∷ []) {i = suc (length calls)} (omega (arith, length-append calls (call ∷ [])))
 
 -- after a call that settles nothing, an image is one of before it that the call tore
-pub MayLeave-push : (start : Files) (calls : List Call) (call : Call) (image : Files) → settles call ≡ false → MayLeave start (calls ++ call ∷ []) image → AfterStep (torn_by call.request) (MayLeave start calls) image
+pub MayLeave-push : (start : FolderFiles) (calls : List Call) (call : Call) (image : FolderFiles) → settles call ≡ false → MayLeave start (calls ++ call ∷ []) image → AfterStep (torn_by call.request) (MayLeave start calls) image
 MayLeave-push start calls call image no_sync (inl read) =
     (reads_after start calls, inl refl, subst (torn_by call.request (reads_after start calls)) (sym (read ∙ reads-push start calls call)) (done_torn call.request call.done (reads_after start calls)))
 MayLeave-push start calls call image no_sync (inr left) =
@@ -119,14 +119,14 @@ MayLeave-push start calls call image no_sync (inr left) =
     (after.0, inr after.1, after.2)
 
 -- after a sync that is done, only what reads give
-pub MayLeave-settled : (start : Files) (calls : List Call) (call : Call) (image : Files) → settles call ≡ true → MayLeave start (calls ++ call ∷ []) image → image ≡ reads_after start (calls ++ call ∷ [])
+pub MayLeave-settled : (start : FolderFiles) (calls : List Call) (call : Call) (image : FolderFiles) → settles call ≡ true → MayLeave start (calls ++ call ∷ []) image → image ≡ reads_after start (calls ++ call ∷ [])
 MayLeave-settled start calls call image sync (inl read) = read
 MayLeave-settled start calls call image sync (inr left) =
     let only : Leaves (durable start (calls ++ call ∷ [])) [] image = subst (λ later. Leaves (durable start (calls ++ call ∷ [])) later image) (pending-settled calls call sync) left in
     only ∙ durable-settled start calls call sync
 
 -- after any call
-pub MayLeave-next : (start : Files) (calls : List Call) (call : Call) (image : Files) → MayLeave start (calls ++ call ∷ []) image → AfterStep (torn_by call.request) (MayLeave start calls) image
+pub MayLeave-next : (start : FolderFiles) (calls : List Call) (call : Call) (image : FolderFiles) → MayLeave start (calls ++ call ∷ []) image → AfterStep (torn_by call.request) (MayLeave start calls) image
 MayLeave-next start calls call image left =
     elim (settles call) as (λ b. settles call ≡ b → AfterStep (torn_by call.request) (MayLeave start calls) image) [
       | true ↦ λ sync. (

@@ -3,7 +3,7 @@ use Rattle.std.proofs.Common.{◌≡◌, ℕ, ◌+◌, ◌<◌, ◌≤◌, Bool,
 use Rattle.std.specs.Prelude.{◌⊎◌, Some, Result, Ok, Err, OnOk}
 use Rattle.std.proofs.lemmas.List.{take-append-le, take_all}
 use Rattle.std.proofs.lemmas.Bool.{cases_lt}
-use Rattle.set_disk.specs.Files.{Files}
+use Rattle.set_disk.specs.Files.{FolderFiles}
 use Rattle.set_disk.specs.Crash.{AfterStep, Same, IsSettled}
 use Rattle.set_disk.specs.Moments.{Passes}
 use Rattle.set_disk.specs.History.{History, image_after, MayLeave, durable, pending, torn_by, with_call}
@@ -15,13 +15,13 @@ use Rattle.set_disk.specs.declared.disk_fault.DiskFault.{DiskFault}
 use Rattle.set_disk.specs.declared.disk_fault.DiskFault.TheVariants.{Failed, Memory}
 use Rattle.set_disk.proofs.Histories.{pending_leave, none_torn, MayLeave-next, MayLeave-settled, reads-push}
 
-pub image_left : (v h : History) (k pattern : ℕ) (image : Files) → v ≡ h → k ≤ length h.calls → image ≡ image_after pattern v.start (take k v.calls) → LeftSince h k image
+pub image_left : (v h : History) (k pattern : ℕ) (image : FolderFiles) → v ≡ h → k ≤ length h.calls → image ≡ image_after pattern v.start (take k v.calls) → LeftSince h k image
 image_left v h k pattern image is within made =
     let made_of : image ≡ image_after pattern h.start (take k h.calls) = subst (λ (w : History). image ≡ image_after pattern w.start (take k w.calls)) is made in
     let calls = take k h.calls in
     (k, omega arith, within, subst (MayLeave h.start calls) (sym made_of) (inr (pending_leave pattern (durable h.start calls) (pending calls))))
 
-since_call : (h : History) (request : Request) (is_done : Bool) (t k : ℕ) (image : Files) → t ≤ length h.calls → t ≤ k → k ≤ length h.calls + 1 → MayLeave h.start (take k (h.calls ++ record { request = request; done = is_done } ∷ [])) image
+since_call : (h : History) (request : Request) (is_done : Bool) (t k : ℕ) (image : FolderFiles) → t ≤ length h.calls → t ≤ k → k ≤ length h.calls + 1 → MayLeave h.start (take k (h.calls ++ record { request = request; done = is_done } ∷ [])) image
     → (length h.calls < k) ⊎ (k ≤ length h.calls) → LeftSince h t image ⊎ AfterStep (torn_by request) (MayLeave h.start h.calls) image
 since_call h request is_done t k image early since within left (inl last) =
     let call : Call = record { request = request; done = is_done } in
@@ -48,7 +48,7 @@ one_more h request is_done =
       wants = λ want. want;
     }
 
-pub stays : (h : History) (step : Files → Files → Type 0) → ((files : Files) → step files files) → Passes step (in_memory h) (in_memory h)
+pub stays : (h : History) (step : FolderFiles → FolderFiles → Type 0) → ((files : FolderFiles) → step files files) → Passes step (in_memory h) (in_memory h)
 stays h step none = record {
   later = omega arith;
   now = λ image left. (image, left, none image);
@@ -57,7 +57,7 @@ stays h step none = record {
   wants = λ want. want;
 }
 
-pub stays_as : (h n : History) (step : Files → Files → Type 0) → ((files : Files) → step files files) → n ≡ h → Passes step (in_memory h) (in_memory n)
+pub stays_as : (h n : History) (step : FolderFiles → FolderFiles → Type 0) → ((files : FolderFiles) → step files files) → n ≡ h → Passes step (in_memory h) (in_memory n)
 stays_as h n step none same = subst (λ (m : History). Passes step (in_memory h) (in_memory m)) (sym same) (stays h step none)
 
 one_more_as : (h n : History) (request : Request) (is_done : Bool) → n ≡ with_call h request is_done → Passes (torn_by request) (in_memory h) (in_memory n)

@@ -1,10 +1,10 @@
 -- Stretches of calls, one after another.
 --     joins, weakens          two stretches, and a weaker P
 --     told_then, some_of      where a folder tells what reads give, and where it told it before a change
-use Rattle.std.proofs.Common.{◌≡◌, ◌⊎◌, ℕ, inl, inr, refl, sym, subst, ◌∙◌, arith}
+use Rattle.std.proofs.Common.{◌≡◌, ◌⊎◌, inl, inr, refl, sym, ◌∙◌, arith}
 use Rattle.std.specs.Prelude.{Option, Some, None, option_map, IfSome}
 use Rattle.std.proofs.lemmas.Option.{same_Some, none-some}
-use Rattle.set_disk.specs.Files.{Files}
+use Rattle.set_disk.specs.Files.{FolderFiles}
 use Rattle.set_disk.specs.Moments.{LeavesOnly}
 use Rattle.set_disk.specs.SeenFolder.{SeenFolder}
 
@@ -17,14 +17,14 @@ pub told_then : {A : Type 0} (o : Option A) {P : A → Type 0} → ((x : A) → 
 told_then None each = tt
 told_then (Some x) each = each x refl
 
-pub joins : (a b c : SeenFolder) (P : Files → Type 0) → LeavesOnly a b P → LeavesOnly b c P → LeavesOnly a c P
+pub joins : (a b c : SeenFolder) (P : FolderFiles → Type 0) → LeavesOnly a b P → LeavesOnly b c P → LeavesOnly a c P
 joins a b c P first second = record {
   later = let l = first.later in let m = second.later in omega arith;
   each = λ image since. either (second.before a.moment image first.later since) (first.each image) (λ p. p);
   before = λ t image le since. either (second.before t image (let l = first.later in omega arith) since) (first.before t image le) inr;
 }
 
-pub weakens : (a b : SeenFolder) (P Q : Files → Type 0) → LeavesOnly a b P → ((image : Files) → P image → Q image) → LeavesOnly a b Q
+pub weakens : (a b : SeenFolder) (P Q : FolderFiles → Type 0) → LeavesOnly a b P → ((image : FolderFiles) → P image → Q image) → LeavesOnly a b Q
 weakens a b P Q stretch weaker = record {
   later = stretch.later;
   each = λ image since. weaker image (stretch.each image since);

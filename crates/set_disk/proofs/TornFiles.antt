@@ -7,7 +7,7 @@ use Rattle.std.proofs.lemmas.List.{take-take, take-append-le, length-take, take_
 use Rattle.std.proofs.lemmas.Bool.{cases_lt}
 use Rattle.std.proofs.Math.Seq.{drop-append_seam, take-length}
 use Rattle.std.proofs.Math.ListN.{drop_of_length-le}
-use Rattle.set_disk.specs.Files.{Files, contents, overwritten, with_write}
+use Rattle.set_disk.specs.Files.{FolderFiles, contents, overwritten, with_write}
 use Rattle.set_disk.specs.Crash.{Torn, TornBytes}
 use Rattle.set_disk.specs.declared.file_name.FileName.{FileName}
 use Rattle.set_disk.proofs.FilesAfter.{contents-write, get-write_other, get-write_same}
@@ -61,10 +61,10 @@ same_bytes_torn at n old = record {
   no_longer = omega arith;
 }
 
-pub same_torn : (name : FileName) (at n : ℕ) (files : Files) → Torn name at n files files
+pub same_torn : (name : FileName) (at n : ℕ) (files : FolderFiles) → Torn name at n files files
 same_torn name at n files = record { others = λ q differ. refl; there = λ h. h; bytes = same_bytes_torn at n (contents files name) }
 
-pub write_torn : (name : FileName) (at n : ℕ) (bytes : List ℕ) (files : Files) → length bytes ≡ n → Torn name at n files (with_write files name at bytes)
+pub write_torn : (name : FileName) (at n : ℕ) (bytes : List ℕ) (files : FolderFiles) → length bytes ≡ n → Torn name at n files (with_write files name at bytes)
 write_torn name at n bytes files size = record {
   others = get-write_other files name at bytes;
   there = λ _. subst IsSome (sym (get-write_same files name at bytes)) refl;

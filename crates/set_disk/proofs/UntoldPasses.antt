@@ -1,10 +1,10 @@
 -- A folder that tells no content, and may leave anything, meets what a call says of crashes.
 use Rattle.std.proofs.Common.{ℕ, inl, arith}
-use Rattle.set_disk.specs.Files.{Files}
+use Rattle.set_disk.specs.Files.{FolderFiles}
 use Rattle.set_disk.specs.Moments.{Passes}
 use Rattle.set_disk.specs.Untold.{without_content}
 
-pub untold_passes : (step : Files → Files → Type 0) → ((files : Files) → step files files) → (old new : ℕ)
+pub untold_passes : (step : FolderFiles → FolderFiles → Type 0) → ((files : FolderFiles) → step files files) → (old new : ℕ)
     → Passes step (without_content old) (without_content new)
 untold_passes step none old new = record {
   later = omega arith;

@@ -11,7 +11,7 @@
 --                             telling none
 use Rattle.std.specs.Prelude.{◌≡◌, ◌≢◌, ◌⊎◌, ℕ, ◌+◌, ◌≤◌, min, max, List, length, take, drop, Option, Some, None, IsSome, IfSome}
 use Rattle.std.specs.FinMap as map
-use Rattle.set_disk.specs.Files.{Files, contents, with_cut}
+use Rattle.set_disk.specs.Files.{FolderFiles, contents, with_cut}
 use Rattle.set_disk.specs.SeenFolder.{SeenFolder}
 use Rattle.set_disk.specs.declared.file_name.FileName.{FileName}
 
@@ -24,26 +24,26 @@ pub record TornBytes (at n : ℕ) (old new : List ℕ) : Type 0 where
   pub no_longer : length new ≤ max (length old) (at + n)
 
 -- The file may not have been made yet. All other files stay.
-pub record Torn (name : FileName) (at n : ℕ) (old new : Files) : Type 0 where
+pub record Torn (name : FileName) (at n : ℕ) (old new : FolderFiles) : Type 0 where
   pub others : (q : FileName) → q ≢ name → map.get new q ≡ map.get old q
   pub there : IsSome (map.get old name) → IsSome (map.get new name)
   pub bytes : TornBytes at n (contents old name) (contents new name)
 
-abbrev pub CutOrNot : FileName → ℕ → Files → Files → Type 0
+abbrev pub CutOrNot : FileName → ℕ → FolderFiles → FolderFiles → Type 0
 CutOrNot name len old new = (new ≡ old) ⊎ (new ≡ with_cut old name len)
 
-abbrev pub Same : Files → Files → Type 0
+abbrev pub Same : FolderFiles → FolderFiles → Type 0
 Same old new = new ≡ old
 
-abbrev pub AfterStep : (Files → Files → Type 0) → (Files → Type 0) → Files → Type 0
-AfterStep step before image = (old : Files) × before old × step old image
+abbrev pub AfterStep : (FolderFiles → FolderFiles → Type 0) → (FolderFiles → Type 0) → FolderFiles → Type 0
+AfterStep step before image = (old : FolderFiles) × before old × step old image
 
-abbrev pub Only : Files → (Files → Type 0) → Type 0
-Only files images = (image : Files) → images image → image ≡ files
+abbrev pub Only : FolderFiles → (FolderFiles → Type 0) → Type 0
+Only files images = (image : FolderFiles) → images image → image ≡ files
 
 abbrev pub IsSettled : SeenFolder → Type 0
 IsSettled folder = IfSome folder.files (λ files. Only files folder.may_leave)
 
-abbrev pub Takes : (Files → Files → Type 0) → Option Files → Option Files → Type 0
+abbrev pub Takes : (FolderFiles → FolderFiles → Type 0) → Option FolderFiles → Option FolderFiles → Type 0
 Takes step None new = new ≡ None
-Takes step (Some old) new = (files : Files) × (new ≡ Some files) × step old files
+Takes step (Some old) new = (files : FolderFiles) × (new ≡ Some files) × step old files

@@ -4,11 +4,11 @@
 use Rattle.std.specs.Prelude.{◌≡◌, ℕ, List, Option, OnSome}
 use Rattle.std.specs.Borrow.{Fml, MutBor, LendsSo}
 use Rattle.std.specs.FinMap as map
-use Rattle.set_disk.specs.Files.{Files}
+use Rattle.set_disk.specs.Files.{FolderFiles}
 use Rattle.set_disk.specs.declared.file_name.FileName.{FileName}
 use Rattle.set_disk.specs.contracts.files.Files as table
 use Rattle.set_disk.specs.contracts.file_bytes.FileBytes as bytes
 
-abbrev pub LendsFile : MutBor Files → FileName → Option (MutBor (List ℕ)) → Fml
+abbrev pub LendsFile : MutBor FolderFiles → FileName → Option (MutBor (List ℕ)) → Fml
 LendsFile s name r = LendsSo table.the_row bytes.the_row s r (λ n w. OnSome r (n ≡ map.insert s.now name w))
     (λ n. n ≡ s.now)

@@ -1,7 +1,7 @@
 -- The code of a history, by which it may be a model's value.
 use Rattle.std.specs.Prelude.{ℕ, List, refl}
 use Rattle.std.specs.Coded.{Coded, code_by, coded×, coded_ℕ, coded_list}
-use Rattle.set_disk.specs.Files.{Files}
+use Rattle.set_disk.specs.Files.{FolderFiles}
 use Rattle.set_disk.specs.FilesCode.{coded_files}
 use Rattle.set_disk.specs.History.{History}
 use Rattle.set_disk.specs.declared.call.Call.{Call}
@@ -9,7 +9,7 @@ use Rattle.set_disk.specs.contracts.call.Call as call
 
 abbrev pub coded_history : Coded History
 coded_history =
-    code_by (Files × (List Call × List ℕ))
+    code_by (FolderFiles × (List Call × List ℕ))
     (coded× coded_files (coded× (coded_list call.the_row.coded) (coded_list coded_ℕ)))
     (λ h. (h.start, (h.calls, h.fails))) (λ p. record { start = p.0; calls = p.1.0; fails = p.1.1 })
     (λ _. refl)

@@ -2,22 +2,22 @@
 --     LeftSince h t image           a crash right after some call from that moment on leaves this image
 --     in_memory h                   what is seen of it after these calls
 --     Answers request old new r     what a call answers and leaves
-use Rattle.std.specs.Prelude.{◌≡◌, ℕ, ◌-◌, ◌^◌, ◌≤◌, min, true, false, not, length, take, count_by, Some, None, Result, Ok, Err, ⊤}
+use Rattle.std.specs.Prelude.{◌≡◌, ℕ, ◌-◌, ◌^◌, ◌≤◌, min, true, false, not, length, take, count_by, Some, Result, Ok, Err, ⊤}
 use Rattle.std.proofs.Common.{inl, refl, sym, subst}
 use Rattle.std.proofs.Math.Nat.{le_refl}
 use Rattle.std.proofs.lemmas.Option.{same_Some, none-some}
 use Rattle.std.proofs.lemmas.List.{take_all}
-use Rattle.set_disk.specs.Files.{Files}
+use Rattle.set_disk.specs.Files.{FolderFiles}
 use Rattle.set_disk.specs.SeenFolder.{SeenFolder}
 use Rattle.set_disk.specs.History.{History, reads_after, MayLeave, is_due, with_call}
 use Rattle.set_disk.specs.declared.request.Request.{Request}
 use Rattle.set_disk.specs.declared.disk_fault.DiskFault.{DiskFault}
 use Rattle.set_disk.specs.declared.disk_fault.DiskFault.TheVariants.{Failed, Memory}
 
-abbrev pub LeftSince : History → ℕ → Files → Type 0
+abbrev pub LeftSince : History → ℕ → FolderFiles → Type 0
 LeftSince h t image = (k : ℕ) × (t ≤ k) × (k ≤ length h.calls) × MayLeave h.start (take k h.calls) image
 
-pub left_now : (h : History) (t : ℕ) (image : Files) → t ≤ length h.calls → MayLeave h.start h.calls image
+pub left_now : (h : History) (t : ℕ) (image : FolderFiles) → t ≤ length h.calls → MayLeave h.start h.calls image
     → LeftSince h t image
 left_now h t image le left =
     let all = take_all (length h.calls) h.calls (le_refl (length h.calls)) in (
@@ -28,7 +28,7 @@ left_now h t image le left =
           (sym all) left,
     )
 
-pub only_left : (h : History) (image : Files) → LeftSince h (length h.calls) image
+pub only_left : (h : History) (image : FolderFiles) → LeftSince h (length h.calls) image
     → MayLeave h.start h.calls image
 only_left h image (k, since, within, left) =
     subst (λ calls. MayLeave h.start calls image) (take_all k h.calls since) left

@@ -22,7 +22,7 @@ pub struct Files {
 
 impl Model for Files {
     ghost use Rattle.std.specs.FinMap as map;
-    ghost use Rattle.set_disk.specs.Files.{Files as Seen};
+    ghost use Rattle.set_disk.specs.Files.{FolderFiles as Seen};
     ghost use Rattle.set_disk.specs.FilesCode.{coded_files};
 
     ghost Value = { Seen };

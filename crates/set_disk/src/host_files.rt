@@ -99,6 +99,30 @@ pub fn write_file<R: Files>(rt: &R, path: &str, at: u64, bytes: &[u8]) -> Result
     }
 }
 
+/// Writes at an offset and cuts what lies beyond, and makes the file if it is not there. Answers whether it was made.
+///
+/// The file keeps its blocks where it stays as long, which makes this much quicker than a cut and a write.
+pub fn overwrite_file<R: Files>(
+    rt: &R,
+    path: &str,
+    at: u64,
+    bytes: &[u8],
+) -> Result<bool, DiskFault> {
+    match open_found(rt, path, OpenOptions::new().write(true)) {
+        Ok(Some(mut file)) => match overwrite(&mut file, at, bytes) {
+            Ok(()) => Ok(false),
+            Err(_) => Err(DiskFault::Failed),
+        },
+        Ok(None) => make_file(rt, path, at, bytes),
+        Err(error) => Err(fault_of(error)),
+    }
+}
+
+fn overwrite<F: Write + Seek + OpenFile>(file: &mut F, at: u64, bytes: &[u8]) -> io::Result<()> {
+    write_from(file, at, bytes)?;
+    shorten(file, at.saturating_add(bytes.len() as u64))
+}
+
 /// Makes a file for its owner alone, and writes it.
 fn make_file<R: Files>(rt: &R, path: &str, at: u64, bytes: &[u8]) -> Result<bool, DiskFault> {
     let mut options = OpenOptions::new();

@@ -8,7 +8,7 @@ ghost use Rattle.set_disk.specs.declared.owed.Owed.TheVariants.{All};
 use crate::disk_fault::DiskFault;
 use crate::file_name::FileName;
 use crate::folder::Folder;
-use crate::host_files::{cut_file, length_of, read_file, write_file};
+use crate::host_files::{cut_file, length_of, overwrite_file, read_file, write_file};
 use crate::host_names::path_of;
 use crate::host_syncs::{sync_folder, take_folder};
 use crate::owed::Owed;
@@ -16,6 +16,13 @@ use std::alloc::{AllocError, Global};
 use std::fs::File;
 use std::mem;
 use std::rt::Files;
+
+/// A cut that was answered, and is made by the next call: a write at the file's new end makes both at once.
+#[derive(Clone, Copy)]
+struct PutOff {
+    name: FileName,
+    len: u64,
+}
 
 /// A folder of the host, with a file `s{slot}_{index}.img` for each file name. It tells no content.
 ///
@@ -28,6 +35,7 @@ pub struct HostFolder<R> {
     /// The folder, opened and locked, once it was taken.
     held: Option<File>,
     owed: Owed,
+    cut: Option<PutOff>,
     faults: u64,
 }
 
@@ -35,7 +43,7 @@ impl<R: Files<File = File> + AllocGlobal + Clone + Drop> HostFolder<R> {
     /// The folder at the path, without faults so far. No call of the host is made.
     pub fn new(rt: R, alloc: Global, path: &str) -> Result<Self, AllocError>
         ensures rest { IfOk result (λ folder. (folder.rt ≡ rt)
-            × ((folder.held ≡ None) × ((folder.owed ≡ All) × (folder.faults ≡ 0)))) }
+            × ((folder.held ≡ None) × ((folder.owed ≡ All) × ((folder.cut ≡ None) × (folder.faults ≡ 0))))) }
         ensures place { IfOk result (λ folder. string_bytes folder.path ≡ path.now) }
     {
         Ok(HostFolder {
@@ -43,6 +51,7 @@ impl<R: Files<File = File> + AllocGlobal + Clone + Drop> HostFolder<R> {
             path: String::from_str(alloc, path)?,
             held: None,
             owed: Owed::All,
+            cut: None,
             faults: 0,
         })
     }
@@ -52,6 +61,32 @@ impl<R: Files<File = File> + AllocGlobal + Clone + Drop> HostFolder<R> {
         ensures { IfOk result (λ path. string_bytes path ≡ host_path (string_bytes self.now.path) name) }
     {
         Ok(path_of(self.rt.alloc(), self.path.as_str(), name)?)
+    }
+
+    /// Makes the cut that was put off. Until then, also after a failure, it is to be made.
+    fn make_cut(&mut self) -> Result<(), DiskFault>
+        ensures done { OnOk result (self.new.cut ≡ None) }
+        ensures owed { self.new.owed ≡ self.old.owed }
+        ensures place { self.new.path ≡ self.old.path }
+        ensures faults { self.new.faults ≡ self.old.faults }
+    {
+        let Some(cut) = self.cut else {
+            return Ok(());
+        };
+        let path = self.path_of(cut.name)?;
+        cut_file(&self.rt, path.as_str(), cut.len)?;
+        self.cut = None;
+        Ok(())
+    }
+
+    /// The path of a file that is to be read, once the folder is as calls have left it.
+    fn path_to_read(&mut self, name: FileName) -> Result<String, DiskFault>
+        ensures path { IfOk result (λ path. string_bytes path ≡ host_path (string_bytes self.old.path) name) }
+        ensures place { self.new.path ≡ self.old.path }
+        ensures faults { self.new.faults ≡ self.old.faults }
+    {
+        self.make_cut()?;
+        self.path_of(name)
     }
 
     /// The path of a file that is to be changed, once the folder is there. The next sync owes the file.
@@ -80,6 +115,35 @@ impl<R: Files<File = File> + AllocGlobal + Clone + Drop> HostFolder<R> {
         Ok(())
     }
 
+    /// Takes down a cut that the next call makes.
+    fn put_off(&mut self, name: FileName, len: u64) -> Result<(), DiskFault>
+        ensures place { self.new.path ≡ self.old.path }
+        ensures faults { self.new.faults ≡ self.old.faults }
+    {
+        self.make_cut()?;
+        self.path_to_change(name)?;
+        self.cut = Some(PutOff { name, len });
+        Ok(())
+    }
+
+    /// Writes, and answers whether the file was made. A cut to where the write begins is made with it.
+    fn write(&mut self, name: FileName, at: u64, bytes: &[u8]) -> Result<bool, DiskFault>
+        ensures place { self.new.path ≡ self.old.path }
+        ensures faults { self.new.faults ≡ self.old.faults }
+    {
+        let path = self.path_to_change(name)?;
+        if let Some(cut) = self.cut
+            && cut.name == name
+            && cut.len == at
+        {
+            let is_made = overwrite_file(&self.rt, path.as_str(), at, bytes)?;
+            self.cut = None;
+            return Ok(is_made);
+        }
+        self.make_cut()?;
+        write_file(&self.rt, path.as_str(), at, bytes)
+    }
+
     /// Makes durable what is owed. After a failure all is owed.
     fn sync_owed(&mut self) -> Result<(), DiskFault>
         ensures files { OnOk result (files_owed self.new.owed ≡ Some []) }
@@ -89,6 +153,7 @@ impl<R: Files<File = File> + AllocGlobal + Clone + Drop> HostFolder<R> {
     {
         self.take()?;
         let owed = mem::replace(&mut self.owed, Owed::All);
+        self.make_cut()?;
         let Some(folder) = &self.held else {
             return Err(DiskFault::Failed);
         };
@@ -132,7 +197,7 @@ impl<R: Files<File = File> + AllocGlobal + Clone + Drop> Folder for HostFolder<R
     ghost seen = { λ folder. without_content folder.faults };
 
     fn len(&mut self, name: FileName) -> Result<Option<u64>, DiskFault> {
-        let answer = match self.path_of(name) {
+        let answer = match self.path_to_read(name) {
             Ok(path) => length_of(&self.rt, path.as_str()),
             Err(fault) => Err(fault),
         };
@@ -140,7 +205,7 @@ impl<R: Files<File = File> + AllocGlobal + Clone + Drop> Folder for HostFolder<R
     }
 
     fn read_at(&mut self, name: FileName, at: u64, buf: &mut [u8]) -> Result<usize, DiskFault> {
-        let answer = match self.path_of(name) {
+        let answer = match self.path_to_read(name) {
             Ok(path) => read_file(&self.rt, path.as_str(), at, buf),
             Err(fault) => Err(fault),
         };
@@ -148,18 +213,12 @@ impl<R: Files<File = File> + AllocGlobal + Clone + Drop> Folder for HostFolder<R
     }
 
     fn write_at(&mut self, name: FileName, at: u64, bytes: &[u8]) -> Result<(), DiskFault> {
-        let answer = match self.path_to_change(name) {
-            Ok(path) => write_file(&self.rt, path.as_str(), at, bytes),
-            Err(fault) => Err(fault),
-        };
+        let answer = self.write(name, at, bytes);
         self.count_write(answer)
     }
 
     fn cut(&mut self, name: FileName, len: u64) -> Result<(), DiskFault> {
-        let answer = match self.path_to_change(name) {
-            Ok(path) => cut_file(&self.rt, path.as_str(), len),
-            Err(fault) => Err(fault),
-        };
+        let answer = self.put_off(name, len);
         self.count(answer)
     }
 

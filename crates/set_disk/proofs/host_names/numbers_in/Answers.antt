@@ -1,4 +1,4 @@
-use Rattle.std.proofs.Common.{◌≡◌, ◌∷◌, Some, None, arith}
+use Rattle.std.proofs.Common.{Some, None, arith}
 use Rattle.std.specs.Fmt.{decimal}
 use Rattle.std.proofs.lemmas.Str.Pattern.{strip_prefix_char}
 use Rattle.set_disk.proofs.HostNames.{halves, ending, slot_text, index_text, not_refused, reads, same_name}

@@ -1,5 +1,5 @@
 use Rattle.std.proofs.Common.{refl, sym, ap, ◌∙◌}
-use Rattle.set_disk.specs.Files.{name_cmp}
+use Rattle.set_disk.specs.Files.{file_name_cmp}
 use Rattle.set_disk.proofs.NameOrder.{name_total, name_exact}
 use Rattle.std.specs.FinMap as map
 use Rattle.views.proofs.TreeMaps.{view, get-view, view-lent}
@@ -11,7 +11,7 @@ returns c =
       (
         refl,
         λ w. view-lent name_total name_exact c.self.inside.table (lent.lender w) c.args.name w c.get_mut.result c.get_mut.ensures.value (λ some. ((lent.holds w).3 some).0) c.args.self.now c.self.view_is,
-        ap (view name_cmp) lent.holds-at-none ∙ c.self.view_is,
+        ap (view file_name_cmp) lent.holds-at-none ∙ c.self.view_is,
       ),
       record {
         writes_back = tt;
