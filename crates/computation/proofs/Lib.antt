@@ -1,0 +1,13 @@
+mod Threads
+mod Starts
+mod Numbered
+mod Arrivals
+mod Taking
+mod Quanta
+mod Traps
+mod Effects
+mod AddedThreads
+mod Living
+mod Delivered
+mod Answered
+mod Due

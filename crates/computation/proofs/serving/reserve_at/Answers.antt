@@ -1,0 +1,15 @@
+use Rattle.std.proofs.Common.{sym, ap, ◌∙◌}
+use Rattle.std.specs.FinMap as map
+use Rattle.views.proofs.Outcomes.{on_some}
+use Rattle.guest_proc.specs.Guests.{GuestPart}
+use Rattle.computation.proofs.Effects.{same_guest}
+use Rattle.computation.proofs.Numbered.{OnOk-map}
+use Rattle.computation.proofs.serving.reserve_at.Goals as goal
+
+pub returns : goal.returns
+returns c = OnOk-map c.reserve_for.result (λ room guest there. record {
+  spare = c.reserve_for.new.guest.spare;
+  room = room;
+  guests = on_some c.in-Some.is (c.get_mut.follows.holds c.reserve_for.new.guest) ∙ ap (map.insert c.args.guests.now c.args.p) c.reserve_for.ensures.same
+      ∙ ap (λ (g : GuestPart). map.insert c.args.guests.now c.args.p (let h : GuestPart = record { pid = g.pid; user = g.user; spare = c.reserve_for.new.guest.spare } in h)) (same_guest c.args.guests.now c.args.p c.in-Some.guest.now guest (sym c.in-Some.ensures.value) there);
+}) c.reserve_for.ensures.spare

@@ -1,0 +1,5 @@
+pub mod Sinks
+pub mod Turns
+pub mod Takes
+pub mod Computations
+pub mod Parts

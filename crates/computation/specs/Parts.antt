@@ -1,0 +1,99 @@
+-- What a record leaves of the parts of a computation.
+--     AsksAt, RunsAt             where a thread stands
+--     kernel_found, delivery_at  what a delivery finds, and what it comes to
+--     kernel_after, guests_after what it leaves: a signal that kills takes the process away
+--     grown                      the guests with the child that an answer makes
+use Rattle.std.specs.Prelude.{◌≡◌, ◌≤◌, ℕ, Bool, false, not, length, Option, Some, None, IfSome, if◌then◌else◌}
+use Rattle.std.specs.FinMap as map
+use Rattle.sys_abi.specs.declared.identity.VPid.{VPid}
+use Rattle.sys_abi.specs.declared.delivery.Delivered.{Delivered}
+use Rattle.sys_abi.specs.declared.delivery.Delivered.TheVariants.{Kills}
+use Rattle.sys_abi.specs.declared.reply.Reply.{Reply}
+use Rattle.sys_abi.specs.declared.request.Request.{Request}
+use Rattle.sys_abi.specs.Orders.{vpid_cmp}
+use Rattle.plain_process.specs.declared.user_part.UserPart.{UserPart}
+use Rattle.plain_process.specs.Deliveries.{Delivery, deliver, traps_with}
+use Rattle.sys_abi.specs.Clones.{clone_form}
+use Rattle.sys_abi.specs.declared.request.Request.TheVariants.{Clone}
+use Rattle.sys_abi.specs.declared.transfer.TheConstants.{TRANSFER_LIMIT}
+use Rattle.plain_process.specs.Buffers.{filled_spans}
+use Rattle.plain_process.specs.Put.{CanTake, added_thread, made_by}
+use Rattle.plain_process.specs.Valid.{CanAdd}
+use Rattle.plain_machine.specs.Serve.{makes_no_process}
+use Rattle.plain_machine.specs.declared.answer.Answer.{Answer}
+use Rattle.plain_process.specs.Steps.{Asks, user_step}
+use Rattle.plain_process.specs.Threads.{child_of}
+use Rattle.plain_machine.specs.declared.kernel.PlainKernel.{PlainKernel}
+use Rattle.plain_machine.specs.Ends.{after_end}
+use Rattle.plain_machine.specs.Kernel.{after_take}
+use Rattle.plain_machine.specs.Records.{Users, is_unready}
+use Rattle.guest_proc.specs.Guests.{GuestPart, HasThread, ran_at}
+use Rattle.guest_proc.specs.declared.ran.Ran.TheVariants.{Whole}
+
+abbrev pub Guests : Type 0
+Guests = map.FinMap vpid_cmp GuestPart
+
+-- a thread of this process stands at this call
+pub record AsksAt (users : Users) (p : VPid) (t : ℕ) (q : Request) : Type 0 where
+  pub user : UserPart
+  pub there : map.get users p ≡ Some user
+  pub asks : user_step user t ≡ Asks q
+
+-- the next instruction of a thread goes on
+pub record RunsAt (users : Users) (p : VPid) (t : ℕ) : Type 0 where
+  pub user : UserPart
+  pub there : map.get users p ≡ Some user
+  pub thread : HasThread user t
+  pub goes : ran_at (user_step user t) ≡ Whole
+
+-- the signal of a trap stays pending where it is
+abbrev pub kernel_found : PlainKernel → VPid → ℕ → ℕ → UserPart → PlainKernel
+kernel_found k p t s user = if traps_with (user_step user t) s then k else after_take k p t s
+
+abbrev pub delivery_at : PlainKernel → Users → VPid → ℕ → ℕ → UserPart → Delivery
+delivery_at k users p t s user =
+    deliver user t s (is_unready (record { kernel = k; users = users }) p t user (user_step user t))
+
+abbrev pub kernel_after : PlainKernel → VPid → Delivered → PlainKernel
+kernel_after k p (Kills status) = after_end k p status
+kernel_after k p _ = k
+
+abbrev pub guests_after : Guests → VPid → Delivered → Guests
+guests_after guests p (Kills status) = map.remove guests p
+guests_after guests p _ = guests
+
+abbrev pub grown_by : Guests → UserPart → ℕ → Request → VPid → Option ℕ → Guests
+grown_by guests user t q next None = guests
+grown_by guests user t q next (Some number) =
+    map.insert guests next (record { pid = next; user = child_of user t next.0 q; spare = 0 })
+
+-- the caller's guest has room for a thread that the answer adds, and there is the child that it makes
+pub record Grown (before after : Guests) (p : VPid) (guest : GuestPart) (t : ℕ) (q : Request) (reply : Reply)
+    (next : VPid) : Type 0 where
+  pub spare : ℕ
+  pub room : IfSome (added_thread q reply) (λ _. 1 ≤ spare)
+  pub guests : after ≡ grown_by (map.insert before p (record guest { spare = spare })) guest.user t q next
+      (made_by q reply)
+
+-- there is room for a thread that the call's answer adds
+pub record Reserved (before after : Guests) (p : VPid) (guest : GuestPart) (q : Request) : Type 0 where
+  pub spare : ℕ
+  pub room : (reply : Reply) → IfSome (added_thread q reply) (λ _. 1 ≤ spare)
+  pub guests : after ≡ map.insert before p (record guest { spare = spare })
+
+abbrev pub is_fork : Request → Bool
+is_fork (Clone flags stack parent_tid tls child_tid) = not (makes_no_process (clone_form flags))
+is_fork _ = false
+
+-- the answer can be put
+pub record CanAnswer (guests : Guests) (p : VPid) (q : Request) (answer : Answer) : Type 0 where
+  pub guest : GuestPart
+  pub there : map.get guests p ≡ Some guest
+  pub writable : CanTake guest.user.memory (filled_spans guest.user.memory q) answer.bytes
+  pub added : CanAdd guest.user q answer.reply
+  pub spare : IfSome (added_thread q answer.reply) (λ _. 1 ≤ guest.spare)
+  pub short : length answer.bytes ≤ TRANSFER_LIMIT
+
+-- the guest of a process after its call, gone where the process has ended
+abbrev pub left_by : Bool → Guests → VPid → GuestPart → Guests
+left_by lives guests p answered = if lives then map.insert guests p answered else map.remove guests p

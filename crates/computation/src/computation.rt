@@ -1,0 +1,289 @@
+ghost use Rattle.std.specs.Prelude.{◌≡◌, ◌≢◌, ℕ, ◌<◌, ◌≤◌, List, [], ◌∷◌, ◌++◌, length, All, not, nat_lt, true, Option, None, Some, find, option_map, is_some, IsErrOf, IfOk, IfSome, OnOk, OnErr};
+ghost use Rattle.std.specs.FinMap as map;
+ghost use Rattle.views.specs.Faults.{IsFaultOf};
+ghost use Rattle.views.specs.NumberMap.{is_above};
+ghost use Rattle.sys_abi.specs.declared.record.Record.TheVariants as a_record;
+ghost use Rattle.plain_process.specs.Launches.{IsLaunched};
+ghost use Rattle.plain_process.specs.Start.{Launched};
+ghost use Rattle.plain_process.specs.Valid.{IsByte};
+ghost use Rattle.plain_machine.specs.Kernel.{is_live};
+ghost use Rattle.plain_machine.specs.Start.{NamedFile};
+ghost use Rattle.plain_machine.specs.Tests.{all_arrived, ended};
+ghost use Rattle.plain_tables.specs.Valid.Channels.{IsDirection};
+ghost use Rattle.plain_machine.specs.Valid.{AreNamed};
+ghost use Rattle.computation.specs.Sinks.{sunk};
+ghost use Rattle.computation.specs.Turns.{coming, due_signal, goes_on, missing_in, stands_in, threads_in};
+ghost use Rattle.computation.specs.Takes.{CanDeliver, Takes};
+
+use crate::looks::{has_stopped, is_idle, signal_due};
+use edge_io::Sink;
+use elf32::Program;
+use guest_proc::{Guest, Ran};
+use id_maps::{ByDir, ByPid};
+use plain_machine::PlainKernel;
+use plain_tables::channel::Direction;
+use std::alloc::{AllocError, Global};
+use sys_abi::{Dir, Record, Signal, Tid, Transfer, VPid};
+use trace_log::Trace;
+use views::list_of::ListOf;
+
+/// Why a turn made no record, or the last one.
+#[derive(Clone, Copy, Debug, PartialEq, Eq)]
+pub enum Stop {
+    /// The console failed.
+    Sink,
+    /// There was no memory.
+    Memory,
+}
+
+impl From<AllocError> for Stop {
+    ghost use Rattle.std.specs.Prelude.{◌≡◌};
+    ghost use Rattle.computation.specs.declared.computation.Stop.TheVariants.{Memory};
+
+    ghost from_gives = { λ _ stop. stop ≡ Memory };
+
+    fn from(_error: AllocError) -> Stop {
+        Stop::Memory
+    }
+}
+
+/// What a record of a thread's turn was.
+#[derive(Clone, Copy, Debug, PartialEq, Eq)]
+pub enum Did {
+    /// A signal was delivered.
+    Delivered,
+    /// A call was served.
+    Served,
+    /// Instructions ran.
+    Ran,
+}
+
+/// A distributed computation: the part that all processes share, each live process's own part, and the buffer of
+/// their calls.
+#[derive(Drop)]
+pub struct Computation {
+    pub kernel: PlainKernel,
+    pub guests: ByPid<Guest>,
+    pub transfer: Transfer,
+}
+
+impl Computation {
+    ghost use Rattle.computation.specs.Computations.{plain_of, user_at, CanWork, Failed, IsReady, IsStart, Worked};
+
+    /// The start of a job without programs and files.
+    pub fn empty(alloc: Global) -> Result<Computation, AllocError>
+        ensures start { IfOk result (λ c. IsStart c [] []) }
+        ensures ready { IfOk result (λ c. IsReady c) }
+    {
+        Ok(Computation {
+            kernel: PlainKernel::empty(alloc),
+            guests: ByPid::new(alloc),
+            transfer: Transfer::new(alloc)?,
+        })
+    }
+
+    /// Adds a named file to the start of a job without programs.
+    pub fn add_file(&mut self, alloc: Global, name: &[u8], bytes: &[u8]) -> Result<(), AllocError>
+        requires { (files : List NamedFile) × (IsStart self.old [] files
+            × AreNamed (files ++ record { name = name.now; bytes = bytes.now } ∷ [])) }
+        ensures start { OnOk result ((files : List NamedFile) → IsStart self.old [] files
+            → IsStart self.new [] (files ++ record { name = name.now; bytes = bytes.now } ∷ [])) }
+        ensures ready { OnOk result (IsReady self.new) }
+    {
+        let name = copied(alloc, name)?;
+        let bytes = copied(alloc, bytes)?;
+        self.kernel.add_file(alloc, name, bytes)
+    }
+
+    /// Adds a program with its argument strings, on a host, to the start of a job.
+    pub fn add_program(
+        &mut self,
+        alloc: Global,
+        host: u32,
+        program: &Program,
+        arguments: &[u8],
+    ) -> Result<(), AllocError>
+        requires ready { IsReady self.old }
+        requires start { (programs : List Launched) × ((files : List NamedFile)
+            × (IsStart self.old programs files × AreNamed files × All IsLaunched programs
+            × (length programs < 128))) }
+        requires launched { IsLaunched
+            (record { host = host; program = program.now; arguments = arguments.now }) }
+        requires some { 1 ≤ length arguments.now }
+        requires few { length arguments.now ≤ 4096 }
+        ensures start { OnOk result ((programs : List Launched) (files : List NamedFile)
+            → IsStart self.old programs files → IsStart self.new
+            (programs ++ record { host = host; program = program.now; arguments = arguments.now } ∷ []) files) }
+        ensures ready { OnOk result (IsReady self.new) }
+    {
+        let p = self.kernel.next_id;
+        let guest = Guest::load(alloc, VPid(p), program, arguments)?;
+        self.guests.insert(VPid(p), guest)?;
+        self.kernel.add_process(alloc, p, host)
+    }
+
+    /// Whether a process lives.
+    pub fn lives(&self) -> bool
+        requires { IsReady self.now }
+        ensures { result ≡ not (ended (plain_of self.now)) }
+    {
+        self.kernel.has_life()
+    }
+
+    /// Whether this process lives.
+    pub fn is_live(&self, p: VPid) -> bool
+        ensures { result ≡ is_live self.now.kernel p }
+    {
+        self.kernel.is_live(p)
+    }
+
+    /// The least number above this one of a thread of the process, if there is one.
+    pub fn next_thread(&self, p: VPid, above: u32) -> Option<Tid>
+        ensures { option_map (λ t. t.0) result ≡ find (is_above (Some above)) (threads_in (user_at self.now p)) }
+    {
+        let Some(guest) = self.guests.get(p) else {
+            return None;
+        };
+        guest.next_thread(above)
+    }
+
+    /// The least of the signals that are pending for the thread or its process, and that the thread's mask lets through.
+    pub fn due_signal(&self, p: VPid, t: Tid) -> Option<Signal>
+        requires { IsReady self.now }
+        ensures due { option_map (λ s. s.0) result ≡ due_signal (plain_of self.now) p t.0 (user_at self.now p) }
+        ensures can { IfSome result (λ s. CanDeliver (plain_of self.now) p t s) }
+    {
+        let Some(guest) = self.guests.get(p) else {
+            return None;
+        };
+        signal_due(&self.kernel, p, guest, t)
+    }
+
+    /// Whether the thread can go on: its next instruction does, or it stands at a trap or at a call that is ready.
+    pub fn goes_on(&self, p: VPid, t: Tid) -> bool
+        requires { IsReady self.now }
+        ensures { result ≡ goes_on (plain_of self.now) p t.0 (user_at self.now p) }
+    {
+        let Some(guest) = self.guests.get(p) else {
+            return false;
+        };
+        if !guest.has_thread(t) {
+            return false;
+        }
+        !is_idle(&self.kernel, p, guest, t)
+    }
+
+    /// Whether the thread stands at a call or a trap.
+    pub fn stands(&self, p: VPid, t: Tid) -> bool
+        requires { IsReady self.now }
+        ensures { result ≡ stands_in (user_at self.now p) t.0 }
+    {
+        let Some(guest) = self.guests.get(p) else {
+            return false;
+        };
+        has_stopped(guest, t)
+    }
+
+    /// Makes one record of the thread's turn: the delivery of the signal with which the turn begins, if it begins with
+    /// one, and else the call, the trap or the quantum of instructions that is due.
+    pub fn work<O: Sink>(
+        &mut self,
+        alloc: Global,
+        p: VPid,
+        t: Tid,
+        signal: Option<Signal>,
+        out: &mut O,
+        trace: &mut Trace,
+    ) -> Result<Did, Stop>
+        requires ready { IsReady self.old }
+        requires turn { CanWork (plain_of self.old) p t signal }
+        requires room { 0 < trace.old.room }
+        ensures ok { IfOk result (λ did. Worked (plain_of self.old) (plain_of self.new) p t signal did
+            trace.old trace.new (sunk (O.seen out.old).taken (O.seen out.new).taken)) }
+        ensures ready { OnOk result (IsReady self.new) }
+        ensures failed { IsErrOf result Stop.Sink → Failed (plain_of self.old) p t signal
+            trace.old trace.new (sunk (O.seen out.old).taken (O.seen out.new).taken) }
+        ensures memory { IsErrOf result Stop.Memory →
+            (trace.new ≡ trace.old) × ((O.seen out.new).taken ≡ (O.seen out.old).taken) }
+        ensures cause { IsFaultOf result Stop.Sink (O.seen out.old).faults (O.seen out.new).faults }
+        ensures later { (O.seen out.old).faults ≤ (O.seen out.new).faults }
+    {
+        if let Some(signal) = signal {
+            self.deliver(alloc, p, t, signal, trace);
+            return Ok(Did::Delivered);
+        }
+        match self.look(p, t) {
+            Ran::Asks(request) => {
+                self.call(alloc, p, t, &request, out, trace)?;
+                Ok(Did::Served)
+            }
+            Ran::Trapped(signal) => {
+                self.deliver(alloc, p, t, signal, trace);
+                Ok(Did::Delivered)
+            }
+            Ran::Whole => {
+                self.run_quantum(p, t, trace);
+                Ok(Did::Ran)
+            }
+            Ran::Waits => unreachable!(),
+            Ran::Memory => unreachable!(),
+        }
+    }
+
+    /// The first direction of which bytes are missing, if there is one.
+    pub fn first_missing(&self) -> Option<Dir>
+        ensures some { IfSome result (λ dir. (rest : _) × (coming (plain_of self.now) ≡ dir ∷ rest)) }
+        ensures none { result ≡ None → coming (plain_of self.now) ≡ [] }
+    {
+        for (dir, direction) in self.kernel.directions.iter() {
+            if is_missing(direction) {
+                return Some(*dir);
+            }
+        }
+        None
+    }
+
+    /// Has all bytes of a direction arrive that are missing. Takes no memory.
+    pub fn arrive(&mut self, dir: Dir, trace: &mut Trace)
+        requires ready { IsReady self.old }
+        requires missing { (rest : _) × (coming (plain_of self.old) ≡ dir ∷ rest) }
+        requires room { 0 < trace.old.room }
+        ensures took { (taken : _) → Takes (plain_of self.old) (plain_of self.new)
+            (a_record.Arrive dir (missing_in (map.get self.old.kernel.directions dir)))
+            trace.old trace.new (sunk taken taken) }
+        ensures rest { (rest : _) → coming (plain_of self.old) ≡ dir ∷ rest → coming (plain_of self.new) ≡ rest }
+        ensures ready { IsReady self.new }
+    {
+        let n = arrive_all(&mut self.kernel.directions, dir);
+        trace.append(Record::Arrive { dir, n });
+    }
+}
+
+/// Whether bytes of the direction are on the way.
+fn is_missing(direction: &Direction) -> bool
+    ensures { result ≡ nat_lt direction.now.arrived (length direction.now.left) }
+{
+    direction.arrived < direction.left.len() as u64
+}
+
+/// Has all bytes of a direction arrive, and tells how many were missing.
+fn arrive_all(directions: &mut ByDir<Direction>, dir: Dir) -> u32
+    requires { IfSome (map.get directions.old dir) IsDirection }
+    ensures count { result ≡ missing_in (map.get directions.old dir) }
+    ensures arrived { IfSome (map.get directions.old dir)
+        (λ direction. directions.new ≡ map.insert directions.old dir (all_arrived direction)) }
+{
+    let Some(direction) = directions.get_mut(dir) else {
+        return 0;
+    };
+    let sent = direction.left.len() as u64;
+    let missing = sent - direction.arrived;
+    direction.arrived = sent;
+    missing as u32
+}
+
+fn copied(alloc: Global, bytes: &[u8]) -> Result<ListOf<u8>, AllocError>
+    ensures { IfOk result (λ copy. copy ≡ bytes.now) }
+{
+    Ok(ListOf::from_vec(bytes.to_vec(alloc)?))
+}

@@ -1,0 +1,69 @@
+ghost use Rattle.std.specs.Prelude.{◌≡◌, true, option_map};
+ghost use Rattle.std.specs.FinMap as map;
+ghost use Rattle.guest_proc.specs.Guests.{HasThread};
+ghost use Rattle.plain_process.specs.Buffers.{lent};
+ghost use Rattle.plain_process.specs.Steps.{user_step};
+ghost use Rattle.plain_machine.specs.Records.{Users, is_unready, stands, waits_at};
+ghost use Rattle.computation.specs.Turns.{signal_for};
+
+use guest_proc::{Guest, Ran};
+use plain_machine::PlainKernel;
+use plain_rows::is_ready;
+use sys_abi::signals::{lowest_signal, without_signals};
+use sys_abi::{Request, Signal, Tid, VPid, is_local};
+
+/// The least of the signals that are pending for the thread or its process, and that the thread's mask lets through.
+pub(crate) fn signal_due(kernel: &PlainKernel, p: VPid, guest: &Guest, t: Tid) -> Option<Signal>
+    ensures { (users : Users) → option_map (λ s. s.0) result
+        ≡ signal_for (record { kernel = kernel.now; users = users }) p t.0
+        (map.get guest.now.user.threads t.0) }
+{
+    if !guest.has_thread(t) {
+        return None;
+    }
+    lowest_signal(without_signals(kernel.pending(p, t), guest.mask(t)))
+}
+
+/// Whether the call at which a thread stands waits. Copies nothing.
+pub(crate) fn call_waits(
+    kernel: &PlainKernel,
+    p: VPid,
+    guest: &Guest,
+    t: Tid,
+    request: &Request,
+) -> bool
+    ensures { (users : Users) → result ≡ waits_at (record { kernel = kernel.now; users = users }) p t.0
+        request.now (lent guest.now.user.memory request.now) }
+{
+    let Some(front) = guest.front(request) else {
+        return false;
+    };
+    !is_local(request) && !is_ready(kernel, p, t, request, &front)
+}
+
+/// Whether a thread waits on a word, or stands at a call that waits. Copies nothing.
+pub(crate) fn is_idle(kernel: &PlainKernel, p: VPid, guest: &Guest, t: Tid) -> bool
+    requires { HasThread guest.now.user t.0 }
+    ensures { (users : Users) → result ≡ is_unready (record { kernel = kernel.now; users = users }) p t.0
+        guest.now.user (user_step guest.now.user t.0) }
+{
+    match guest.look(t) {
+        Ran::Waits => true,
+        Ran::Asks(request) => call_waits(kernel, p, guest, t, &request),
+        _ => false,
+    }
+}
+
+/// Whether a thread stands at a call or a trap.
+pub(crate) fn has_stopped(guest: &Guest, t: Tid) -> bool
+    ensures { result ≡ stands (user_step guest.now.user t.0) }
+{
+    if !guest.has_thread(t) {
+        return false;
+    }
+    match guest.look(t) {
+        Ran::Asks(_) => true,
+        Ran::Trapped(_) => true,
+        _ => false,
+    }
+}

@@ -1,0 +1,233 @@
+ghost use Rattle.std.specs.Prelude.{◌≡◌, ◌≢◌, ◌<◌, ◌≤◌, ℕ, true, false, not, Option, Some, None, is_some, IfOk, IfSome, IsErrOf, OnOk, OnErr, Err, if◌then◌else◌};
+ghost use Rattle.std.specs.FinMap as map;
+ghost use Rattle.views.specs.Faults.{IsFaultOf};
+ghost use Rattle.sys_abi.specs.Clones.{clone_form};
+ghost use Rattle.sys_abi.specs.Requests.{is_local};
+ghost use Rattle.sys_abi.specs.declared.record.Record.TheVariants as a_record;
+ghost use Rattle.sys_abi.specs.declared.reply.Reply.TheVariants.{Value};
+ghost use Rattle.plain_process.specs.Buffers.{lent};
+ghost use Rattle.plain_process.specs.Put.{made_by, put};
+ghost use Rattle.plain_process.specs.Threads.{child_of};
+ghost use Rattle.plain_process.specs.Twins.{twin_of};
+ghost use Rattle.plain_process.specs.declared.user_part.UserPart.{UserPart};
+ghost use Rattle.sys_abi.specs.declared.identity.VPid.{VPid};
+ghost use Rattle.plain_tables.specs.Tables.{pid};
+ghost use Rattle.plain_machine.specs.Answers.{served_by};
+ghost use Rattle.plain_machine.specs.Kernel.{is_live};
+ghost use Rattle.plain_machine.specs.Serve.{serve, makes_no_process};
+ghost use Rattle.guest_proc.specs.Guests.{GuestPart, HasThread};
+ghost use Rattle.computation.specs.Sinks.{sunk};
+ghost use Rattle.computation.specs.Takes.{Takes, Breaks};
+ghost use Rattle.computation.specs.Parts.{AsksAt, CanAnswer, Grown, Reserved, is_fork, left_by};
+
+use crate::computation::{Computation, Stop};
+use crate::parts::{reserve_for, show};
+use edge_io::Sink;
+use guest_proc::Guest;
+use id_maps::ByPid;
+use plain_machine::answer::Answer;
+use plain_rows::serve;
+use std::alloc::{AllocError, Global};
+use sys_abi::{CloneForm, Record, Request, Tid, Transfer, VPid, clone_form};
+use trace_log::Trace;
+
+impl Computation {
+    ghost use Rattle.computation.specs.Computations.{plain_of, user_at, IsReady};
+
+    /// Serves a call of the kernel, and shows what it writes on the console right after its record.
+    pub(crate) fn kernel_call<O: Sink>(
+        &mut self,
+        alloc: Global,
+        p: VPid,
+        t: Tid,
+        request: &Request,
+        out: &mut O,
+        trace: &mut Trace,
+    ) -> Result<(), Stop>
+        requires ready { IsReady self.old }
+        requires asks { AsksAt (plain_of self.old).users p t.0 request.now }
+        requires given { (user : UserPart) → user_at self.old p ≡ Some user
+            → lent user.memory request.now ≡ Some self.old.transfer }
+        requires kernels { is_local request.now ≡ false }
+        requires goes { is_some (serve self.old.kernel p t.0 request.now self.old.transfer) ≡ true }
+        requires room { 0 < trace.old.room }
+        ensures ok { OnOk result (Takes (plain_of self.old) (plain_of self.new)
+            (a_record.Call p t) trace.old trace.new (sunk (O.seen out.old).taken (O.seen out.new).taken)) }
+        ensures ready { OnOk result (IsReady self.new) }
+        ensures failed { IsErrOf result Stop.Sink → Breaks (plain_of self.old) (a_record.Call p t)
+            trace.old trace.new (sunk (O.seen out.old).taken (O.seen out.new).taken) }
+        ensures memory { IsErrOf result Stop.Memory →
+            (trace.new ≡ trace.old) × ((O.seen out.new).taken ≡ (O.seen out.old).taken) }
+        ensures cause { IsFaultOf result Stop.Sink (O.seen out.old).faults (O.seen out.new).faults }
+        ensures later { (O.seen out.old).faults ≤ (O.seen out.new).faults }
+    {
+        let answer = self.serve_call(alloc, p, t, request)?;
+        trace.append(Record::Call { p, t });
+        show(out, answer.is_shown, self.transfer.as_slice())?;
+        self.put_answer(p, t, request, &answer);
+        Ok(())
+    }
+
+    /// Serves a call of the kernel, and puts the child that it makes among the guests; its answer is not put yet.
+    fn serve_call(
+        &mut self,
+        alloc: Global,
+        p: VPid,
+        t: Tid,
+        request: &Request,
+    ) -> Result<Answer, AllocError>
+        requires ready { IsReady self.old }
+        requires asks { AsksAt (plain_of self.old).users p t.0 request.now }
+        requires given { (user : UserPart) → user_at self.old p ≡ Some user
+            → lent user.memory request.now ≡ Some self.old.transfer }
+        requires goes { is_some (serve self.old.kernel p t.0 request.now self.old.transfer) ≡ true }
+        ensures served { IfOk result (λ answer. serve self.old.kernel p t.0 request.now self.old.transfer
+            ≡ Some (served_by self.new.kernel self.old.transfer answer)) }
+        ensures grown { IfOk result (λ answer. (guest : GuestPart) → map.get self.old.guests p ≡ Some guest
+            → Grown self.old.guests self.new.guests p guest t.0 request.now answer.reply
+            (pid self.old.kernel.next_id)) }
+        ensures transfer { self.new.transfer ≡ self.old.transfer }
+    {
+        let next = VPid(self.kernel.next_id);
+        let twin = twin_at(&self.guests, alloc, p, t, request)?;
+        reserve_at(&mut self.guests, alloc, p, request)?;
+        let given = self.transfer.as_slice();
+        let Some(answer) = serve(&mut self.kernel, alloc, p, t, request, given)? else {
+            unreachable!();
+        };
+        let is_born = self.kernel.is_live(next);
+        add_child(&mut self.guests, twin, next, request, is_born)?;
+        Ok(answer)
+    }
+
+    /// Puts the answer of a call, or takes the guest away whose process has ended.
+    fn put_answer(&mut self, p: VPid, t: Tid, request: &Request, answer: &Answer)
+        requires { CanAnswer self.old.guests p request.now answer.now }
+        ensures kernel { self.new.kernel ≡ self.old.kernel }
+        ensures guests { (guest : GuestPart) → map.get self.old.guests p ≡ Some guest
+            → (spare : ℕ) × (self.new.guests ≡ left_by (is_live self.old.kernel p) self.old.guests p
+            (record {
+              pid = guest.pid;
+              user = put guest.user t.0 request.now answer.now.reply answer.now.bytes;
+              spare = spare;
+            })) }
+    {
+        if !self.kernel.is_live(p) {
+            self.guests.remove(p);
+            return;
+        }
+        self.transfer.clear();
+        self.transfer.put(answer.bytes.as_slice());
+        answer_at(&mut self.guests, p, t, request, answer, &self.transfer);
+    }
+}
+
+/// Puts an answer, whose bytes are in the transfer.
+fn answer_at(
+    guests: &mut ByPid<Guest>,
+    p: VPid,
+    t: Tid,
+    request: &Request,
+    answer: &Answer,
+    transfer: &Transfer,
+)
+    requires can { CanAnswer guests.old p request.now answer.now }
+    requires bytes { transfer.now ≡ answer.now.bytes }
+    ensures { (guest : GuestPart) → map.get guests.old p ≡ Some guest
+        → (spare : ℕ) × (guests.new ≡ map.insert guests.old p
+        (record {
+          pid = guest.pid;
+          user = put guest.user t.0 request.now answer.now.reply answer.now.bytes;
+          spare = spare;
+        })) }
+{
+    let Some(guest) = guests.get_mut(p) else {
+        unreachable!();
+    };
+    guest.answer(t, request, answer.reply, transfer);
+}
+
+/// Makes room for the thread that a call adds to its process.
+fn reserve_at(
+    guests: &mut ByPid<Guest>,
+    alloc: Global,
+    p: VPid,
+    request: &Request,
+) -> Result<(), AllocError>
+    requires { is_some (map.get guests.old p) ≡ true }
+    ensures { OnOk result ((guest : GuestPart) → map.get guests.old p ≡ Some guest
+        → Reserved guests.old guests.new p guest request.now) }
+{
+    let Some(guest) = guests.get_mut(p) else {
+        unreachable!();
+    };
+    reserve_for(guest, alloc, request)
+}
+
+/// Whether the call forks.
+fn forks(request: &Request) -> bool
+    ensures { result ≡ is_fork request.now }
+{
+    match *request {
+        Request::Clone { flags, .. } => is_fork_form(flags),
+        _ => false,
+    }
+}
+
+fn is_fork_form(flags: u32) -> bool
+    ensures { result ≡ not (makes_no_process (clone_form flags)) }
+{
+    match clone_form(flags) {
+        Some(CloneForm::Fork) => true,
+        _ => false,
+    }
+}
+
+/// The child that a fork makes, while its number isn't known.
+fn twin_at(
+    guests: &ByPid<Guest>,
+    alloc: Global,
+    p: VPid,
+    t: Tid,
+    request: &Request,
+) -> Result<Option<Guest>, AllocError>
+    ensures { IfOk result (λ twin. (guest : GuestPart) → map.get guests.now p ≡ Some guest
+        → twin ≡ (if is_fork request.now
+        then Some (record { pid = guest.pid; user = twin_of guest.user t.0; spare = 0 }) else None)) }
+{
+    if !forks(request) {
+        return Ok(None);
+    }
+    let Some(guest) = guests.get(p) else {
+        return Ok(None);
+    };
+    Ok(Some(guest.fork_guest(alloc, t)?))
+}
+
+/// Gives the child of a fork its number, and puts it among the guests, if it was made.
+fn add_child(
+    guests: &mut ByPid<Guest>,
+    twin: Option<Guest>,
+    next: VPid,
+    request: &Request,
+    is_born: bool,
+) -> Result<(), AllocError>
+    requires fork { is_born ≡ true → made_by request.now (Value next.0) ≡ Some next.0 }
+    requires lent { is_born ≡ true → IfSome twin (λ twin. is_some (lent twin.user.memory request.now) ≡ true) }
+    ensures unborn { is_born ≡ false → OnOk result (guests.new ≡ guests.old) }
+    ensures born { is_born ≡ true → OnOk result ((p : VPid) (parent : UserPart) (t : ℕ) → HasThread parent t
+        → twin ≡ Some (record { pid = p; user = twin_of parent t; spare = 0 })
+        → guests.new ≡ map.insert guests.old next
+        (record { pid = next; user = child_of parent t next.0 request.now; spare = 0 })) }
+{
+    if !is_born {
+        return Ok(());
+    }
+    let Some(child) = twin else {
+        return Ok(());
+    };
+    let mut child = child;
+    child.settle(next, request);
+    guests.insert(next, child)?;
+    Ok(())
+}
