@@ -1,12 +1,11 @@
 -- How a call comes to its end, from what its parts promise.
---     usage_arrives             the words ask for nothing
 --     memory_arrives            no run was begun for want of memory
---     launch_refused, restart_refused      no run was begun
---     run_arrives               a run was begun, and came to its end
+--     words_refused, launch_refused, restart_refused      no run was begun
+--     launch_arrives, restart_arrives      a run was begun, and came to its end
 use Rattle.std.proofs.Common.{◌≡◌, ℕ, List, [], Option, Some, None, inl, inr, refl, sym, ap, subst, ◌∙◌}
 use Rattle.sys_abi.specs.declared.record.Record.{Record}
 use Rattle.edge_io.specs.Inputs.{NamedFiles}
-use Rattle.set_disk.specs.Files.{Files as Folder}
+use Rattle.set_disk.specs.Files.{FolderFiles as Folder}
 use Rattle.plain_machine.specs.declared.plain.Plain.{Plain}
 use Rattle.plain_machine.specs.Valid.{IsValid}
 use Rattle.trace_log.specs.declared.requests.Schedule.{Schedule}
@@ -15,20 +14,23 @@ use Rattle.dmtcp_top.specs.declared.ending.Ending.{Ending}
 use Rattle.dmtcp_top.specs.declared.ending.Ending.TheVariants.{Done, Usage, InputFault, Missing, BadElf, SinkFault, DiskFault, NoSet, Damaged, Budget, Stuck, Memory}
 use Rattle.dmtcp_top.specs.declared.run_end.RunEnd.{RunEnd}
 use Rattle.dmtcp_top.specs.declared.run_end.RunEnd.TheVariants.{Done as RunDone, Budget as RunBudget, Stuck as RunStuck, SinkFault as RunSinkFault, Memory as RunMemory}
-use Rattle.dmtcp_top.specs.declared.settings.Settings.{Settings}
 use Rattle.dmtcp_top.specs.declared.start.Start.{Start}
-use Rattle.dmtcp_top.specs.Words.{IsLaunch, IsRestart, AskNothing}
-use Rattle.dmtcp_top.specs.Log.{input_fault_line, missing_line, bad_program_line, budget_line}
-use Rattle.dmtcp_top.specs.Sessions.{Sunk, Beginning, Given, Session, given, session, Took}
-use Rattle.dmtcp_top.specs.Launches.{Begun, origin, settings_in, schedule_in, beginning, schedule_of}
+use Rattle.job_words.specs.declared.job.Job.TheVariants.{Launch, Restart}
+use Rattle.job_words.specs.declared.job.LaunchJob.{LaunchJob}
+use Rattle.job_words.specs.declared.job.RestartJob.{RestartJob}
+use Rattle.dmtcp_top.specs.Jobs.{Asks, AskNothing, AreOfCommand, settings_of}
+use Rattle.dmtcp_top.specs.Log.{budget_line}
+use Rattle.dmtcp_top.specs.Sessions.{Sunk, Beginning, Session, given, session, Took}
+use Rattle.dmtcp_top.specs.Launches.{LaunchAsked, RestartAsked, Begun, origin, settings_in, schedule_in, beginning, schedule_of}
 use Rattle.dmtcp_top.specs.Launches.Begun.{ByLaunch, ByRestart}
 use Rattle.dmtcp_top.specs.RunEnds.{EndsRun}
 use Rattle.dmtcp_top.specs.Ends.{NotBegun}
 use Rattle.dmtcp_top.specs.Ends.NeedsStore.{ToLaunch, ToRestart}
 use Rattle.dmtcp_top.specs.Endings.{IsAtEnding, KeepsPaceAt}
 use Rattle.dmtcp_top.specs.Machines.{plain_of}
-use Rattle.dmtcp_top.specs.Loads.{IsLaunched, IsRestarted, RefusesLaunch, RefusesRestart}
+use Rattle.dmtcp_top.specs.Loads.{IsLaunched, IsRestarted, RefusesWords, RefusesLaunch, RefusesRestart}
 use Rattle.dmtcp_top.specs.Pace.{KeepsPace, LinesOf}
+use Rattle.dmtcp_top.proofs.Decisions.{of_command}
 use Rattle.dmtcp_top.proofs.Sinks.{took_front}
 
 abbrev pub ending_by : RunEnd → ℕ → Ending
@@ -55,11 +57,22 @@ module _ (words : List (List ℕ)) (files : Option NamedFiles) (folder : Option 
   pub usage_arrives : AskNothing words → IsAtEnding Usage unbegun_call log
   usage_arrives nothing = ((unbegun, nothing, refl), lines)
 
-  pub launch_memory_arrives : (name : List ℕ) (settings : Settings) → IsLaunch words name settings → IsAtEnding Memory unbegun_call log
-  launch_memory_arrives name settings launch = ((inl (unbegun, inl (record { name = name; settings = settings; words = launch })), refl), took_front log (log_text trace) lines)
+  pub memory_arrives : AreOfCommand words → IsAtEnding Memory unbegun_call log
+  memory_arrives command = ((inl (unbegun, command), refl), took_front log (log_text trace) lines)
 
-  pub restart_memory_arrives : (settings : Settings) → IsRestart words settings → IsAtEnding Memory unbegun_call log
-  restart_memory_arrives settings restart = ((inl (unbegun, inr (record { settings = settings; words = restart })), refl), took_front log (log_text trace) lines)
+  pub words_refused : (ending : Ending) → RefusesWords ending words → IsAtEnding ending unbegun_call log
+  words_refused Usage why = usage_arrives why
+  words_refused Memory why = memory_arrives why
+  words_refused Done why = absurd why
+  words_refused (InputFault who) why = absurd why
+  words_refused (Missing who) why = absurd why
+  words_refused (BadElf who fault) why = absurd why
+  words_refused SinkFault why = absurd why
+  words_refused DiskFault why = absurd why
+  words_refused NoSet why = absurd why
+  words_refused (Damaged slot damage) why = absurd why
+  words_refused (Budget number) why = absurd why
+  words_refused Stuck why = absurd why
 
   -- no line is cut off
   all_lines : (lines : List ℕ) × (LinesOf trace lines × Took log lines)
@@ -79,53 +92,40 @@ module _ (words : List (List ℕ)) (files : Option NamedFiles) (folder : Option 
   unbegun_paced (Budget number) there = tt
   unbegun_paced Stuck there = tt
 
-  pub launch_refused : (ending : Ending) (name : List ℕ) (settings : Settings) → IsLaunch words name settings → RefusesLaunch ending files name settings → IsAtEnding ending unbegun_call log
-  launch_refused (InputFault who) name settings launch why = (record { nothing = unbegun; asked = record { name = name; settings = settings; words = launch }; line = ap input_fault_line why }, lines)
-  launch_refused (Missing who) name settings launch why =
-      (record { nothing = unbegun; asked = record { name = name; settings = settings; words = launch }; input = why.1; line = ap missing_line why.0 }, lines)
-  launch_refused (BadElf who fault) name settings launch why = (
-    record {
-      nothing = unbegun;
-      asked = record { name = name; settings = settings; words = launch };
-      file = why.1.0;
-      input = why.1.1.0;
-      fault = fault;
-      rule = why.1.1.1;
-      line = ap (λ who_is. bad_program_line who_is fault) why.0;
-    },
-    lines,
-  )
-  launch_refused DiskFault name settings launch why = (
-    record {
-      nothing = unbegun;
-      needs = ToLaunch (record { name = name; settings = settings; words = launch }) why.1.0 why.0 why.1.1.0 why.1.1.1;
-      line = refl;
-    },
-    lines,
-  )
-  launch_refused Memory name settings launch why = launch_memory_arrives name settings launch
-  launch_refused Done name settings launch why = absurd why
-  launch_refused Usage name settings launch why = absurd why
-  launch_refused SinkFault name settings launch why = absurd why
-  launch_refused NoSet name settings launch why = absurd why
-  launch_refused (Damaged slot damage) name settings launch why = absurd why
-  launch_refused (Budget number) name settings launch why = absurd why
-  launch_refused Stuck name settings launch why = absurd why
+  -- the words ask for this launch
+  abbrev launch_asked : (job : LaunchJob) → Asks words (Launch job) → LaunchAsked (given words files folder)
+  launch_asked job asks = record { job = job; asks = asks }
 
-  pub restart_refused : (ending : Ending) (settings : Settings) → IsRestart words settings → RefusesRestart ending folder → IsAtEnding ending unbegun_call log
-  restart_refused DiskFault settings restart why = (record { nothing = unbegun; needs = ToRestart (record { settings = settings; words = restart }); line = refl }, lines)
-  restart_refused NoSet settings restart why = (record { nothing = unbegun; asked = record { settings = settings; words = restart }; none = why; line = refl }, lines)
-  restart_refused (Damaged slot damage) settings restart why =
-      (record { nothing = unbegun; asked = record { settings = settings; words = restart }; slot = slot; damage = damage; spoilt = why; line = refl }, lines)
-  restart_refused Memory settings restart why = restart_memory_arrives settings restart
-  restart_refused Done settings restart why = absurd why
-  restart_refused Usage settings restart why = absurd why
-  restart_refused (InputFault who) settings restart why = absurd why
-  restart_refused (Missing who) settings restart why = absurd why
-  restart_refused (BadElf who fault) settings restart why = absurd why
-  restart_refused SinkFault settings restart why = absurd why
-  restart_refused (Budget number) settings restart why = absurd why
-  restart_refused Stuck settings restart why = absurd why
+  pub launch_refused : (ending : Ending) (job : LaunchJob) → Asks words (Launch job) → RefusesLaunch ending files job → IsAtEnding ending unbegun_call log
+  launch_refused (InputFault who) job asks why = ((who.now, (record { nothing = unbegun; asked = launch_asked job asks; first = why }, refl)), lines)
+  launch_refused (Missing who) job asks why = ((who.now, (record { nothing = unbegun; asked = launch_asked job asks; first = why }, refl)), lines)
+  launch_refused (BadElf who fault) job asks why = ((who.now, (fault, (record { nothing = unbegun; asked = launch_asked job asks; first = why }, refl))), lines)
+  launch_refused DiskFault job asks why = (record { nothing = unbegun; needs = ToLaunch (launch_asked job asks) why.1.0 why.0 why.1.1; line = refl }, lines)
+  launch_refused Memory job asks why = memory_arrives (of_command words (Launch job) asks)
+  launch_refused Done job asks why = absurd why
+  launch_refused Usage job asks why = absurd why
+  launch_refused SinkFault job asks why = absurd why
+  launch_refused NoSet job asks why = absurd why
+  launch_refused (Damaged slot damage) job asks why = absurd why
+  launch_refused (Budget number) job asks why = absurd why
+  launch_refused Stuck job asks why = absurd why
+
+  abbrev restart_asked : (job : RestartJob) → Asks words (Restart job) → RestartAsked (given words files folder)
+  restart_asked job asks = record { job = job; asks = asks }
+
+  pub restart_refused : (ending : Ending) (job : RestartJob) → Asks words (Restart job) → RefusesRestart ending folder → IsAtEnding ending unbegun_call log
+  restart_refused DiskFault job asks why = (record { nothing = unbegun; needs = ToRestart (restart_asked job asks); line = refl }, lines)
+  restart_refused NoSet job asks why = (record { nothing = unbegun; asked = restart_asked job asks; none = why; line = refl }, lines)
+  restart_refused (Damaged slot damage) job asks why = (record { nothing = unbegun; asked = restart_asked job asks; slot = slot; damage = damage; spoilt = why; line = refl }, lines)
+  restart_refused Memory job asks why = memory_arrives (of_command words (Restart job) asks)
+  restart_refused Done job asks why = absurd why
+  restart_refused Usage job asks why = absurd why
+  restart_refused (InputFault who) job asks why = absurd why
+  restart_refused (Missing who) job asks why = absurd why
+  restart_refused (BadElf who fault) job asks why = absurd why
+  restart_refused SinkFault job asks why = absurd why
+  restart_refused (Budget number) job asks why = absurd why
+  restart_refused Stuck job asks why = absurd why
 
 -- how a machine began
 abbrev pub beginning_of : Start → Beginning
@@ -161,30 +161,29 @@ same_beginning state schedule = record { state = state; schedule = schedule }
 begins_so : (state other : Plain) (schedule same : Schedule) → state ≡ other → schedule ≡ same → same_beginning state schedule ≡ same_beginning other same
 begins_so state other schedule same states schedules = ap (λ g. same_beginning g schedule) states ∙ ap (same_beginning other) schedules
 
-pub launch_arrives : (words : List (List ℕ)) (files : Option NamedFiles) (folder : Option Folder) (trace : List Record) (console log : Sunk) (end : RunEnd) (start : Start) (name : List ℕ) (settings : Settings) (room : ℕ)
-    → IsLaunch words name settings → (launched : IsLaunched files folder name settings start) → room ≡ settings.records
+pub launch_arrives : (words : List (List ℕ)) (files : Option NamedFiles) (folder : Option Folder) (trace : List Record) (console log : Sunk) (end : RunEnd) (start : Start) (job : LaunchJob) (room : ℕ)
+    → Asks words (Launch job) → (launched : IsLaunched files folder job start) → room ≡ job.records
     → EndsRun end start.keeper.schedule (plain_of start.machine) room trace console log
-    → IsAtEnding (ending_by end settings.records) (session (given words files folder) (Some (beginning_of start)) trace console) log
-launch_arrives words files folder trace console log end start name settings room launch launched full ends =
+    → IsAtEnding (ending_by end job.records) (session (given words files folder) (Some (beginning_of start)) trace console) log
+launch_arrives words files folder trace console log end start job room asks launched full ends =
     let begun : Begun (given words files folder) = ByLaunch (record {
-      asked = record { name = name; settings = settings; words = launch };
-      file = launched.file;
-      input = launched.input;
-      grammar = launched.grammar;
+      asked = record { job = job; asks = asks };
+      inputs = launched.inputs;
+      loaded = launched.loaded;
       valid = subst IsValid launched.state launched.ready.valid;
       opening = launched.opening;
       opened = launched.opened;
     }) in
-    let from = begins_so (plain_of start.machine) (origin begun) start.keeper.schedule (schedule_of settings launched.opening) launched.state launched.keeper.schedule in
-    arrives_by words files folder trace console log (beginning_of start) end begun settings.records from refl (ends_at words files folder trace console log (beginning_of start) end begun room from full ends)
+    let from = begins_so (plain_of start.machine) (origin begun) start.keeper.schedule (schedule_of (settings_of (Launch job)) launched.opening) launched.state launched.keeper.schedule in
+    arrives_by words files folder trace console log (beginning_of start) end begun job.records from refl (ends_at words files folder trace console log (beginning_of start) end begun room from full ends)
 
-pub restart_arrives : (words : List (List ℕ)) (files : Option NamedFiles) (folder : Option Folder) (trace : List Record) (console log : Sunk) (end : RunEnd) (start : Start) (settings : Settings) (room : ℕ)
-    → IsRestart words settings → (restarted : IsRestarted folder settings start) → room ≡ settings.records
+pub restart_arrives : (words : List (List ℕ)) (files : Option NamedFiles) (folder : Option Folder) (trace : List Record) (console log : Sunk) (end : RunEnd) (start : Start) (job : RestartJob) (room : ℕ)
+    → Asks words (Restart job) → (restarted : IsRestarted folder (settings_of (Restart job)) start) → room ≡ job.records
     → EndsRun end start.keeper.schedule (plain_of start.machine) room trace console log
-    → IsAtEnding (ending_by end settings.records) (session (given words files folder) (Some (beginning_of start)) trace console) log
-restart_arrives words files folder trace console log end start settings room restart restarted full ends =
+    → IsAtEnding (ending_by end job.records) (session (given words files folder) (Some (beginning_of start)) trace console) log
+restart_arrives words files folder trace console log end start job room asks restarted full ends =
     let begun : Begun (given words files folder) = ByRestart (record {
-      asked = record { settings = settings; words = restart };
+      asked = record { job = job; asks = asks };
       generation = restarted.generation;
       state = plain_of start.machine;
       valid = restarted.ready.valid;
@@ -192,5 +191,5 @@ restart_arrives words files folder trace console log end start settings room res
       spelled = restarted.spelled;
       counted = restarted.counted;
     }) in
-    let from = begins_so (plain_of start.machine) (plain_of start.machine) start.keeper.schedule (schedule_of settings restarted.generation) refl restarted.keeper.schedule in
-    arrives_by words files folder trace console log (beginning_of start) end begun settings.records from refl (ends_at words files folder trace console log (beginning_of start) end begun room from full ends)
+    let from = begins_so (plain_of start.machine) (plain_of start.machine) start.keeper.schedule (schedule_of (settings_of (Restart job)) restarted.generation) refl restarted.keeper.schedule in
+    arrives_by words files folder trace console log (beginning_of start) end begun job.records from refl (ends_at words files folder trace console log (beginning_of start) end begun room from full ends)

@@ -20,7 +20,7 @@ use Rattle.plain_process.specs.declared.user_part.UserPart.{UserPart}
 use Rattle.plain_process.specs.declared.user_part.ThreadPart.{ThreadPart}
 use Rattle.plain_process.specs.Instructions.{Effect, Next, Calls, Traps}
 use Rattle.plain_machine.specs.Kernel.{is_live, after_take}
-use Rattle.plain_machine.specs.Ends.{ended}
+use Rattle.plain_machine.specs.Ends.{after_end}
 use Rattle.plain_process.specs.Steps.{UserStep, Stepped, Asks, Trapped, Waits, NoThread, user_step, step_by, step_of, waits, effect_at}
 use Rattle.plain_process.specs.Buffers.{lent}
 use Rattle.plain_process.specs.Deliveries.{Delivery, Enters, Ignores, Kills, deliver, traps_with}
@@ -39,7 +39,7 @@ use Rattle.dmtcp_top.proofs.Traps.{trap_is_signal}
 abbrev pub delivered_alone : PlainKernel → VPid → UserPart → Delivery → Plain
 delivered_alone k p user (Enters after) = single k p after
 delivered_alone k p user Ignores = single k p user
-delivered_alone k p user (Kills status) = single (ended k p status) p user
+delivered_alone k p user (Kills status) = single (after_end k p status) p user
 
 one_delivered : (k next : PlainKernel) (p : VPid) (user : UserPart) (d : Delivery) → is_live k p ≡ true → is_live next p ≡ true
     → delivered (record { kernel = next; users = (single k p user).users }) p d ≡ delivered_alone next p user d
@@ -48,7 +48,7 @@ one_delivered k next p user (Enters after) alive now =
 one_delivered k next p user Ignores alive now =
     ap (λ (m : map.FinMap vpid_cmp UserPart). let g : Plain = record { kernel = next; users = m } in g) (users_while_live k p user alive ∙ sym (users_while_live next p user now))
 one_delivered k next p user (Kills status) alive now =
-    ap (λ (m : map.FinMap vpid_cmp UserPart). living (record { kernel = ended next p status; users = m })) (users_while_live k p user alive)
+    ap (λ (m : map.FinMap vpid_cmp UserPart). living (record { kernel = after_end next p status; users = m })) (users_while_live k p user alive)
 
 -- whether the thread waits on a word, by where it stands
 abbrev is_waiting : UserStep → Bool

@@ -1,7 +1,3 @@
-pub mod Decimals
-pub mod Items
-pub mod Options
-pub mod Jobs
 pub mod Sinks
 pub mod Results
 pub mod LentBytes
@@ -28,6 +24,7 @@ pub mod Arriving
 pub mod OneOrder
 pub mod Standstill
 pub mod Starts
+pub mod JobInputs
 pub mod Endings
 pub mod Conclusions
 pub mod SetLaws
@@ -36,11 +33,12 @@ pub mod Arrivals
 pub mod Running
 pub mod Safety
 pub mod Checkpoints
-pub mod ImagedKernels
+pub mod LoneKernels
 pub mod MachineImages
 pub mod Served
 pub mod Turning
 pub mod Loads
+pub mod Promised
 pub mod Carried
 pub mod RoundTrips
 pub mod Restored

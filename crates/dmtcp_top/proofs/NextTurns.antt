@@ -20,7 +20,7 @@ use Rattle.dmtcp_top.specs.declared.turn.Turn.{Turn}
 use Rattle.dmtcp_top.specs.Machines.{plain_of, lives, place_of, placed, IsReady}
 use Rattle.dmtcp_top.specs.Rounds.{Place, Due, InTurn, due_signal, goes_on, turn_with, turn_of, threads_in, first_thread, first_turn, if_missing, coming, round_of, new_round, next_turn, same_turn, stands_in}
 use Rattle.dmtcp_top.proofs.Outcomes.{users_while_live, users_once_ended}
-use Rattle.dmtcp_top.proofs.ImagedKernels.{no_directions}
+use Rattle.dmtcp_top.proofs.LoneKernels.{no_directions}
 use Rattle.dmtcp_top.proofs.Walks.{part_while_live, part_once_ended}
 
 or_none : {A : Type 0} (o : Option A) → option_or o None ≡ o
@@ -30,7 +30,7 @@ or_none (Some a) = refl
 -- where there are no channels nothing is on the way
 pub none_coming : (m : Machine) → IsReady m → lives m ≡ true → coming (plain_of m) ≡ []
 unfolding coming
-none_coming m ready alive = ap (filter_map if_missing) (no_directions m.kernel (ready.imaged alive))
+none_coming m ready alive = ap (filter_map if_missing) (no_directions m.kernel ready.valid.kernel (ready.lone alive))
 
 -- while the process lives
 pub new_round_live : (m : Machine) → IsReady m → lives m ≡ true → new_round (plain_of m) ≡ option_map InTurn (first_thread (plain_of m) m.guest.pid [] (map.keys m.guest.user.threads))

@@ -25,11 +25,12 @@ use Rattle.trace_log.specs.declared.requests.Schedule.{Schedule}
 use Rattle.trace_log.specs.declared.requests.Tally.{Tally}
 use Rattle.trace_log.specs.Requests.{Requests, Phase, NoRequest, Requested, AfterCut, asks, is_mark, is_multiple_of, next_requests, phase_after, tally_after}
 use Rattle.trace_log.proofs.RequestMarks.{has_no_marks, is_each_without_marks}
-use Rattle.dmtcp_top.specs.Rounds.{Place, Due, Arrival, InTurn, Upcoming, NewRound, After, Standing, GoesInRounds, threads_in, first_thread, first_turn, coming, round_of, round_from, new_round, next_turn, same_turn, stands_in, goes_on, due_at, is_due_at, is_due, is_first_arrival, is_due_for_cut, request_waits, moved, moved_by, standing_after, each_is_due, first_standing}
+use Rattle.dmtcp_top.specs.Rounds.{Place, Arrival, InTurn, Upcoming, NewRound, After, Standing, GoesInRounds, threads_in, first_thread, first_turn, coming, round_of, round_from, new_round, next_turn, same_turn, stands_in, goes_on, due_at, is_due_at, is_due, is_first_arrival, is_due_for_cut, request_waits, moved, moved_by, standing_after, each_is_due, first_standing}
 use Rattle.dmtcp_top.specs.declared.run_end.RunEnd.{RunEnd}
 use Rattle.dmtcp_top.specs.declared.run_end.RunEnd.TheVariants.{Done as RunDone, Budget as RunBudget, Stuck as RunStuck, SinkFault as RunSinkFault, Memory as RunMemory}
 use Rattle.dmtcp_top.specs.RunEnds.{IsRun, RanOut, EndsRun}
-use Rattle.dmtcp_top.specs.Words.{NameNoEvery}
+use Rattle.job_words.specs.declared.job.Job.TheVariants.{Launch, Restart}
+use Rattle.dmtcp_top.specs.Jobs.{NameNoEvery}
 use Rattle.dmtcp_top.specs.Launches.{Begun, origin, schedule_in, beginning}
 use Rattle.dmtcp_top.specs.Launches.Begun.{ByLaunch, ByRestart}
 use Rattle.dmtcp_top.specs.Sessions.{Sunk, Session, Given, Beginning, Took}
@@ -610,8 +611,8 @@ order_of session begun start order = subst (λ (o : Option Beginning). IfSome o 
 
 -- words without `--every` make no requests
 no_requests : (given : Given) (begun : Begun given) → NameNoEvery given.words → (schedule_in begun).every ≡ None
-no_requests given (ByLaunch launched) names = names.launch launched.asked.name launched.asked.settings launched.asked.words
-no_requests given (ByRestart restarted) names = names.restart restarted.asked.settings restarted.asked.words
+no_requests given (ByLaunch launched) names = names (Launch launched.asked.job) launched.asked.asks
+no_requests given (ByRestart restarted) names = names (Restart restarted.asked.job) restarted.asked.asks
 
 pub valid_origin : (given : Given) (begun : Begun given) → IsValid (origin begun)
 valid_origin given (ByLaunch launched) = launched.valid

@@ -98,5 +98,5 @@ ready_after m n r from to console own ready alive same takes =
     record {
       single = record { alone = λ q differ. let apart : q ≢ m.guest.pid = λ is. differ (is ∙ sym same.pid) in kept.others q apart (ready.single.alone q apart) };
       valid = valid;
-      imaged = λ now. kept.image (ready.imaged alive) valid.kernel (subst (λ (p : VPid). is_live n.kernel p ≡ true) same.pid now);
+      lone = λ now. kept.lone (ready.lone alive) (subst (λ (p : VPid). is_live n.kernel p ≡ true) same.pid now);
     }

@@ -20,17 +20,17 @@ use Rattle.image_process.specs.declared.process_image.ProcImage.{ProcImage}
 use Rattle.image_shared.specs.declared.shared.Shared.{Shared}
 use Rattle.image_shared.specs.SharedFits.{IsShared}
 use Rattle.image_codec.specs.KernelParts.{kernel_of, process_entry}
-use Rattle.image_codec.specs.KernelImages.{HasImage}
+use Rattle.image_codec.specs.KernelImages.{IsLone}
 use Rattle.image_codec.specs.OneProcess.{HasOneProcess}
 use Rattle.image_process.specs.ProcessImages.{SpellsProcess, pid_at, tids_at}
 use Rattle.image_process.specs.UserParts.{user_of}
 use Rattle.image_codec.specs.Sets.{SpellsFiles, SpellsImages, IsStateOf, user_entry}
 use Rattle.image_shared.proofs.SharedLaws.{text_of}
 use Rattle.image_codec.proofs.OneProcess.{one_of_image}
-use Rattle.image_codec.proofs.ImageKernels.{image_is_kernel}
+use Rattle.image_codec.proofs.ImageKernels.{image_is_kernel, image_is_lone}
 use Rattle.image_codec.proofs.SameThreads.{images_have_same_threads}
 use Rattle.guest_proc.specs.Guests.{GuestPart}
-use Rattle.guest_proc.proofs.FittingImages.{first_of}
+use Rattle.image_process.proofs.FittingParts.{first_of}
 use Rattle.guest_proc.proofs.RebuiltUsers.{rebuilt_user}
 use Rattle.dmtcp_top.specs.declared.machine.Machine.{Machine}
 use Rattle.dmtcp_top.specs.Machines.{IsReady, only, plain_of, single}
@@ -170,7 +170,7 @@ module _ (s : Shared) (images : List ProcImage) (is : IsOneImage s images) where
             let apart : q ≢ one.process.pid = λ at. differ (at ∙ sym (number ∙ own_process)) in ap (λ (k : PlainKernel). is_live k q) kernel ∙ one.alone q apart;
       };
       valid = subst IsValid (sym same_state) (image_is_valid (subst IsUser part valid));
-      imaged = λ now. subst HasImage (sym kernel) (s, record { spelled = is.shared; kernel = refl });
+      lone = λ now. subst IsLone (sym kernel) (image_is_lone s is.shared);
     }
 
 pub set_is_valid : SetIsValid

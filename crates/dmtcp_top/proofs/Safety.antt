@@ -10,7 +10,7 @@ use Rattle.views.proofs.MapLaws.{true_false}
 use Rattle.sys_abi.specs.declared.record.Record.{Record}
 use Rattle.sys_abi.specs.declared.record.Record.TheVariants.{Complete, Refused}
 use Rattle.sys_abi.specs.declared.record.Cause.TheVariants.{DiskFault}
-use Rattle.set_disk.specs.Files.{Files as Folder}
+use Rattle.set_disk.specs.Files.{FolderFiles as Folder}
 use Rattle.set_disk.specs.Moments.{LeavesOnly}
 use Rattle.set_disk.proofs.Stretches.{joins, weakens, told_then}
 use Rattle.set_disk.specs.SeenFolder.{SeenFolder}

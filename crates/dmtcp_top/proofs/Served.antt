@@ -9,7 +9,7 @@ use Rattle.sys_abi.specs.declared.record.Record.TheVariants.{Cut, Complete, Refu
 use Rattle.sys_abi.specs.declared.record.Cause.{Cause}
 use Rattle.sys_abi.specs.declared.record.Cause.TheVariants.{Unsupported, DiskFault, Memory}
 use Rattle.edge_io.specs.Sink.{appended}
-use Rattle.set_disk.specs.Files.{Files as Folder}
+use Rattle.set_disk.specs.Files.{FolderFiles as Folder}
 use Rattle.set_disk.specs.Moments.{LeavesOnly}
 use Rattle.set_disk.specs.SeenFolder.{SeenFolder}
 use Rattle.plain_machine.specs.declared.plain.Plain.{Plain}
@@ -34,7 +34,7 @@ use Rattle.dmtcp_top.specs.Rounds.{Due}
 use Rattle.dmtcp_top.specs.UnderWay.{IsUnderWay, IsBrokenOff, IsSettled}
 use Rattle.dmtcp_top.proofs.Sinks.{took_nothing}
 use Rattle.dmtcp_top.proofs.Endings.{goes_on_while_live}
-use Rattle.dmtcp_top.proofs.ImagedKernels.{supported}
+use Rattle.dmtcp_top.proofs.LoneKernels.{supported}
 use Rattle.dmtcp_top.proofs.Running.{steps_of}
 use Rattle.dmtcp_top.proofs.Safety.{some_there, new_below, same_below, counts_fault, safe_quiet, safe_looked, safe_put, safe_complete, safe_refused}
 use Rattle.dmtcp_top.proofs.Checkpoints.{lapse_stands, refusal_stands, cut_stands, after_cut, complete_stands, late_refusal_stands, complete_ends, refusal_ends, lapse_ends, cut_tally, marked, broken}
@@ -128,7 +128,7 @@ next_greatest schedule g requests generation = cut_tally requests.tally generati
 
 -- a machine that is ready can be held in a set
 pub can_be_held : (m : Machine) → IsReady m → lives m ≡ true → CanBeHeld (plain_of m)
-can_be_held m ready alive = record { lives = goes_on_while_live m alive; supported = supported (plain_of m) (ready.imaged alive) }
+can_be_held m ready alive = record { lives = goes_on_while_live m alive; supported = supported (plain_of m) (ready.lone alive) }
 
 not_complete : (r : Record) → ((generation : ℕ) → r ≢ Complete generation) → (generation : ℕ) → Contains (r ∷ []) (Complete generation) → ⊥
 not_complete r other generation (zero, below, is) = other generation is

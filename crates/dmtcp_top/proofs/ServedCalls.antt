@@ -20,15 +20,20 @@ use Rattle.plain_machine.specs.Rows.Clone.{clone_thread, clone_by, clone_row}
 use Rattle.plain_machine.specs.Rows.Write.{is_write_ready}
 use Rattle.plain_machine.specs.Serve.{row, row_answer, row_is_ready, makes_no_process, is_on_console, is_built, serve, is_ready, front_of}
 use Rattle.plain_process.proofs.Giving.{Giving, gives, nothing}
+use Rattle.plain_machine.proofs.ConsoleWrites.{console_is_ready}
 use Rattle.plain_machine.proofs.EachRow.{ready_by_front}
 
 either_way : (built : Bool) → cond built true true ≡ true
 either_way true = refl
 either_way false = refl
 
+write_ready : (k : PlainKernel) (p : VPid) (fd count : ℕ) (front : List ℕ) (built : Bool) → is_on_console (description_at k p fd) ≡ built → cond built (is_write_ready k p fd count front) true ≡ true
+write_ready k p fd count front true is = console_is_ready k p fd count is front
+write_ready k p fd count front false is = refl
+
 ready_yet : (k : PlainKernel) (p : VPid) (t : ℕ) (q : Request) (front : List ℕ) → is_ready k p t q front ≡ true
-unfolding is_ready row_is_ready is_built is_write_ready
-ready_yet k p t (Write fd buffer count) front = either_way (is_on_console (description_at k p fd))
+unfolding is_ready row_is_ready is_built
+ready_yet k p t (Write fd buffer count) front = write_ready k p fd count front (is_on_console (description_at k p fd)) refl
 ready_yet k p t (Clone flags stack parent_tid tls child_tid) front = either_way (makes_no_process (clone_form flags))
 ready_yet k p t _ front = refl
 

@@ -1,7 +1,7 @@
 -- What a folder's set spells, it spells in one way, and no set both spells a state and is damaged.
 use Rattle.std.proofs.Common.{◌≡◌, ℕ, List, Option, Some, None, inl, inr, refl, sym, ap, subst, ◌∙◌}
 use Rattle.std.specs.Prelude.{◌⊎◌, option_map}
-use Rattle.set_disk.specs.Files.{Files}
+use Rattle.set_disk.specs.Files.{FolderFiles}
 use Rattle.plain_machine.specs.declared.plain.Plain.{Plain}
 use Rattle.image_format.specs.declared.damage.Damage.{Damage}
 use Rattle.image_process.specs.declared.process_image.ProcImage.{ProcImage}
@@ -24,17 +24,17 @@ no_some : {A : Type 0} (a : A) → None ≡ Some a → ⊥
 no_some a is = cc
 
 -- where no set counts there is none to look into
-no_set_there : (files : Files) (found : FoundSet) → last files ≡ None → last_set files ≡ Some found → ⊥
+no_set_there : (files : FolderFiles) (found : FoundSet) → last files ≡ None → last_set files ≡ Some found → ⊥
 unfolding last_set
 no_set_there files found none some = no_some found (sym (ap (option_map (set_of files)) none) ∙ some)
 
-pub none_spelled : (files : Files) (generation : ℕ) (g : Plain) → last files ≡ None → SpellsSet files generation g → ⊥
+pub none_spelled : (files : FolderFiles) (generation : ℕ) (g : Plain) → last files ≡ None → SpellsSet files generation g → ⊥
 none_spelled files generation g none spells = no_set_there files spells.counts.0 none spells.counts.1
 
-pub none_spoilt : (files : Files) (slot : ℕ) (damage : Damage) → last files ≡ None → SpoilsSet files slot damage → ⊥
+pub none_spoilt : (files : FolderFiles) (slot : ℕ) (damage : Damage) → last files ≡ None → SpoilsSet files slot damage → ⊥
 none_spoilt files slot damage none spoils = no_set_there files spoils.found none spoils.counts
 
-pub spelled_or_spoilt : SetLaws → (files : Files) (generation : ℕ) (g : Plain) (slot : ℕ) (damage : Damage) → SpellsSet files generation g → SpoilsSet files slot damage → ⊥
+pub spelled_or_spoilt : SetLaws → (files : FolderFiles) (generation : ℕ) (g : Plain) (slot : ℕ) (damage : Damage) → SpellsSet files generation g → SpoilsSet files slot damage → ⊥
 spelled_or_spoilt laws files generation g slot damage spells spoils = by spoils.damaged
   where
     by : IsFirstDamage spoils.found damage ⊎ ((images : List (List ℕ)) × (IsSet spoils.found spoils.found.generation images × DamagedFiles images damage.file damage.offset)) → ⊥

@@ -1,11 +1,11 @@
--- The start of one program is the plain state of a machine with one process, which lives; it is a valid one, and its kernel
--- part has an image.
-use Rattle.std.proofs.Common.{◌≡◌, ◌≢◌, ℕ, zero, suc, All, arith, lit<, true, false, List, [], ◌∷◌, refl, sym, ap, ◌∙◌}
+-- The start of one program is the plain state of a machine with one process, which lives; it is a valid one, and its process
+-- is alone with the console.
+use Rattle.std.proofs.Common.{◌≡◌, ◌≢◌, ℕ, zero, suc, All, arith, true, false, List, [], ◌∷◌, length, refl, sym, ap, ◌∙◌}
 use Rattle.std.specs.FinMap as map
 use Rattle.sys_abi.specs.declared.identity.VPid.{VPid}
 use Rattle.sys_abi.specs.Orders.{vpid_cmp}
-use Rattle.sys_abi.proofs.OrderLaws.{vpid_total, vpid_exact}
-use Rattle.views.proofs.MapLaws.{get_insert_same, get_insert_other}
+use Rattle.sys_abi.proofs.OrderLaws.{vpid_total, vpid_exact, desc_total, desc_exact}
+use Rattle.views.proofs.MapLaws.{get_insert_same, get_insert_other, entries-single}
 use Rattle.elf32.specs.declared.program.Program.{Program}
 use Rattle.plain_machine.specs.declared.kernel.PlainKernel.{PlainKernel}
 use Rattle.plain_machine.specs.declared.plain.Plain.{Plain}
@@ -16,11 +16,13 @@ use Rattle.plain_process.specs.Launches.{IsLaunched}
 use Rattle.plain_machine.specs.Valid.{IsValid, AreNamed}
 use Rattle.std.proofs.lemmas.List.Elements.{All-nil}
 use Rattle.plain_machine.proofs.StartKernels.{start_is_valid}
-use Rattle.image_codec.specs.KernelImages.{HasImage}
-use Rattle.image_codec.specs.StartImages.{start_image}
-use Rattle.image_codec.proofs.StartImages.{start_has_image}
+use Rattle.plain_tables.specs.declared.description.Description.{Description}
+use Rattle.plain_tables.specs.declared.description.Object.TheVariants.{Console}
+use Rattle.plain_tables.proofs.Entries.{each_with, no_entry}
+use Rattle.sys_abi.specs.Lives.{lives}
+use Rattle.image_codec.specs.KernelImages.{IsLone}
 use Rattle.plain_process.specs.Start.{Launched, start_user}
-use Rattle.plain_machine.specs.Start.{start, start_kernel, with_processes, with_process, with_files, with_users, empty_kernel, start_process}
+use Rattle.plain_machine.specs.Start.{start, start_kernel, with_processes, with_process, with_files, with_users, empty_kernel, start_process, console_of, console_description}
 use Rattle.dmtcp_top.specs.Machines.{only, single}
 use Rattle.dmtcp_top.proofs.Outcomes.{users_while_live}
 
@@ -58,6 +60,12 @@ start_valid program arguments is = start_is_valid (one_job program arguments ∷
     one_of job is zero x low = is
     one_of job is (suc i) x low = absurd (omega arith)
 
-pub first_image : (program : Program) (arguments : List ℕ) → HasImage (with_process empty_kernel 40000 0)
-unfolding start_kernel with_processes with_files
-first_image program arguments = (start_image 0, start_has_image (one_job program arguments) (lit< tt))
+pub first_is_lone : IsLone (with_process empty_kernel 40000 0)
+unfolding with_process empty_kernel
+first_is_lone = record {
+  one = map.len-entries (map.insert map.empty (pid 40000) (start_process 40000)) ∙ ap length (entries-single vpid_total vpid_exact (pid 40000) (start_process 40000));
+  alive = each_with vpid_total vpid_exact (λ p (process : Process). lives process.life ≡ true) map.empty (pid 40000) (start_process 40000) refl (λ p process differ found. absurd (no_entry vpid_total vpid_exact p process found));
+  files = refl;
+  channels = refl;
+  consoles = each_with desc_total desc_exact (λ d (x : Description). x.object ≡ Console) map.empty (console_of 40000) console_description refl (λ d x differ found. absurd (no_entry desc_total desc_exact d x found));
+}

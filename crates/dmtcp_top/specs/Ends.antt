@@ -4,15 +4,14 @@
 --     Ends status session log         the same with what the log took
 --     CallKeepsPace ..                how far console and log came where a sink failed or memory was wanted
 --     CallGoesInRounds session        the trace goes in the order of the rounds
---     FileDecides status given        what the program's file decides, where no input and no sink failed
+--     WordsDecide status words        what the words decide, where no sink failed
+--     InputsDecide status given       what the inputs decide, where no input and no sink failed
 --     IsDecided status given          which status comes where nothing outside failed
-use Rattle.std.specs.Prelude.{◌≡◌, ◌≢◌, ℕ, ◌⊎◌, ◌↔◌, List, [], ◌++◌, take, Option, Some, None, IfSome}
-use Rattle.std.specs.FinMap as map
+use Rattle.std.specs.Prelude.{◌≡◌, ◌≢◌, ℕ, ◌⊎◌, ◌↔◌, List, [], ◌++◌, take, Some, None, IfSome}
 use Rattle.sys_abi.specs.declared.record.Record.{Record}
 use Rattle.elf32.specs.declared.fault.ElfFault.{ElfFault}
-use Rattle.elf32.specs.Rules.{first_fault}
 use Rattle.edge_io.specs.Inputs.{NamedFiles}
-use Rattle.set_disk.specs.Files.{Files as Folder}
+use Rattle.set_disk.specs.Files.{FolderFiles as Folder}
 use Rattle.plain_machine.specs.declared.plain.Plain.{Plain}
 use Rattle.image_format.specs.declared.damage.Damage.{Damage}
 use Rattle.image_store.specs.Slots.{last as set_that_counts}
@@ -20,9 +19,12 @@ use Rattle.trace_log.specs.declared.requests.Schedule.{Schedule}
 use Rattle.trace_log.specs.LogText.{log_text}
 use Rattle.dmtcp_top.specs.declared.status.Status.{Status}
 use Rattle.dmtcp_top.specs.declared.status.Status.TheVariants.{Done, Usage, InputFault, Missing, BadElf, SinkFault, DiskFault, NoSet, Damaged, Budget, Stuck, Memory}
-use Rattle.dmtcp_top.specs.Words.{AskNothing}
+use Rattle.option_words.specs.Options.{Text}
+use Rattle.job_words.specs.Commands.{SpellNothing}
+use Rattle.dmtcp_top.specs.Jobs.{AskNothing, AreOfCommand}
+use Rattle.dmtcp_top.specs.JobInputs.{Refusal, unread, missing, bad, JobInputs, IsMissing, IsBad, IsFirstRefusal, AreLoaded, first_refusal, inputs_in}
 use Rattle.dmtcp_top.specs.Log.{done_line, usage_line, input_fault_line, missing_line, bad_program_line, disk_fault_line, no_set_line, damaged_line, budget_line, stuck_line, memory_line}
-use Rattle.dmtcp_top.specs.Sessions.{Sunk, Given, Beginning, Session, Took, TookFront, TookThen, IsInput}
+use Rattle.dmtcp_top.specs.Sessions.{Sunk, Given, Beginning, Session, Took, TookFront, TookThen}
 use Rattle.dmtcp_top.specs.Sets.{SpellsSet, SpoilsSet}
 use Rattle.dmtcp_top.specs.Launches.{LaunchAsked, RestartAsked, Begun, origin, settings_in, schedule_in, beginning}
 use Rattle.dmtcp_top.specs.Rounds.{GoesInRounds}
@@ -51,33 +53,16 @@ pub record NotBegun (session : Session) : Type 0 where
   pub trace : session.left.trace ≡ []
   pub console : Took session.left.console []
 
--- the file that the words name could not be read
-pub record Unread (session : Session) (last : List ℕ) : Type 0 where
+-- no run was begun, since the launch is refused, first of all for this
+pub record Refused (session : Session) (refusal : Refusal) : Type 0 where
   pub nothing : NotBegun session
   pub asked : LaunchAsked session.given
-  pub line : last ≡ input_fault_line asked.name
+  pub first : IsFirstRefusal session.given.files asked.job refusal
 
--- there is no file of the name
-pub record Absent (session : Session) (last : List ℕ) : Type 0 where
-  pub nothing : NotBegun session
-  pub asked : LaunchAsked session.given
-  pub input : IsInput session.given.files asked.name None
-  pub line : last ≡ missing_line asked.name
-
--- the fault is that of the first rule that the file breaks
-pub record Rejected (session : Session) (last : List ℕ) : Type 0 where
-  pub nothing : NotBegun session
-  pub asked : LaunchAsked session.given
-  pub file : List ℕ
-  pub input : IsInput session.given.files asked.name (Some file)
-  pub fault : ElfFault
-  pub rule : first_fault file ≡ Some fault
-  pub line : last ≡ bad_program_line asked.name fault
-
--- the words ask for a restart, or for a launch with checkpoints whose file is a program
+-- the words ask for a restart, or for a launch with checkpoints that is not refused
 pub data NeedsStore (given : Given) : Type 0 where
-  ToLaunch : (asked : LaunchAsked given) (file : List ℕ) → asked.settings.every ≢ None
-      → IsInput given.files asked.name (Some file) → first_fault file ≡ None → NeedsStore given
+  ToLaunch : (asked : LaunchAsked given) (inputs : JobInputs) → asked.job.every ≢ None
+      → AreLoaded given.files asked.job inputs → NeedsStore given
   ToRestart : RestartAsked given → NeedsStore given
 
 -- the folder of sets failed before the run
@@ -102,16 +87,16 @@ pub record Spoilt (session : Session) (last : List ℕ) : Type 0 where
   pub spoilt : IfSome session.given.folder (λ files. SpoilsSet files slot damage)
   pub line : last ≡ damaged_line slot damage
 
--- the words ask for something
-abbrev pub IsAsked : Given → Type 0
-IsAsked given = LaunchAsked given ⊎ RestartAsked given
-
 abbrev pub Reaches : Status → Session → List ℕ → Type 0
 Reaches Done session last = CameTo RanOut session × (last ≡ done_line)
 Reaches Usage session last = NotBegun session × AskNothing session.given.words × (last ≡ usage_line)
-Reaches InputFault session last = Unread session last
-Reaches Missing session last = Absent session last
-Reaches BadElf session last = Rejected session last
+Reaches InputFault session last =
+    (name : Text) × (Refused session (unread name) × (last ≡ input_fault_line name))
+Reaches Missing session last =
+    (name : Text) × (Refused session (missing name) × (last ≡ missing_line name))
+Reaches BadElf session last =
+    (name : Text)
+    × ((fault : ElfFault) × (Refused session (bad name fault) × (last ≡ bad_program_line name fault)))
 Reaches SinkFault session last = ⊥
 Reaches DiskFault session last = Unopened session last
 Reaches NoSet session last = Setless session last
@@ -119,7 +104,7 @@ Reaches Damaged session last = Spoilt session last
 Reaches Budget session last = Spent session last
 Reaches Stuck session last = CameTo GotStuck session × (last ≡ stuck_line)
 Reaches Memory session last =
-    ((NotBegun session × IsAsked session.given) ⊎ CameTo Shown session) × (last ≡ memory_line)
+    ((NotBegun session × AreOfCommand session.given.words) ⊎ CameTo Shown session) × (last ≡ memory_line)
 
 -- the log took the lines of the checkpoints, and the last line
 pub record Logged (status : Status) (session : Session) (log : Sunk) : Type 0 where
@@ -180,20 +165,25 @@ CallGoesInRounds session =
 abbrev pub RunsOn : Status → Type 0
 RunsOn status = (status ≡ Done) ⊎ (status ≡ Budget) ⊎ (status ≡ Stuck) ⊎ (status ≡ Memory)
 
--- where no input and no sink failed, whether the program's file is there and keeps the rules decides between
--- two answers, but for want of memory
-pub record FileDecides (status : Status) (given : Given) : Type 0 where
-  pub missing : (held : NamedFiles) (asked : LaunchAsked given) → given.files ≡ Some held → status ≢ Memory
-      → (status ≡ Missing) ↔ (map.get held asked.name ≡ None)
-  pub bad : (held : NamedFiles) (asked : LaunchAsked given) (file : List ℕ) → given.files ≡ Some held
-      → map.get held asked.name ≡ Some file → status ≢ Memory
-      → (status ≡ BadElf) ↔ (first_fault file ≢ None)
+-- where no sink failed the words decide whether it is Usage: exactly where they ask for nothing, but for want
+-- of memory, which never comes in place of it where they are those of no command
+pub record WordsDecide (status : Status) (words : List Text) : Type 0 where
+  pub usage : status ≢ Memory → (status ≡ Usage) ↔ AskNothing words
+  pub none : SpellNothing words → status ≡ Usage
 
--- where no input, no sink and not the folder failed, the program's file and the files of the folder decide
+-- where no input and no sink failed, what the inputs hold decides whether a launch is refused, and for what,
+-- but for want of memory
+pub record InputsDecide (status : Status) (given : Given) : Type 0 where
+  pub missing : (held : NamedFiles) (asked : LaunchAsked given) → given.files ≡ Some held → status ≢ Memory
+      → (status ≡ Missing) ↔ IsMissing (first_refusal (inputs_in held asked.job))
+  pub bad : (held : NamedFiles) (asked : LaunchAsked given) → given.files ≡ Some held → status ≢ Memory
+      → (status ≡ BadElf) ↔ IsBad (first_refusal (inputs_in held asked.job))
+
+-- where no input, no sink and not the folder failed, what the inputs hold and the files of the folder decide
 -- which status comes, but for want of memory
 pub record IsDecided (status : Status) (given : Given) : Type 0 where
-  pub launches : (held : NamedFiles) (asked : LaunchAsked given) (file : List ℕ) → given.files ≡ Some held
-      → map.get held asked.name ≡ Some file → first_fault file ≡ None → RunsOn status
+  pub launches : (held : NamedFiles) (asked : LaunchAsked given) → given.files ≡ Some held
+      → first_refusal (inputs_in held asked.job) ≡ None → RunsOn status
   pub setless : (files : Folder) → RestartAsked given → given.folder ≡ Some files → status ≢ Memory
       → (status ≡ NoSet) ↔ (set_that_counts files ≡ None)
   pub spoilt : (files : Folder) → RestartAsked given → given.folder ≡ Some files → status ≢ Memory

@@ -1,14 +1,67 @@
--- What the words of a command line ask for.
-use Rattle.std.specs.Prelude.{ℕ, List}
+-- What the words of a command line ask for, of what is built so far.
+--     IsBuilt job            the one place that says what is built
+--     Asks words job         the words ask for this job, and it is built
+--     AskNothing words       they ask for none
+--     AreOfCommand words     they are those of a command, whether it is built or not
+--     settings_of job        after how many records of work each a job asks for a checkpoint, if ever, and how
+--                            many records its trace has room for
+use Rattle.std.specs.Prelude.{◌≡◌, List, [], length, Some, None}
+use Rattle.option_words.specs.Options.{Text}
+use Rattle.job_words.specs.declared.job.Job.{Job}
+use Rattle.job_words.specs.declared.job.Job.TheVariants.{Launch, Restart, Ring, Help}
+use Rattle.job_words.specs.declared.job.LaunchJob.{LaunchJob}
+use Rattle.job_words.specs.declared.job.RestartJob.{RestartJob}
+use Rattle.job_words.specs.Commands.{SpellNothing}
+use Rattle.job_words.specs.Jobs.{IsJob}
 use Rattle.dmtcp_top.specs.declared.settings.Settings.{Settings}
-use Rattle.dmtcp_top.specs.declared.job.Job.{Job}
-use Rattle.dmtcp_top.specs.declared.job.Job.TheVariants.{Launch, Restart}
-use Rattle.dmtcp_top.specs.Words.{IsLaunch, IsRestart}
 
-abbrev pub IsAsked : List (List ℕ) → Job → Type 0
-IsAsked words (Launch name settings) = IsLaunch words name.now settings
-IsAsked words (Restart settings) = IsRestart words settings
+-- one program on one node, without workers and without files
+pub record IsBuiltLaunch (job : LaunchJob) : Type 0 where
+  pub nodes : job.nodes ≡ 1
+  pub workers : job.workers ≡ 0
+  pub file : job.file ≡ []
+  pub programs : length job.programs ≡ 1
+
+-- without workers, and all of the nodes as they are where the words don't say
+pub record IsBuiltRestart (job : RestartJob) : Type 0 where
+  pub nodes : job.nodes ≡ 16
+  pub workers : job.workers ≡ 0
+  pub shift : job.shift ≡ 0
+  pub pid_base : job.pid_base ≡ 2000
+  pub port_base : job.port_base ≡ 30000
+
+abbrev pub IsBuilt : Job → Type 0
+IsBuilt (Launch job) = IsBuiltLaunch job
+IsBuilt (Restart job) = IsBuiltRestart job
+IsBuilt (Ring job) = ⊥
+IsBuilt Help = ⊥
+
+pub record Asks (words : List Text) (job : Job) : Type 0 where
+  pub is : IsJob words job
+  pub built : IsBuilt job
+
+abbrev pub AskNothing : List Text → Type 0
+AskNothing words = (job : Job) → Asks words job → ⊥
+
+abbrev pub AreOfCommand : List Text → Type 0
+AreOfCommand words = SpellNothing words → ⊥
 
 abbrev pub settings_of : Job → Settings
-settings_of (Launch name settings) = settings
-settings_of (Restart settings) = settings
+settings_of (Launch job) = record { every = job.every; records = job.records }
+settings_of (Restart job) = record { every = job.every; records = job.records }
+settings_of (Ring job) = record { every = Some job.every; records = 1000000 }
+settings_of Help = record { every = None; records = 0 }
+
+-- a job that makes no checkpoint, and goes on from none
+abbrev pub IsQuiet : Job → Type 0
+IsQuiet (Launch job) = job.every ≡ None
+IsQuiet (Restart job) = ⊥
+IsQuiet (Ring job) = ⊥
+IsQuiet Help = Unit {0}
+
+abbrev pub MakesNoCheckpoints : List Text → Type 0
+MakesNoCheckpoints words = (job : Job) → Asks words job → IsQuiet job
+
+-- none of their options asks for checkpoints
+abbrev pub NameNoEvery : List Text → Type 0
+NameNoEvery words = (job : Job) → Asks words job → (settings_of job).every ≡ None

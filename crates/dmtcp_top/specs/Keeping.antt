@@ -14,7 +14,7 @@ use Rattle.dmtcp_top.specs.Sets.{SpellsState}
 use Rattle.image_store.specs.StoreCrashes.{OldOrNew}
 use Rattle.image_store.specs.declared.store_fault.StoreFault.{StoreFault}
 use Rattle.image_store.specs.declared.store_fault.StoreFault.TheVariants as disk_failed
-use Rattle.set_disk.specs.Files.{Files as Folder}
+use Rattle.set_disk.specs.Files.{FolderFiles as Folder}
 use Rattle.set_disk.specs.Moments.{LeavesOnly}
 use Rattle.set_disk.specs.SeenFolder.{SeenFolder}
 use Rattle.plain_machine.specs.declared.plain.Plain.{Plain}

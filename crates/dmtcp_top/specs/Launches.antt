@@ -1,62 +1,47 @@
--- How a run begins: by a launch, whose words name the file of the program, or by a restart from the set that
--- counts.
+-- How a run begins: by a launch of a job, or by a restart from the set that counts.
 --     origin begun          the plain state with which it begins, which is a valid one
 --     schedule_in begun     when it asks for checkpoints
 --     beginning begun       both
-use Rattle.std.specs.Prelude.{◌≡◌, ℕ, List, [], ◌∷◌, ◌++◌, Option, Some, None, IfSome}
-use Rattle.elf32.specs.Programs.{program_of}
-use Rattle.elf32.specs.Rules.{first_fault}
+use Rattle.std.specs.Prelude.{◌≡◌, ℕ, List, Option, Some, None, IfSome}
 use Rattle.plain_machine.specs.declared.plain.Plain.{Plain}
-use Rattle.plain_machine.specs.Start.{start}
 use Rattle.plain_machine.specs.Valid.{IsValid}
-use Rattle.set_disk.specs.Files.{Files as Folder}
-use Rattle.dmtcp_top.specs.Sets.{SpellsState}
+use Rattle.set_disk.specs.Files.{FolderFiles as Folder}
 use Rattle.trace_log.specs.declared.requests.Schedule.{Schedule}
+use Rattle.job_words.specs.declared.job.Job.TheVariants.{Launch, Restart}
+use Rattle.job_words.specs.declared.job.LaunchJob.{LaunchJob}
+use Rattle.job_words.specs.declared.job.RestartJob.{RestartJob}
 use Rattle.dmtcp_top.specs.declared.settings.Settings.{Settings}
-use Rattle.dmtcp_top.specs.Words.{IsLaunch, IsRestart}
-use Rattle.dmtcp_top.specs.Sessions.{Given, Beginning, IsInput}
-use Rattle.dmtcp_top.specs.Sets.{SpellsSet, opening_of}
+use Rattle.dmtcp_top.specs.Jobs.{Asks, settings_of}
+use Rattle.dmtcp_top.specs.JobInputs.{JobInputs, AreLoaded, loaded_job}
+use Rattle.dmtcp_top.specs.Sessions.{Given, Beginning}
+use Rattle.dmtcp_top.specs.Sets.{SpellsState, SpellsSet, opening_of}
 
 -- the words ask for a launch
 pub record LaunchAsked (given : Given) : Type 0 where
-  pub name : List ℕ
-  pub settings : Settings
-  pub words : IsLaunch given.words name settings
+  pub job : LaunchJob
+  pub asks : Asks given.words (Launch job)
 
 -- the words ask for a restart
 pub record RestartAsked (given : Given) : Type 0 where
-  pub settings : Settings
-  pub words : IsRestart given.words settings
-
--- the one argument of a program is its name, with a zero byte at its end
-abbrev pub arguments_of : List ℕ → List ℕ
-arguments_of name = name ++ 0 ∷ []
-
--- the plain machine with one process, which is to run the program in this file
-abbrev pub start_of : List ℕ → List ℕ → Plain
-start_of name file = start (record {
-  host = 0;
-  program = program_of file;
-  arguments = arguments_of name;
-} ∷ []) []
+  pub job : RestartJob
+  pub asks : Asks given.words (Restart job)
 
 -- the generation of the set that counted at the start, which nobody asks for where there are no checkpoints
 abbrev pub Opens : Option Folder → Option ℕ → ℕ → Type 0
 Opens folder None opening = opening ≡ 0
 Opens folder (Some every) opening = IfSome folder (λ files. opening ≡ opening_of files)
 
--- the file that the words name keeps every rule of its format, and its program was started
-pub record Launched (given : Given) : Type 0 where
+-- the launch was refused for nothing that it read, and the job was started
+pub record LaunchedRun (given : Given) : Type 0 where
   pub asked : LaunchAsked given
-  pub file : List ℕ
-  pub input : IsInput given.files asked.name (Some file)
-  pub grammar : first_fault file ≡ None
-  pub valid : IsValid (start_of asked.name file)
+  pub inputs : JobInputs
+  pub loaded : AreLoaded given.files asked.job inputs
+  pub valid : IsValid (loaded_job inputs)
   pub opening : ℕ
-  pub opened : Opens given.folder asked.settings.every opening
+  pub opened : Opens given.folder asked.job.every opening
 
 -- the set that counts spells a state, and the run goes on from there
-pub record Restarted (given : Given) : Type 0 where
+pub record RestartedRun (given : Given) : Type 0 where
   pub asked : RestartAsked given
   pub generation : ℕ
   pub state : Plain
@@ -66,16 +51,16 @@ pub record Restarted (given : Given) : Type 0 where
   pub counted : IfSome given.folder (λ files. SpellsSet files generation state)
 
 pub data Begun (given : Given) : Type 0 where
-  ByLaunch : Launched given → Begun given
-  ByRestart : Restarted given → Begun given
+  ByLaunch : LaunchedRun given → Begun given
+  ByRestart : RestartedRun given → Begun given
 
 abbrev pub origin : {given : Given} → Begun given → Plain
-origin (ByLaunch launched) = start_of launched.asked.name launched.file
+origin (ByLaunch launched) = loaded_job launched.inputs
 origin (ByRestart restarted) = restarted.state
 
 abbrev pub settings_in : {given : Given} → Begun given → Settings
-settings_in (ByLaunch launched) = launched.asked.settings
-settings_in (ByRestart restarted) = restarted.asked.settings
+settings_in (ByLaunch launched) = settings_of (Launch launched.asked.job)
+settings_in (ByRestart restarted) = settings_of (Restart restarted.asked.job)
 
 abbrev pub opening_in : {given : Given} → Begun given → ℕ
 opening_in (ByLaunch launched) = launched.opening

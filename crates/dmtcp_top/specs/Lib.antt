@@ -1,7 +1,7 @@
 pub mod Statuses
-pub mod Words
 pub mod Jobs
 pub mod Sessions
+pub mod JobInputs
 pub mod Machines
 pub mod Sets
 pub mod Launches

@@ -12,7 +12,7 @@ use Rattle.image_store.specs.StoreStates.{Known}
 use Rattle.image_store.specs.StoreCrashes.{ChangesNothing}
 use Rattle.dmtcp_top.specs.Keeping.{Counts}
 use Rattle.edge_io.specs.Inputs.{NamedFiles}
-use Rattle.set_disk.specs.Files.{Files as Folder}
+use Rattle.set_disk.specs.Files.{FolderFiles as Folder}
 use Rattle.set_disk.specs.SeenFolder.{SeenFolder}
 use Rattle.image_codec.specs.Sets.{DamagedFiles}
 use Rattle.dmtcp_top.specs.Sets.{SpellsState}
@@ -20,16 +20,20 @@ use Rattle.image_store.specs.Slots.{last}
 use Rattle.trace_log.specs.LogText.{at_start}
 use Rattle.trace_log.specs.Requests.{first_tally}
 use Rattle.dmtcp_top.specs.declared.ending.Ending.{Ending}
-use Rattle.dmtcp_top.specs.declared.ending.Ending.TheVariants.{InputFault, Missing, BadElf, DiskFault, NoSet, Damaged, Memory}
-use Rattle.dmtcp_top.specs.declared.job.Job.{Job}
-use Rattle.dmtcp_top.specs.declared.job.Job.TheVariants.{Launch, Restart}
+use Rattle.dmtcp_top.specs.declared.ending.Ending.TheVariants.{Usage, InputFault, Missing, BadElf, DiskFault, NoSet, Damaged, Memory}
+use Rattle.option_words.specs.Options.{Text}
+use Rattle.job_words.specs.declared.job.Job.{Job}
+use Rattle.job_words.specs.declared.job.Job.TheVariants.{Launch, Restart}
+use Rattle.job_words.specs.declared.job.LaunchJob.{LaunchJob}
 use Rattle.dmtcp_top.specs.declared.machine.Machine.{Machine}
 use Rattle.dmtcp_top.specs.declared.settings.Settings.{Settings}
 use Rattle.dmtcp_top.specs.declared.keeper.Keeper.{Keeper}
 use Rattle.dmtcp_top.specs.declared.start.Start.{Start}
 use Rattle.dmtcp_top.specs.Sessions.{IsInput}
 use Rattle.dmtcp_top.specs.Sets.{SpellsSet, SpoilsSet}
-use Rattle.dmtcp_top.specs.Launches.{start_of, Opens, schedule_of}
+use Rattle.dmtcp_top.specs.Jobs.{AskNothing, AreOfCommand, settings_of}
+use Rattle.dmtcp_top.specs.JobInputs.{JobInputs, AreLoaded, IsFirstRefusal, unread, missing, bad, loaded_job}
+use Rattle.dmtcp_top.specs.Launches.{Opens, schedule_of}
 use Rattle.dmtcp_top.specs.Machines.{plain_of, IsReady}
 
 -- a keeper before the first record
@@ -38,17 +42,16 @@ pub record IsFresh (keeper : Keeper) (settings : Settings) (opening : ℕ) : Typ
   pub tally : keeper.tally ≡ first_tally (schedule_of settings opening)
   pub lines : keeper.lines ≡ at_start
 
--- the machine stands at the start of the program in the file
-pub record IsLaunched (files : Option NamedFiles) (folder : Option Folder) (name : List ℕ)
-    (settings : Settings) (start : Start) : Type 0 where
-  pub file : List ℕ
-  pub input : IsInput files name (Some file)
-  pub grammar : first_fault file ≡ None
-  pub state : plain_of start.machine ≡ start_of name file
+-- the machine stands at the start of the job
+pub record IsLaunched (files : Option NamedFiles) (folder : Option Folder) (job : LaunchJob) (start : Start)
+    : Type 0 where
+  pub inputs : JobInputs
+  pub loaded : AreLoaded files job inputs
+  pub state : plain_of start.machine ≡ loaded_job inputs
   pub ready : IsReady start.machine
   pub opening : ℕ
-  pub opened : Opens folder settings.every opening
-  pub keeper : IsFresh start.keeper settings opening
+  pub opened : Opens folder job.every opening
+  pub keeper : IsFresh start.keeper (settings_of (Launch job)) opening
 
 -- the machine stands at the state that the set which counts spells
 pub record IsRestarted (folder : Option Folder) (settings : Settings) (start : Start) : Type 0 where
@@ -59,16 +62,20 @@ pub record IsRestarted (folder : Option Folder) (settings : Settings) (start : S
   pub ready : IsReady start.machine
   pub keeper : IsFresh start.keeper settings generation
 
+-- how the words end a call without a job
+abbrev pub RefusesWords : Ending → List Text → Type 0
+RefusesWords Usage words = AskNothing words
+RefusesWords Memory words = AreOfCommand words
+RefusesWords _ words = ⊥
+
 -- how a launch ends without a machine, and why
-abbrev pub RefusesLaunch : Ending → Option NamedFiles → List ℕ → Settings → Type 0
-RefusesLaunch (InputFault who) files name settings = who.now ≡ name
-RefusesLaunch (Missing who) files name settings = (who.now ≡ name) × IsInput files name None
-RefusesLaunch (BadElf who fault) files name settings = (who.now ≡ name)
-    × ((file : List ℕ) × (IsInput files name (Some file) × (first_fault file ≡ Some fault)))
-RefusesLaunch DiskFault files name settings = (settings.every ≢ None)
-    × ((file : List ℕ) × (IsInput files name (Some file) × (first_fault file ≡ None)))
-RefusesLaunch Memory files name settings = Unit {0}
-RefusesLaunch _ files name settings = ⊥
+abbrev pub RefusesLaunch : Ending → Option NamedFiles → LaunchJob → Type 0
+RefusesLaunch (InputFault who) files job = IsFirstRefusal files job (unread who.now)
+RefusesLaunch (Missing who) files job = IsFirstRefusal files job (missing who.now)
+RefusesLaunch (BadElf who fault) files job = IsFirstRefusal files job (bad who.now fault)
+RefusesLaunch DiskFault files job = (job.every ≢ None) × ((inputs : JobInputs) × AreLoaded files job inputs)
+RefusesLaunch Memory files job = Unit {0}
+RefusesLaunch _ files job = ⊥
 
 -- how a restart ends without one
 abbrev pub RefusesRestart : Ending → Option Folder → Type 0
@@ -78,9 +85,9 @@ RefusesRestart (Damaged slot damage) folder = IfSome folder (λ files. SpoilsSet
 RefusesRestart Memory folder = Unit {0}
 RefusesRestart _ folder = ⊥
 
-abbrev pub Launches : Result Start Ending → Option NamedFiles → Option Folder → List ℕ → Settings → Type 0
-Launches (Ok start) files folder name settings = IsLaunched files folder name settings start
-Launches (Err ending) files folder name settings = RefusesLaunch ending files name settings
+abbrev pub Launches : Result Start Ending → Option NamedFiles → Option Folder → LaunchJob → Type 0
+Launches (Ok start) files folder job = IsLaunched files folder job start
+Launches (Err ending) files folder job = RefusesLaunch ending files job
 
 abbrev pub Restarts : Result Start Ending → Option Folder → Settings → Type 0
 Restarts (Ok start) folder settings = IsRestarted folder settings start
@@ -88,13 +95,9 @@ Restarts (Err ending) folder settings = RefusesRestart ending folder
 
 -- what beginning a run gives
 abbrev pub Begins : Result Start Ending → Job → Option NamedFiles → Option Folder → Type 0
-Begins result (Launch name settings) files folder = Launches result files folder name.now settings
-Begins result (Restart settings) files folder = Restarts result folder settings
-
--- a job that leaves the folder of sets alone
-abbrev pub IsQuiet : Job → Type 0
-IsQuiet (Launch name settings) = settings.every ≡ None
-IsQuiet (Restart settings) = ⊥
+Begins result (Launch job) files folder = Launches result files folder job
+Begins result (Restart job) files folder = Restarts result folder (settings_of (Restart job))
+Begins result _ files folder = ⊥
 
 -- it can be launched with every list of arguments
 abbrev pub IsGoodProgram : Program → Type 0

@@ -20,9 +20,9 @@ use Rattle.plain_machine.specs.declared.plain.Plain.{Plain}
 use Rattle.plain_machine.specs.declared.kernel.PlainKernel.{PlainKernel}
 use Rattle.plain_process.specs.declared.user_part.UserPart.{UserPart}
 use Rattle.plain_machine.specs.Kernel.{is_live}
-use Rattle.plain_machine.specs.Ends.{ended}
+use Rattle.plain_machine.specs.Ends.{after_end}
 use Rattle.plain_machine.specs.Valid.{IsValid}
-use Rattle.image_codec.specs.KernelImages.{HasImage}
+use Rattle.image_codec.specs.KernelImages.{IsLone}
 use Rattle.plain_machine.specs.Records.{outcome, living}
 use Rattle.plain_machine.specs.Tests.{is_work}
 use Rattle.dmtcp_top.specs.declared.machine.Machine.{Machine}
@@ -46,12 +46,12 @@ lives m = is_live m.kernel m.guest.pid
 pub record IsSingle (m : Machine) : Type 0 where
   pub alone : (q : VPid) → q ≢ m.guest.pid → is_live m.kernel q ≡ false
 
--- nobody else lives, the plain state is a valid one, and there is an image of the kernel part as long as the
--- process lives
+-- nobody else lives, the plain state is a valid one, and as long as the process lives it is alone with the
+-- console
 pub record IsReady (m : Machine) : Type 0 where
   pub single : IsSingle m
   pub valid : IsValid (plain_of m)
-  pub imaged : lives m ≡ true → HasImage m.kernel
+  pub lone : lives m ≡ true → IsLone m.kernel
 
 -- another moment of the same process
 pub record IsSame (m n : Machine) : Type 0 where
@@ -81,7 +81,7 @@ CanDeliver g p t s = is_some (outcome g (Deliver p t s)) ≡ true
 
 -- a signal that kills takes the process away
 abbrev pub kernel_after : PlainKernel → VPid → Delivered → PlainKernel
-kernel_after k p (Kills status) = ended k p status
+kernel_after k p (Kills status) = after_end k p status
 kernel_after k p _ = k
 
 -- this record was made, and the console took its bytes

@@ -27,11 +27,11 @@ use Rattle.plain_process.specs.Valid.{IsByte}
 use Rattle.plain_machine.specs.Valid.{IsValid}
 use Rattle.trace_log.specs.declared.requests.Schedule.{Schedule}
 use Rattle.trace_log.specs.Requests.{is_mark}
-use Rattle.set_disk.specs.Files.{Files as Folder}
-use Rattle.dmtcp_top.specs.declared.settings.Settings.{Settings}
+use Rattle.set_disk.specs.Files.{FolderFiles as Folder}
 use Rattle.dmtcp_top.specs.declared.status.Status.{Status}
 use Rattle.dmtcp_top.specs.declared.status.Status.TheVariants.{Done, Budget, Stuck, Memory as WantsMemory}
-use Rattle.dmtcp_top.specs.Words.{IsRestart, NameNoEvery}
+use Rattle.dmtcp_top.specs.Jobs.{NameNoEvery}
+use Rattle.dmtcp_top.specs.Launches.{RestartAsked}
 use Rattle.dmtcp_top.specs.Sets.{SpellsState, SpellsSet}
 use Rattle.dmtcp_top.specs.Rounds.{GoesInRounds, new_round}
 use Rattle.dmtcp_top.specs.declared.run_end.RunEnd.{RunEnd}
@@ -133,10 +133,11 @@ Answers _ = ⊥
 
 abbrev pub OneRestart : Type 0
 OneRestart =
-    (files : Folder) (generation : ℕ) (g : Plain) (settings : Settings)
-    (a b : Session) (first second : Status) (log other : Sunk)
-    → SpellsSet files generation g → settings.every ≡ None
-    → IsRestart a.given.words settings → IsRestart b.given.words settings
+    (files : Folder) (generation : ℕ) (g : Plain)
+    (a b : Session) (asked : RestartAsked a.given) (too : RestartAsked b.given) (first second : Status)
+    (log other : Sunk)
+    → SpellsSet files generation g → asked.job.every ≡ None → too.job.every ≡ None
+    → asked.job.records ≡ too.job.records
     → a.given.folder ≡ Some files → b.given.folder ≡ Some files → Answers first → Answers second
     → Ends first a log → Ends second b other → CallGoesInRounds a → CallGoesInRounds b
     → (first ≡ second) × (a.left.trace ≡ b.left.trace)
@@ -144,10 +145,10 @@ OneRestart =
 -- of a call whose status is decided, as it is where nothing outside failed
 abbrev pub RestartEndsSo : Type 0
 RestartEndsSo =
-    (files : Folder) (generation : ℕ) (g : Plain) (settings : Settings) (records : List Record)
-    (session : Session) (status : Status) (log : Sunk)
+    (files : Folder) (generation : ℕ) (g : Plain) (records : List Record)
+    (session : Session) (asked : RestartAsked session.given) (status : Status) (log : Sunk)
     → SpellsSet files generation g → session.given.folder ≡ Some files
-    → IsRestart session.given.words settings → settings.every ≡ None → RunsToEnd g settings.records records
+    → asked.job.every ≡ None → RunsToEnd g asked.job.records records
     → Ends status session log → CallGoesInRounds session → IsDecided status session.given
     → (status ≡ WantsMemory) ⊎ ((status ≡ Done) × (session.left.trace ≡ records))
 

@@ -6,20 +6,19 @@
 --     IsPromised status words trace before after     the contract of a call
 --     RoundTrip                          what a restart goes on from
 --     NotBoth, OneDamage                 a set that counts spells a state or is damaged, at one place
-use Rattle.std.specs.Prelude.{◌≡◌, ◌⊎◌, ◌↔◌, ℕ, List, Option, Some}
+use Rattle.std.specs.Prelude.{◌≡◌, ◌⊎◌, ℕ, List, Option, Some}
 use Rattle.std.specs.Option.{ForSome}
 use Rattle.sys_abi.specs.declared.record.Record.{Record}
-use Rattle.set_disk.specs.Files.{Files as Folder}
+use Rattle.set_disk.specs.Files.{FolderFiles as Folder}
 use Rattle.set_disk.specs.Moments.{LeavesOnly}
 use Rattle.set_disk.specs.SeenFolder.{SeenFolder}
 use Rattle.plain_machine.specs.declared.plain.Plain.{Plain}
 use Rattle.image_format.specs.declared.damage.Damage.{Damage}
 use Rattle.dmtcp_top.specs.declared.status.Status.{Status}
-use Rattle.dmtcp_top.specs.declared.status.Status.TheVariants.{Usage, InputFault, SinkFault, DiskFault}
-use Rattle.dmtcp_top.specs.Words.{AskNothing}
+use Rattle.dmtcp_top.specs.declared.status.Status.TheVariants.{InputFault, SinkFault, DiskFault}
 use Rattle.dmtcp_top.specs.Sessions.{Beginning, Outside, InputsFailed, StreamsFailed, FolderFailed, given_in, session_in, log_in}
 use Rattle.trace_log.specs.Requests.{CutAt}
-use Rattle.dmtcp_top.specs.Ends.{Ends, CallKeepsPace, CallGoesInRounds, FileDecides, IsDecided}
+use Rattle.dmtcp_top.specs.Ends.{Ends, CallKeepsPace, CallGoesInRounds, WordsDecide, InputsDecide, IsDecided}
 use Rattle.dmtcp_top.specs.Sets.{SpellsSet, SpoilsSet}
 use Rattle.dmtcp_top.specs.Keeping.{IsOpening, SpellsCut, KeepsComplete, CountsFaults}
 
@@ -54,12 +53,12 @@ pub record IsPromised (status : Status) (words : List (List ℕ)) (trace : List 
   pub input_failed : status ≡ InputFault → InputsFailed before after
   pub sink_failed : status ≡ SinkFault → StreamsFailed before after
   pub disk_failed : status ≡ DiskFault → FolderFailed before after
-  -- Where no stream failed the words decide whether it is Usage; where no input failed either, the program's
-  -- file whether it is missing or bad; and where nothing outside failed, what the call was given decides the
-  -- rest, but for want of memory.
-  pub usage : (StreamsFailed before after → ⊥) → (status ≡ Usage) ↔ AskNothing words
-  pub file : (InputsFailed before after → ⊥) → (StreamsFailed before after → ⊥)
-      → FileDecides status (given_in words before)
+  -- Where no stream failed the words decide whether it is Usage; where no input failed either, what the
+  -- inputs hold whether a launch is refused; and where nothing outside failed, what the call was given
+  -- decides the rest, but for want of memory.
+  pub usage : (StreamsFailed before after → ⊥) → WordsDecide status words
+  pub inputs : (InputsFailed before after → ⊥) → (StreamsFailed before after → ⊥)
+      → InputsDecide status (given_in words before)
   pub decided : (InputsFailed before after → ⊥) → (StreamsFailed before after → ⊥)
       → (FolderFailed before after → ⊥)
       → IsDecided status (given_in words before)

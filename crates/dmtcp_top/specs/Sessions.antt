@@ -6,7 +6,7 @@ use Rattle.sys_abi.specs.declared.record.Record.{Record}
 use Rattle.views.specs.Faults.{Rose}
 use Rattle.edge_io.specs.Inputs.{NamedFiles, SeenInputs}
 use Rattle.edge_io.specs.Sink.{SeenSink, appended}
-use Rattle.set_disk.specs.Files.{Files as Folder}
+use Rattle.set_disk.specs.Files.{FolderFiles as Folder}
 use Rattle.set_disk.specs.SeenFolder.{SeenFolder}
 use Rattle.plain_machine.specs.declared.plain.Plain.{Plain}
 use Rattle.trace_log.specs.declared.requests.Schedule.{Schedule}

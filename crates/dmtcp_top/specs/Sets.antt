@@ -8,7 +8,7 @@
 --     opening_of files                  the generation of the set that counts, 0 where none does
 use Rattle.std.specs.Prelude.{◌≡◌, ◌⊎◌, ℕ, ◌≤◌, List, Some}
 use Rattle.std.specs.Option.{option_map_or}
-use Rattle.set_disk.specs.Files.{Files}
+use Rattle.set_disk.specs.Files.{FolderFiles}
 use Rattle.plain_machine.specs.declared.plain.Plain.{Plain}
 use Rattle.image_format.specs.declared.damage.Damage.{Damage}
 use Rattle.image_process.specs.declared.process_image.ProcImage.{ProcImage}
@@ -25,7 +25,7 @@ pub record SpellsState (images : List (List ℕ)) (g : Plain) : Type 0 where
   pub spelled : SpellsFiles images shared processes
   pub stands : IsStateOf shared processes g
 
-pub record SpellsSet (files : Files) (generation : ℕ) (g : Plain) : Type 0 where
+pub record SpellsSet (files : FolderFiles) (generation : ℕ) (g : Plain) : Type 0 where
   pub images : List (List ℕ)
   pub counts : HasSet (last_set files) generation images
   pub state : SpellsState images g
@@ -38,16 +38,16 @@ SpellNoState found damage =
 
 -- its manifest is none, a file is missing or of another length than the manifest says; or the files spell no
 -- state
-pub record SpoilsSet (files : Files) (slot : ℕ) (damage : Damage) : Type 0 where
+pub record SpoilsSet (files : FolderFiles) (slot : ℕ) (damage : Damage) : Type 0 where
   pub found : FoundSet
   pub counts : last_set files ≡ Some found
   pub place : found.slot ≡ slot
   pub damaged : IsFirstDamage found damage ⊎ SpellNoState found damage
 
-abbrev pub opening_of : Files → ℕ
+abbrev pub opening_of : FolderFiles → ℕ
 opening_of files = option_map_or (λ (info : SetInfo). info.generation) (last files) 0
 
-pub record IsAtLeast (generation : ℕ) (files : Files) : Type 0 where
+pub record IsAtLeast (generation : ℕ) (files : FolderFiles) : Type 0 where
   pub info : SetInfo
   pub counts : last files ≡ Some info
   pub late : generation ≤ info.generation

@@ -1,47 +1,36 @@
-ghost use Rattle.std.specs.Prelude.{◌≡◌, ◌≤◌, ◌⊎◌, [], Option, map, string_bytes};
+ghost use Rattle.std.specs.Prelude.{◌≡◌, ◌≤◌, ◌⊎◌, List, []};
 ghost use Rattle.views.specs.Faults.{Rose};
-ghost use Rattle.dmtcp_top.specs.Endings.{status_of, IsAtEnding, KeepsPaceAt};
-ghost use Rattle.dmtcp_top.specs.Ends.{CallGoesInRounds};
-ghost use Rattle.dmtcp_top.specs.Promise.{StaysWhole};
-ghost use Rattle.dmtcp_top.specs.Sessions.{Beginning, given, session, sunk};
-ghost use Rattle.dmtcp_top.specs.Words.{MakesNoCheckpoints};
+ghost use Rattle.option_words.specs.Options.{Text};
+ghost use Rattle.dmtcp_top.specs.Endings.{status_of, ComesToEnd};
+ghost use Rattle.dmtcp_top.specs.Jobs.{Asks, IsQuiet};
+ghost use Rattle.dmtcp_top.specs.Sessions.{outside};
 
 use crate::ending::Ending;
-use crate::job::Job;
 use crate::loading::begin;
 use crate::run_end::RunEnd;
+use crate::settings::Settings;
 use crate::status::Status;
 use edge_io::{Inputs, Sink};
+use job_words::Job;
 use set_disk::Folder;
 use std::alloc::Global;
 use trace_log::Trace;
 
-/// Does what the words ask for, to the last line of the log, which is left out.
+/// Does what a job asks for, to the last line of the log, which is left out.
 pub(crate) fn carry_out<'a, I: Inputs, O: Sink, L: Sink, F: Folder>(
     alloc: Global,
-    words: &'a [String],
+    job: &'a Job,
     inputs: &mut I,
     out: &mut O,
     log: &mut L,
     disk: &mut F,
     trace: &mut Trace,
 ) -> Ending<'a>
-    requires { trace.old.records ≡ [] }
-    ensures promise { (start : Option Beginning) × (IsAtEnding result
-        (session (given (map string_bytes words.now) (I.seen inputs.old).files
-        (F.seen disk.old).files) start trace.new.records
-        (sunk (O.seen out.old).taken (O.seen out.new).taken))
-        (sunk (L.seen log.old).taken (L.seen log.new).taken)
-        × KeepsPaceAt result
-        (session (given (map string_bytes words.now) (I.seen inputs.old).files
-        (F.seen disk.old).files) start trace.new.records
-        (sunk (O.seen out.old).taken (O.seen out.new).taken))
-        (sunk (L.seen log.old).taken (L.seen log.new).taken)
-        × CallGoesInRounds
-        (session (given (map string_bytes words.now) (I.seen inputs.old).files
-        (F.seen disk.old).files) start trace.new.records
-        (sunk (O.seen out.old).taken (O.seen out.new).taken))
-        × StaysWhole start trace.new.records (F.seen disk.old) (F.seen disk.new)) }
+    requires empty { trace.old.records ≡ [] }
+    requires asked { (words : List Text) × Asks words job.now }
+    ensures ends { (words : List Text) → Asks words job.now → ComesToEnd result words trace.new.records
+        (outside (I.seen inputs.old) (O.seen out.old) (L.seen log.old) (F.seen disk.old))
+        (outside (I.seen inputs.new) (O.seen out.new) (L.seen log.new) (F.seen disk.new)) }
     ensures input { status_of result ≡ Status.InputFault
         → Rose (I.seen inputs.old).faults (I.seen inputs.new).faults }
     ensures sink { status_of result ≡ Status.SinkFault
@@ -49,15 +38,12 @@ pub(crate) fn carry_out<'a, I: Inputs, O: Sink, L: Sink, F: Folder>(
         ⊎ Rose (L.seen log.old).faults (L.seen log.new).faults }
     ensures disk { status_of result ≡ Status.DiskFault
         → Rose (F.seen disk.old).faults (F.seen disk.new).faults }
-    ensures untouched { MakesNoCheckpoints (map string_bytes words.now) → disk.new ≡ disk.old }
+    ensures untouched { IsQuiet job.now → disk.new ≡ disk.old }
     ensures same { (I.seen inputs.new).files ≡ (I.seen inputs.old).files }
     ensures later { (O.seen out.old).faults ≤ (O.seen out.new).faults }
     ensures log_later { (L.seen log.old).faults ≤ (L.seen log.new).faults }
 {
-    let Some(job) = Job::read(words) else {
-        return Ending::Usage;
-    };
-    let records = job.settings().records;
+    let records = Settings::of(job).records;
     if trace.reserve(records).is_err() {
         return Ending::Memory;
     }

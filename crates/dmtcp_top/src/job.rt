@@ -1,77 +1,59 @@
-ghost use Rattle.std.specs.Prelude.{◌≡◌, ℕ, List, [], ◌∷◌, codes, map, string_bytes, IsTrue, ◌↔◌, IfSome, IfNone};
-ghost use Rattle.dmtcp_top.specs.Words.{IsName, IsLaunch, IsRestart, AskNothing, program_word};
-ghost use Rattle.dmtcp_top.specs.Jobs.{IsAsked, settings_of};
+ghost use Rattle.std.specs.Prelude.{◌≡◌, ◌↔◌, [], ◌∷◌, length, map, string_bytes, IfOk, IfErr, IsTrue};
+ghost use Rattle.dmtcp_top.specs.Jobs.{Asks, IsBuilt, IsBuiltLaunch, IsBuiltRestart};
+ghost use Rattle.dmtcp_top.specs.Loads.{RefusesWords};
 
-use crate::settings::Settings;
+use crate::ending::Ending;
+use job_words::{Job, LaunchJob, NamedProgram, RestartJob, WordFault, read_words};
+use std::alloc::Global;
 
-/// What the words of the command line ask for.
-#[derive(Clone, Copy, Debug, PartialEq, Eq)]
-pub enum Job<'a> {
-    /// A launch of the program in the file of this name.
-    Launch { name: &'a str, settings: Settings },
-    /// A restart from the last complete set.
-    Restart { settings: Settings },
-}
-
-/// The greatest length of a file's name, in bytes.
-const LONGEST_NAME: usize = 255;
-
-impl<'a> Job<'a> {
-    /// The job of these words. `None` exactly where they ask for none.
-    pub fn read(words: &'a [String]) -> Option<Self>
-        ensures some { IfSome result (λ job. IsAsked (map string_bytes words.now) job) }
-        ensures none { IfNone result (AskNothing (map string_bytes words.now)) }
-    {
-        let (command, rest) = words.split_first()?;
-        match command.as_str() {
-            "launch" => Job::launch(rest),
-            "restart" => Some(Job::Restart {
-                settings: Settings::read(rest)?,
-            }),
-            _ => None,
-        }
-    }
-
-    /// What the options set.
-    pub fn settings(self) -> Settings
-        ensures { result ≡ settings_of self.entry }
-    {
-        match self {
-            Job::Launch { settings, .. } => settings,
-            Job::Restart { settings } => settings,
-        }
-    }
-
-    /// The launch of the words after the command's name.
-    fn launch(words: &'a [String]) -> Option<Self>
-        ensures some { IfSome result (λ job. IsAsked (codes "launch" ∷ map string_bytes words.now) job) }
-        ensures none { IfNone result ((name : List ℕ) (settings : Settings) →
-            IsLaunch (codes "launch" ∷ map string_bytes words.now) name settings → ⊥) }
-    {
-        let (program, options) = words.split_last()?;
-        Some(Job::Launch {
-            name: name_in(program.as_str())?,
-            settings: Settings::read(options)?,
-        })
-    }
-}
-
-/// The name of the file in the word of a program.
-fn name_in(word: &str) -> Option<&str>
-    ensures some { IfSome result (λ name. IsName name.now × (word.now ≡ program_word name.now)) }
-    ensures none { IfNone result ((name : List ℕ) → IsName name → word.now ≡ program_word name → ⊥) }
+/// The job that the words ask for, or how the call ends without one.
+pub(crate) fn read_job<'a>(alloc: Global, words: &[String]) -> Result<Job, Ending<'a>>
+    ensures found { IfOk result (Asks (map string_bytes words.now)) }
+    ensures refused { IfErr result (λ ending. RefusesWords ending (map string_bytes words.now)) }
 {
-    let name = word.strip_prefix('0')?.strip_prefix(':')?;
-    if is_name(name) { Some(name) } else { None }
+    let job = match read_words(alloc, words) {
+        Ok(job) => job,
+        Err(WordFault::Usage) => return Err(Ending::Usage),
+        Err(WordFault::Memory) => return Err(Ending::Memory),
+    };
+    if is_built(&job) {
+        Ok(job)
+    } else {
+        Err(Ending::Usage)
+    }
 }
 
-fn is_name(name: &str) -> bool
-    ensures { IsTrue result ↔ IsName name.now }
+/// Whether jobs of this kind are built.
+fn is_built(job: &Job) -> bool
+    ensures { IsTrue result ↔ IsBuilt job.now }
 {
-    let has_length = 1 <= name.len() && name.len() <= LONGEST_NAME;
-    has_length
-        && name
-            .as_bytes()
-            .iter()
-            .all(|byte| *byte != b',' && *byte != 0)
+    match job {
+        Job::Launch(job) => is_built_launch(job),
+        Job::Restart(job) => is_built_restart(job),
+        Job::Ring(_) | Job::Help => false,
+    }
+}
+
+fn is_built_launch(job: &LaunchJob) -> bool
+    ensures { IsTrue result ↔ IsBuiltLaunch job.now }
+{
+    job.nodes == 1 && job.workers == 0 && job.file.is_empty() && job.programs.len() == 1
+}
+
+fn is_built_restart(job: &RestartJob) -> bool
+    ensures { IsTrue result ↔ IsBuiltRestart job.now }
+{
+    let has_default_bases = job.pid_base == 2_000 && job.port_base == 30_000;
+    job.nodes == 16 && job.workers == 0 && job.shift == 0 && has_default_bases
+}
+
+/// The program of a launch that has one.
+pub(crate) fn only_program(job: &LaunchJob) -> &NamedProgram
+    requires { length job.now.programs ≡ 1 }
+    ensures { job.now.programs ≡ result.now ∷ [] }
+{
+    match job.programs.as_slice() {
+        [program] => program,
+        _ => unreachable!(),
+    }
 }

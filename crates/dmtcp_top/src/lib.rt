@@ -3,9 +3,10 @@
 //! `launch 0:NAME` runs the program in the file NAME, an ELF executable for RV32IM, in one process of up to
 //! 64 threads, and `restart` goes on from the set that counts in the folder of sets; each ends when nobody
 //! lives, nobody can go on, or the trace is full. With `--every K` a set of the whole state goes to the
-//! folder after every K records of work. `specs/Ends.antt` says in one line for each status what holds of the
-//! trace, the console and the log, `specs/Promise.antt` what a crash at any moment leaves of the folder, and
-//! `specs/Words.antt` which words there are.
+//! folder after every K records of work. The words are read by `job_words`, and `IsBuilt` in
+//! `specs/Jobs.antt` says which of its jobs are built. `specs/JobInputs.antt` says what a launch reads and is
+//! refused for, `specs/Ends.antt` in one line for each status what holds of the trace, the console and the
+//! log, and `specs/Promise.antt` what a crash at any moment leaves of the folder.
 //!
 //! The contract of [`dmtcp`] says all of that for every word list, all inputs, sinks and folders, also where
 //! these fail; what it says of files, sets, the console and the log it says of those that tell their content.

@@ -1,24 +1,21 @@
-ghost use Rattle.std.specs.Prelude.{◌≡◌, ◌≢◌, ◌≤◌, ◌++◌, ◌∷◌, [], ℕ, Option, List, Some, None, IfOk, IfErr, All};
+ghost use Rattle.std.specs.Prelude.{◌≡◌, ◌≢◌, ◌≤◌, ℕ, Option, List, Some, None, IfOk, IfErr, All};
 ghost use Rattle.std.specs.Option.{option_map_or};
 ghost use Rattle.views.specs.Faults.{Rose};
 ghost use Rattle.elf32.specs.Pages.{page_count};
 ghost use Rattle.elf32.specs.Programs.{IsWellPlaced, program_of};
 ghost use Rattle.elf32.specs.Rules.{first_fault};
-ghost use Rattle.plain_process.specs.Launches.{IsLaunched};
-ghost use Rattle.plain_machine.specs.Start.{start};
 ghost use Rattle.plain_process.specs.Valid.{IsByte};
 ghost use Rattle.image_store.specs.FoundSets.{last_set, HasSet};
 ghost use Rattle.image_store.specs.StoreStates.{FitsFolder};
+ghost use Rattle.option_words.specs.Options.{Text};
+ghost use Rattle.job_words.specs.declared.job.Job.TheVariants.{Launch};
 ghost use Rattle.dmtcp_top.specs.Endings.{status_of};
-ghost use Rattle.dmtcp_top.specs.Jobs.{IsAsked};
+ghost use Rattle.dmtcp_top.specs.Jobs.{Asks, IsQuiet, settings_of};
 ghost use Rattle.dmtcp_top.specs.Keeping.{IsKept};
-ghost use Rattle.dmtcp_top.specs.Launches.{arguments_of};
-ghost use Rattle.dmtcp_top.specs.Loads.{Begins, IsFresh, IsMachineOf, IsProgramIn, IsQuiet, IsReadProgram, Launches, OnlyLooks, Reopened, Restarts, Restored};
-ghost use Rattle.dmtcp_top.specs.Machines.{plain_of, IsReady};
-ghost use Rattle.dmtcp_top.specs.Words.{IsName};
+ghost use Rattle.dmtcp_top.specs.Loads.{Begins, IsFresh, IsMachineOf, IsProgramIn, IsReadProgram, Launches, OnlyLooks, Reopened, Restarts, Restored};
 
 use crate::ending::Ending;
-use crate::job::Job;
+use crate::job::only_program;
 use crate::keeper::Keeper;
 use crate::machine::Machine;
 use crate::settings::Settings;
@@ -28,20 +25,21 @@ use edge_io::{InputFault, Inputs};
 use elf32::{ElfReason, Program, read_elf};
 use image_codec::{ReadFault, SetBytes};
 use image_store::{SetInfo, Store, StoreFault};
+use job_words::{Job, LaunchJob};
 use rebuild::decode_set;
 use set_disk::Folder;
 use std::alloc::{AllocError, Global};
 use views::list_of::ListOf;
 
-/// The start of the run that the words ask for.
+/// The start of the run that a job asks for.
 pub(crate) fn begin<'a, I: Inputs, F: Folder>(
     alloc: Global,
-    job: Job<'a>,
+    job: &'a Job,
     inputs: &mut I,
     disk: &mut F,
 ) -> Result<Start, Ending<'a>>
-    requires asked { (words : List (List ℕ)) × IsAsked words job }
-    ensures begins { Begins result job.entry (I.seen inputs.old).files (F.seen disk.old).files }
+    requires asked { (words : List Text) × Asks words job.now }
+    ensures begins { Begins result job.now (I.seen inputs.old).files (F.seen disk.old).files }
     ensures kept { IfOk result (λ start. start.keeper.schedule.every ≢ None
         → IsKept start.keeper (F.seen disk.new)) }
     ensures input { IfErr result (λ ending. status_of ending ≡ Status.InputFault
@@ -50,25 +48,28 @@ pub(crate) fn begin<'a, I: Inputs, F: Folder>(
     ensures disk { IfErr result (λ ending. status_of ending ≡ Status.DiskFault
         → Rose (F.seen disk.old).faults (F.seen disk.new).faults) }
     ensures looks { OnlyLooks (F.seen disk.old) (F.seen disk.new) }
-    ensures untouched { IsQuiet job.entry → disk.new ≡ disk.old }
+    ensures untouched { IsQuiet job.now → disk.new ≡ disk.old }
     ensures same { (I.seen inputs.new).files ≡ (I.seen inputs.old).files }
 {
+    let settings = Settings::of(job);
     match job {
-        Job::Launch { name, settings } => launch(alloc, name, settings, inputs, disk),
-        Job::Restart { settings } => restart(alloc, settings, disk),
+        Job::Launch(job) => launch(alloc, job, settings, inputs, disk),
+        Job::Restart(_) => restart(alloc, settings, disk),
+        Job::Ring(_) | Job::Help => unreachable!(),
     }
 }
 
-/// The run at the start of the program in the file of this name.
+/// The run at the start of this job, with its settings.
 fn launch<'a, I: Inputs, F: Folder>(
     alloc: Global,
-    name: &'a str,
+    job: &'a LaunchJob,
     settings: Settings,
     inputs: &mut I,
     disk: &mut F,
 ) -> Result<Start, Ending<'a>>
-    requires { IsName name.now }
-    ensures launches { Launches result (I.seen inputs.old).files (F.seen disk.old).files name.now settings }
+    requires asked { (words : List Text) × Asks words (Launch job.now) }
+    requires set { settings ≡ settings_of (Launch job.now) }
+    ensures launches { Launches result (I.seen inputs.old).files (F.seen disk.old).files job.now }
     ensures kept { IfOk result (λ start. start.keeper.schedule.every ≢ None
         → IsKept start.keeper (F.seen disk.new)) }
     ensures input { IfErr result (λ ending. status_of ending ≡ Status.InputFault
@@ -76,15 +77,18 @@ fn launch<'a, I: Inputs, F: Folder>(
     ensures disk { IfErr result (λ ending. status_of ending ≡ Status.DiskFault
         → Rose (F.seen disk.old).faults (F.seen disk.new).faults) }
     ensures looks { OnlyLooks (F.seen disk.old) (F.seen disk.new) }
-    ensures untouched { settings.every ≡ None → disk.new ≡ disk.old }
+    ensures untouched { job.now.every ≡ None → disk.new ≡ disk.old }
     ensures same { (I.seen inputs.new).files ≡ (I.seen inputs.old).files }
 {
-    let program = read_program(alloc, name, inputs)?;
+    let named = only_program(job);
+    let program = read_program(alloc, named.name.as_str(), inputs)?;
     let keeper = match settings.every {
         None => Keeper::new(settings, None, 0),
         Some(_) => keeper_of(settings, open(alloc, disk)?),
     };
-    match start(alloc, &program, name) {
+    let arguments = named.arguments.as_slice();
+    look_at_bytes(arguments);
+    match Machine::start(alloc, &program, arguments) {
         Ok(machine) => Ok(Start { machine, keeper }),
         Err(AllocError) => Err(Ending::Memory),
     }
@@ -124,20 +128,6 @@ fn program_in<'a>(alloc: Global, name: &'a str, file: &[u8]) -> Result<Program, 
             }
         }
     }
-}
-
-/// The machine at the start of the program, whose one argument is its name.
-fn start(alloc: Global, program: &Program, name: &str) -> Result<Machine, AllocError>
-    requires launched { IsLaunched
-        (record { host = 0; program = program.now; arguments = arguments_of name.now }) }
-    requires short { IsName name.now }
-    ensures state { IfOk result (λ m. plain_of m ≡
-        start (record { host = 0; program = program.now; arguments = arguments_of name.now } ∷ []) []) }
-    ensures ready { IfOk result (λ m. IsReady m) }
-{
-    let mut arguments = Vec::from_slice(alloc, name.as_bytes())?;
-    arguments.push(0)?;
-    Machine::start(alloc, program, arguments.as_slice())
 }
 
 /// The store of the folder's sets.

@@ -1,9 +1,10 @@
 ghost use Rattle.std.specs.Prelude.{◌≡◌, [], map, string_bytes};
 ghost use Rattle.dmtcp_top.specs.Sessions.{outside};
 ghost use Rattle.dmtcp_top.specs.Promise.{IsPromised};
-ghost use Rattle.dmtcp_top.specs.Words.{MakesNoCheckpoints};
+ghost use Rattle.dmtcp_top.specs.Jobs.{MakesNoCheckpoints};
 
 use crate::carry_out::carry_out;
+use crate::job::read_job;
 use crate::status::Status;
 use edge_io::{Inputs, Sink};
 use set_disk::Folder;
@@ -14,9 +15,9 @@ use trace_log::Trace;
 
 /// Does what the words of a command line ask for.
 ///
-/// `launch 0:NAME` runs the program in the input NAME to its end, or until nobody can go on or the trace has
-/// no room. `restart` goes on in the same way from the last complete set in `disk`. After every so many
-/// records of work, where the words ask for it, a set of the whole state goes to `disk`.
+/// `launch 0:NAME` runs the program in the input NAME, with its arguments, to its end, or until nobody can go
+/// on or the trace has no room. `restart` goes on in the same way from the last complete set in `disk`. After
+/// every so many records of work, where the words ask for it, a set of the whole state goes to `disk`.
 ///
 /// The bytes that the program writes go to `out`. `log` gets a line for each checkpoint, and how the call
 /// ended in one last line. `trace` gets a record for each step of the run and a mark for each stage of a
@@ -65,6 +66,10 @@ pub fn run_words<I: Inputs, O: Sink, L: Sink, F: Folder>(
     // Without checkpoints, and without a restart, the folder is not touched.
     ensures untouched { MakesNoCheckpoints (map string_bytes words.now) → disk.new ≡ disk.old }
 {
-    let ending = carry_out(alloc, words, inputs, out, log, disk, trace);
+    let job = match read_job(alloc, words) {
+        Ok(job) => job,
+        Err(ending) => return ending.conclude(log),
+    };
+    let ending = carry_out(alloc, &job, inputs, out, log, disk, trace);
     ending.conclude(log)
 }

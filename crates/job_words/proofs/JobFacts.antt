@@ -1,8 +1,11 @@
 -- What a job keeps to that words ask for.
 --     launch_every, restart_every      checkpoints are asked for after one record of work or more
 --     arguments_short                  a program's argument strings have 4,096 bytes or fewer
-use Rattle.std.proofs.Common.{◌≡◌, Bool, true, false, if◌then◌else◌, ℕ, ◌<◌, ◌≤◌, List, [], ◌∷◌, map, length, Option, refl, sym, subst, arith}
+--     arguments_some                   and one at least
+--     programs_placed                  each host is below the number of nodes
+use Rattle.std.proofs.Common.{◌≡◌, Bool, true, false, if◌then◌else◌, ℕ, ◌<◌, ◌≤◌, List, [], ◌∷◌, ◌++◌, map, get_or, length, length-append, Option, refl, sym, subst, arith}
 use Rattle.std.specs.Prelude.{All, IfSome, slice_get}
+use Rattle.std.specs.List.{flat_map}
 use Rattle.std.specs.Str.{bytes_eq}
 use Rattle.std.proofs.lemmas.Slice.Eq.{bytes_eq-Decides}
 use Rattle.std.proofs.lemmas.List.Elements.{All-nil, All-cons, All-head, All-tail, All-map}
@@ -16,8 +19,8 @@ use Rattle.job_words.specs.declared.job.Job.TheVariants as job
 use Rattle.job_words.specs.declared.job.LaunchJob.{LaunchJob}
 use Rattle.job_words.specs.declared.job.RestartJob.{RestartJob}
 use Rattle.job_words.specs.declared.job.NamedProgram.{NamedProgram}
-use Rattle.job_words.specs.Programs.{ProgramText}
-use Rattle.job_words.specs.Commands.{Command, launch, restart, ring, help, IsCommand}
+use Rattle.job_words.specs.Programs.{ProgramText, with_zero}
+use Rattle.job_words.specs.Commands.{Command, launch, restart, ring, help, IsCommand, nodes_of}
 use Rattle.job_words.specs.Jobs.{IsJob, IsJobOf, start_of}
 
 abbrev IsGreat : OptionKey → ℕ → Type 0
@@ -68,3 +71,30 @@ short_of _ asked is of = absurd of
 
 pub arguments_short : (words : List Text) (asked : LaunchJob) → IsJob words (job.Launch asked) → All IsShort asked.programs
 arguments_short words asked is = short_of is.command asked is.spell.is is.job
+
+abbrev IsSome : NamedProgram → Type 0
+IsSome named = 1 ≤ length named.arguments
+
+with_zero_some : (name : Text) (arguments : List Text) → 1 ≤ length (flat_map with_zero (name ∷ arguments))
+with_zero_some name arguments =
+    omega (arith, length-append (with_zero name) (flat_map with_zero arguments), length-append name (0 ∷ []))
+
+some_of : (command : Command) (asked : LaunchJob) → IsCommand command → IsJobOf command (job.Launch asked) → All IsSome asked.programs
+some_of (launch given texts) asked is of =
+    subst (λ (programs : List NamedProgram). All IsSome programs) (sym of.programs) (All-map IsSome start_of texts (λ i d inside. with_zero_some (get_or texts i d).name (get_or texts i d).arguments))
+some_of _ asked is of = absurd of
+
+pub arguments_some : (words : List Text) (asked : LaunchJob) → IsJob words (job.Launch asked) → All IsSome asked.programs
+arguments_some words asked is = some_of is.command asked is.spell.is is.job
+
+abbrev IsBelow : ℕ → NamedProgram → Type 0
+IsBelow nodes named = named.host < nodes
+
+placed_of : (command : Command) (asked : LaunchJob) → IsCommand command → IsJobOf command (job.Launch asked) → All (IsBelow asked.nodes) asked.programs
+placed_of (launch given texts) asked is of =
+    subst (λ (nodes : ℕ). All (IsBelow nodes) asked.programs) (sym of.nodes)
+    (subst (λ (programs : List NamedProgram). All (IsBelow (nodes_of given texts)) programs) (sym of.programs) (All-map (IsBelow (nodes_of given texts)) start_of texts is.placed))
+placed_of _ asked is of = absurd of
+
+pub programs_placed : (words : List Text) (asked : LaunchJob) → IsJob words (job.Launch asked) → All (IsBelow asked.nodes) asked.programs
+programs_placed words asked is = placed_of is.command asked is.spell.is is.job

@@ -18,7 +18,7 @@ const STACK_END: [u8; 48] = [
     0, 0, 0, 0, 0, 0, 0, 0, 0, 0, b'h', b'e', b'l', b'l', b'o', b'.', b'e', b'l', b'f', 0,
 ];
 
-/// What a handler returns to.
+/// What a handler returns to: `addi a7, zero, 139`, `ecall`.
 const RETURN: [u8; 8] = [0x93, 0x08, 0xB0, 0x08, 0x73, 0, 0, 0];
 
 /// A page with these bytes at a place.

@@ -17,7 +17,7 @@ use Rattle.dmtcp_top.specs.Keeping.{IsPut, IsSafe}
 use Rattle.dmtcp_top.specs.Sessions.{sunk, Took, TookFront}
 use Rattle.dmtcp_top.proofs.Sinks.{OnErr-map}
 use Rattle.dmtcp_top.proofs.Results.{OnOk-map}
-use Rattle.dmtcp_top.proofs.ImagedKernels.{nothing_on_the_way}
+use Rattle.dmtcp_top.proofs.LoneKernels.{nothing_on_the_way}
 use Rattle.dmtcp_top.proofs.Checkpoints.{outcome_tally, cut_tally}
 use Rattle.dmtcp_top.proofs.Served.{on_ok2, at_due, broken_at_due, can_be_held, cut_made, refused_ok, refused_broken, completed_ok, completed_broken, late_ok, late_broken, kept_refused, kept_cut, kept_complete, kept_put, safe_open_refused, safe_put_complete, safe_put_refused, safe_no_images, raised}
 use Rattle.dmtcp_top.proofs.keeper.Keeper.checkpoint.Goals as goal
@@ -75,7 +75,7 @@ returns-then-room-eq0-clause-ok g c = λ g' place sink had first before waits.
     let opened = c.open.ensures.keeper in
     let marked = c.mark.ensures.keeper in
     let numbered : c.next-generation.result ≡ suc k.tally.greatest = c.next-generation.ensures ∙ c.in-Ok.ensures.ok.1 in
-    let at = cut_made k.schedule g' (plain_of m) place k c.mark.new.self c.args.trace.now c.mark.new.trace sink had (g.L.Sink.seen c.args.log.now).taken c.next-generation.result (g.F.Folder.seen first) (g.F.Folder.seen c.args.disk.now) (g.F.Folder.seen c.open.new.disk) before waits (can_be_held m c.requires.ready c.requires.alive) (nothing_on_the_way (plain_of m) (c.requires.ready.imaged c.requires.alive)).0 (nothing_on_the_way (plain_of m) (c.requires.ready.imaged c.requires.alive)).1 numbered
+    let at = cut_made k.schedule g' (plain_of m) place k c.mark.new.self c.args.trace.now c.mark.new.trace sink had (g.L.Sink.seen c.args.log.now).taken c.next-generation.result (g.F.Folder.seen first) (g.F.Folder.seen c.args.disk.now) (g.F.Folder.seen c.open.new.disk) before waits (can_be_held m c.requires.ready c.requires.alive) (nothing_on_the_way (plain_of m) c.requires.ready.valid.kernel (c.requires.ready.lone c.requires.alive)).0 (nothing_on_the_way (plain_of m) c.requires.ready.valid.kernel (c.requires.ready.lone c.requires.alive)).1 numbered
     c.mark.ensures.trace (ap (λ (x : Keeper). x.schedule) marked ∙ ap (λ (x : Keeper). x.schedule) opened) (ap (λ (x : Keeper). x.lines) marked ∙ ap (λ (x : Keeper). x.lines) opened)
     (ap (λ (x : Keeper). x.tally) marked ∙ ap (λ (x : Keeper). tally_after x.tally (Cut c.next-generation.result)) opened) c.open.ensures.nothing c.open.ensures.crash c.open.ensures.counts in
     at_due before.running.due (at.now, inr (let room = c.room.ensures in let none = c.if-room-eq0.true in omega arith))
@@ -114,7 +114,7 @@ returns-in-Ok-put-clause-ok g c = on_ok2 c.conclude-in-Ok-put.result c.conclude-
     let opened = c.open.ensures.keeper in
     let marked = c.mark.ensures.keeper in
     let numbered : c.next-generation.result ≡ suc k.tally.greatest = c.next-generation.ensures ∙ c.in-Ok.ensures.ok.1 in
-    let at = cut_made k.schedule g' (plain_of m) place k c.mark.new.self c.args.trace.now c.mark.new.trace sink had (g.L.Sink.seen c.args.log.now).taken c.next-generation.result (g.F.Folder.seen first) (g.F.Folder.seen c.args.disk.now) (g.F.Folder.seen c.open.new.disk) before waits (can_be_held m c.requires.ready c.requires.alive) (nothing_on_the_way (plain_of m) (c.requires.ready.imaged c.requires.alive)).0 (nothing_on_the_way (plain_of m) (c.requires.ready.imaged c.requires.alive)).1 numbered
+    let at = cut_made k.schedule g' (plain_of m) place k c.mark.new.self c.args.trace.now c.mark.new.trace sink had (g.L.Sink.seen c.args.log.now).taken c.next-generation.result (g.F.Folder.seen first) (g.F.Folder.seen c.args.disk.now) (g.F.Folder.seen c.open.new.disk) before waits (can_be_held m c.requires.ready c.requires.alive) (nothing_on_the_way (plain_of m) c.requires.ready.valid.kernel (c.requires.ready.lone c.requires.alive)).0 (nothing_on_the_way (plain_of m) c.requires.ready.valid.kernel (c.requires.ready.lone c.requires.alive)).1 numbered
     c.mark.ensures.trace (ap (λ (x : Keeper). x.schedule) marked ∙ ap (λ (x : Keeper). x.schedule) opened) (ap (λ (x : Keeper). x.lines) marked ∙ ap (λ (x : Keeper). x.lines) opened)
     (ap (λ (x : Keeper). x.tally) marked ∙ ap (λ (x : Keeper). tally_after x.tally (Cut c.next-generation.result)) opened) c.open.ensures.nothing c.open.ensures.crash c.open.ensures.counts in
     let above : ForSome (g.F.Folder.seen c.open.new.disk).files (λ files. IfSome (last files) (λ info. info.generation ≤ c.next-generation.result)) =
@@ -133,7 +133,7 @@ returns-in-Ok-put-clause-err g c = OnErr-map c.conclude-in-Ok-put.result (λ fro
     let opened = c.open.ensures.keeper in
     let marked = c.mark.ensures.keeper in
     let numbered : c.next-generation.result ≡ suc k.tally.greatest = c.next-generation.ensures ∙ c.in-Ok.ensures.ok.1 in
-    let at = cut_made k.schedule g' (plain_of m) place k c.mark.new.self c.args.trace.now c.mark.new.trace sink had (g.L.Sink.seen c.args.log.now).taken c.next-generation.result (g.F.Folder.seen first) (g.F.Folder.seen c.args.disk.now) (g.F.Folder.seen c.open.new.disk) before waits (can_be_held m c.requires.ready c.requires.alive) (nothing_on_the_way (plain_of m) (c.requires.ready.imaged c.requires.alive)).0 (nothing_on_the_way (plain_of m) (c.requires.ready.imaged c.requires.alive)).1 numbered
+    let at = cut_made k.schedule g' (plain_of m) place k c.mark.new.self c.args.trace.now c.mark.new.trace sink had (g.L.Sink.seen c.args.log.now).taken c.next-generation.result (g.F.Folder.seen first) (g.F.Folder.seen c.args.disk.now) (g.F.Folder.seen c.open.new.disk) before waits (can_be_held m c.requires.ready c.requires.alive) (nothing_on_the_way (plain_of m) c.requires.ready.valid.kernel (c.requires.ready.lone c.requires.alive)).0 (nothing_on_the_way (plain_of m) c.requires.ready.valid.kernel (c.requires.ready.lone c.requires.alive)).1 numbered
     c.mark.ensures.trace (ap (λ (x : Keeper). x.schedule) marked ∙ ap (λ (x : Keeper). x.schedule) opened) (ap (λ (x : Keeper). x.lines) marked ∙ ap (λ (x : Keeper). x.lines) opened)
     (ap (λ (x : Keeper). x.tally) marked ∙ ap (λ (x : Keeper). tally_after x.tally (Cut c.next-generation.result)) opened) c.open.ensures.nothing c.open.ensures.crash c.open.ensures.counts in
     let above : ForSome (g.F.Folder.seen c.open.new.disk).files (λ files. IfSome (last files) (λ info. info.generation ≤ c.next-generation.result)) =
@@ -166,7 +166,7 @@ returns-in-Err-put-clause-ok g c = on_ok2 c.conclude-in-Err-put.result c.conclud
     let opened = c.open.ensures.keeper in
     let marked = c.mark.ensures.keeper in
     let numbered : c.next-generation.result ≡ suc k.tally.greatest = c.next-generation.ensures ∙ c.in-Ok.ensures.ok.1 in
-    let at = cut_made k.schedule g' (plain_of m) place k c.mark.new.self c.args.trace.now c.mark.new.trace sink had (g.L.Sink.seen c.args.log.now).taken c.next-generation.result (g.F.Folder.seen first) (g.F.Folder.seen c.args.disk.now) (g.F.Folder.seen c.open.new.disk) before waits (can_be_held m c.requires.ready c.requires.alive) (nothing_on_the_way (plain_of m) (c.requires.ready.imaged c.requires.alive)).0 (nothing_on_the_way (plain_of m) (c.requires.ready.imaged c.requires.alive)).1 numbered
+    let at = cut_made k.schedule g' (plain_of m) place k c.mark.new.self c.args.trace.now c.mark.new.trace sink had (g.L.Sink.seen c.args.log.now).taken c.next-generation.result (g.F.Folder.seen first) (g.F.Folder.seen c.args.disk.now) (g.F.Folder.seen c.open.new.disk) before waits (can_be_held m c.requires.ready c.requires.alive) (nothing_on_the_way (plain_of m) c.requires.ready.valid.kernel (c.requires.ready.lone c.requires.alive)).0 (nothing_on_the_way (plain_of m) c.requires.ready.valid.kernel (c.requires.ready.lone c.requires.alive)).1 numbered
     c.mark.ensures.trace (ap (λ (x : Keeper). x.schedule) marked ∙ ap (λ (x : Keeper). x.schedule) opened) (ap (λ (x : Keeper). x.lines) marked ∙ ap (λ (x : Keeper). x.lines) opened)
     (ap (λ (x : Keeper). x.tally) marked ∙ ap (λ (x : Keeper). tally_after x.tally (Cut c.next-generation.result)) opened) c.open.ensures.nothing c.open.ensures.crash c.open.ensures.counts in
     let above : ForSome (g.F.Folder.seen c.open.new.disk).files (λ files. IfSome (last files) (λ info. info.generation ≤ c.next-generation.result)) =
@@ -188,7 +188,7 @@ returns-in-Err-put-clause-err g c = OnErr-map c.conclude-in-Err-put.result (λ f
     let opened = c.open.ensures.keeper in
     let marked = c.mark.ensures.keeper in
     let numbered : c.next-generation.result ≡ suc k.tally.greatest = c.next-generation.ensures ∙ c.in-Ok.ensures.ok.1 in
-    let at = cut_made k.schedule g' (plain_of m) place k c.mark.new.self c.args.trace.now c.mark.new.trace sink had (g.L.Sink.seen c.args.log.now).taken c.next-generation.result (g.F.Folder.seen first) (g.F.Folder.seen c.args.disk.now) (g.F.Folder.seen c.open.new.disk) before waits (can_be_held m c.requires.ready c.requires.alive) (nothing_on_the_way (plain_of m) (c.requires.ready.imaged c.requires.alive)).0 (nothing_on_the_way (plain_of m) (c.requires.ready.imaged c.requires.alive)).1 numbered
+    let at = cut_made k.schedule g' (plain_of m) place k c.mark.new.self c.args.trace.now c.mark.new.trace sink had (g.L.Sink.seen c.args.log.now).taken c.next-generation.result (g.F.Folder.seen first) (g.F.Folder.seen c.args.disk.now) (g.F.Folder.seen c.open.new.disk) before waits (can_be_held m c.requires.ready c.requires.alive) (nothing_on_the_way (plain_of m) c.requires.ready.valid.kernel (c.requires.ready.lone c.requires.alive)).0 (nothing_on_the_way (plain_of m) c.requires.ready.valid.kernel (c.requires.ready.lone c.requires.alive)).1 numbered
     c.mark.ensures.trace (ap (λ (x : Keeper). x.schedule) marked ∙ ap (λ (x : Keeper). x.schedule) opened) (ap (λ (x : Keeper). x.lines) marked ∙ ap (λ (x : Keeper). x.lines) opened)
     (ap (λ (x : Keeper). x.tally) marked ∙ ap (λ (x : Keeper). tally_after x.tally (Cut c.next-generation.result)) opened) c.open.ensures.nothing c.open.ensures.crash c.open.ensures.counts in
     let above : ForSome (g.F.Folder.seen c.open.new.disk).files (λ files. IfSome (last files) (λ info. info.generation ≤ c.next-generation.result)) =

@@ -3,7 +3,7 @@ use Rattle.std.specs.Prelude.{All}
 use Rattle.image_process.specs.declared.process_image.ProcImage.{ProcImage}
 use Rattle.image_process.specs.ProcessImages.{SpellsProcess, pid_at, tids_at}
 use Rattle.image_process.proofs.ProcessFiles.{image_of}
-use Rattle.guest_proc.proofs.FittingImages.{image_numbers, image_few}
+use Rattle.image_process.proofs.FittingParts.{image_numbers, image_few}
 use Rattle.dmtcp_top.specs.declared.machine.Machine.{Machine}
 use Rattle.dmtcp_top.proofs.Restored.{the_image, last_image, guest_of, restored_state_is, restored_is_ready}
 use Rattle.dmtcp_top.proofs.machine.Machine.restore.Goals as goal
@@ -46,7 +46,7 @@ returns-clause-state c =
       guest = c.in_ok-guest.guest;
       transfer = c.in_ok-transfer.transfer;
     } in
-    restored_state_is s c.args.decoded.procs is m c.in_ok-kernel.ensures (c.in_ok-guest.ensures.part ∙ ap guest_of same)
+    restored_state_is s c.args.decoded.procs is m c.in_ok-kernel.ensures.kernel (c.in_ok-guest.ensures.part ∙ ap guest_of same)
 
 pub returns-clause-ready : goal.returns-clause-ready
 returns-clause-ready c =
@@ -55,4 +55,4 @@ returns-clause-ready c =
     let popped = last_image s c.args.decoded.procs is c.into_vec-images.result.items c.into_vec-images.result.len c.pop.result c.into_vec-images.ensures c.into_vec-images.result.ok.0 c.pop.ensures.value in
     let same = one_value c.in-Some.image is.image (sym c.in-Some.is ∙ popped) in
     let valid = c.in_ok-guest.ensures.valid (pid_at s 2) (tids_at s 2) is.text (subst (SpellsProcess (pid_at s 2) (tids_at s 2) is.text) (sym same) is.process) is.bytes in
-    restored_is_ready s c.args.decoded.procs is _ c.in_ok-kernel.ensures (c.in_ok-guest.ensures.part ∙ ap guest_of same) valid
+    restored_is_ready s c.args.decoded.procs is _ c.in_ok-kernel.ensures.kernel (c.in_ok-guest.ensures.part ∙ ap guest_of same) valid

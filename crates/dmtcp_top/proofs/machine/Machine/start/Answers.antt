@@ -5,9 +5,9 @@ use Rattle.plain_tables.specs.Tables.{pid}
 use Rattle.plain_machine.specs.Kernel.{is_live}
 use Rattle.plain_machine.specs.Start.{with_process, empty_kernel}
 use Rattle.plain_machine.specs.Valid.{IsValid}
-use Rattle.image_codec.specs.KernelImages.{HasImage}
+use Rattle.image_codec.specs.KernelImages.{IsLone}
 use Rattle.dmtcp_top.specs.Machines.{single}
-use Rattle.dmtcp_top.proofs.Starts.{start_is_single, start_valid, first_image, first_is_alone}
+use Rattle.dmtcp_top.proofs.Starts.{start_is_single, start_valid, first_is_alone, first_is_lone}
 use Rattle.dmtcp_top.proofs.machine.Machine.start.Goals as goal
 
 pub returns-clause-state : goal.returns-clause-state
@@ -27,5 +27,5 @@ returns-clause-ready c =
             subst (λ (k : PlainKernel). is_live k q ≡ false) (sym kernel) (first_is_alone q apart);
       };
       valid = subst IsValid (sym (returns-clause-state c)) (start_valid c.args.program.now c.args.arguments.now c.requires.launched);
-      imaged = λ alive. subst HasImage (sym kernel) (first_image c.args.program.now c.args.arguments.now);
+      lone = λ alive. subst IsLone (sym kernel) first_is_lone;
     }
