@@ -7,9 +7,14 @@ each:
   once more;
 - a second run in a folder that a run has taken, which ends with `disk fault`, and one after a kill, which
   does not;
-- a standard output that isn't ready, which is waited for;
+- a standard output and a standard error that aren't ready, which are waited for;
 - a current folder that can't be listed, which is no reason to fail;
 - a manifest of 100 GB, of which no more is read than the longest has;
+- an image of 1 GB, of which nearly all is a hole: it is read whole, and damaged where a right one ends; and
+  where there isn't so much memory the run ends with `memory`;
+- a limit of the size of files: the run is ended by a signal, or, where the caller ignores that, has its
+  checkpoints refused;
+- a trace with no room for a checkpoint's outcome, of which then neither the log nor the trace tells;
 - what is made in the folder is its owner's alone, and links there are not followed.
 
 Usage: tools/at_the_edge.py [DMTCP [TRIAL..]]
@@ -21,7 +26,9 @@ Linux, and `strace`.
 import contextlib
 import fcntl
 import os
+import pathlib
 import re
+import resource
 import shutil
 import signal
 import stat
@@ -33,6 +40,8 @@ import time
 from built import HOME, built_program
 
 NOBODY = 65534
+LAST_LENGTH = 28  # where the manifest of two files has the length of the second
+USER_AND_CUT = bytes([1, 5])
 LAUNCH = "launch --every 1 0:hello.elf"
 
 
@@ -148,20 +157,28 @@ def nonblocking_pipe(room):
     return reader, writer
 
 
+def run_into_full_pipe(folder, stream, seconds):
+    """The status of a run of `hello.elf` one stream of which isn't ready for so long, and what it writes there and
+    on the other one."""
+    reader, writer = nonblocking_pipe(4096)
+    streams = {"stdout": subprocess.PIPE, "stderr": subprocess.PIPE, stream: writer}
+    ran = folder.start("launch 0:hello.elf", **streams)
+    os.close(writer)
+    with contextlib.suppress(subprocess.TimeoutExpired):
+        ran.wait(seconds)
+    with os.fdopen(reader, "rb") as pipe:
+        late = pipe.read()[4096:]
+    out, err = ran.communicate(timeout=120)
+    return ran.returncode, late, err if stream == "stdout" else out
+
+
 def try_a_stream_that_is_not_ready(folder):
     begun = time.monotonic()
     check_ran(folder.run("launch 0:hello.elf"), 0, "done", "hello\n")
-    usual = time.monotonic() - begun
-    reader, writer = nonblocking_pipe(4096)
-    ran = folder.start("launch 0:hello.elf", stdout=writer, stderr=subprocess.PIPE)
-    os.close(writer)
-    with contextlib.suppress(subprocess.TimeoutExpired):
-        ran.wait(3 * usual + 1)
-    with os.fdopen(reader, "rb") as pipe:
-        console = pipe.read()[4096:]
-    log = ran.communicate(timeout=120)[1].decode().splitlines()
-    check((ran.returncode, log) == (0, ["done"]), f"status {ran.returncode}: {log}")
-    check(console == b"hello\n", f"the console is {console}")
+    seconds = 3 * (time.monotonic() - begun) + 1
+    for stream, wanted in {"stdout": (0, b"hello\n", b"done\n"), "stderr": (0, b"done\n", b"hello\n")}.items():
+        came = run_into_full_pipe(folder, stream, seconds)
+        check(came == wanted, f"{stream} is not ready: {came} in place of {wanted}")
 
 
 def try_a_folder_that_cannot_be_listed(folder):
@@ -182,14 +199,59 @@ def generation_in(manifest):
         return int.from_bytes(file.read(16)[8:], "little")
 
 
+def slot_of_last(folder):
+    """The slot of the set that counts, where both slots have one."""
+    return max((0, 1), key=lambda slot: generation_in(folder.at(f"dmtcp_set/s{slot}_0.img")))
+
+
 def try_a_manifest_of_100_gb(folder):
     check_whole(folder.run(LAUNCH))
-    manifests = [folder.at(f"dmtcp_set/s{slot}_0.img") for slot in (0, 1)]
-    slot = max((0, 1), key=lambda slot: generation_in(manifests[slot]))
-    manifest = manifests[slot]
+    slot = slot_of_last(folder)
+    manifest = folder.at(f"dmtcp_set/s{slot}_0.img")
     length = os.path.getsize(manifest)
     os.truncate(manifest, 100 << 30)
     check_ran(folder.run("restart"), 17, f"damaged: slot {slot} file 0 at {length}", "")
+
+
+def limited(kind, limit):
+    """What has a run begin with a limit of the kernel."""
+    return lambda: resource.setrlimit(kind, (limit, limit))
+
+
+def try_an_image_of_1_gb(folder):
+    check_whole(folder.run(LAUNCH))
+    slot, length = slot_of_last(folder), 1 << 30
+    image = folder.at(f"dmtcp_set/s{slot}_2.img")
+    end = os.path.getsize(image)
+    os.truncate(image, length)
+    with open(folder.at(f"dmtcp_set/s{slot}_0.img"), "r+b") as manifest:
+        manifest.seek(LAST_LENGTH)
+        manifest.write(length.to_bytes(8, "little"))
+    check_ran(folder.run("restart"), 17, f"damaged: slot {slot} file 2 at {end}", "")
+    few = limited(resource.RLIMIT_AS, length // 2)
+    check_ran(folder.run("restart", preexec_fn=few), 20, "memory", "")
+
+
+def try_a_limit_of_the_size_of_files(folder):
+    few = limited(resource.RLIMIT_FSIZE, 100 << 10)
+    ran = folder.run(LAUNCH, preexec_fn=few)
+    check(ran.returncode == -signal.SIGXFSZ, f"status {ran.returncode} in place of the signal's")
+
+    def ignored():
+        signal.signal(signal.SIGXFSZ, signal.SIG_IGN)
+        few()
+
+    log = check_ran(folder.run(LAUNCH, preexec_fn=ignored, restore_signals=False), 0, "done", "hello\n")
+    check(log[0] == "checkpoint 1 refused: disk fault", f"the log is {log}")
+    check_ran(folder.run("restart"), 16, "no set", "")
+
+
+def try_no_room_for_an_outcome(folder):
+    log = check_ran(folder.run("launch --every 1 --records 2 0:hello.elf"), 18, "budget spent: 2 records", "")
+    check(len(log) == 1, f"the log is {log}")
+    kinds = pathlib.Path(folder.at("dmtcp.trace")).read_bytes()[::16]
+    check(kinds == USER_AND_CUT, f"the trace has records of the kinds {list(kinds)}")
+    check_ran(folder.run("restart"), 16, "no set", "")
 
 
 def mode_of(path):

@@ -10,9 +10,10 @@ and builds. Random images are made from the SEED, 1 where none is given. It want
 
 What was not synced may be lost or kept, each write and cut by itself; a write may have its first half, or
 other bytes in its range; a file that was made may be left out until the folder is synced, and the folder
-until the one above is. Four runs are tried: a launch with checkpoints; the same, where a call of fsync
+until the one above is. Five runs are tried: a launch with checkpoints; the same, where a call of fsync
 fails, each in turn; the same, killed at a call of fsync, each in turn, and a restart from what it left
-unsynced; and a restart from a folder that has sets.
+unsynced; a restart from a folder that has sets; and a launch with a set that is shorter than the one that
+it is written over.
 
 It fails where the set that counts in an image is older than the last that the log called complete, or is
 not whole, byte for byte as it was written; where none counts though one was complete; and where fewer than
@@ -33,6 +34,7 @@ from built import HOME, built_program
 TRACED = "trace=mkdir,openat,open,close,lseek,write,ftruncate,fsync,fdatasync"
 CALL = re.compile(r"(?:\d+ +)?(\w+)\((.*)\) += (-?\d+)(?:<([^>]*)>)?( .*)?$")
 NAME = re.compile(r"dmtcp_set/(s[01]_\d+\.img)$")
+MOST_FILES = 129  # that a manifest names; another count is junk
 COMPLETE = re.compile(rb"checkpoint \d+ complete: generation (\d+)")
 
 
@@ -115,7 +117,7 @@ def set_of(files):
         return None
     generation, slot = max(found)
     manifest = files[f"s{-slot}_0.img"]
-    count = int.from_bytes(manifest[16:20], "little")
+    count = min(int.from_bytes(manifest[16:20], "little"), MOST_FILES)
     return generation, [manifest] + [files.get(f"s{-slot}_{i}.img") for i in range(1, count + 1)]
 
 
@@ -235,7 +237,8 @@ class Runs:
     def begin(self):
         shutil.rmtree(self.place, ignore_errors=True)
         os.mkdir(self.place)
-        shutil.copy(f"{HOME}/examples/hello.elf", self.place)
+        for guest in ("hello.elf", "handler.elf"):
+            shutil.copy(f"{HOME}/examples/{guest}", self.place)
         return Watch(self.dice)
 
     def run(self, watch, words, inject=None):
@@ -274,6 +277,7 @@ class Runs:
 LAUNCH = "launch --every 1 0:hello.elf"
 CUT_OFF = "launch --every 1 --records 3 0:hello.elf"
 RESTART = "restart --every 1"
+SHORTER = "launch --every 4 0:handler.elf"  # its last set is shorter than one before
 
 
 def try_runs(runs):
@@ -283,7 +287,7 @@ def try_runs(runs):
     if status != 0 or not watch.complete:
         raise Wrong(f"{LAUNCH}: status {status}, generation {watch.complete}")
     syncs = len(re.findall(r"\bf(?:data)?sync\(", told))
-    images = watch.images + runs.one(CUT_OFF, then=RESTART)[0].images
+    images = watch.images + runs.one(CUT_OFF, then=RESTART)[0].images + runs.one(SHORTER)[0].images
     missed = 0
     for number in range(1, syncs + 1):
         images += runs.one(LAUNCH, f"error=EIO:when={number}")[0].images

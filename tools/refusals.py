@@ -45,6 +45,7 @@ TRIALS = [
     Trial("hello.elf", "restart --every 1", before="launch --every 1 --records 3 0:hello.elf"),
     Trial("count.elf", "launch --every 4 --records 20 0:count.elf", status=18),
     Trial("count.elf", "restart --every 300", before="launch --every 100 --records 400 0:count.elf"),
+    Trial("handler.elf", "launch --every 4 0:handler.elf", stride=7),  # its last set is shorter than one before
     Trial("fill.elf", "launch --every 100 0:fill.elf", stride=97),
     Trial("fill.elf", "restart --every 100", before="launch --every 50 --records 200 0:fill.elf", stride=97),
 ]

@@ -2,13 +2,13 @@
 """Shows what a folder of sets or a trace holds.
 
     tools/show.py FOLDER [--registers]
-    tools/show.py TRACE [--program FILE | --set FOLDER] [--svg FILE]
+    tools/show.py TRACE [--program FILE[,ARGUMENT].. | --set FOLDER] [--svg FILE]
 
 Of a folder of sets (`dmtcp_set`): each slot's files, generation and standing, and the state that its set spells,
 or the first damage in it. `--registers` also has the registers of each thread and each saved context.
 
 Of a trace (`dmtcp.trace`): a line for each record, and a summary. With the file of the program that was launched,
-or a copy of the folder of sets as it was before the restart, the records are replayed by the model of the manual
+and its arguments if it had any, or a copy of the folder of sets as it was before the restart, the records are replayed by the model of the manual
 (tools/model): a line then has the call with its arguments and its answer, and the last one how the guest ended.
 `--svg` also draws the run: a row for each thread and one for the store.
 
@@ -56,6 +56,15 @@ def _tell(records: list[Record], replay: Replay | None) -> tuple[list[str], str]
     return told, ""
 
 
+def end_lines(replay: Replay) -> list[str]:
+    """How each process ended, and which live."""
+    living = sorted(replay.machine.processes)
+    if len(replay.endings) + len(living) == 1:
+        return [f"the process ended {how}" for how in replay.endings.values()] or ["the process lives"]
+    ended = [f"process {number} ended {how}" for number, how in sorted(replay.endings.items())]
+    return ended + [f"process {number} lives" for number in living]
+
+
 def show_trace(words: argparse.Namespace) -> int:
     """Shows a trace, told by a replay where there is a start for one."""
     records, bad = read_trace(words.path.read_bytes())
@@ -67,7 +76,7 @@ def show_trace(words: argparse.Namespace) -> int:
     if no_step:
         print(no_step)
     elif replay:
-        print(f"the process ended {replay.ending}" if replay.ending else "a process lives")
+        print("\n".join(end_lines(replay)))
     if bad is not None:
         print(f"the bytes at {bad} spell no record")
     return DAMAGED if no_step or bad is not None else 0
@@ -78,7 +87,7 @@ def _words() -> argparse.Namespace:
     parser.add_argument("path", type=Path, help="a folder of sets, or a trace")
     parser.add_argument("--registers", action="store_true", help="of a folder: the registers of each thread")
     start = parser.add_mutually_exclusive_group()
-    start.add_argument("--program", type=Path, metavar="FILE", help="of a trace: the launched program")
+    start.add_argument("--program", metavar="FILE[,ARGUMENT]..", help="of a trace: the launched program")
     start.add_argument("--set", type=Path, metavar="FOLDER", help="of a trace: the sets before the restart")
     parser.add_argument("--svg", type=Path, metavar="FILE", help="of a trace: draws the run into this file")
     return parser.parse_args()

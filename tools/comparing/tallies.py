@@ -3,6 +3,7 @@
 from collections import Counter
 
 from model import Outcome
+from model.built import BUILT
 from comparing.traces import Record, records_of
 from guests.events import Death, Futex, Mark, Tag, Told, told_on
 from guests.numbers import TRAPS, Call, Errno
@@ -15,18 +16,26 @@ BAD_PROGRAM, NO_SET, DAMAGED = 13, 16, 17
 
 WITH_BUFFERS = [Call.UNLINKAT, Call.OPENAT, Call.PIPE2, Call.READ, Call.SOCKETPAIR, Call.BIND, Call.ACCEPT,
                 Call.CONNECT, Call.GETSOCKNAME, Call.GETPEERNAME, Call.WAIT4]
-WITHOUT_BUFFERS = [Call.EVENTFD2, Call.DUP, Call.DUP3, Call.FCNTL, Call.CLOSE, Call.LSEEK, Call.KILL, Call.GETPID,
-                   Call.GETPPID, Call.SOCKET, Call.LISTEN, Call.SETSOCKOPT, Call.SHUTDOWN]
+WITHOUT_BUFFERS = [Call.EVENTFD2, Call.DUP, Call.DUP3, Call.FCNTL, Call.CLOSE, Call.LSEEK, Call.SOCKET, Call.LISTEN,
+                   Call.SETSOCKOPT, Call.SHUTDOWN]
+
+
+def unbuilt(call: Call) -> list[str]:
+    """What a call answers that the program doesn't have yet."""
+    return [] if call in BUILT else ["ENOSYS"]
+
+
 ANSWERS: dict[str, list[str]] = {
     "write": [ANSWERED, "EFAULT", "EBADF"], "set_tid_address": [ANSWERED],
     "futex wait": [ANSWERED, "EFAULT", "EINVAL", "EAGAIN", "EINTR"], "futex wake": [ANSWERED, "woken", "EINVAL"],
     "futex other": ["ENOSYS"], "sched_yield": [ANSWERED], "tgkill": [ANSWERED, "EINVAL", "ESRCH"],
     "rt_sigaction": [ANSWERED, "EFAULT", "EINVAL"], "rt_sigprocmask": [ANSWERED, "EFAULT", "EINVAL"],
-    "rt_sigreturn": ["EINVAL"], "gettid": [ANSWERED], "brk": ["moved", "kept"], "munmap": [ANSWERED, "EINVAL"],
+    "rt_sigreturn": ["EINVAL"], "kill": [ANSWERED, "EINVAL", "ESRCH"], "getpid": [ANSWERED], "getppid": [ANSWERED],
+    "gettid": [ANSWERED], "brk": ["moved", "kept"], "munmap": [ANSWERED, "EINVAL"],
     "clone": [ANSWERED, "EFAULT", "EINVAL", "ENOSYS", "EAGAIN"], "mmap": [ANSWERED, "EINVAL", "ENOMEM"],
     "call of no number": ["ENOSYS"],
-    **{call.name.lower(): ["EFAULT", "ENOSYS"] for call in WITH_BUFFERS},
-    **{call.name.lower(): ["ENOSYS"] for call in WITHOUT_BUFFERS},
+    **{call.name.lower(): ["EFAULT", *unbuilt(call)] for call in WITH_BUFFERS},
+    **{call.name.lower(): unbuilt(call) for call in WITHOUT_BUFFERS},
 }
 REASONS = ["short", "magic", "class", "machine", "filetype", "flags", "segment", "dynamic", "overlap", "toolarge"]
 MARKS_EXPECTED = [mark for mark in Mark if mark not in (Mark.ASKED_BREAK, Mark.DEADLY)]

@@ -63,7 +63,7 @@ def _launched(command: Command, files: dict[str, bytes]) -> Machine:
         program = read_elf(data)
     except BadProgram as bad:
         raise Ended(Status.BAD_PROGRAM, f"bad program: {command.name}: {bad.reason} at {bad.place}") from bad
-    return start(program, command.name.encode())
+    return start(program, command.name.encode(), *(it.encode() for it in command.arguments))
 
 
 def _restarted(store: Store) -> Machine:

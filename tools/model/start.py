@@ -33,7 +33,7 @@ def _load(program: Program) -> Memory:
     return memory
 
 
-def _put_arguments(memory: Memory, arguments: list[bytes]) -> int:
+def _put_arguments(memory: Memory, arguments: tuple[bytes, ...]) -> int:
     """Strings and words on the stack; gives `sp`."""
     text = b"".join(argument + b"\0" for argument in arguments)
     place = STACK_END - len(text)
@@ -50,10 +50,10 @@ def _put_arguments(memory: Memory, arguments: list[bytes]) -> int:
 
 @dataclass(frozen=True)
 class Word:
-    """A word of a job: a program, its name, and the host on which it runs."""
+    """A word of a job: a program, its argument strings, the name first, and the host on which it runs."""
 
     program: Program
-    name: bytes
+    arguments: tuple[bytes, ...]
     host: int = 0
 
 
@@ -61,7 +61,7 @@ def _process(word: Word, number: int) -> Process:
     """A process with one thread of its own number, and its console on its descriptors."""
     memory = _load(word.program)
     thread = Thread(number, pc=word.program.entry)
-    thread.regs[SP] = _put_arguments(memory, [word.name])
+    thread.regs[SP] = _put_arguments(memory, word.arguments)
     console = DescriptionName(number, 0)
     descriptors = {place: Descriptor(console) for place in STANDARD_DESCRIPTORS}
     return Process(number, memory, host=word.host, threads={number: thread}, descriptors=descriptors)
@@ -74,9 +74,9 @@ def start_job(words: list[Word]) -> Machine:
     return Machine(FIRST_NUMBER + len(words), 1, processes, consoles)
 
 
-def start(program: Program, name: bytes) -> Machine:
-    """The start of one program on host 0."""
-    return start_job([Word(program, name)])
+def start(program: Program, *arguments: bytes) -> Machine:
+    """The start of one program on host 0, with its argument strings, the name first."""
+    return start_job([Word(program, arguments)])
 
 
 def whole_page(content: bytes) -> bytes:

@@ -6,6 +6,7 @@ from enum import Enum
 NUMBER_LIMIT = 4_000_000
 DEFAULT_RECORDS = 1_000_000
 NAME_LIMIT = 255
+ARGUMENTS_LIMIT = 4_096
 HOST = "0:"
 EVERY, RECORDS = "--every", "--records"
 DIGITS = set("0123456789")
@@ -22,6 +23,13 @@ class Verb(Enum):
     RESTART = "restart"
 
 
+FIXED = {
+    Verb.LAUNCH: {"--nodes": "1", "--workers": "0"},
+    Verb.RESTART: {"--nodes": "16", "--workers": "0", "--shift": "0", "--pid-base": "2000", "--port-base": "30000"},
+}
+"""Of the options of what is not built yet the only value that is, which each has where it is not given."""
+
+
 @dataclass(frozen=True)
 class Command:
     """What the words ask for."""
@@ -30,6 +38,7 @@ class Command:
     every: int | None
     records: int
     name: str = ""
+    arguments: tuple[str, ...] = ()
 
 
 def _number(word: str) -> int:
@@ -40,25 +49,27 @@ def _number(word: str) -> int:
     return int(word)
 
 
-def _options(words: list[str]) -> dict[str, int]:
+def _options(verb: Verb, words: list[str]) -> dict[str, str]:
     """The options at the beginning, each at most once."""
-    found: dict[str, int] = {}
+    found: dict[str, str] = {}
     place = 0
-    while place < len(words) and words[place] in (EVERY, RECORDS):
+    while place < len(words) and words[place] in (EVERY, RECORDS, *FIXED[verb]):
         if words[place] in found or place + 1 == len(words):
             raise Usage
-        found[words[place]] = _number(words[place + 1])
+        found[words[place]] = words[place + 1]
         place += 2
     return found
 
 
-def _name(word: str) -> str:
-    """A program's name, behind its host."""
-    name = word.removeprefix(HOST)
-    fits = 1 <= len(name.encode()) <= NAME_LIMIT
-    if not word.startswith(HOST) or not fits or "," in name or "\0" in name:
+def _program(word: str) -> list[str]:
+    """A program's name, behind its host, and its arguments."""
+    if not word.startswith(HOST) or "\0" in word:
         raise Usage
-    return name
+    strings = word.removeprefix(HOST).split(",")
+    fits = 1 <= len(strings[0].encode()) <= NAME_LIMIT
+    if not fits or sum(len(it.encode()) + 1 for it in strings) > ARGUMENTS_LIMIT:
+        raise Usage
+    return strings
 
 
 def read_words(words: list[str]) -> Command:
@@ -70,9 +81,13 @@ def read_words(words: list[str]) -> Command:
     if not words or words[0] not in (Verb.LAUNCH.value, Verb.RESTART.value):
         raise Usage
     verb = Verb(words[0])
-    options = _options(words[1:])
+    options = _options(verb, words[1:])
     rest = words[1 + 2 * len(options) :]
     if len(rest) != (1 if verb is Verb.LAUNCH else 0):
         raise Usage
-    name = _name(rest[0]) if verb is Verb.LAUNCH else ""
-    return Command(verb, options.get(EVERY), options.get(RECORDS, DEFAULT_RECORDS), name)
+    if any(options.get(name, value) != value for name, value in FIXED[verb].items()):
+        raise Usage
+    every = _number(options[EVERY]) if EVERY in options else None
+    records = _number(options[RECORDS]) if RECORDS in options else DEFAULT_RECORDS
+    name, *arguments = _program(rest[0]) if verb is Verb.LAUNCH else [""]
+    return Command(verb, every, records, name, tuple(arguments))

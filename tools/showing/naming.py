@@ -11,25 +11,51 @@ from model.state import A7, Thread
 
 LAST_ERROR = 4095
 TEXT_SHOWN = 40
+PATH_LIMIT = 256
+ESCAPES = {0: "\\0", 9: "\\t", 10: "\\n", 13: "\\r", 34: '\\"', 92: "\\\\"}
 
-# Of each call that there is, its arguments: d decimal, x hexadecimal, s a signal, o what a futex is to do,
-# t a text whose length is the next argument.
+# Of each call that there is, its arguments: d decimal, i decimal with a sign, x hexadecimal, s a signal, o what a
+# futex is to do, t a text whose length is the next argument, p a path with a zero byte behind it.
 ARGUMENTS = {
+    Number.EVENTFD2: "dx",
+    Number.DUP: "d",
+    Number.DUP3: "ddx",
+    Number.FCNTL: "ddx",
+    Number.UNLINKAT: "ipx",
+    Number.OPENAT: "ipxx",
+    Number.CLOSE: "d",
+    Number.PIPE2: "xx",
+    Number.LSEEK: "did",
+    Number.READ: "dxd",
     Number.WRITE: "dtd",
     Number.EXIT: "d",
     Number.EXIT_GROUP: "d",
     Number.SET_TID_ADDRESS: "x",
     Number.FUTEX: "xodx",
     Number.SCHED_YIELD: "",
+    Number.KILL: "is",
     Number.TGKILL: "dds",
     Number.RT_SIGACTION: "sxxd",
     Number.RT_SIGPROCMASK: "dxxd",
     Number.RT_SIGRETURN: "",
+    Number.GETPID: "",
+    Number.GETPPID: "",
     Number.GETTID: "",
+    Number.SOCKET: "ddd",
+    Number.SOCKETPAIR: "dddx",
+    Number.BIND: "dxd",
+    Number.LISTEN: "dd",
+    Number.ACCEPT: "dxx",
+    Number.CONNECT: "dxd",
+    Number.GETSOCKNAME: "dxx",
+    Number.GETPEERNAME: "dxx",
+    Number.SETSOCKOPT: "dddxd",
+    Number.SHUTDOWN: "dd",
     Number.BRK: "x",
     Number.MUNMAP: "xd",
     Number.CLONE: "xxxxx",
     Number.MMAP: "xddxdx",
+    Number.WAIT4: "ixdx",
 }
 ADDRESS_ANSWERS = (Number.BRK, Number.MMAP)
 ALL_ARGUMENTS = "xxxxxx"
@@ -72,24 +98,41 @@ def call_name(number: int) -> str:
     return Number(number).name.lower() if number in list(Number) else f"call {number}"
 
 
+def quoted(content: bytes) -> str:
+    """The first bytes in quotes, with two dots behind them where there are more."""
+    text = content[:TEXT_SHOWN].decode("ascii", "backslashreplace").translate(ESCAPES)
+    return f'"{text}"' + (".." if len(content) > TEXT_SHOWN else "")
+
+
 def _text_at(memory: Memory, address: int, length: int) -> str:
     """The first bytes of a buffer, in quotes; its address where it can't be read."""
-    shown = min(length, TEXT_SHOWN)
-    if not memory.allows(address, shown, READ):
-        return f"{address:#x}"
-    text = memory.peek(address, shown).decode("ascii", "backslashreplace").translate({10: "\\n", 34: '\\"'})
-    return f'"{text}"' + (".." if length > shown else "")
+    shown = min(length, TEXT_SHOWN + 1)
+    return quoted(memory.peek(address, shown)) if memory.allows(address, shown, READ) else f"{address:#x}"
+
+
+def _path_at(memory: Memory, address: int) -> str:
+    """The bytes up to a zero byte, in quotes; the address where none is found."""
+    for length in range(PATH_LIMIT):
+        if not memory.allows(address, length + 1, READ):
+            break
+        if memory.peek(address + length, 1) == b"\0":
+            return quoted(memory.peek(address, length))
+    return f"{address:#x}"
 
 
 def _argument_text(thread: Thread, memory: Memory, index: int, form: str) -> str:
     value = thread.argument(index)
     if form == "t":
         return _text_at(memory, value, thread.argument(index + 1))
+    if form == "p":
+        return _path_at(memory, value)
     if form == "o":
         names = {FUTEX_WAIT: "WAIT", FUTEX_WAKE: "WAKE"}
         return names.get(futex_operation(value), str(value))
     if form == "s":
         return signal_name(value)
+    if form == "i":
+        return str(thread.signed_argument(index))
     return str(value) if form == "d" else f"{value:#x}"
 
 

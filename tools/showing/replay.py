@@ -1,17 +1,18 @@
 """A trace told with the state that it began at: calls with arguments and answers, and how the guest ended."""
 
-from dataclasses import dataclass
+from dataclasses import dataclass, field
 from pathlib import Path
 
 from model.calls import make_call
 from model.cpu import Stand, StandsAt, look, run_quantum
 from model.elf import BadProgram, read_elf
 from model.numbers import Number
+from model.objects import ChannelName
 from model.signals import Cause, deliver
 from model.start import start
 from model.state import A0, A7, Machine, Process, Thread
 from model.trace import Kind, Record
-from showing.naming import answer_text, call_text, signal_name
+from showing.naming import answer_text, call_text, count_text, signal_name
 from showing.sets import read_folder, spelled
 from showing.traces import record_text
 
@@ -24,10 +25,12 @@ class NoStep(Exception):
     """A record that is no step of the state before it."""
 
 
-def launched(program: Path) -> Machine:
-    """The start of a program's file."""
+def launched(word: str) -> Machine:
+    """The start of a program's file, with the arguments that stand behind it, a comma before each."""
+    path, *arguments = word.split(",")
+    program = Path(path)
     try:
-        return start(read_elf(program.read_bytes()), program.name.encode())
+        return start(read_elf(program.read_bytes()), program.name.encode(), *(it.encode() for it in arguments))
     except BadProgram as bad:
         raise NoStart(f"{program} is no program: {bad.reason} at {bad.place}") from bad
 
@@ -49,7 +52,8 @@ class Replay:
     """The state after the records so far."""
 
     machine: Machine
-    ending: str = ""
+    endings: dict[int, str] = field(default_factory=dict)
+    """How each process ended that has."""
 
     def step(self, record: Record) -> str:
         """Makes one step, and tells it."""
@@ -60,14 +64,27 @@ class Replay:
         if record.kind is Kind.DELIVER:
             return self._deliver(record)
         if record.kind is Kind.ARRIVE:
-            raise NoStep("no channel is known")
+            return self._arrive(record)
+        return record_text(record)
+
+    def _arrive(self, record: Record) -> str:
+        channel = self.machine.channels.get(ChannelName(record.a, record.b))
+        if channel is None or record.x >= len(channel.directions):
+            raise NoStep("there is no such direction")
+        direction = channel.directions[record.x]
+        if record.n > direction.on_their_way():
+            raise NoStep(f"{count_text(direction.on_their_way(), 'byte')} are on their way there")
+        direction.arrived += record.n
         return record_text(record)
 
     def _thread(self, record: Record) -> tuple[Process, Thread]:
-        process = self.machine.process
-        if process is None or process.number != record.a or record.b not in process.threads:
+        process = self.machine.processes.get(record.a)
+        if process is None or record.b not in process.threads:
             raise NoStep("there is no such thread")
         return process, process.threads[record.b]
+
+    def _has_ended(self, process: Process) -> bool:
+        return process.number not in self.machine.processes
 
     def _stand(self, process: Process, thread: Thread) -> Stand:
         return Stand(StandsAt.INSTRUCTION) if process.waits(thread) else look(thread, process.memory)
@@ -85,12 +102,12 @@ class Replay:
             raise NoStep("the thread stands at no call there")
         number, text = thread.regs[A7], call_text(thread, process.memory)
         make_call(self.machine, process, thread)
-        self._note_end(f"by {text}")
+        self._note_end(process, f"by {text}")
         return f"{record.a}/{record.b} {text}{self._outcome(process, thread, number)}"
 
     def _outcome(self, process: Process, thread: Thread, number: int) -> str:
         """What a call came to, as far as it came to anything at once."""
-        if self.machine.process is None:
+        if self._has_ended(process):
             return ": the process ends"
         if thread.number not in process.threads:
             return ": the thread ends"
@@ -110,15 +127,15 @@ class Replay:
         else:
             raise NoStep(f"{signal_name(record.x)} is not due there")
         deliver(self.machine, process, thread, record.x, cause)
-        self._note_end(f"by {signal_name(record.x)}")
+        self._note_end(process, f"by {signal_name(record.x)}")
         trap = " of a trap" if cause is Cause.TRAP else ""
-        return f"{record_text(record)}{trap}{self._effect(thread, contexts)}"
+        return f"{record_text(record)}{trap}{self._effect(process, thread, contexts)}"
 
-    def _effect(self, thread: Thread, contexts: int) -> str:
-        if self.machine.process is None:
+    def _effect(self, process: Process, thread: Thread, contexts: int) -> str:
+        if self._has_ended(process):
             return ": the process ends"
         return f": the handler at {thread.pc:#x} begins" if len(thread.contexts) > contexts else ": ignored"
 
-    def _note_end(self, how: str) -> None:
-        if self.machine.process is None:
-            self.ending = how
+    def _note_end(self, process: Process, how: str) -> None:
+        if self._has_ended(process):
+            self.endings[process.number] = how

@@ -65,7 +65,8 @@ def _file_lines(store: Store, slot: int) -> list[str]:
 def _field_at(index: int, content: bytes, offset: int) -> str:
     """The field of a file at an offset, with its place among those of its name and what it holds."""
     earlier: dict[str, int] = {}
-    for field in fields_of(index, content).fields:
+    fields = read_listed(content).fields if index == SHARED else fields_of(index, content).fields
+    for field in fields:
         earlier[field.name] = earlier.get(field.name, 0) + 1
         if field.at <= offset < field.at + field.size:
             value = content[field.at : field.at + field.size]

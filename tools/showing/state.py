@@ -1,23 +1,25 @@
 """A plain state in lines: what processes share, and each process's memory, signals and threads."""
 
 from itertools import groupby
+from operator import itemgetter
 
 from model.cpu import StandsAt, look
 from model.memory import PAGE_SHIFT, PAGE_SIZE, Memory
-from model.state import Action, Machine, Process, Thread
-from showing.naming import call_text, count_text, description_flags, rights_text, signal_list, signal_name
+from model.state import NOBODY, Action, Machine, Process, Thread
+from showing.naming import call_text, count_text, rights_text, signal_list, signal_name
+from showing.objects import channel_lines, description_line, file_line, zombie_line
 
 REGISTERS_A_LINE = 4
 
 
 def _shared_lines(machine: Machine) -> list[str]:
-    lines = [f"next number {machine.next_id}, next file {machine.next_file}; no file, no channel"]
-    for name in sorted(machine.descriptions):
-        description = machine.descriptions[name]
-        owner = f", owner {description.owner}" if description.owner else ""
-        flags = description_flags(description.flags)
-        lines.append(f"description ({name.pid}, {name.num}): console, {flags}{owner}")
-    return lines
+    none = "" if machine.files or machine.channels else "; no file, no channel"
+    lines = [f"next number {machine.next_id}, next file {machine.next_file}{none}"]
+    lines += [file_line(number, file) for number, file in sorted(machine.files.items())]
+    for name, channel in sorted(machine.channels.items(), key=itemgetter(0)):
+        lines += channel_lines(name, channel)
+    named = sorted(machine.descriptions.items(), key=itemgetter(0))
+    return lines + [description_line(name, description) for name, description in named]
 
 
 def _page_ranges(memory: Memory) -> list[str]:
@@ -85,7 +87,9 @@ def _thread_lines(process: Process, thread: Thread, registers: bool) -> list[str
 
 def process_lines(process: Process, registers: bool) -> list[str]:
     """A process, with all of its threads."""
-    lines = [f"process {process.number} of host {process.host}: {count_text(len(process.threads), 'thread')}"]
+    parent = "" if process.parent == NOBODY else f", parent {process.parent}"
+    threads = count_text(len(process.threads), "thread")
+    lines = [f"process {process.number} of host {process.host}{parent}: {threads}"]
     for number, descriptor in sorted(process.descriptors.items()):
         name, close = descriptor.name, ", closed by exec" if descriptor.close_on_exec else ""
         lines.append(f"  descriptor {number}: description ({name.pid}, {name.num}){close}")
@@ -100,4 +104,7 @@ def process_lines(process: Process, registers: bool) -> list[str]:
 def state_lines(machine: Machine, registers: bool) -> list[str]:
     """A whole state; `registers` has those of each thread and each saved context."""
     lines = _shared_lines(machine)
-    return lines + (process_lines(machine.process, registers) if machine.process else ["no process lives"])
+    lines += [zombie_line(machine.zombies[number]) for number in sorted(machine.zombies)]
+    for number in sorted(machine.processes):
+        lines += process_lines(machine.processes[number], registers)
+    return lines if machine.processes else [*lines, "no process lives"]

@@ -111,9 +111,19 @@ class Words(unittest.TestCase):
     def test_usage(self) -> None:
         wrong = ["", "launch", "restart 0:hello.elf", "launch --every 0 0:a", "launch --every 01 0:a", "launch 1:a"]
         wrong += ["launch --every +1 0:a", "launch --every 4000001 0:a", "launch --every 1 --every 1 0:a", "launch 0:"]
-        wrong += ["launch 0:a --every 1", "launch 0:a,b", "--help --version", "launch 0:\udcff", "launch --every ٣ 0:a"]
+        wrong += ["launch 0:a --every 1", "launch 0:,b", "--help --version", "launch 0:\udcff", "launch --every ٣ 0:a"]
+        wrong += ["launch --nodes 2 0:a", "launch --workers 1 0:a", "launch --file a 0:a", "launch 0:a 0:a", "ring 2", "help"]
+        wrong += ["restart --nodes 15", "restart --shift 1", "restart --pid-base 2001", "restart --port-base 30001"]
+        wrong += ["launch --nodes 01 0:a", "launch --workers 0 --workers 0 0:a", "launch --shift 0 0:a"]
+        wrong += [f"launch 0:a,{4094 * 'b'}"]
         for words in wrong:
             self.assertEqual((said(words).status, said(words).log), (10, b"usage\n"), words)
+
+    def test_defaults_of_what_is_not_built(self) -> None:
+        self.assertEqual(said("launch --workers 0 --nodes 1 0:a,b").log, b"missing: a\n")
+        self.assertEqual(said(f"launch 0:a,{4093 * 'b'}").log, b"missing: a\n")
+        words = "restart --port-base 30000 --pid-base 2000 --shift 0 --workers 0 --nodes 16"
+        self.assertEqual(said(words).log, b"no set\n")
 
     def test_others(self) -> None:
         self.assertEqual(said("launch --records 4000000 --every 9 0:a:b").log, b"missing: a:b\n")

@@ -48,7 +48,7 @@ def ended(code: int = 0) -> list[int]:
 
 def started(*guests: tuple[list[int], int], data: bytes = b"") -> Machine:
     """The start of a job of guests, each on its host."""
-    words = [Word(read_elf(elf(guest, data)), b"g", host) for guest, host in guests]
+    words = [Word(read_elf(elf(guest, data)), (b"g",), host) for guest, host in guests]
     machine = start_job(words)
     machine.built = ALL_CALLS
     return machine
