@@ -7,7 +7,22 @@
 //! - `headers ENTRY HEADER..`: it has the edited file's first 52 bytes, with this entry, and program headers
 //!   `KIND:ADDRESS:BYTES:MEMORY:FLAGS`, each of a segment that begins with the file's first byte.
 //!
-//! Its answer is a line with the entry, and of each segment its size, its address, its rights and its bytes.
+//! The file that the stored cases edit has, from its byte 0x54 on, at 0x10054:
+//!
+//! ```text
+//! li    a0, 1
+//! auipc a1, 0
+//! addi  a1, a1, 0x20
+//! li    a2, 6
+//! li    a7, 64       # write(1, "hello\n", 6)
+//! ecall
+//! li    a0, 0
+//! li    a7, 94       # exit_group(0)
+//! ecall
+//! .ascii "hello\n"
+//! ```
+//!
+//! The answer to a case is a line with the entry, and of each segment its size, address, rights and bytes.
 #![tactic(auto)]
 
 use elf32::{Program, Segment, read_elf};
