@@ -143,11 +143,12 @@ fn argument_bytes(alloc: Global, listed: &str) -> Result<ListOf<u8>, AllocError>
 fn zeros_at_commas(alloc: Global, listed: &str) -> Result<Vec<u8>, AllocError>
     ensures { IfOk result (λ bytes. bytes.items ≡ map zero_at_comma listed.now) }
 {
-    listed
-        .as_bytes()
-        .iter()
-        .map(|byte| zero_at_comma(*byte))
-        .collect(alloc)
+    let text = listed.as_bytes();
+    let mut bytes = Vec::with_capacity(alloc, text.len())?;
+    for byte in text {
+        bytes.push(zero_at_comma(*byte))?;
+    }
+    Ok(bytes)
 }
 
 fn zero_at_comma(byte: u8) -> u8
