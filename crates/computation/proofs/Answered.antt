@@ -36,13 +36,13 @@ use Rattle.plain_machine.specs.Answers.{answer_told, served_by}
 use Rattle.plain_machine.specs.Kernel.{is_live}
 use Rattle.plain_machine.specs.Records.{Users, with_child}
 use Rattle.plain_machine.specs.RowLaws.{IsServed, IsMade}
-use Rattle.plain_machine.specs.Serve.{serve, makes_no_process}
+use Rattle.plain_machine.specs.Serve.{serve}
 use Rattle.plain_machine.specs.Valid.{IsValid}
 use Rattle.plain_machine.proofs.Asking.{stands_asked, serve_adds}
 use Rattle.plain_machine.proofs.EachRow.{each_is_served}
 use Rattle.plain_machine.proofs.RowBounds.{next_is_nobody, next_is_other}
 use Rattle.guest_proc.specs.Guests.{GuestPart}
-use Rattle.computation.specs.Parts.{Guests, grown_by, is_fork, left_by}
+use Rattle.computation.specs.Parts.{Guests, grown_by, is_fork, is_fork_form, left_by}
 use Rattle.computation.proofs.Living.{kept_if, gone_if, living_is}
 use Rattle.computation.proofs.Starts.{seen}
 
@@ -77,7 +77,7 @@ unfolding made_by
 made_value (Clone flags stack parent_tid tls child_tid) reply n is = form_value reply (clone_form flags) n is
 made_value _ reply n is = absurd (cc)
 
-form_forks : (reply : Reply) (form : Option CloneForm) (n : ℕ) → made_as reply form ≡ Some n → not (makes_no_process form) ≡ true
+form_forks : (reply : Reply) (form : Option CloneForm) (n : ℕ) → made_as reply form ≡ Some n → is_fork_form form ≡ true
 form_forks (Value v) (Some Fork) n is = refl
 form_forks (Value v) (Some Thread) n is = absurd (cc)
 form_forks (Value v) None n is = absurd (cc)

@@ -3,7 +3,7 @@
 --     kernel_found, delivery_at  what a delivery finds, and what it comes to
 --     kernel_after, guests_after what it leaves: a signal that kills takes the process away
 --     grown                      the guests with the child that an answer makes
-use Rattle.std.specs.Prelude.{◌≡◌, ◌≤◌, ℕ, Bool, false, not, length, Option, Some, None, IfSome, if◌then◌else◌}
+use Rattle.std.specs.Prelude.{◌≡◌, ◌≤◌, ℕ, Bool, true, false, length, Option, Some, None, IfSome, if◌then◌else◌}
 use Rattle.std.specs.FinMap as map
 use Rattle.sys_abi.specs.declared.identity.VPid.{VPid}
 use Rattle.sys_abi.specs.declared.delivery.Delivered.{Delivered}
@@ -19,7 +19,8 @@ use Rattle.sys_abi.specs.declared.transfer.TheConstants.{TRANSFER_LIMIT}
 use Rattle.plain_process.specs.Buffers.{filled_spans}
 use Rattle.plain_process.specs.Put.{CanTake, added_thread, made_by}
 use Rattle.plain_process.specs.Valid.{CanAdd}
-use Rattle.plain_machine.specs.Serve.{makes_no_process}
+use Rattle.sys_abi.specs.declared.cloning.CloneForm.{CloneForm}
+use Rattle.sys_abi.specs.declared.cloning.CloneForm.TheVariants.{Fork}
 use Rattle.plain_machine.specs.declared.answer.Answer.{Answer}
 use Rattle.plain_process.specs.Steps.{Asks, user_step}
 use Rattle.plain_process.specs.Threads.{child_of}
@@ -81,8 +82,12 @@ pub record Reserved (before after : Guests) (p : VPid) (guest : GuestPart) (q : 
   pub room : (reply : Reply) → IfSome (added_thread q reply) (λ _. 1 ≤ spare)
   pub guests : after ≡ map.insert before p (record guest { spare = spare })
 
+abbrev pub is_fork_form : Option CloneForm → Bool
+is_fork_form (Some Fork) = true
+is_fork_form _ = false
+
 abbrev pub is_fork : Request → Bool
-is_fork (Clone flags stack parent_tid tls child_tid) = not (makes_no_process (clone_form flags))
+is_fork (Clone flags stack parent_tid tls child_tid) = is_fork_form (clone_form flags)
 is_fork _ = false
 
 -- the answer can be put

@@ -14,11 +14,11 @@ ghost use Rattle.sys_abi.specs.declared.identity.VPid.{VPid};
 ghost use Rattle.plain_tables.specs.Tables.{pid};
 ghost use Rattle.plain_machine.specs.Answers.{served_by};
 ghost use Rattle.plain_machine.specs.Kernel.{is_live};
-ghost use Rattle.plain_machine.specs.Serve.{serve, makes_no_process};
+ghost use Rattle.plain_machine.specs.Serve.{serve};
 ghost use Rattle.guest_proc.specs.Guests.{GuestPart, HasThread};
 ghost use Rattle.computation.specs.Sinks.{sunk};
 ghost use Rattle.computation.specs.Takes.{Takes, Breaks};
-ghost use Rattle.computation.specs.Parts.{AsksAt, CanAnswer, Grown, Reserved, is_fork, left_by};
+ghost use Rattle.computation.specs.Parts.{AsksAt, CanAnswer, Grown, Reserved, is_fork, is_fork_form, left_by};
 
 use crate::computation::{Computation, Stop};
 use crate::parts::{reserve_for, show};
@@ -175,7 +175,7 @@ fn forks(request: &Request) -> bool
 }
 
 fn is_fork_form(flags: u32) -> bool
-    ensures { result ≡ not (makes_no_process (clone_form flags)) }
+    ensures { result ≡ is_fork_form (clone_form flags) }
 {
     match clone_form(flags) {
         Some(CloneForm::Fork) => true,

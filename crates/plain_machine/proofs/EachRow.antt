@@ -1,22 +1,20 @@
 -- Each kernel call meets the law of rows: one line a call, each proved beside its family.
 --     each_row      each_is_served, ready_by_front, serve_is_short      the laws of `serve`
-use Rattle.std.proofs.Common.{◌≡◌, ℕ, ◌≤◌, Bool, true, false, cond, List, length, refl, sym, ap, subst, ◌∙◌, arith}
-use Rattle.std.specs.Prelude.{Option, Some, is_some}
-use Rattle.views.proofs.MapLaws.{true_false}
+use Rattle.std.proofs.Common.{◌≡◌, ℕ, ◌≤◌, List, length, refl}
+use Rattle.std.specs.Prelude.{Some}
 use Rattle.sys_abi.specs.declared.identity.VPid.{VPid}
 use Rattle.sys_abi.specs.declared.errors.TheConstants.{ENOSYS}
 use Rattle.sys_abi.specs.declared.request.Request.{Request}
 use Rattle.sys_abi.specs.declared.request.Request.TheVariants.{Eventfd2, Dup, Dup3, Fcntl, Unlinkat, Openat, Close, Pipe2, Lseek, Read, Write, Exit, ExitGroup, Kill, Tgkill, Getpid, Getppid, Socket, Socketpair, Bind, Listen, Accept, Connect, Getsockname, Getpeername, Setsockopt, Shutdown, Clone, Wait4}
 use Rattle.plain_machine.specs.declared.kernel.PlainKernel.{PlainKernel}
 use Rattle.sys_abi.specs.declared.transfer.TheConstants.{TRANSFER_LIMIT}
-use Rattle.plain_process.specs.Put.{error}
-use Rattle.plain_machine.specs.Attempts.{Served, refused}
+use Rattle.plain_machine.specs.Attempts.{Served}
 use Rattle.plain_machine.specs.Laws.{EachIsServed, ReadyByFront}
-use Rattle.plain_machine.specs.RowLaws.{IsAsked, IsServed}
-use Rattle.plain_machine.specs.Serve.{row, row_answer, row_is_ready, is_built, serve, is_ready, front_of}
-use Rattle.plain_machine.proofs.RowBounds.{RowLaw, IsQuiet, quiet, refusal, unbuilt}
+use Rattle.plain_machine.specs.RowLaws.{IsAsked}
+use Rattle.plain_machine.specs.Serve.{row, serve, is_ready}
+use Rattle.plain_machine.proofs.RowBounds.{RowLaw, unbuilt}
 use Rattle.plain_machine.proofs.Rows.Channels.{pipe2_law, socketpair_law}
-use Rattle.plain_machine.proofs.Rows.Clone.{error_quiet, clone_law}
+use Rattle.plain_machine.proofs.Rows.Clone.{clone_law}
 use Rattle.plain_machine.proofs.Rows.Connections.{accept_law, connect_law}
 use Rattle.plain_machine.proofs.Rows.Counters.{eventfd2_law}
 use Rattle.plain_machine.proofs.Rows.Descriptors.{dup_law, dup3_law, fcntl_law, close_law}
@@ -30,7 +28,7 @@ use Rattle.plain_machine.proofs.Rows.Wait.{wait4_law}
 use Rattle.plain_machine.proofs.Rows.Write.{write_law}
 
 each_row : (k : PlainKernel) (p : VPid) (t : ℕ) (q : Request) (given : List ℕ) → RowLaw k p t q given
-unfolding row row_is_ready
+unfolding row is_ready
 each_row k p t (Eventfd2 value flags) given = eventfd2_law k p t given value flags
 each_row k p t (Dup fd) given = dup_law k p t given fd
 each_row k p t (Dup3 fd to flags) given = dup3_law k p t given fd to flags
@@ -62,41 +60,11 @@ each_row k p t (Clone flags stack parent_tid tls child_tid) given = clone_law k 
 each_row k p t (Wait4 number status options usage) given = wait4_law k p t given number status options usage
 each_row k p t q given = unbuilt k p t q given ENOSYS refl refl refl
 
--- an error changes no threads where the call isn't served yet
-error_is_quiet : (k : PlainKernel) (p : VPid) (t : ℕ) (q : Request) (e : ℕ) → is_built k p q ≡ false → IsQuiet t q (error e)
-unfolding is_built
-error_is_quiet k p t (Exit code) e other = true_false other
-error_is_quiet k p t (Clone flags stack parent_tid tls child_tid) e other = error_quiet t flags stack parent_tid tls child_tid e
-error_is_quiet k p t q e other = quiet t q (error e) refl
-
-module _ (k : PlainKernel) (p : VPid) (t : ℕ) (q : Request) (given : List ℕ) where
-  abbrev answer_if : Bool → Option Served
-  answer_if built = cond built (row_answer k p t q given) (Some (refused k ENOSYS))
-
-  served_law : (served : Served) → IsAsked k p t q given → (built : Bool) → is_built k p q ≡ built → answer_if built ≡ Some served → IsServed k p t q given served
-  served_law served asked true is goes = ((each_row k p t q given).served.each served goes).law asked
-  served_law served asked false is goes =
-      let same : refused k ENOSYS ≡ served = cc in
-      subst (IsServed k p t q given) same (refusal k p t q given ENOSYS (error_is_quiet k p t q ENOSYS is) asked)
-
-  ready_law : (built : Bool) → is_some (answer_if built) ≡ cond built (row_is_ready k p t q (front_of given)) true
-  ready_law true = (each_row k p t q given).ready
-  ready_law false = refl
-
-  short_law : (served : Served) → (built : Bool) → answer_if built ≡ Some served → length served.bytes ≤ TRANSFER_LIMIT
-  short_law served true goes = ((each_row k p t q given).served.each served goes).short
-  short_law served false goes =
-      let same : refused k ENOSYS ≡ served = cc in
-      subst (λ s. length s.bytes ≤ TRANSFER_LIMIT) same (omega arith)
-
 pub each_is_served : EachIsServed
-unfolding serve
-each_is_served k p t q given served asked goes = served_law k p t q given served asked (is_built k p q) refl goes
+each_is_served k p t q given served asked goes = ((each_row k p t q given).served.each served goes).law asked
 
 pub ready_by_front : ReadyByFront
-unfolding serve is_ready
-ready_by_front k p t q given = ready_law k p t q given (is_built k p q)
+ready_by_front k p t q given = (each_row k p t q given).ready
 
 pub serve_is_short : (k : PlainKernel) (p : VPid) (t : ℕ) (q : Request) (given : List ℕ) (served : Served) → serve k p t q given ≡ Some served → length served.bytes ≤ TRANSFER_LIMIT
-unfolding serve
-serve_is_short k p t q given served goes = short_law k p t q given served (is_built k p q) goes
+serve_is_short k p t q given served goes = ((each_row k p t q given).served.each served goes).short

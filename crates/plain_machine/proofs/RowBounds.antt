@@ -27,7 +27,7 @@ use Rattle.plain_machine.specs.Kernel.{is_live, has_thread, at_process}
 use Rattle.plain_machine.specs.Ends.{after_end}
 use Rattle.plain_machine.specs.Valid.{IsKernel}
 use Rattle.plain_machine.specs.RowLaws.{IsAsked, IsAnswer, IsServed, IsMade, MayAdd, there_after}
-use Rattle.plain_machine.specs.Serve.{row, row_answer, row_is_ready, front_of}
+use Rattle.plain_machine.specs.Serve.{row, serve, is_ready, front_of}
 use Rattle.plain_process.proofs.Giving.{Giving, gives, nothing}
 use Rattle.plain_machine.proofs.Trying.{Trying, fails}
 use Rattle.plain_machine.proofs.MemoryPages.{no_bytes_taken}
@@ -162,8 +162,8 @@ pub record Meets (k : PlainKernel) (p : VPid) (t : ℕ) (q : Request) (given : L
   pub law : IsAsked k p t q given → IsServed k p t q given served
 
 pub record RowLaw (k : PlainKernel) (p : VPid) (t : ℕ) (q : Request) (given : List ℕ) : Type 0 where
-  pub served : Giving (row_answer k p t q given) (Meets k p t q given)
-  pub ready : is_some (row_answer k p t q given) ≡ row_is_ready k p t q (front_of given)
+  pub served : Giving (serve k p t q given) (Meets k p t q given)
+  pub ready : is_some (serve k p t q given) ≡ is_ready k p t q (front_of given)
 
 abbrev pub Settles : PlainKernel → Try Served → Type 0
 Settles k attempt = is_some (settled k attempt) ≡ true
@@ -188,12 +188,12 @@ module _ (k : PlainKernel) (p : VPid) (t : ℕ) (q : Request) (given : List ℕ)
   settled_law (Gives served) quiet holds = gives served (holds.each served refl)
 
   -- of a row whose errors change no threads
-  pub row_law : ((e : ℕ) → IsQuiet t q (error e)) → Trying (row k p t q given) (Meets k p t q given) → is_some (settled k (row k p t q given)) ≡ row_is_ready k p t q (front_of given)
+  pub row_law : ((e : ℕ) → IsQuiet t q (error e)) → Trying (row k p t q given) (Meets k p t q given) → is_some (settled k (row k p t q given)) ≡ is_ready k p t q (front_of given)
       → RowLaw k p t q given
-  unfolding row_answer
+  unfolding serve
   row_law quiet holds ready = record { served = settled_law (row k p t q given) quiet holds; ready = ready }
 
-  pub unbuilt : (e : ℕ) → row k p t q given ≡ Fails e → leaves_threads q ≡ true → row_is_ready k p t q (front_of given) ≡ true → RowLaw k p t q given
+  pub unbuilt : (e : ℕ) → row k p t q given ≡ Fails e → leaves_threads q ≡ true → is_ready k p t q (front_of given) ≡ true → RowLaw k p t q given
   unbuilt e refuses other ready = row_law (λ e. quiet t q (error e) other) (subst (λ attempt. Trying attempt (Meets k p t q given)) (sym refuses) (fails e))
       (ap (λ attempt. is_some (settled k attempt)) refuses ∙ sym ready)
 

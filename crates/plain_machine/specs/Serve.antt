@@ -1,16 +1,10 @@
--- What a kernel call does: one row a call. A call that the machine doesn't know answers ENOSYS, and so do
--- those that aren't served yet.
+-- What a kernel call does: one row a call. A call that the machine doesn't know answers ENOSYS.
 --     row k p t q given            the row of the call q of thread t of p, which reads the bytes given
---     row_answer                   the same settled: none where the call waits
---     row_is_ready k p t q front   whether it doesn't wait, by the front of what it reads
---     is_built k p q               whether the call is served
---     serve, is_ready              the answer, and whether the call doesn't wait
-use Rattle.std.specs.Prelude.{ℕ, Bool, true, false, List, ◌++◌, take, replicate, Option, Some, None, if◌then◌else◌}
+--     serve k p t q given          its answer: none where the call waits
+--     is_ready k p t q front       whether it doesn't wait, by the front of what it reads
+use Rattle.std.specs.Prelude.{ℕ, Bool, true, false, List, ◌++◌, take, replicate, Option, Some, None}
 use Rattle.sys_abi.specs.declared.identity.VPid.{VPid}
 use Rattle.sys_abi.specs.declared.errors.TheConstants.{ENOSYS}
-use Rattle.sys_abi.specs.declared.cloning.CloneForm.{CloneForm}
-use Rattle.sys_abi.specs.declared.cloning.CloneForm.TheVariants.{Fork}
-use Rattle.sys_abi.specs.Clones.{clone_form}
 use Rattle.sys_abi.specs.declared.request.Request.{Request}
 use Rattle.sys_abi.specs.declared.request.Request.TheVariants.{Eventfd2, Dup, Dup3, Fcntl, Unlinkat, Openat, Close, Pipe2, Lseek, Read, Write, Exit, ExitGroup, Kill, Tgkill, Getpid, Getppid, Socket, Socketpair, Bind, Listen, Accept, Connect, Getsockname, Getpeername, Setsockopt, Shutdown, Clone, Wait4}
 use Rattle.plain_tables.specs.declared.description.Description.{Description}
@@ -18,8 +12,7 @@ use Rattle.plain_tables.specs.declared.description.Object.{Object}
 use Rattle.plain_tables.specs.declared.description.Object.TheVariants.{Console}
 use Rattle.plain_machine.specs.declared.kernel.PlainKernel.{PlainKernel}
 use Rattle.plain_process.specs.Attempts.{Try, Fails}
-use Rattle.plain_machine.specs.Attempts.{Served, settled, refused}
-use Rattle.plain_machine.specs.Kernel.{description_at}
+use Rattle.plain_machine.specs.Attempts.{Served, settled}
 use Rattle.plain_machine.specs.Rows.Channels.{pipe2_row, socketpair_row}
 use Rattle.plain_machine.specs.Rows.Clone.{clone_row}
 use Rattle.plain_machine.specs.Rows.Connections.{accept_row, connect_row, is_accept_ready, is_connect_ready}
@@ -66,23 +59,21 @@ row k p t (Clone flags stack parent_tid tls child_tid) given = clone_row k p fla
 row k p t (Wait4 number status options usage) given = wait4_row k p number options usage
 row k p t _ given = Fails ENOSYS
 
-unfoldable pub row_answer : PlainKernel → VPid → ℕ → Request → List ℕ → Option Served
-row_answer k p t q given = settled k (row k p t q given)
+unfoldable pub serve : PlainKernel → VPid → ℕ → Request → List ℕ → Option Served
+serve k p t q given = settled k (row k p t q given)
 
 -- the first 16 bytes of what a call reads, with zeros where it reads fewer
 abbrev pub front_of : List ℕ → List ℕ
 front_of given = take 16 (given ++ replicate 16 0)
 
 -- only these calls may wait
-unfoldable pub row_is_ready : PlainKernel → VPid → ℕ → Request → List ℕ → Bool
-row_is_ready k p t (Read fd buffer count) front = is_read_ready k p fd count
-row_is_ready k p t (Write fd buffer count) front = is_write_ready k p fd count front
-row_is_ready k p t (Accept fd address length) front = is_accept_ready k p fd
-row_is_ready k p t (Connect fd address length) front = is_connect_ready k p fd length front
-row_is_ready k p t (Wait4 number status options usage) front = is_wait4_ready k p number options usage
-row_is_ready k p t _ front = true
-
--- the calls that are served so far: of files, sockets and processes there are the console and threads alone
+unfoldable pub is_ready : PlainKernel → VPid → ℕ → Request → List ℕ → Bool
+is_ready k p t (Read fd buffer count) front = is_read_ready k p fd count
+is_ready k p t (Write fd buffer count) front = is_write_ready k p fd count front
+is_ready k p t (Accept fd address length) front = is_accept_ready k p fd
+is_ready k p t (Connect fd address length) front = is_connect_ready k p fd length front
+is_ready k p t (Wait4 number status options usage) front = is_wait4_ready k p number options usage
+is_ready k p t _ front = true
 
 abbrev pub is_console : Object → Bool
 is_console Console = true
@@ -91,24 +82,3 @@ is_console _ = false
 abbrev pub is_on_console : Option Description → Bool
 is_on_console None = true
 is_on_console (Some description) = is_console description.object
-
-abbrev pub makes_no_process : Option CloneForm → Bool
-makes_no_process (Some Fork) = false
-makes_no_process _ = true
-
-unfoldable pub is_built : PlainKernel → VPid → Request → Bool
-is_built k p (Write fd buffer count) = is_on_console (description_at k p fd)
-is_built k p (Exit code) = true
-is_built k p (ExitGroup code) = true
-is_built k p (Kill number s) = true
-is_built k p (Tgkill number tid s) = true
-is_built k p Getpid = true
-is_built k p Getppid = true
-is_built k p (Clone flags stack parent_tid tls child_tid) = makes_no_process (clone_form flags)
-is_built k p _ = false
-
-unfoldable pub serve : PlainKernel → VPid → ℕ → Request → List ℕ → Option Served
-serve k p t q given = if is_built k p q then row_answer k p t q given else Some (refused k ENOSYS)
-
-unfoldable pub is_ready : PlainKernel → VPid → ℕ → Request → List ℕ → Bool
-is_ready k p t q front = if is_built k p q then row_is_ready k p t q front else true

@@ -1,15 +1,14 @@
 -- What a call's row comes to in code, settled, is what `serve` says.
 --     serve_settles, waiting_keeps, short_answer      of the clauses of the code's `serve`
-use Rattle.std.proofs.Common.{◌≡◌, ℕ, ◌≤◌, Bool, true, false, cond, List, length, refl, sym, ap, ◌∙◌}
+use Rattle.std.proofs.Common.{◌≡◌, ℕ, ◌≤◌, List, length, refl, sym, ap, ◌∙◌}
 use Rattle.std.specs.Prelude.{Option, Some, None, IfSome}
 use Rattle.sys_abi.specs.declared.identity.VPid.{VPid}
 use Rattle.sys_abi.specs.declared.request.Request.{Request}
 use Rattle.sys_abi.specs.declared.transfer.TheConstants.{TRANSFER_LIMIT}
 use Rattle.plain_machine.specs.declared.kernel.PlainKernel.{PlainKernel}
-use Rattle.sys_abi.specs.declared.errors.TheConstants.{ENOSYS}
-use Rattle.plain_process.specs.Attempts.{Try, Fails as FailsWith}
+use Rattle.plain_process.specs.Attempts.{Try}
 use Rattle.plain_machine.specs.Attempts.{Served, refused, settled}
-use Rattle.plain_machine.specs.Serve.{serve, row, row_answer, is_built}
+use Rattle.plain_machine.specs.Serve.{serve, row}
 use Rattle.plain_machine.proofs.EachRow.{serve_is_short}
 use Rattle.plain_machine.specs.declared.answer.Answer.{Answer}
 use Rattle.plain_machine.specs.declared.answer.Attempt.{Attempt}
@@ -22,17 +21,12 @@ settles old new given (Gives answer) kept = refl
 settles old new given (Fails e) kept = ap (λ k. Some (refused k e.0)) (sym kept)
 settles old new given NotReady kept = refl
 
-settled_if : (k : PlainKernel) (built : Bool) (attempt : Try Served)
-    → cond built (settled k attempt) (Some (refused k ENOSYS)) ≡ settled k (cond built attempt (FailsWith ENOSYS))
-settled_if k true attempt = refl
-settled_if k false attempt = refl
-
 pub serve_settles : (old new : PlainKernel) (p : VPid) (t : ℕ) (q : Request) (given : List ℕ) (attempt : Attempt)
-    → cond (is_built old p q) (row old p t q given) (FailsWith ENOSYS) ≡ attempt_told new given attempt
+    → row old p t q given ≡ attempt_told new given attempt
     → KeepsUnlessGives attempt old new → serve old p t q given ≡ answer_told new given (settled_told attempt)
-unfolding serve row_answer
+unfolding serve
 serve_settles old new p t q given attempt goes kept =
-    settled_if old (is_built old p q) (row old p t q given) ∙ ap (settled old) goes ∙ settles old new given attempt kept
+    ap (settled old) goes ∙ settles old new given attempt kept
 
 -- it waits only where it has kept the kernel part
 pub waiting_keeps : (old new : PlainKernel) (attempt : Attempt) → KeepsUnlessGives attempt old new → settled_told attempt ≡ None

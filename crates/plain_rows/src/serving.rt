@@ -1,9 +1,5 @@
-ghost use Rattle.std.specs.Prelude.{◌≡◌, ◌≤◌, ℕ, List, None, is_some, length, IfOk, IfSome, if◌then◌else◌};
+ghost use Rattle.std.specs.Prelude.{◌≡◌, ◌≤◌, ℕ, List, None, is_some, length, IfOk, IfSome};
 ghost use Rattle.sys_abi.specs.declared.transfer.TheConstants.{TRANSFER_LIMIT};
-ghost use Rattle.sys_abi.specs.Clones.{clone_form};
-ghost use Rattle.plain_machine.specs.Kernel.{description_at};
-ghost use Rattle.sys_abi.specs.declared.errors.TheConstants.{ENOSYS};
-ghost use Rattle.plain_process.specs.Attempts.{Fails};
 ghost use Rattle.plain_machine.specs.Serve as words;
 ghost use Rattle.plain_machine.specs.Answers.{answer_told, attempt_told, KeepsUnlessGives};
 
@@ -24,10 +20,9 @@ use plain_streams::channels::{pipe2, socketpair};
 use plain_streams::counters::eventfd2;
 use plain_streams::read::{is_read_ready, read};
 use plain_streams::write::{is_write_ready, write};
-use plain_tables::description::Object;
 use std::alloc::{AllocError, Global};
 use sys_abi::errors::ENOSYS;
-use sys_abi::{CloneForm, Given, Request, Tid, VPid, clone_form};
+use sys_abi::{Given, Request, Tid, VPid};
 
 /// Serves a call of a thread, where `given` are the bytes that the call reads. It answers None where the call waits, and
 /// then the kernel part is as before. After want of memory it may be any.
@@ -45,31 +40,8 @@ pub fn serve(
     ensures waits { IfOk result (λ answer. answer ≡ None → kernel.new ≡ kernel.old) }
     ensures short { IfOk result (λ answer. IfSome answer (λ answer. length answer.bytes ≤ TRANSFER_LIMIT)) }
 {
-    let attempt = built_row(kernel, alloc, p, t, request, given)?;
+    let attempt = row(kernel, alloc, p, t, request, given)?;
     Ok(settled(alloc, attempt))
-}
-
-/// The row of a call that is served so far. Each other one answers ENOSYS.
-fn built_row(
-    kernel: &mut PlainKernel,
-    alloc: Global,
-    p: VPid,
-    t: Tid,
-    request: &Request,
-    given: &[u8],
-) -> RowResult
-    requires { length given.now ≤ TRANSFER_LIMIT }
-    ensures row { IfOk result (λ attempt.
-        (if words.is_built kernel.old p request.now
-        then words.row kernel.old p t.0 request.now given.now else Fails ENOSYS)
-        ≡ attempt_told kernel.new given.now attempt) }
-    ensures kept { IfOk result (λ attempt. KeepsUnlessGives attempt kernel.old kernel.new) }
-{
-    if is_built(kernel, p, request) {
-        row(kernel, alloc, p, t, request, given)
-    } else {
-        Ok(Attempt::fails(ENOSYS))
-    }
 }
 
 /// Whether a call of a thread doesn't wait, by the first 16 bytes that it reads, with zeros where it reads fewer.
@@ -77,63 +49,12 @@ pub fn is_ready(kernel: &PlainKernel, p: VPid, t: Tid, request: &Request, front:
     ensures { (given : List ℕ) → words.front_of given ≡ front.now
         → is_some (words.serve kernel.now p t.0 request.now given) ≡ result }
 {
-    is_ready_so_far(kernel, p, t, request, front)
+    is_ready_at(kernel, p, t, request, front)
 }
 
 #[tactic(auto, unfolding(plain_machine::specs::Serve::is_ready))]
-fn is_ready_so_far(kernel: &PlainKernel, p: VPid, t: Tid, request: &Request, front: &Given) -> bool
+fn is_ready_at(kernel: &PlainKernel, p: VPid, t: Tid, request: &Request, front: &Given) -> bool
     ensures { result ≡ words.is_ready kernel.now p t.0 request.now front.now }
-{
-    if is_built(kernel, p, request) {
-        is_ready_by_row(kernel, p, t, request, front)
-    } else {
-        true
-    }
-}
-
-/// Whether the call is served so far: of files, sockets and processes there are the console and threads alone.
-#[tactic(auto, unfolding(plain_machine::specs::Serve::is_built))]
-fn is_built(kernel: &PlainKernel, p: VPid, request: &Request) -> bool
-    ensures { result ≡ words.is_built kernel.now p request.now }
-{
-    match *request {
-        Request::Write { fd, .. } => is_on_console(kernel, p, fd),
-        Request::Clone { flags, .. } => makes_no_process(flags),
-        Request::Exit { .. }
-        | Request::ExitGroup { .. }
-        | Request::Kill { .. }
-        | Request::Tgkill { .. }
-        | Request::Getpid
-        | Request::Getppid => true,
-        _ => false,
-    }
-}
-
-/// Whether what stands at a descriptor, if anything does, is the console.
-fn is_on_console(kernel: &PlainKernel, p: VPid, fd: u32) -> bool
-    ensures { result ≡ words.is_on_console (description_at kernel.now p fd) }
-{
-    match kernel.description_at(p, fd) {
-        None => true,
-        Some(description) => match description.object {
-            Object::Console => true,
-            _ => false,
-        },
-    }
-}
-
-fn makes_no_process(flags: u32) -> bool
-    ensures { result ≡ words.makes_no_process (clone_form flags) }
-{
-    match clone_form(flags) {
-        Some(CloneForm::Fork) => false,
-        _ => true,
-    }
-}
-
-#[tactic(auto, unfolding(plain_machine::specs::Serve::row_is_ready))]
-fn is_ready_by_row(kernel: &PlainKernel, p: VPid, t: Tid, request: &Request, front: &Given) -> bool
-    ensures { result ≡ words.row_is_ready kernel.now p t.0 request.now front.now }
 {
     match *request {
         Request::Read { fd, count, .. } => is_read_ready(kernel, p, fd, count),

@@ -22,7 +22,7 @@ use Rattle.plain_machine.specs.Kernels.{IsKernel}
 use Rattle.plain_machine.specs.Making.{are_making_flags, end_flags, has_channel_room, with_ends, with_datagrams}
 use Rattle.plain_machine.specs.RowLaws.{IsAnswer}
 use Rattle.plain_machine.specs.Rows.Channels.{numbers_answered, with_pipe, with_stream_pair, with_datagram_pair, new_end, is_pair_type, STREAMS, two_free, pipe2_row, stream_pair, datagram_pair, socketpair_row}
-use Rattle.plain_machine.specs.Serve.{row, row_is_ready}
+use Rattle.plain_machine.specs.Serve.{row, is_ready}
 use Rattle.plain_machine.proofs.CallBounds.{lent_room}
 use Rattle.plain_machine.proofs.HeldDescriptors.{IsFreeFrom, free_is, free_prompt}
 use Rattle.plain_machine.proofs.KernelThreads.{SameProcesses}
@@ -118,7 +118,7 @@ module _ (k : PlainKernel) (p : VPid) (fd other : ℕ) (free : free_from k p 0 �
 
 module _ (k : PlainKernel) (p : VPid) (t : ℕ) (given : List ℕ) where
   pub pipe2_law : (place flags : ℕ) → RowLaw k p t (Pipe2 place flags) given
-  unfolding row row_is_ready pipe2_row
+  unfolding row is_ready pipe2_row
   pipe2_law place flags = row_law k p t (Pipe2 place flags) given (λ e. quiet t (Pipe2 place flags) _ refl)
       (after (need (are_making_flags flags) EINVAL) (λ may allowed. after (need (has_channel_room k p) ENFILE) (λ room has. after (two_free k p) (λ fds free.
       succeeds _ (record {
@@ -162,7 +162,7 @@ module _ (k : PlainKernel) (p : VPid) (t : ℕ) (given : List ℕ) where
         (λ room. prompt_then (two_free k p) _ (two_prompt k p) (λ fds. refl))
 
     pub socketpair_law : RowLaw k p t (Socketpair domain socket_type protocol place) given
-    unfolding row row_is_ready socketpair_row
+    unfolding row is_ready socketpair_row
     socketpair_law = row_law k p t call given (λ e. quiet t call _ refl)
         (after (need (not (domain == 2)) EOPNOTSUPP) (λ other named. after (need (domain == 1) EAFNOSUPPORT) (λ own known. after (need (is_pair_type socket_type && (protocol == 0)) EINVAL) (λ may allowed.
         or_try (socket_type % 16 == STREAMS) (stream_pair k p socket_type) (datagram_pair k p socket_type) streams_meet datagrams_meet))))

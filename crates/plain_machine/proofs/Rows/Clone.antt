@@ -27,7 +27,7 @@ use Rattle.plain_machine.specs.Ends.{after_fork}
 use Rattle.plain_machine.specs.Valid.{IsKernel}
 use Rattle.plain_machine.specs.RowLaws.{with_one, IsAsked, IsAnswer, IsServed, IsMade, MayAdd, there_after}
 use Rattle.plain_machine.specs.Rows.Clone.{THREAD_LIMIT, PROCESS_LIMIT, LAST_ID, number_if, number_bytes, cloned, forked, clone_thread, clone_process, clone_by, clone_row}
-use Rattle.plain_machine.specs.Serve.{row, row_is_ready}
+use Rattle.plain_machine.specs.Serve.{row, is_ready}
 use Rattle.plain_process.proofs.MemoryBounds.{low_bytes_are}
 use Rattle.plain_machine.proofs.Trying.{Trying, succeeds, fails, after}
 use Rattle.plain_machine.proofs.LocalReplies.{needed}
@@ -183,5 +183,5 @@ module _ (k : PlainKernel) (p : VPid) (t flags stack parent tls child : ℕ) (gi
   form_settles (Some Thread) = tested k _ EAGAIN _ refl
 
   pub clone_law : RowLaw k p t (Clone flags stack parent tls child) given
-  unfolding row clone_row row_is_ready
+  unfolding row clone_row is_ready
   clone_law = row_law k p t call given (error_quiet t flags stack parent tls child) (form_served (clone_form flags) refl) (form_settles (clone_form flags))

@@ -30,7 +30,7 @@ use Rattle.plain_machine.specs.Addresses.{AF_INET, ADDRESS_SIZE, Endpoint, endpo
 use Rattle.plain_machine.specs.SocketWords.{is_settled, unready, socket_at, listens_at, bound_or, end_name, next_description, next_channel, without_first, with_last}
 use Rattle.plain_machine.specs.Rows.Connections.{Accepting, first_waiting, accepting_of, accepted, accept_served, accept_row, is_accept_ready, Connecting, may_connect, if_room, connecting_of, connected, connect_row, is_connect_ready}
 use Rattle.plain_machine.specs.Kernels.{IsKernel}
-use Rattle.plain_machine.specs.Serve.{row, row_is_ready}
+use Rattle.plain_machine.specs.Serve.{row, is_ready}
 use Rattle.plain_tables.proofs.Queues.{waiting_at}
 use Rattle.plain_machine.proofs.Trying.{Trying, succeeds, fails, after}
 use Rattle.plain_machine.proofs.LocalReplies.{needed, was_found}
@@ -115,7 +115,7 @@ module _ (k : PlainKernel) (p : VPid) (t : ℕ) (given : List ℕ) where
         (ap (map.get k.descriptions) may.holds.same ∙ may.holds.known) may.listens may.backlog a.conn may.rest may.there (made_of k p) O_RDWR may.low may.free number stream_flags)
 
   pub accept_law : (fd address place : ℕ) → RowLaw k p t (Accept fd address place) given
-  unfolding row row_is_ready accept_row is_accept_ready
+  unfolding row is_ready accept_row is_accept_ready
   accept_law fd address place = row_law k p t (Accept fd address place) given (λ e. quiet t (Accept fd address place) _ refl)
       (after (accepting_of k p fd) (λ a passes.
       let may = (may_accept k p fd).each a passes in
@@ -208,7 +208,7 @@ connect_whole k p fd is alive c may =
 
 module _ (k : PlainKernel) (p : VPid) (t : ℕ) (given : List ℕ) where
   pub connect_law : (fd address length : ℕ) → RowLaw k p t (Connect fd address length) given
-  unfolding row row_is_ready connect_row is_connect_ready
+  unfolding row is_ready connect_row is_connect_ready
   connect_law fd address length = row_law k p t (Connect fd address length) given (λ e. quiet t (Connect fd address length) _ refl)
       (after (connecting_of k p fd length (endpoint_of given)) (λ c passes.
       let may = (may_connect_is k p fd length (endpoint_of given)).each c passes in

@@ -13,7 +13,7 @@ use Rattle.plain_machine.specs.Kernel.{free_from, has_numbers}
 use Rattle.plain_machine.specs.KernelLaws.{IsAlone}
 use Rattle.plain_machine.specs.Making.{are_making_flags, end_flags}
 use Rattle.plain_machine.specs.Rows.Counters.{with_counter, eventfd2_row}
-use Rattle.plain_machine.specs.Serve.{row, row_is_ready}
+use Rattle.plain_machine.specs.Serve.{row, is_ready}
 use Rattle.plain_machine.proofs.HeldDescriptors.{free_is, free_prompt}
 use Rattle.plain_machine.proofs.LocalReplies.{needed}
 use Rattle.plain_machine.proofs.MadeDescriptions.{whole_made}
@@ -29,7 +29,7 @@ counter_alone value = record { no_end = λ conn side. refl; no_listener = λ add
 
 module _ (k : PlainKernel) (p : VPid) (t : ℕ) (given : List ℕ) where
   pub eventfd2_law : (value flags : ℕ) → RowLaw k p t (Eventfd2 value flags) given
-  unfolding row row_is_ready eventfd2_row IsRequest
+  unfolding row is_ready eventfd2_row IsRequest
   eventfd2_law value flags = row_law k p t (Eventfd2 value flags) given (λ e. quiet t (Eventfd2 value flags) _ refl)
       (after (need (are_making_flags flags) EINVAL) (λ may allowed. after (need (has_numbers k p) ENFILE) (λ room has. after (free_from k p 0) (λ fd free.
       let place = free_is k p 0 fd free in

@@ -25,7 +25,7 @@ use Rattle.plain_machine.specs.Commands.{fcntl_command}
 use Rattle.plain_machine.specs.Kernel.{Held, DESCRIPTOR_LIMIT, is_live, is_neighbour, held, free_from, with_descriptor}
 use Rattle.plain_machine.specs.Kernels.{IsKernel}
 use Rattle.plain_machine.specs.Rows.Descriptors.{dup_from, dup_row, is_cloexec_at_most, moved_to, dup3_row, dup_above, set_flags, with_flags, with_owner, may_own, set_owner, fcntl_by, fcntl_row, close_row}
-use Rattle.plain_machine.specs.Serve.{row, row_is_ready}
+use Rattle.plain_machine.specs.Serve.{row, is_ready}
 use Rattle.plain_machine.proofs.ClosedDescriptors.{closed_descriptors}
 use Rattle.plain_machine.proofs.HeldDescriptors.{IsHeldAt, held_is, held_prompt, free_is, free_prompt}
 use Rattle.plain_machine.proofs.LocalReplies.{needed}
@@ -90,7 +90,7 @@ module _ (k : PlainKernel) (p : VPid) (t : ℕ) (given : List ℕ) where
   dup_prompt h from cloexec = prompt_then (free_from k p from) _ (free_prompt k p from) (λ n. refl)
 
   pub dup_law : (fd : ℕ) → RowLaw k p t (Dup fd) given
-  unfolding row row_is_ready dup_row
+  unfolding row is_ready dup_row
   dup_law fd = row_law k p t (Dup fd) given (λ e. quiet t (Dup fd) _ refl)
       (after (held k p fd) (λ h there. dup_served (Dup fd) refl fd h (held_is k p fd h there) 0 false))
       (settles k _ (prompt_then (held k p fd) _ (held_prompt k p fd) (λ h. dup_prompt h 0 false)))
@@ -105,7 +105,7 @@ module _ (k : PlainKernel) (p : VPid) (t : ℕ) (given : List ℕ) where
       refl
 
   pub dup3_law : (fd to flags : ℕ) → RowLaw k p t (Dup3 fd to flags) given
-  unfolding row row_is_ready dup3_row
+  unfolding row is_ready dup3_row
   dup3_law fd to flags = row_law k p t (Dup3 fd to flags) given (λ e. quiet t (Dup3 fd to flags) _ refl)
       (after (held k p fd) (λ h there. after (need (not (to == fd) && is_cloexec_at_most flags) EINVAL) (λ done apart. after (need (nat_lt to DESCRIPTOR_LIMIT) EBADF) (λ allowed low.
       let tests = needed _ EINVAL done apart in
@@ -122,7 +122,7 @@ module _ (k : PlainKernel) (p : VPid) (t : ℕ) (given : List ℕ) where
       (λ done. prompt_then (need (nat_lt to DESCRIPTOR_LIMIT) EBADF) _ (prompt_need _ EBADF) (λ allowed. refl)))))
 
   pub close_law : (fd : ℕ) → RowLaw k p t (Close fd) given
-  unfolding row row_is_ready close_row
+  unfolding row is_ready close_row
   close_law fd = row_law k p t (Close fd) given (λ e. quiet t (Close fd) _ refl)
       (after (held k p fd) (λ h there.
       let closes = close_closes k p fd in
@@ -195,7 +195,7 @@ module _ (k : PlainKernel) (p : VPid) (t : ℕ) (given : List ℕ) where
     command_prompt h (Some _) = refl
 
     pub fcntl_law : RowLaw k p t call given
-    unfolding row row_is_ready fcntl_row
+    unfolding row is_ready fcntl_row
     fcntl_law = row_law k p t call given (λ e. quiet t call _ refl)
         (after (held k p fd) (λ h there. by_command h (held_is k p fd h there) (fcntl_command command)))
         (settles k _ (prompt_then (held k p fd) _ (held_prompt k p fd) (λ h. command_prompt h (fcntl_command command))))

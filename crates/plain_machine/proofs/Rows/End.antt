@@ -12,7 +12,7 @@ use Rattle.plain_machine.specs.Kernel.{at_process, thread_count}
 use Rattle.plain_machine.specs.Ends.{exit_status, after_end, thread_ended}
 use Rattle.plain_machine.specs.RowLaws.{there_after}
 use Rattle.plain_machine.specs.Rows.End.{exit_group_row, exit_row}
-use Rattle.plain_machine.specs.Serve.{row, row_answer, row_is_ready}
+use Rattle.plain_machine.specs.Serve.{row, serve, is_ready}
 use Rattle.plain_process.proofs.Giving.{gives}
 use Rattle.plain_machine.proofs.Trying.{succeeds}
 use Rattle.plain_machine.proofs.ThreadKeys.{there_without}
@@ -24,7 +24,7 @@ exit_small code = omega arith
 
 module _ (k : PlainKernel) (p : VPid) (t code : ℕ) (given : List ℕ) where
   pub exit_group_law : RowLaw k p t (ExitGroup code) given
-  unfolding row exit_group_row row_is_ready added_thread made_by
+  unfolding row exit_group_row is_ready added_thread made_by
   exit_group_law = row_law k p t (ExitGroup code) given (λ e. quiet t (ExitGroup code) _ refl)
       (succeeds _ (meets k p t (ExitGroup code) given (after_end k p (exit_status code)) 0 (λ asked. omega arith)
       (λ asked answer. ends k p t (ExitGroup code) given asked _ answer (exit_status code) (exit_small code) refl refl refl)))
@@ -43,5 +43,5 @@ module _ (k : PlainKernel) (p : VPid) (t code : ℕ) (given : List ℕ) where
 
   -- an exit answers no error
   pub exit_law : RowLaw k p t (Exit code) given
-  unfolding row row_answer exit_row row_is_ready thread_ended
+  unfolding row serve exit_row is_ready thread_ended
   exit_law = record { served = gives _ (exit_meets (nat_le (thread_count k p) 1) refl); ready = refl }

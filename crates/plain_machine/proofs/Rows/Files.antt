@@ -29,7 +29,7 @@ use Rattle.plain_machine.specs.KernelLaws.{IsAlone}
 use Rattle.plain_machine.specs.Kernels.{IsKernel}
 use Rattle.plain_machine.specs.RowLaws.{IsAsked}
 use Rattle.plain_machine.specs.Rows.Files.{path_of, without_name, unlinkat_row, FILE_LIMIT, LAST_FILE, may_open, with_file_bytes, opened_number, with_opened, status_flags, with_open_file, open_at, openat_row, seek_start, OFFSET_LIMIT, in_reach, place_moved, file_size, seek, lseek_row}
-use Rattle.plain_machine.specs.Serve.{row, row_is_ready}
+use Rattle.plain_machine.specs.Serve.{row, is_ready}
 use Rattle.plain_machine.specs.Start.{with_file}
 use Rattle.plain_machine.proofs.HeldDescriptors.{IsHeldAt, held_is, held_prompt, IsFreeFrom, free_is, free_prompt}
 use Rattle.plain_machine.proofs.LocalReplies.{needed, was_found}
@@ -193,7 +193,7 @@ module _ (k : PlainKernel) (p : VPid) (t : ℕ) (given : List ℕ) (directory pa
   open_at_prompt name fd file = prompt_then (may_open k flags file) _ (open_prompt k flags file) (λ done. refl)
 
   pub openat_law : RowLaw k p t opening given
-  unfolding row row_is_ready openat_row
+  unfolding row is_ready openat_row
   openat_law = row_law k p t opening given (λ e. quiet t opening _ refl)
       (after (need (directory == AT_FDCWD) EBADF) (λ here at. after (path_of given) (λ name is_path. after (refuse_if (length name == 0) ENOENT) (λ named some. after (refuse_if (flags % 4 == 3) EINVAL) (λ sound known_mode.
       after (need (has_numbers k p) ENFILE) (λ numbers room. after (free_from k p 0) (λ fd free.
@@ -204,7 +204,7 @@ module _ (k : PlainKernel) (p : VPid) (t : ℕ) (given : List ℕ) (directory pa
 
 module _ (k : PlainKernel) (p : VPid) (t : ℕ) (given : List ℕ) where
   pub unlinkat_law : (directory path flags : ℕ) → RowLaw k p t (Unlinkat directory path flags) given
-  unfolding row row_is_ready unlinkat_row
+  unfolding row is_ready unlinkat_row
   unlinkat_law directory path flags = row_law k p t (Unlinkat directory path flags) given (λ e. quiet t (Unlinkat directory path flags) _ refl)
       (after (need (directory == AT_FDCWD) EBADF) (λ here at. after (need (flags == 0) EINVAL) (λ plain none. after (path_of given) (λ name is_path. after (found (map.get k.names name) ENOENT) (λ number there.
       succeeds _ (unchanged_meets k p t (Unlinkat directory path flags) given (without_name k name number) 0 refl refl (omega arith) (λ asked. record {
@@ -235,7 +235,7 @@ module _ (k : PlainKernel) (p : VPid) (t : ℕ) (given : List ℕ) where
     seek_prompt h _ = refl
 
     pub lseek_law : RowLaw k p t seeking given
-    unfolding row row_is_ready lseek_row
+    unfolding row is_ready lseek_row
     lseek_law = row_law k p t seeking given (λ e. quiet t seeking _ refl)
         (after (held k p fd) (λ h there. seek_served h (held_is k p fd h there) h.description.object refl))
         (settles k _ (prompt_then (held k p fd) _ (held_prompt k p fd) (λ h. seek_prompt h h.description.object)))

@@ -13,7 +13,7 @@ use Rattle.plain_machine.specs.Kernel.{is_live}
 use Rattle.plain_machine.specs.Start.{NOBODY}
 use Rattle.plain_machine.specs.Valid.{IsKernel}
 use Rattle.plain_machine.specs.Rows.Numbers.{getpid_row, getppid_row, parent_in}
-use Rattle.plain_machine.specs.Serve.{row, row_is_ready}
+use Rattle.plain_machine.specs.Serve.{row, is_ready}
 use Rattle.plain_machine.proofs.Trying.{succeeds}
 use Rattle.plain_machine.proofs.RowBounds.{RowLaw, row_law, quiet, stays, same_processes, meets}
 
@@ -36,14 +36,14 @@ parent_is_word k is (Some process) = by_test (is_live k (pid process.parent)) re
 
 module _ (k : PlainKernel) (p : VPid) (t : ℕ) (given : List ℕ) where
   pub getpid_law : RowLaw k p t Getpid given
-  unfolding row getpid_row row_is_ready
+  unfolding row getpid_row is_ready
   getpid_law = row_law k p t Getpid given (λ e. quiet t Getpid _ refl)
       (succeeds _ (meets k p t Getpid given k p.0 (λ asked. live_number k p asked.kernel asked.alive)
       (λ asked answer. stays k p t Getpid given asked _ answer asked.kernel (same_processes k) (omega arith) (quiet t Getpid _ refl))))
       refl
 
   pub getppid_law : RowLaw k p t Getppid given
-  unfolding row getppid_row row_is_ready
+  unfolding row getppid_row is_ready
   getppid_law = row_law k p t Getppid given (λ e. quiet t Getppid _ refl)
       (succeeds _ (meets k p t Getppid given k _ (λ asked. parent_is_word k asked.kernel (map.get k.processes p))
       (λ asked answer. stays k p t Getppid given asked _ answer asked.kernel (same_processes k) (omega arith) (quiet t Getppid _ refl))))

@@ -27,7 +27,7 @@ use Rattle.plain_machine.specs.Channels.{direction_at, with_direction}
 use Rattle.plain_machine.specs.Kernel.{Held, held, with_object}
 use Rattle.plain_machine.specs.Making.{with_inbox}
 use Rattle.plain_machine.specs.Rows.Read.{is_readable, read_object, read_access, read_row, is_read_ready}
-use Rattle.plain_machine.specs.Serve.{row, row_is_ready}
+use Rattle.plain_machine.specs.Serve.{row, is_ready}
 use Rattle.plain_machine.specs.Transfers.Answers.{may_read}
 use Rattle.plain_machine.specs.Transfers.Counters.{COUNTER_SIZE, read_counter}
 use Rattle.plain_machine.specs.Transfers.Datagrams.{messages_at, read_first, read_message}
@@ -144,7 +144,7 @@ module _ (k : PlainKernel) (p : VPid) (t fd buffer count : ℕ) (given : List �
   object_settles h (Counter value) = tested k (nat_le COUNTER_SIZE n) EINVAL _ refl
 
   read_meets : RowLaw k p t (Read fd buffer count) given
-  unfolding row read_row row_is_ready is_read_ready
+  unfolding row read_row is_ready is_read_ready
   read_meets = row_law k p t (Read fd buffer count) given (λ e. quiet t (Read fd buffer count) _ refl)
       (after (read_access k p fd n) (λ h is. object_served h ((access_held k p fd n).each h is) h.description.object refl))
       (access_settles k (read_access k p fd n) _ (λ h. object_settles h h.description.object))

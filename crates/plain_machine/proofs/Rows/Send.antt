@@ -11,7 +11,7 @@ use Rattle.plain_tables.specs.Tables.{pid, is_live_process, raised_at, raised_fo
 use Rattle.plain_process.specs.Attempts.{need}
 use Rattle.plain_machine.specs.Kernel.{is_live, is_neighbour, has_thread, after_raise, after_raise_for_all}
 use Rattle.plain_machine.specs.Rows.Send.{is_above_zero, may_be_sent, kill_row, tgkill_row}
-use Rattle.plain_machine.specs.Serve.{row, row_is_ready}
+use Rattle.plain_machine.specs.Serve.{row, is_ready}
 use Rattle.plain_machine.proofs.Trying.{succeeds, after}
 use Rattle.plain_machine.proofs.LocalReplies.{needed}
 use Rattle.plain_machine.proofs.KernelThreads.{SameProcesses, change_keeps, signals_change}
@@ -28,7 +28,7 @@ for_all_threads k p s = change_keeps k p (raised_for_all s) (λ process known. r
 
 module _ (k : PlainKernel) (p : VPid) (t number s : ℕ) (given : List ℕ) where
   pub kill_law : RowLaw k p t (Kill number s) given
-  unfolding row kill_row row_is_ready is_neighbour after_raise_for_all
+  unfolding row kill_row is_ready is_neighbour after_raise_for_all
   kill_law = row_law k p t (Kill number s) given (λ e. quiet t (Kill number s) _ refl)
       (after (need (is_above_zero number && may_be_sent s) EINVAL) (λ may allowed. after (need (is_neighbour k p number) ESRCH) (λ there known.
       let tests = needed _ ESRCH there known in
@@ -39,7 +39,7 @@ module _ (k : PlainKernel) (p : VPid) (t number s : ℕ) (given : List ℕ) wher
 
   module _ (u : ℕ) where
     pub tgkill_law : RowLaw k p t (Tgkill number u s) given
-    unfolding row tgkill_row row_is_ready after_raise
+    unfolding row tgkill_row is_ready after_raise
     tgkill_law = row_law k p t (Tgkill number u s) given (λ e. quiet t (Tgkill number u s) _ refl)
         (after (need (is_above_zero number && may_be_sent s) EINVAL) (λ may allowed. after (need (is_neighbour k p number && has_thread k (pid number) u) ESRCH) (λ there known.
         let tests = needed _ ESRCH there known in

@@ -28,7 +28,7 @@ use Rattle.plain_machine.specs.SocketWords.{is_settled, socket_at, unbound_host,
 use Rattle.plain_machine.specs.Rows.Sockets.{socket_row, is_own_host, port_for, bind_row, may_listen, listening, listen_row, own_name, peer_name, named, getsockname_row, getpeername_row, setsockopt_row, shut, shut_object, shutdown_row}
 use Rattle.plain_machine.specs.Kernels.{IsKernel}
 use Rattle.plain_machine.specs.KernelLaws.{IsAlone, MayBePlaced}
-use Rattle.plain_machine.specs.Serve.{row, row_is_ready}
+use Rattle.plain_machine.specs.Serve.{row, is_ready}
 use Rattle.plain_machine.proofs.Trying.{Trying, succeeds, fails, after}
 use Rattle.plain_machine.proofs.LocalReplies.{needed, was_found}
 use Rattle.plain_machine.proofs.WholePlaced.{whole_placed}
@@ -132,7 +132,7 @@ module _ (k : PlainKernel) (p : VPid) (t : ℕ) (given : List ℕ) where
         })
 
   pub socket_law : (domain socket_type protocol : ℕ) → RowLaw k p t (SocketCall domain socket_type protocol) given
-  unfolding row row_is_ready socket_row
+  unfolding row is_ready socket_row
   socket_law domain socket_type protocol = row_law k p t (SocketCall domain socket_type protocol) given (λ e. quiet t (SocketCall domain socket_type protocol) _ refl)
       (after (need (domain == AF_INET) EAFNOSUPPORT) (λ one done. after (need (is_stream_type socket_type && ((protocol == 0) || (protocol == 6))) EINVAL) (λ two done_too.
       after (need (has_numbers k p) ENFILE) (λ three room. after (free_from k p 0) (λ fd free.
@@ -150,7 +150,7 @@ module _ (k : PlainKernel) (p : VPid) (t : ℕ) (given : List ℕ) where
       (settles_then k (free_from k p 0) _ (certain_free k p) (λ fd. refl)))))
 
   pub bind_law : (fd address length : ℕ) → RowLaw k p t (Bind fd address length) given
-  unfolding row row_is_ready bind_row
+  unfolding row is_ready bind_row
   bind_law fd address length = row_law k p t (Bind fd address length) given (λ e. quiet t (Bind fd address length) _ refl)
       (after (socket_at k p fd) (λ h at. after (need (nat_le ADDRESS_SIZE length) EINVAL) (λ one done. after (found (unbound_host h.description.object) EINVAL) (λ own unbound.
       after (need ((endpoint_of given).family == AF_INET) EAFNOSUPPORT) (λ two done_too. after (need (is_own_host own (named_host own (endpoint_of given))) EADDRNOTAVAIL) (λ three done_again.
@@ -167,7 +167,7 @@ module _ (k : PlainKernel) (p : VPid) (t : ℕ) (given : List ℕ) where
       (settles_then k (port_for k own (endpoint_of given).port) _ (certain_port k own (endpoint_of given).port) (λ port. refl)))))))
 
   pub listen_law : (fd backlog : ℕ) → RowLaw k p t (Listen fd backlog) given
-  unfolding row row_is_ready listen_row
+  unfolding row is_ready listen_row
   listen_law fd backlog = row_law k p t (Listen fd backlog) given (λ e. quiet t (Listen fd backlog) _ refl)
       (after (socket_at k p fd) (λ h at. after (may_listen h.description.object) (λ socket may. after (bound_or k socket EADDRINUSE) (λ address found.
       let holds = (socket_is k p fd).each h at in
@@ -180,14 +180,14 @@ module _ (k : PlainKernel) (p : VPid) (t : ℕ) (given : List ℕ) where
       settles_then k (bound_or k socket EADDRINUSE) _ (certain_bound k socket EADDRINUSE) (λ address. refl))))
 
   pub getsockname_law : (fd address length : ℕ) → RowLaw k p t (Getsockname fd address length) given
-  unfolding row row_is_ready getsockname_row reads_of length_place fills_of writes_of
+  unfolding row is_ready getsockname_row reads_of length_place fills_of writes_of
   getsockname_law fd address length = row_law k p t (Getsockname fd address length) given (λ e. quiet t (Getsockname fd address length) _ refl)
       (after (socket_at k p fd) (λ h at. names (Getsockname fd address length) refl (own_name k h.description.object) (own_shown k h.description.object) (λ memory reads.
       named_room memory (Getsockname fd address length) address length given (own_name k h.description.object) refl refl (λ size. refl) (own_shown k h.description.object) reads)))
       (settles_then k (socket_at k p fd) _ (certain_socket k p fd) (λ h. refl))
 
   pub getpeername_law : (fd address length : ℕ) → RowLaw k p t (Getpeername fd address length) given
-  unfolding row row_is_ready getpeername_row reads_of length_place fills_of writes_of
+  unfolding row is_ready getpeername_row reads_of length_place fills_of writes_of
   getpeername_law fd address length = row_law k p t (Getpeername fd address length) given (λ e. quiet t (Getpeername fd address length) _ refl)
       (after (socket_at k p fd) (λ h at. after (peer_name k h.description.object) (λ name is.
       let shown = (peer_shown k h.description.object).each name is in
@@ -195,7 +195,7 @@ module _ (k : PlainKernel) (p : VPid) (t : ℕ) (given : List ℕ) where
       (settles_then k (socket_at k p fd) _ (certain_socket k p fd) (λ h. settles_then k (peer_name k h.description.object) _ (certain_peer k h.description.object) (λ name. refl)))
 
   pub setsockopt_law : (fd level name value length : ℕ) → RowLaw k p t (Setsockopt fd level name value length) given
-  unfolding row row_is_ready setsockopt_row
+  unfolding row is_ready setsockopt_row
   setsockopt_law fd level name value length = row_law k p t (Setsockopt fd level name value length) given (λ e. quiet t (Setsockopt fd level name value length) _ refl)
       (after (socket_at k p fd) (λ h at. answers (Setsockopt fd level name value length) refl k 0 refl refl (omega arith) (λ asked. asked.kernel)))
       (settles_then k (socket_at k p fd) _ (certain_socket k p fd) (λ h. refl))
@@ -216,7 +216,7 @@ module _ (k : PlainKernel) (p : VPid) (t : ℕ) (given : List ℕ) where
   shut_settles how _ = tested k (nat_le how 2) EINVAL _ refl
 
   pub shutdown_law : (fd how : ℕ) → RowLaw k p t (Shutdown fd how) given
-  unfolding row row_is_ready shutdown_row
+  unfolding row is_ready shutdown_row
   shutdown_law fd how = row_law k p t (Shutdown fd how) given (λ e. quiet t (Shutdown fd how) _ refl)
       (after (socket_at k p fd) (λ h at. shut_served fd how h ((socket_is k p fd).each h at) h.description.object refl))
       (settles_then k (socket_at k p fd) _ (certain_socket k p fd) (λ h. shut_settles how h.description.object))

@@ -17,7 +17,7 @@ use Rattle.plain_machine.specs.RowLaws.{IsAnswer}
 use Rattle.plain_machine.specs.Waits.{wait_for, is_answered}
 use Rattle.plain_machine.specs.Valid.{IsKernel}
 use Rattle.plain_machine.specs.Rows.Wait.{WNOHANG, may_be_asked, child_of_number, reaped, wait4_by, wait4_row, is_wait4_ready}
-use Rattle.plain_machine.specs.Serve.{row, row_is_ready}
+use Rattle.plain_machine.specs.Serve.{row, is_ready}
 use Rattle.plain_process.proofs.MemoryBounds.{low_bytes_are}
 use Rattle.plain_machine.proofs.Trying.{Trying, succeeds, fails, after}
 use Rattle.plain_machine.proofs.MemoryPages.{FitsSpans}
@@ -103,7 +103,7 @@ module _ (k : PlainKernel) (p : VPid) (t : ℕ) (given : List ℕ) (number place
   ready false = refl
 
   pub wait4_law : RowLaw k p t (Wait4 number place options usage) given
-  unfolding row row_is_ready wait4_row is_wait4_ready
+  unfolding row is_ready wait4_row is_wait4_ready
   wait4_law = row_law k p t call given no_change
       (after (need (may_be_asked number options usage) EINVAL) (λ asked allowed. by_found (wait_for k.processes p (child_of_number number)) refl))
       (ready (may_be_asked number options usage))

@@ -36,7 +36,7 @@ use Rattle.plain_machine.specs.Making.{with_inbox}
 use Rattle.plain_machine.specs.RowLaws.{IsAnswer}
 use Rattle.plain_machine.specs.Rows.Files.{OFFSET_LIMIT, with_file_bytes}
 use Rattle.plain_machine.specs.Rows.Write.{is_writable, write_object, write_access, write_row, is_write_ready}
-use Rattle.plain_machine.specs.Serve.{row, row_is_ready, front_of}
+use Rattle.plain_machine.specs.Serve.{row, is_ready, front_of}
 use Rattle.plain_machine.specs.Transfers.Counters.{COUNTER_SIZE, COUNTER_LIMIT, number_added, may_add, takes_more, write_counter}
 use Rattle.plain_machine.specs.Transfers.Datagrams.{MESSAGE_LIMIT, takes_message, write_message}
 use Rattle.plain_machine.specs.Transfers.Files.{ALL_FILES_LIMIT, total_bytes, with_piece, write_place, moved_behind, write_piece, write_file}
@@ -263,7 +263,7 @@ module _ (k : PlainKernel) (p : VPid) (t fd buffer count : ℕ) (given : List �
   object_settles h (Counter value) = tested k (may_add count given) EINVAL _ refl
 
   pub write_law : RowLaw k p t (Write fd buffer count) given
-  unfolding row write_row row_is_ready is_write_ready
+  unfolding row write_row is_ready is_write_ready
   write_law = row_law k p t call given (λ e. quiet t call _ refl)
       (after (write_access k p fd count given) (λ h is.
       let found_it = (access_held k p fd count given).each h is in

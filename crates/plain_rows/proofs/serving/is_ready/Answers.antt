@@ -6,4 +6,4 @@ use Rattle.plain_rows.proofs.serving.is_ready.Goals as goal
 pub returns : goal.returns
 returns c = λ given front.
     ready_by_front c.args.kernel.now c.args.p c.args.t.0 c.args.request.now given
-    ∙ ap (is_ready c.args.kernel.now c.args.p c.args.t.0 c.args.request.now) front ∙ sym c.is_ready_so_far.ensures
+    ∙ ap (is_ready c.args.kernel.now c.args.p c.args.t.0 c.args.request.now) front ∙ sym c.is_ready_at.ensures
