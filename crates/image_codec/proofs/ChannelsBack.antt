@@ -26,7 +26,8 @@ use Rattle.plain_tables.specs.Objects.{dir, is_end, is_queued, is_pending, has_s
 use Rattle.plain_tables.proofs.Entries.{found_at}
 use Rattle.image_shared.specs.declared.shared.ObjectImage.{ObjectImage}
 use Rattle.image_shared.specs.declared.shared.DescriptionImage.{DescriptionImage}
-use Rattle.image_codec.specs.KernelParts.{channel_entry, direction_entries, names_side, is_side_named}
+use Rattle.image_shared.specs.Sides.{names_side, is_side_named}
+use Rattle.image_codec.specs.KernelParts.{channel_entry, direction_entries}
 use Rattle.image_codec.specs.KernelImages.{channel_image, description_image, object_image, listener_image, silence, HasArrived}
 use Rattle.image_codec.proofs.MadeMaps.{each_back, flat_back, later, there_at, which_value}
 use Rattle.image_codec.proofs.DescriptionsBack.{has_listener}
@@ -126,7 +127,7 @@ module _ (k : PlainKernel) (is : IsKernel k) where
       let (direction, known) = found_at dir_total dir_exact k.directions at some in
       known ∙ (λ i. Some (record direction { arrived = arrived at direction known i })) ∙ (λ i. Some (shown (sym known i)))
 
-  has_side : (conn : ConnId) (channel : Channel) (side : ℕ) → map.get k.channels conn ≡ Some channel → nat_lt side 2 ≡ true → is_some (map.get k.directions (dir conn side)) ≡ true
+  pub has_side : (conn : ConnId) (channel : Channel) (side : ℕ) → map.get k.channels conn ≡ Some channel → nat_lt side 2 ≡ true → is_some (map.get k.directions (dir conn side)) ≡ true
   has_side conn channel side there below = is.channels.sides (dir conn side) ∙ (λ i. below i && is_some (there i))
 
   there_second : (at : Dir) (first second : Dir × Direction) → is_some (map.find dir_cmp at (second ∷ [])) ≡ true → is_some (map.find dir_cmp at (first ∷ second ∷ [])) ≡ true

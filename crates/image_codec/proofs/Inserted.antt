@@ -1,12 +1,14 @@
 -- Maps made of the entries of a list, put in from its end
 use Rattle.std.proofs.Common.{◌≡◌, ℕ, Ordering, List, [], ◌∷◌, ◌++◌, map as mapped, refl, sym, ap, ◌∙◌, append_assoc, append-nil}
-use Rattle.std.specs.List.{flat_map}
-use Rattle.std.specs.Prelude.{Vec}
+use Rattle.std.specs.List.{flat_map, filter_map, cons_option}
+use Rattle.std.specs.Prelude.{Vec, Option, Some}
 use Rattle.std.specs.Ordering.{nat_cmp}
 use Rattle.std.specs.FinMap as map
-use Rattle.sys_abi.specs.Names.{by_name}
-use Rattle.image_codec.specs.KernelParts.{inserted}
+use Rattle.sys_abi.specs.Names.{by_name, name_cmp}
+use Rattle.image_shared.specs.declared.shared.FileImage.{FileImage}
+use Rattle.image_codec.specs.KernelParts.{inserted, name_entry, named_entry}
 use Rattle.image_codec.specs.KernelImages.{name_under}
+use Rattle.image_codec.proofs.MadeMaps.{joined_option}
 
 mapped-append : {X Y : Type 0} (f : X → Y) (xs ys : List X) → mapped f (xs ++ ys) ≡ mapped f xs ++ mapped f ys
 mapped-append f [] ys = refl
@@ -44,3 +46,25 @@ pub name_put : {A : Type 0} (before after : List (Vec ℕ A × ℕ)) (name : Vec
     → inserted (mapped name_under (by_name after)) n ≡ inserted (mapped name_under (by_name before)) m
 name_put before after name number copy m n last same put =
     inserted_one name_under (by_name before) (by_name after) (name.items, number) m n (ap by_name last ∙ mapped-append (λ e. (e.0.items, e.1)) after ((name, number) ∷ [])) (put ∙ ap (map.insert m number) same)
+
+-- an item that gives an entry or none
+filtered : {X Y : Type 0} (f : X → Option Y) (xs : List X) → filter_map f xs ≡ flat_map (λ x. cons_option (f x) []) xs
+filtered f [] = refl
+filtered f (x ∷ xs) = joined_option (f x) (filter_map f xs) ∙ ap (λ ys. cons_option (f x) [] ++ ys) (filtered f xs)
+
+pub inserted_some : {K V X : Type 0} {R : K → K → Ordering} (f : X → Option (K × V)) (before after : List X) (x : X) (m n : map.FinMap R V) → before ≡ after ++ x ∷ [] → n ≡ inserted (cons_option (f x) []) m
+    → inserted (filter_map f after) n ≡ inserted (filter_map f before) m
+inserted_some f before after x m n last put =
+    ap (λ es. inserted es n) (filtered f after) ∙ inserted_group (λ y. cons_option (f y) []) before after x m n last put ∙ ap (λ es. inserted es m) (sym (filtered f before))
+
+-- a file's name, if it has one
+pub unnamed : (image : FileImage) (m : map.FinMap name_cmp ℕ) → image.name ≡ [] → m ≡ inserted (cons_option (name_entry image) []) m
+unnamed image m none = ap (λ name. inserted (cons_option (named_entry name image.number) []) m) (sym none)
+
+pub named : (image : FileImage) (m n : map.FinMap name_cmp ℕ) (name : List ℕ) (number : ℕ) → (image.name ≡ [] → ⊥) → name ≡ image.name → number ≡ image.number → n ≡ map.insert m name number → n ≡ inserted (cons_option (name_entry image) []) m
+named image m n name number some same numbered put =
+    put ∙ (λ i. map.insert m (same i) (numbered i)) ∙ ap (λ found. inserted (cons_option found []) m) (sym (entry image.name some))
+  where
+    entry : (bytes : List ℕ) → (bytes ≡ [] → ⊥) → named_entry bytes image.number ≡ Some (bytes, image.number)
+    entry [] none = absurd (none refl)
+    entry (byte ∷ bytes) some = refl

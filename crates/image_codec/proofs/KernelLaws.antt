@@ -2,8 +2,8 @@
 --     shared_of-kernel_of      of an image that can be spelled
 --     only_image      so an image of a kernel part is what is made of its entries
 --     kernel_made     the kernel part of an image, map by map
-use Rattle.std.proofs.Common.{◌≡◌, ℕ, Ordering, Less, Bool, true, false, cond, IsTrue, ◌&&◌, ◌||◌, ◌==◌, List, [], ◌∷◌, ◌++◌, filter, map as mapped, refl, sym, ap, subst, ◌∙◌, append-nil, arith}
-use Rattle.std.specs.Prelude.{Option, Some, None, nat_lt, nat_le, option_map}
+use Rattle.std.proofs.Common.{◌≡◌, ℕ, Less, true, false, cond, ◌==◌, List, [], ◌∷◌, ◌++◌, filter, map as mapped, refl, sym, ap, subst, ◌∙◌, append-nil, arith}
+use Rattle.std.specs.Prelude.{Some, None}
 use Rattle.std.specs.List.{AllByRecursion, flat_map, filter_map}
 use Rattle.std.specs.List.Sorted.{IsStrictlySortedBy}
 use Rattle.std.specs.Ordering.{nat_cmp, is_eq, ordering_then}
@@ -12,18 +12,12 @@ use Rattle.std.specs.Map.{keys_of}
 use Rattle.std.specs.FinMap as map
 use Rattle.std.proofs.lemmas.Bool.Decides.{nat_tests}
 use Rattle.std.proofs.lemmas.List.Elements.{filter-append}
-use Rattle.views.proofs.TreeMaps.{entries-from_entries, entries-empty as no_entries}
-use Rattle.views.specs.NumberMap.{is_above}
+use Rattle.views.proofs.TreeMaps.{entries-from_entries}
 use Rattle.sys_abi.specs.declared.identity.VPid.{VPid}
 use Rattle.sys_abi.specs.declared.identity.Slot.{Slot}
-use Rattle.sys_abi.specs.declared.identity.DescId.{DescId}
-use Rattle.sys_abi.specs.Orders.{vpid_cmp, slot_cmp, desc_cmp, conn_cmp}
-use Rattle.sys_abi.proofs.OrderLaws.{vpid_total, slot_total, desc_total}
+use Rattle.sys_abi.specs.Orders.{vpid_cmp, slot_cmp}
+use Rattle.sys_abi.proofs.OrderLaws.{vpid_total, slot_total}
 use Rattle.plain_machine.specs.declared.kernel.PlainKernel.{PlainKernel}
-use Rattle.plain_tables.specs.Tables.{Listeners}
-use Rattle.image_shared.specs.declared.shared.ObjectImage.{ObjectImage}
-use Rattle.image_shared.specs.declared.shared.ObjectImage.TheVariants.{Console, File, Stream, Socket, Listener}
-use Rattle.image_shared.specs.declared.shared.FileImage.{FileImage}
 use Rattle.image_shared.specs.declared.shared.ChannelImage.{ChannelImage}
 use Rattle.image_shared.specs.declared.shared.DescriptionImage.{DescriptionImage}
 use Rattle.image_shared.specs.declared.shared.ThreadEntry.{ThreadEntry}
@@ -31,36 +25,12 @@ use Rattle.image_shared.specs.declared.shared.DescriptorEntry.{DescriptorEntry}
 use Rattle.image_shared.specs.declared.shared.ProcessEntry.{ProcessEntry}
 use Rattle.image_shared.specs.declared.shared.Shared.{Shared}
 use Rattle.image_format.specs.Texts.{EachFrom}
-use Rattle.image_format.specs.Fields.{last_item}
-use Rattle.image_shared.specs.SharedTests as field
-use Rattle.image_shared.specs.SharedFormat.{VERSION}
-use Rattle.image_shared.specs.SharedFits.{SharedFits, DescriptionFits, ProcessFits, ThreadFits, DescriptorFits, kind_of}
-use Rattle.image_codec.specs.KernelParts.{kernel_of, process_entry, maker_entry, descriptor_entries, descriptor_entry, description_entry, signals_entry, object_of, listening_of, name_entry, file_entry, channel_entry, direction_entries}
-use Rattle.image_codec.specs.KernelImages.{shared_of, IsImage, names_by_number, file_image, channel_image, object_image, description_image, thread_image, descriptor_image, process_image, is_of, maker_or}
-use Rattle.image_format.proofs.Rising.{RisesFrom, IsAfter, each_rising, sorted_rising, sorted_append, entries_made, undone, all_from}
-
-pub both_true : (a b : Bool) → IsTrue (a && b) → IsTrue a × IsTrue b
-both_true true true h = (refl, refl)
-both_true true false h = cc
-both_true false b h = cc
-
-pub nat_below : (a b : ℕ) → IsTrue (nat_lt a b) → nat_cmp a b ≡ Less
-nat_below a b h = grind (arith, nat_tests)
-
--- a number above the one before
-after_number : (before : Option ℕ) (n : ℕ) → IsTrue (is_above before n) → IsAfter nat_cmp before n
-after_number None n h = tt
-after_number (Some before) n h = nat_below before n h
-
--- threads
-thread_rises : (next_id : ℕ) (earlier : List ProcessEntry) (front : List ThreadEntry) (thread : ThreadEntry) → ThreadFits next_id earlier front thread
-    → IsAfter nat_cmp (option_map (λ (t : ThreadEntry). t.tid) (last_item front)) thread.tid
-thread_rises next_id earlier front thread h =
-    after_number _ _ ((both_true _ _ ((both_true _ _ h.number.1).0)).0)
-
-pub tids_rise : (next_id : ℕ) (earlier : List ProcessEntry) (threads : List ThreadEntry) → EachFrom (ThreadFits next_id earlier) [] threads
-    → RisesFrom nat_cmp None (mapped (λ (t : ThreadEntry). t.tid) threads)
-tids_rise next_id earlier threads h = each_rising nat_cmp (λ (t : ThreadEntry). t.tid) (ThreadFits next_id earlier) (thread_rises next_id earlier) [] threads h
+use Rattle.image_shared.specs.SharedFits.{SharedFits, ProcessFits, ThreadFits}
+use Rattle.image_codec.specs.KernelParts.{kernel_of, process_entry, maker_entry, descriptor_entries, descriptor_entry, description_entry, signals_entry, listening_of, name_entry, file_entry, channel_entry, direction_entries}
+use Rattle.image_codec.specs.KernelImages.{shared_of, IsImage, names_by_number, file_image, channel_image, description_image, thread_image, descriptor_image, process_image, is_of, maker_or}
+use Rattle.image_codec.proofs.OrderedItems.{in_order, numbers_rise, conns_rise, ids_rise, pids_rise, tids_rise, fds_rise}
+use Rattle.image_codec.proofs.ListsBack.{files_back, channels_back, descriptions_back}
+use Rattle.image_format.proofs.Rising.{sorted_rising, sorted_append, entries_made, undone, all_from}
 
 pub thread_entries : (next_id : ℕ) (earlier : List ProcessEntry) (threads : List ThreadEntry) → EachFrom (ThreadFits next_id earlier) [] threads
     → map.entries (map.from_entries {R = nat_cmp} (mapped signals_entry threads)) ≡ mapped signals_entry threads
@@ -72,53 +42,9 @@ threads_back next_id earlier threads h =
     ap (mapped thread_image) (thread_entries next_id earlier threads h)
     ∙ undone signals_entry thread_image threads (all_from (ThreadFits next_id earlier) _ (λ front t fits. refl) [] threads h)
 
--- descriptions
-pair_below : (a b c d : ℕ) → IsTrue (nat_lt a c || nat_lt b d) → IsTrue (nat_le a c) → ordering_then (nat_cmp a c) (nat_cmp b d) ≡ Less
-pair_below a b c d h g = grind (arith, nat_tests)
-
-abbrev id_of : DescriptionImage → DescId
-id_of description = description.id
-
-abbrev pair_of : DescriptionImage → ℕ × ℕ
-pair_of description = (description.id.pid.0, description.id.num)
-
-after_pair : (before : Option DescriptionImage) (p n : ℕ) → IsTrue (field.is_maker_after (option_map pair_of before) p) → IsTrue (field.is_number_after (option_map pair_of before) p n)
-    → IsAfter desc_cmp (option_map id_of before) (record { pid = record { 0 = p }; num = n })
-after_pair None p n h g = tt
-after_pair (Some before) p n h g = pair_below before.id.pid.0 before.id.num p n g h
-
--- a description of the shared image, after those before it
-abbrev pub IsListed : Shared → List DescriptionImage → DescriptionImage → Type 0
-IsListed s = DescriptionFits VERSION s.next_id s.files s.channels
-
-description_rises : (s : Shared) (front : List DescriptionImage) (description : DescriptionImage) → IsListed s front description
-    → IsAfter desc_cmp (option_map (λ (d : DescriptionImage). d.id) (last_item front)) description.id
-description_rises s front description h =
-    after_pair (last_item front) description.id.pid.0 description.id.num ((both_true _ _ h.maker.1).0) h.number.1
-
-console_back : (listeners : Listeners) (object : ObjectImage) → IsTrue (field.is_object_kind VERSION (kind_of object)) → object_image listeners (object_of object) ≡ object
-console_back listeners Console h = refl
-console_back listeners (File number offset) h = cc
-console_back listeners (Stream conn side) h = cc
-console_back listeners (Socket address) h = cc
-console_back listeners (Listener address backlog pending) h = cc
-
-description_back : (listeners : Listeners) (description : DescriptionImage) → IsTrue (field.is_object_kind VERSION (kind_of description.object)) → description_image listeners (description_entry description) ≡ description
-description_back listeners description h = λ i. record description { object = console_back listeners description.object h i }
-
-descriptions_back : (listeners : Listeners) (s : Shared) (descriptions : List DescriptionImage) → EachFrom (IsListed s) [] descriptions
-    → mapped (description_image listeners) (map.entries (map.from_entries {R = desc_cmp} (mapped description_entry descriptions))) ≡ descriptions
-descriptions_back listeners s descriptions h =
-    ap (mapped (description_image listeners)) (entries_made desc_total description_entry descriptions (each_rising desc_cmp (λ (d : DescriptionImage). d.id) (IsListed s) (description_rises s) [] descriptions h))
-    ∙ undone description_entry (description_image listeners) descriptions (all_from (IsListed s) _ (λ front d fits. description_back listeners d fits.kind.1) [] descriptions h)
-
 -- descriptors, all in one list
 abbrev slots_of : VPid → List DescriptorEntry → List Slot
 slots_of p descriptors = mapped (λ (d : DescriptorEntry). record { pid = p; fd = d.number }) descriptors
-
-number_rises : (descriptions : List DescriptionImage) (front : List DescriptorEntry) (descriptor : DescriptorEntry) → DescriptorFits descriptions front descriptor
-    → IsAfter nat_cmp (option_map (λ (d : DescriptorEntry). d.number) (last_item front)) descriptor.number
-number_rises descriptions front descriptor h = after_number _ _ ((both_true _ _ h.number.1).0)
 
 same_pid : (a b c : ℕ) → nat_cmp b c ≡ Less → ordering_then (nat_cmp a a) (nat_cmp b c) ≡ Less
 same_pid a b c h = grind (arith, nat_tests)
@@ -245,26 +171,12 @@ all_found (x ∷ processes) h = (found_first x processes h.0, later processes h.
     later [] h g = tt
     later (e ∷ items) h g = (found_later x e processes h.0 g.0, later items h.1 g.1)
 
-process_rises : (next_id : ℕ) (channels : List ChannelImage) (descriptions : List DescriptionImage) (front : List ProcessEntry) (process : ProcessEntry) → ProcessFits next_id channels descriptions front process
-    → IsAfter vpid_cmp (option_map (λ (e : ProcessEntry). e.pid) (last_item front)) process.pid
-process_rises next_id channels descriptions front process h = after_pid (last_item front) ((both_true _ _ ((both_true _ _ h.number.1).0)).0)
-  where
-    after_pid : (before : Option ProcessEntry) → IsTrue (is_above (option_map (λ (e : ProcessEntry). e.pid.0) before) process.pid.0)
-        → IsAfter vpid_cmp (option_map (λ (e : ProcessEntry). e.pid) before) process.pid
-    after_pid None h = tt
-    after_pid (Some before) h = nat_below before.pid.0 process.pid.0 h
-
-pids_rise : (next_id : ℕ) (channels : List ChannelImage) (descriptions : List DescriptionImage) (processes : List ProcessEntry) → EachFrom (ProcessFits next_id channels descriptions) [] processes
-    → RisesFrom vpid_cmp None (pids processes)
-pids_rise next_id channels descriptions processes h =
-    each_rising vpid_cmp (λ (e : ProcessEntry). e.pid) (ProcessFits next_id channels descriptions) (process_rises next_id channels descriptions) [] processes h
-
 pub pids_sorted : (s : Shared) → SharedFits s → IsStrictlySortedBy vpid_cmp (mapped (λ (e : ProcessEntry). e.pid) s.processes)
 pids_sorted s h = sorted_rising vpid_cmp vpid_total None (pids s.processes) (pids_rise s.next_id s.channels s.descriptions s.processes h.processes)
 
 keeps_own : (next_id : ℕ) (channels : List ChannelImage) (descriptions : List DescriptionImage) (front : List ProcessEntry) (process : ProcessEntry) → ProcessFits next_id channels descriptions front process → KeepsOwn process
 keeps_own next_id channels descriptions front process h =
-    sorted_rising nat_cmp nat_cmp_total None _ (each_rising nat_cmp (λ (d : DescriptorEntry). d.number) (DescriptorFits descriptions) (number_rises descriptions) [] process.descriptors h.descriptors)
+    sorted_rising nat_cmp nat_cmp_total None _ (fds_rise descriptions process.descriptors h.descriptors)
 
 descriptors_undone : (p : VPid) (descriptors : List DescriptorEntry) → mapped descriptor_image (mapped (descriptor_entry p) descriptors) ≡ descriptors
 descriptors_undone p [] = refl
@@ -304,18 +216,13 @@ processes_back next_id channels descriptions k processes h of_processes makers o
     ∙ undone process_entry (process_image k) processes
     (both_all HasThreads (IsFound processes) (λ e. process_image k (process_entry e) ≡ e) (λ e own found. process_back k processes e makers slots own found) processes threads (all_found processes sorted))
 
--- of no items there is no entry
-none_made : {I K X : Type 0} (R : K → K → Ordering) (entries_of : List I → List (K × X)) (image : K × X → I) (items : List I) → items ≡ [] → entries_of [] ≡ []
-    → mapped image (map.entries (map.from_entries {R = R} (entries_of items))) ≡ items
-none_made R entries_of image items none empty =
-    ap (λ is. mapped image (map.entries (map.from_entries {R = R} (entries_of is)))) none ∙ ap (λ es. mapped image (map.entries (map.from_entries {R = R} es))) empty ∙ ap (mapped image) (no_entries R _) ∙ sym none
-
 pub shared_of-kernel_of : (s : Shared) → SharedFits s → shared_of (kernel_of s) ≡ s
 unfolding shared_of kernel_of
 shared_of-kernel_of s h =
-    let files = none_made nat_cmp (λ (fs : List FileImage). mapped file_entry fs) (file_image (names_by_number (kernel_of s).names)) s.files h.files refl in
-    let channels = none_made conn_cmp (λ (cs : List ChannelImage). mapped (channel_entry s.descriptions) cs) (channel_image (kernel_of s).directions) s.channels h.channels refl in
-    let descriptions = descriptions_back (kernel_of s).listeners s s.descriptions h.descriptions in
+    let order = in_order s h in
+    let files = files_back s order (numbers_rise s.next_file s.files h.files) in
+    let channels = channels_back s order (conns_rise s.next_id s.channels h.channels) in
+    let descriptions = descriptions_back s order (ids_rise s h) in
     let processes = processes_back s.next_id s.channels s.descriptions (kernel_of s) s.processes h.processes refl refl refl in
     λ i. record s { files = files i; channels = channels i; descriptions = descriptions i; processes = processes i }
 
@@ -329,43 +236,27 @@ unfolding shared_of
 image_made k made next_id next_file files channels descriptions processes =
     λ i. record { next_id = next_id i; next_file = next_file i; files = files i; channels = channels i; descriptions = descriptions i; processes = processes i }
 
--- back from the image: what has no image so far is empty in the kernel part
-pub is_console : (object : ObjectImage) → IsTrue (field.is_object_kind VERSION (kind_of object)) → object ≡ Console
-is_console Console h = refl
-is_console (File number offset) h = cc
-is_console (Stream conn side) h = cc
-is_console (Socket address) h = cc
-is_console (Listener address backlog pending) h = cc
-
-pub no_listener : (descriptions : List DescriptionImage) → AllByRecursion (λ d. IsTrue (field.is_object_kind VERSION (kind_of d.object))) descriptions
-    → filter_map (λ (d : DescriptionImage). listening_of d.object) descriptions ≡ []
-no_listener [] h = refl
-no_listener (d ∷ descriptions) h = ap (λ (o : ObjectImage). filter_map (λ (e : DescriptionImage). listening_of e.object) (record d { object = o } ∷ descriptions)) (is_console d.object h.0) ∙ no_listener descriptions h.1
-
-pub kernel_made : (s : Shared) (k : PlainKernel) → SharedFits s
+-- a kernel part whose maps are made of the image's lists
+pub kernel_made : (s : Shared) (k : PlainKernel)
     → k.processes ≡ map.from_entries (mapped process_entry s.processes) → k.makers ≡ map.from_entries (mapped maker_entry s.processes)
     → k.descriptors ≡ map.from_entries (flat_map descriptor_entries s.processes) → k.descriptions ≡ map.from_entries (mapped description_entry s.descriptions)
-    → k.names ≡ map.empty → k.files ≡ map.empty → k.next_file ≡ s.next_file → k.channels ≡ map.empty → k.directions ≡ map.empty → k.listeners ≡ map.empty → k.inboxes ≡ map.empty → k.next_id ≡ s.next_id
+    → k.names ≡ map.from_entries (filter_map name_entry s.files) → k.files ≡ map.from_entries (mapped file_entry s.files) → k.next_file ≡ s.next_file
+    → k.channels ≡ map.from_entries (mapped (channel_entry s.descriptions) s.channels) → k.directions ≡ map.from_entries (flat_map direction_entries s.channels)
+    → k.listeners ≡ map.from_entries (filter_map (λ (d : DescriptionImage). listening_of d.object) s.descriptions) → k.inboxes ≡ map.empty → k.next_id ≡ s.next_id
     → k ≡ kernel_of s
 unfolding kernel_of
-kernel_made s k h processes makers descriptors descriptions names files next_file channels directions listeners inboxes next_id =
-    let silent = no_listener s.descriptions (all_from (IsListed s) (λ d. IsTrue (field.is_object_kind VERSION (kind_of d.object))) (λ front d fits. fits.kind.1) [] s.descriptions h.descriptions) in
-    let of_names : k.names ≡ map.from_entries (filter_map name_entry s.files) = names ∙ ap (λ (fs : List FileImage). map.from_entries (filter_map name_entry fs)) (sym h.files) in
-    let of_files : k.files ≡ map.from_entries (mapped file_entry s.files) = files ∙ ap (λ (fs : List FileImage). map.from_entries (mapped file_entry fs)) (sym h.files) in
-    let of_channels : k.channels ≡ map.from_entries (mapped (channel_entry s.descriptions) s.channels) = channels ∙ ap (λ (cs : List ChannelImage). map.from_entries (mapped (channel_entry s.descriptions) cs)) (sym h.channels) in
-    let of_directions : k.directions ≡ map.from_entries (flat_map direction_entries s.channels) = directions ∙ ap (λ (cs : List ChannelImage). map.from_entries (flat_map direction_entries cs)) (sym h.channels) in
-    let of_listeners : k.listeners ≡ map.from_entries (filter_map (λ (d : DescriptionImage). listening_of d.object) s.descriptions) = listeners ∙ ap map.from_entries (sym silent) in
+kernel_made s k processes makers descriptors descriptions names files next_file channels directions listeners inboxes next_id =
     λ i. record {
       processes = processes i;
       makers = makers i;
       descriptors = descriptors i;
       descriptions = descriptions i;
-      names = of_names i;
-      files = of_files i;
+      names = names i;
+      files = files i;
       next_file = next_file i;
-      channels = of_channels i;
-      directions = of_directions i;
-      listeners = of_listeners i;
+      channels = channels i;
+      directions = directions i;
+      listeners = listeners i;
       inboxes = inboxes i;
       next_id = next_id i;
     }

@@ -33,15 +33,16 @@ use Rattle.image_shared.specs.declared.shared.DescriptorEntry.{DescriptorEntry}
 use Rattle.image_shared.specs.declared.shared.ProcessEntry.{ProcessEntry}
 use Rattle.image_shared.specs.declared.shared.Shared.{Shared}
 use Rattle.image_shared.specs.SharedTests as field
+use Rattle.image_shared.specs.WholeShared as whole
 use Rattle.image_shared.specs.SharedFormat.{VERSION}
 use Rattle.image_shared.specs.SharedFits.{IsShared, DescriptionFits, DescriptorFits, state_of}
 use Rattle.image_format.specs.Texts.{EachFrom}
 use Rattle.image_codec.specs.KernelParts.{kernel_of, process_entry, descriptor_entries, descriptor_entry}
-use Rattle.image_codec.specs.KernelImages.{process_image, maker_or, description_image, descriptor_image, is_of}
+use Rattle.image_codec.specs.KernelImages.{process_image, maker_or, object_image, description_image, descriptor_image, is_of}
 use Rattle.image_codec.proofs.MadeMaps.{each_made}
 use Rattle.image_codec.proofs.Listings.{IsSplit, each_from, from_all, which_image}
 use Rattle.image_codec.proofs.HeldImages.{holds_it, it_holds, own, own_entries, own_there, pair_is, live_one}
-use Rattle.image_codec.proofs.ListedProcesses.{IsListed, listed, descriptions_back, whole_parts, live_there, same_hosts}
+use Rattle.image_codec.proofs.ListedProcesses.{IsListed, listed, processes_back, descriptions_back, ends, live_there, same_hosts}
 use Rattle.image_codec.proofs.TestFacts.{and_true, or_either, follows, refused, same_number, equal_numbers, below}
 
 module _ (s : Shared) (is : IsShared s) where
@@ -132,14 +133,19 @@ module _ (s : Shared) (is : IsShared s) where
   }
 
   -- open descriptions
-  rightly : (d : DescId) (x : Description) → map.get k.descriptions d ≡ Some x → field.is_rightly_held images (description_image k.listeners (d, x)) ≡ true
-  rightly d x found = from_all desc_total desc_exact (description_image k.listeners) (field.is_rightly_held images) k.descriptions (whole_parts s is).0 d x found
+  rightly_held : list_all (whole.is_rightly_held s.channels images) (each (description_image k.listeners) (map.entries k.descriptions)) ≡ true
+  rightly_held =
+      subst (λ ps. list_all (whole.is_rightly_held s.channels ps) (each (description_image k.listeners) (map.entries k.descriptions)) ≡ true) (sym (processes_back s is))
+      (subst (λ ds. list_all (whole.is_rightly_held s.channels s.processes) ds ≡ true) (sym (descriptions_back s is)) (ends s is).held)
+
+  rightly : (d : DescId) (x : Description) → map.get k.descriptions d ≡ Some x → whole.is_rightly_held s.channels images (description_image k.listeners (d, x)) ≡ true
+  rightly d x found = from_all desc_total desc_exact (description_image k.listeners) (whole.is_rightly_held s.channels images) k.descriptions rightly_held d x found
 
   held : (d : DescId) (x : Description) → map.get k.descriptions d ≡ Some x → is_held k.descriptors d ≡ true
   unfolding is_held
   held d x found =
-      let some = (and_true (field.is_held_by_some images d) _ (rightly d x found)).0 in
-      let (p, process, there, holds) = which_image vpid_total vpid_exact (process_image k) (field.holds d) k.processes some in
+      let some = (and_true (whole.is_held_by_some images d) _ (rightly d x found)).0 in
+      let (p, process, there, holds) = which_image vpid_total vpid_exact (process_image k) (whole.holds d) k.processes some in
       let h = holds_it k p process d holds in
       some_among-values slot_total slot_exact (refers_to d) k.descriptors h.at h.descriptor h.found (ap (eq_by_cmp desc_cmp d) h.refers ∙ key_tied desc_total desc_exact d)
 
@@ -162,22 +168,32 @@ module _ (s : Shared) (is : IsShared s) where
   descriptions_are = record { held = held; flags = λ d x found. let (front, split, fits) = described_at d x found in flags_are x.flags fits.flags.1 }
 
   -- who holds one
-  held_by : (at : Slot) (x : Descriptor) (description : Description) → map.get k.descriptors at ≡ Some x → map.get k.descriptions x.desc ≡ Some description → (process : Process) → map.get k.processes at.pid ≡ Some process
-      → (list_all (field.may_share (process_image k (at.pid, process)) x.desc) images ≡ true) × (field.is_owner images (process_image k (at.pid, process)).host description.owner ≡ true)
+  pub record IsHeldBy (description : DescId × Description) (holder : VPid × Process) : Type 0 where
+    pub shares : list_all (whole.may_share (process_image k holder) description.0) images ≡ true
+    pub owner : whole.is_owner images (process_image k holder).host description.1.owner ≡ true
+    pub host : whole.is_object_of_host s.channels (process_image k holder).host (object_image k.listeners description.1.object) ≡ true
+
+  pub held_by : (at : Slot) (x : Descriptor) (description : Description) → map.get k.descriptors at ≡ Some x → map.get k.descriptions x.desc ≡ Some description → (process : Process) → map.get k.processes at.pid ≡ Some process
+      → IsHeldBy (x.desc, description) (at.pid, process)
   held_by at x description found known process there =
-      let all = (and_true (field.is_held_by_some images x.desc) (list_all (field.is_rightly_held_by images (description_image k.listeners (x.desc, description))) images) (rightly x.desc description known)).1 in
-      let mine = from_all vpid_total vpid_exact (process_image k) (field.is_rightly_held_by images (description_image k.listeners (x.desc, description))) k.processes all at.pid process there in
-      and_true (list_all (field.may_share (process_image k (at.pid, process)) x.desc) images) (field.is_owner images (process_image k (at.pid, process)).host description.owner)
-      (follows (field.holds x.desc (process_image k (at.pid, process))) _ mine (it_holds k at.pid process x.desc (record { at = at; descriptor = x; found = found; mine = refl; refers = refl })))
+      let all = (and_true (whole.is_held_by_some images x.desc) (list_all (whole.is_rightly_held_by s.channels images (description_image k.listeners (x.desc, description))) images) (rightly x.desc description known)).1 in
+      let mine = from_all vpid_total vpid_exact (process_image k) (whole.is_rightly_held_by s.channels images (description_image k.listeners (x.desc, description))) k.processes all at.pid process there in
+      let one = process_image k (at.pid, process) in
+      let shares = list_all (whole.may_share one x.desc) images in
+      let owner = whole.is_owner images one.host description.owner in
+      let (first, host) = and_true (shares && owner) (whole.is_object_of_host s.channels one.host (object_image k.listeners description.object))
+      (follows (whole.holds x.desc one) _ mine (it_holds k at.pid process x.desc (record { at = at; descriptor = x; found = found; mine = refl; refers = refl }))) in
+      let (shared, owned_too) = and_true shares owner first in
+      record { shares = shared; owner = owned_too; host = host }
 
   one_host : (a b : Slot) (x y : Descriptor) → map.get k.descriptors a ≡ Some x → map.get k.descriptors b ≡ Some y → x.desc ≡ y.desc → same_host (map.get k.makers a.pid) (map.get k.makers b.pid) ≡ true
   one_host a b x y found too same =
       let o = owned a x found in
       let (other, known) = holder_there b y too in
       let (description, described) = is_described x.desc o.fits.described.1 in
-      let shares = (held_by a x description found described o.process o.there).0 in
-      let near = from_all vpid_total vpid_exact (process_image k) (field.may_share (process_image k (a.pid, o.process)) x.desc) k.processes shares b.pid other known in
-      let hosts = follows (field.holds x.desc (process_image k (b.pid, other))) _ near (it_holds k b.pid other x.desc (record { at = b; descriptor = y; found = too; mine = refl; refers = sym same })) in
+      let shares = (held_by a x description found described o.process o.there).shares in
+      let near = from_all vpid_total vpid_exact (process_image k) (whole.may_share (process_image k (a.pid, o.process)) x.desc) k.processes shares b.pid other known in
+      let hosts = follows (whole.holds x.desc (process_image k (b.pid, other))) _ near (it_holds k b.pid other x.desc (record { at = b; descriptor = y; found = too; mine = refl; refers = sym same })) in
       (same_hosts s is) a.pid b.pid o.process other o.there known (turned (maker_or (map.get k.makers b.pid)).host (maker_or (map.get k.makers a.pid)).host hosts)
     where
       turned : (m n : ℕ) → (m == n) ≡ true → (n == m) ≡ true
@@ -189,7 +205,7 @@ module _ (s : Shared) (is : IsShared s) where
       ⊎_elim
       (λ nobody. inl (equal_numbers description.owner 0 nobody))
       (λ some.
-      let (q, other, known, test) = which_image vpid_total vpid_exact (process_image k) (field.is_owner_of description.owner (process_image k (a.pid, o.process)).host) k.processes some in
+      let (q, other, known, test) = which_image vpid_total vpid_exact (process_image k) (whole.is_owner_of description.owner (process_image k (a.pid, o.process)).host) k.processes some in
       let (entry, near) = and_true ((q.0 == description.owner) && lives other.life) ((maker_or (map.get k.makers q)).host == (maker_or (map.get k.makers a.pid)).host) test in
       let (same, alive) = and_true (q.0 == description.owner) (lives other.life) entry in
       let number : q.0 ≡ description.owner = equal_numbers q.0 description.owner same in
@@ -199,7 +215,7 @@ module _ (s : Shared) (is : IsShared s) where
         subst (λ r. same_host (map.get k.makers a.pid) (map.get k.makers r) ≡ true) to_pid
             ((same_hosts s is) a.pid q o.process other o.there known (turned (maker_or (map.get k.makers q)).host (maker_or (map.get k.makers a.pid)).host near)),
       ))
-      (or_either (description.owner == 0) (list_any (field.is_owner_of description.owner (process_image k (a.pid, o.process)).host) images) (held_by a x description found described o.process o.there).1)
+      (or_either (description.owner == 0) (list_any (whole.is_owner_of description.owner (process_image k (a.pid, o.process)).host) images) (held_by a x description found described o.process o.there).owner)
     where
       turned : (m n : ℕ) → (m == n) ≡ true → (n == m) ≡ true
       turned m n is = grind (arith, nat_tests)

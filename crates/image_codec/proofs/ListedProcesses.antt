@@ -1,4 +1,5 @@
 -- The processes of an image that can be spelled are those of a kernel part that a run may reach, however many there are.
+--     HasEnds s, ends_of      what is tested at the end of the file, a test a field
 --     IsListed p process, listed      a process of the kernel part with those in front of it
 --     processes_are, makers_are, parents_are      a topic each
 use Rattle.std.proofs.Common.{◌≡◌, ℕ, ◌<◌, ◌≤◌, ◌^◌, ◌==◌, ◌&&◌, ◌||◌, Less, Equal, Greater, Bool, true, false, cond, List, [], ◌∷◌, length, map as each, inl, inr, refl, sym, ap, subst, ◌∙◌, ⊎_elim, arith}
@@ -29,6 +30,7 @@ use Rattle.image_shared.specs.declared.shared.ThreadEntry.{ThreadEntry}
 use Rattle.image_shared.specs.declared.shared.ProcessEntry.{ProcessEntry}
 use Rattle.image_shared.specs.declared.shared.Shared.{Shared}
 use Rattle.image_shared.specs.SharedTests as field
+use Rattle.image_shared.specs.WholeShared as whole
 use Rattle.image_shared.specs.SharedFits.{IsShared, ThreadFits, ProcessFits, state_of, status_of}
 use Rattle.image_format.specs.Texts.{EachFrom}
 use Rattle.image_codec.specs.KernelParts.{kernel_of, process_entry, maker_entry}
@@ -36,6 +38,25 @@ use Rattle.image_codec.specs.KernelImages.{shared_of, process_image, maker_or, t
 use Rattle.image_codec.proofs.KernelLaws.{shared_of-kernel_of}
 use Rattle.image_codec.proofs.Listings.{IsSplit, IsBefore, each_from, from_all, which_of_images, some_before}
 use Rattle.image_codec.proofs.TestFacts.{and_true, or_either, or_later, follows, refused, same_number, equal_numbers, below, at_most, below_number}
+
+-- what is tested at the end of the file
+pub record HasEnds (s : Shared) : Type 0 where
+  pub kept : list_all (whole.is_kept s.descriptions) s.files ≡ true
+  pub named : list_all (whole.is_rightly_named s.descriptions) s.channels ≡ true
+  pub held : list_all (whole.is_rightly_held s.channels s.processes) s.descriptions ≡ true
+  pub near : list_all (whole.is_near_parent s.processes) s.processes ≡ true
+
+pub ends_of : (s : Shared) → IsShared s → HasEnds s
+unfolding whole.is_whole_shared
+ends_of s is =
+    let files = list_all (whole.is_kept s.descriptions) s.files in
+    let channels = list_all (whole.is_rightly_named s.descriptions) s.channels in
+    let descriptions = list_all (whole.is_rightly_held s.channels s.processes) s.descriptions in
+    let processes = list_all (whole.is_near_parent s.processes) s.processes in
+    let (others, near) = and_true (files && channels && descriptions) processes is.whole in
+    let (first, held) = and_true (files && channels) descriptions others in
+    let (kept, named) = and_true files channels first in
+    record { kept = kept; named = named; held = held; near = near }
 
 -- numbers
 given_out : (next_id n : ℕ) → field.is_given_out next_id n ≡ true → IsGivenOut next_id n
@@ -246,14 +267,11 @@ module _ (s : Shared) (is : IsShared s) where
       (λ i. same_host (maker_there p process there i) (maker_there q other known i)) ∙ same
 
   -- parents
-  pub whole_parts : (list_all (field.is_rightly_held images) descriptions ≡ true) × (list_all (field.is_near_parent images) images ≡ true)
-  unfolding field.is_whole_shared
-  whole_parts =
-      let whole = is.whole in
-      let (held, near) = and_true (list_all (field.is_rightly_held s.processes) s.descriptions) (list_all (field.is_near_parent s.processes) s.processes) whole in (
-        subst (λ ps. list_all (field.is_rightly_held ps) descriptions ≡ true) (sym processes_back) (subst (λ ds. list_all (field.is_rightly_held s.processes) ds ≡ true) (sym descriptions_back) held),
-        subst (λ ps. list_all (field.is_near_parent ps) ps ≡ true) (sym processes_back) near,
-      )
+  pub ends : HasEnds s
+  ends = ends_of s is
+
+  near_parents : list_all (whole.is_near_parent images) images ≡ true
+  near_parents = subst (λ ps. list_all (whole.is_near_parent ps) ps ≡ true) (sym processes_back) ends.near
 
   pub live_there : (p : VPid) (process : Process) → map.get k.processes p ≡ Some process → lives process.life ≡ true → lives_in k.processes p ≡ true
   live_there p process there alive = ap is_live_process there ∙ alive
@@ -266,8 +284,8 @@ module _ (s : Shared) (is : IsShared s) where
       let number : q.0 ≡ process.parent = equal_numbers q.0 process.parent same in
       let to_pid : q ≡ pid process.parent = λ i. record { 0 = number i } in
       let less = below_number q.0 p.0 before.1 in
-      let near = from_all vpid_total vpid_exact (process_image k) (field.is_of_parents_host (process_image k (p, process))) k.processes
-      (from_all vpid_total vpid_exact (process_image k) (field.is_near_parent images) k.processes whole_parts.1 p process there) q other before.0 in
+      let near = from_all vpid_total vpid_exact (process_image k) (whole.is_of_parents_host (process_image k (p, process))) k.processes
+      (from_all vpid_total vpid_exact (process_image k) (whole.is_near_parent images) k.processes near_parents p process there) q other before.0 in
       let hosts = follows (process.parent == q.0) _ near (ap (λ n. process.parent == n) number ∙ same_number process.parent) in
       record {
         below = omega (arith, less, number);

@@ -36,7 +36,7 @@ module _ {K X : Type 0} (P : K → X → Type 0) where
   both_each Q [] are were = tt
   both_each Q (x ∷ xs) are were = ((are.0, were.0), both_each Q xs are.1 were.1)
 
-not_below : {K : Type 0} {R : K → K → Ordering} → IsTotalOrder R → (q : K) → R q q ≡ Less → ⊥
+pub not_below : {K : Type 0} {R : K → K → Ordering} → IsTotalOrder R → (q : K) → R q q ≡ Less → ⊥
 not_below {R = R} o q is = let tied : R q q ≡ Equal = tied_itself o q in cc
 
 last_later : {X : Type 0} (x y : X) (xs : List X) → last_item (x ∷ y ∷ xs) ≡ last_item (y ∷ xs)

@@ -14,7 +14,7 @@ use Rattle.views.proofs.MapLaws.{same_or_other, key_tied, other_key, true_false}
 use Rattle.views.proofs.MapValues.{EachEntry, each_entry}
 use Rattle.plain_process.specs.Valid.{Each}
 
-joined_option : {X : Type 0} (found : Option X) (xs : List X) → cons_option found xs ≡ cons_option found [] ++ xs
+pub joined_option : {X : Type 0} (found : Option X) (xs : List X) → cons_option found xs ≡ cons_option found [] ++ xs
 joined_option None xs = refl
 joined_option (Some x) xs = refl
 

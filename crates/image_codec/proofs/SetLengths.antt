@@ -1,23 +1,34 @@
 -- The files of a set are no longer than its manifest can tell.
 --     shared_short, process_short      the shared image and the image of a process are shorter than 2 ^ 64 bytes
-use Rattle.std.proofs.Common.{◌≡◌, ℕ, ◌+◌, ◌*◌, ◌<◌, ◌≤◌, ◌^◌, IsTrue, List, [], ◌∷◌, ◌++◌, length, drop, refl, ap, ◌∙◌, arith, length-append, length-drop}
-use Rattle.std.specs.Prelude.{All, Option, ◌==◌, suc}
+use Rattle.std.proofs.Common.{◌≡◌, ℕ, ◌+◌, ◌*◌, ◌<◌, ◌≤◌, ◌^◌, ◌&&◌, Bool, IsTrue, List, [], ◌∷◌, ◌++◌, length, drop, refl, ap, ◌∙◌, arith, length-append, length-drop}
+use Rattle.std.specs.Prelude.{All, Option, suc, nat_le, sum_by}
 use Rattle.std.specs.List.{AllByRecursion, flat_map}
+use Rattle.std.specs.FinMap as map
 use Rattle.std.proofs.lemmas.Bool.Decides.{nat_tests}
+use Rattle.std.proofs.lemmas.List.{length-map}
+use Rattle.sys_abi.specs.declared.identity.ConnId.{ConnId}
+use Rattle.sys_abi.specs.declared.identity.VirtAddr.{VirtAddr}
+use Rattle.sys_abi.proofs.OrderLaws.{desc_total, slot_total, slot_exact}
 use Rattle.plain_process.specs.declared.user_part.Context.{Context}
 use Rattle.plain_process.specs.declared.user_part.SignalAction.{SignalAction}
 use Rattle.plain_process.specs.declared.user_part.Waiter.{Waiter}
-use Rattle.image_format.specs.Format.{n8, n32, number_text, byte_count}
+use Rattle.image_format.specs.Fields.{is_within}
+use Rattle.image_format.specs.Format.{n8, n16, n32, number_text, byte_count}
 use Rattle.image_format.proofs.Numerals.{length-number_text}
-use Rattle.image_format.proofs.Rising.{all_from}
+use Rattle.image_format.proofs.Rising.{all_from, entries_made}
+use Rattle.image_shared.specs.declared.shared.FileImage.{FileImage}
+use Rattle.image_shared.specs.declared.shared.SideImage.{SideImage}
+use Rattle.image_shared.specs.declared.shared.ChannelImage.{ChannelImage}
+use Rattle.image_shared.specs.declared.shared.ObjectImage.{ObjectImage}
+use Rattle.image_shared.specs.declared.shared.ObjectImage.TheVariants.{Console, File, Stream, Socket, Listener}
 use Rattle.image_shared.specs.declared.shared.DescriptionImage.{DescriptionImage}
 use Rattle.image_shared.specs.declared.shared.ThreadEntry.{ThreadEntry}
 use Rattle.image_shared.specs.declared.shared.DescriptorEntry.{DescriptorEntry}
 use Rattle.image_shared.specs.declared.shared.ProcessEntry.{ProcessEntry}
 use Rattle.image_shared.specs.declared.shared.Shared.{Shared}
-use Rattle.image_shared.specs.SharedFits.{SharedFits, ProcessFits, kind_of, state_of, status_of}
+use Rattle.image_shared.specs.SharedFits.{IsShared, FileFits, SideFits, ChannelFits, ObjectFits, DescriptionFits, ProcessFits, kind_of, state_of, status_of, flag, side_flags, number_of_kind, host_number, port_number}
 use Rattle.image_shared.specs.SharedTexts as shared
-use Rattle.image_shared.specs.SharedFormat.{SHARED_MAGIC}
+use Rattle.image_shared.specs.SharedFormat.{SHARED_MAGIC, VERSION}
 use Rattle.image_process.specs.declared.process_image.ProcImage.{ProcImage}
 use Rattle.image_process.specs.declared.page_image.PageImage.{PageImage}
 use Rattle.image_process.specs.declared.thread_image.ThreadImage.{ThreadImage}
@@ -26,7 +37,11 @@ use Rattle.image_process.specs.ProcessImages.{PROCESS_MAGIC}
 use Rattle.image_process.specs.ProcessTests.{is_page_count, is_context_count, is_count_of_threads}
 use Rattle.image_process.specs.ProcessTexts as process
 use Rattle.image_process.proofs.ProcessFiles.{waiter_count-below}
-use Rattle.image_codec.proofs.Listings.{len_flat}
+use Rattle.image_codec.specs.KernelParts.{kernel_of, description_entry, descriptor_entry, descriptor_entries}
+use Rattle.image_codec.proofs.FittingKernels.{no_more_descriptions}
+use Rattle.image_codec.proofs.ImageKernels.{image_is_kernel}
+use Rattle.image_codec.proofs.Listings.{len_flat, len_made}
+use Rattle.image_codec.proofs.OrderedItems.{both_true, ids_rise}
 
 -- a word and a byte
 four : (n : ℕ) → length (number_text n32 n) ≡ 4
@@ -65,27 +80,56 @@ each_of_all P Q [] to are = tt
 each_of_all P Q (x ∷ xs) to are = (to x (are 0 x (omega arith)), each_of_all P Q xs to (λ i d inside. are (suc i) d (omega (arith, inside))))
 
 -- the pieces of the shared image
-description_long : (d : DescriptionImage) → length (shared.description_text d) ≤ 17
-unfolding shared.description_text
-description_long d =
-    omega (
-      arith,
-      len5 (number_text n32 d.id.pid.0) (number_text n32 d.id.num) (number_text n8 (kind_of d.object)) (number_text n32 d.flags) (number_text n32 d.owner),
-      four d.id.pid.0,
-      four d.id.num,
-      one (kind_of d.object),
-      four d.flags,
-      four d.owner,
-    )
+two : (n : ℕ) → length (number_text n16 n) ≡ 2
+unfolding byte_count
+two n = length-number_text n16 n
 
-thread_long : (t : ThreadEntry) → length (shared.thread_text t) ≤ 8
-unfolding shared.thread_text
-thread_long t = let a = length-append (number_text n32 t.tid) (number_text n32 t.pending) in omega (arith, a, four t.tid, four t.pending)
+within : (least most n : ℕ) → IsTrue (is_within least most n) → n ≤ most
+within least most n h = grind (arith, nat_tests)
 
-descriptor_long : (d : DescriptorEntry) → length (shared.descriptor_text d) ≤ 13
-unfolding shared.descriptor_text
-descriptor_long d =
-    omega (arith, len4 (number_text n32 d.number) (number_text n32 d.desc.pid.0) (number_text n32 d.desc.num) (number_text n8 (shared.flag d.cloexec)), four d.number, four d.desc.pid.0, four d.desc.num, one (shared.flag d.cloexec))
+at_most : (most n : ℕ) → IsTrue (nat_le n most) → n ≤ most
+at_most most n h = grind (arith, nat_tests)
+
+part_at_most : (front n most : ℕ) → IsTrue (nat_le (front + n) most) → n ≤ most
+part_at_most front n most h = grind (arith, nat_tests)
+
+first_at_most : (most n : ℕ) (rest : Bool) → IsTrue (nat_le n most && rest) → n ≤ most
+first_at_most most n rest h = at_most most n ((both_true (nat_le n most) rest h).0)
+
+abbrev FILE : ℕ
+FILE = 67109129
+
+file_long : (next_file : ℕ) (front : List FileImage) (f : FileImage) → FileFits next_file front f → length (shared.file_text f) ≤ FILE
+unfolding shared.file_text
+file_long next_file front f fits =
+    let name = within 0 255 (length f.name) fits.name_size.1 in
+    let bytes = part_at_most (sum_by (λ (g : FileImage). length g.bytes) front) (length f.bytes) 67108864 fits.size.1 in
+    omega (arith, len5 (number_text n32 f.number) (number_text n16 (length f.name)) f.name (number_text n32 (length f.bytes)) f.bytes, four f.number, two (length f.name), four (length f.bytes), name, bytes)
+
+address_long : (address : Option VirtAddr) → length (shared.address_text address) ≤ 8
+address_long address =
+    let joined = length-append (number_text n32 (host_number address)) (number_text n32 (port_number address)) in
+    omega (arith, joined, four (host_number address), four (port_number address))
+
+side_long : (kind number : ℕ) (side : SideImage) → SideFits kind number side → length (shared.side_text side) ≤ 65549
+unfolding shared.side_text
+side_long kind number side fits =
+    let left = first_at_most 65536 (length side.left) _ fits.size.1 in
+    let joined = len4 (number_text n8 (side_flags side)) (number_text n32 (length side.left)) side.left (shared.address_text side.address) in
+    omega (arith, joined, one (side_flags side), four (length side.left), left, address_long side.address)
+
+abbrev CHANNEL : ℕ
+CHANNEL = 131107
+
+channel_long : (next_id : ℕ) (front : List ChannelImage) (c : ChannelImage) → ChannelFits next_id front c → length (shared.channel_text c) ≤ CHANNEL
+unfolding shared.channel_text
+channel_long next_id front c fits =
+    let joined = len5 (number_text n32 c.id.pid.0) (number_text n32 c.id.num) (number_text n8 (number_of_kind c.kind)) (shared.side_text c.first) (shared.side_text c.second) in
+    omega (arith, joined, four c.id.pid.0, four c.id.num, one (number_of_kind c.kind), side_long (number_of_kind c.kind) 0 c.first fits.first, side_long (number_of_kind c.kind) 1 c.second fits.second)
+
+connection_long : (conn : ConnId) → length (shared.connection_text conn) ≤ 8
+unfolding shared.connection_text
+connection_long conn = let joined = length-append (number_text n32 conn.pid.0) (number_text n32 conn.num) in omega (arith, joined, four conn.pid.0, four conn.num)
 
 -- a list of at most so many items of at most so many bytes
 list_long : {X : Type 0} (text : X → List ℕ) (size most : ℕ) (xs : List X) → AllByRecursion (λ x. length (text x) ≤ size) xs → length xs ≤ most → length (shared.list_text text xs) ≤ 4 + size * most
@@ -95,6 +139,53 @@ list_long text size most xs are few =
     let c = four (length xs) in
     let d : size * length xs ≤ size * most = grind arith in
     omega (arith, a, b, c, d)
+
+abbrev OBJECT : ℕ
+OBJECT = 16 + 8 * 2 ^ 32
+
+object_long : (files : List FileImage) (channels : List ChannelImage) (front : List DescriptionImage) (flags : ℕ) (o : ObjectImage) → ObjectFits files channels front flags o → length (shared.object_text o) ≤ OBJECT
+unfolding shared.object_text
+object_long files channels front flags Console fits = omega arith
+object_long files channels front flags (File number offset) fits =
+    let joined = length-append (number_text n32 number) (number_text n32 offset) in
+    omega (arith, joined, four number, four offset)
+object_long files channels front flags (Stream conn side) fits =
+    let joined = length-append (shared.connection_text conn) (number_text n8 side) in
+    omega (arith, joined, connection_long conn, one side)
+object_long files channels front flags (Socket address) fits =
+    let joined = length-append (number_text n32 address.host) (number_text n32 address.port) in
+    omega (arith, joined, four address.host, four address.port)
+object_long files channels front flags (Listener address backlog pending) fits =
+    let few : length pending ≤ 2 ^ 32 = let count = fits.count.0 in omega (arith, count) in
+    let queue = list_long shared.connection_text 8 (2 ^ 32) pending (every (λ c. length (shared.connection_text c) ≤ 8) connection_long pending) few in
+    let joined = len4 (number_text n32 address.host) (number_text n32 address.port) (number_text n32 backlog) (shared.list_text shared.connection_text pending) in
+    omega (arith, joined, four address.host, four address.port, four backlog, queue)
+
+abbrev DESCRIPTION : ℕ
+DESCRIPTION = 33 + 8 * 2 ^ 32
+
+description_long : (s : Shared) (front : List DescriptionImage) (d : DescriptionImage) → DescriptionFits VERSION s.next_id s.files s.channels front d → length (shared.description_text d) ≤ DESCRIPTION
+unfolding shared.description_text
+description_long s front d fits =
+    omega (
+      arith,
+      len6 (number_text n32 d.id.pid.0) (number_text n32 d.id.num) (number_text n8 (kind_of d.object)) (number_text n32 d.flags) (number_text n32 d.owner) (shared.object_text d.object),
+      four d.id.pid.0,
+      four d.id.num,
+      one (kind_of d.object),
+      four d.flags,
+      four d.owner,
+      object_long s.files s.channels front d.flags d.object fits.what,
+    )
+
+thread_long : (t : ThreadEntry) → length (shared.thread_text t) ≤ 8
+unfolding shared.thread_text
+thread_long t = let a = length-append (number_text n32 t.tid) (number_text n32 t.pending) in omega (arith, a, four t.tid, four t.pending)
+
+descriptor_long : (d : DescriptorEntry) → length (shared.descriptor_text d) ≤ 13
+unfolding shared.descriptor_text
+descriptor_long d =
+    omega (arith, len4 (number_text n32 d.number) (number_text n32 d.desc.pid.0) (number_text n32 d.desc.num) (number_text n8 (flag d.cloexec)), four d.number, four d.desc.pid.0, four d.desc.num, one (flag d.cloexec))
 
 life_long : (p : ProcessEntry) → length (shared.life_text p.life) ≤ 5
 unfolding shared.life_text
@@ -116,24 +207,36 @@ process_long next_id s front p fits =
         → length (a ++ b ++ c ++ d ++ e ++ f ++ g ++ h) ≤ 33 + 21 * 2 ^ 32
     joined a b c d e f g h la lb lc ld le lf lg lh = omega (arith, len8 a b c d e f g h, la, lb, lc, ld, le, lf, lg, lh)
 
-is_one : (n : ℕ) → IsTrue (n == 1) → n ≤ 1
-is_one n h = grind (arith, nat_tests)
+-- a description is held by a descriptor, of which a process has at most 256
+few_held : (e : ProcessEntry) (count : length e.descriptors ≤ 256) → length (descriptor_entries e) ≤ 256
+few_held e count = let same = length-map e.descriptors (descriptor_entry e.pid) in omega (arith, same, count)
 
-pub shared_short : (s : Shared) → SharedFits s → length (shared.shared_text s) < 2 ^ 64
+few_descriptions : (s : Shared) → IsShared s → length s.descriptions ≤ 32768
+unfolding kernel_of
+few_descriptions s is =
+    let k = kernel_of s in
+    let held = no_more_descriptions k (image_is_kernel s is) in
+    let described : map.len k.descriptions ≡ length s.descriptions =
+    map.len-entries k.descriptions ∙ ap length (entries_made desc_total description_entry s.descriptions (ids_rise s is.fields)) ∙ length-map s.descriptions description_entry in
+    let listed = map.len-entries k.descriptors in
+    let made = len_made slot_total slot_exact (flat_map descriptor_entries s.processes) in
+    let few = len_flat descriptor_entries 256 s.processes (all_from (ProcessFits s.next_id s.channels s.descriptions) (λ e. length (descriptor_entries e) ≤ 256)
+    (λ front e fits. few_held e (first_at_most 256 (length e.descriptors) _ fits.descriptor_count.1)) [] s.processes is.fields.processes) in
+    let processes = at_most 128 (length s.processes) is.fields.process_count.1 in
+    omega (arith, held, described, listed, made, few, processes)
+
+pub shared_short : (s : Shared) → IsShared s → length (shared.shared_text s) < 2 ^ 64
 unfolding shared.shared_text
-shared_short s fits =
-    let none_of_files = ap (λ fs. length (shared.list_text shared.file_text fs)) fits.files in
-    let none_of_channels = ap (λ cs. length (shared.list_text shared.channel_text cs)) fits.channels in
-    let no_files : length (shared.list_text shared.file_text []) ≤ 4 = list_long shared.file_text 0 0 [] tt (omega arith) in
-    let no_channels : length (shared.list_text shared.channel_text []) ≤ 4 = list_long shared.channel_text 0 0 [] tt (omega arith) in
-    let few : length s.descriptions ≤ 2 ^ 32 = let count = fits.description_count.0 in omega (arith, count) in
-    let described = list_long shared.description_text 17 (2 ^ 32) s.descriptions (every (λ d. length (shared.description_text d) ≤ 17) description_long s.descriptions) few in
-    let alone = is_one (length s.processes) fits.process_count.1 in
-    let processes = list_long shared.process_text (33 + 21 * 2 ^ 32) 1 s.processes (all_from (ProcessFits s.next_id s.channels s.descriptions) (λ p. length (shared.process_text p) ≤ 33 + 21 * 2 ^ 32) (process_long s.next_id s) [] s.processes fits.processes) alone in
+shared_short s is =
+    let fits = is.fields in
+    let files = list_long shared.file_text FILE 1024 s.files (all_from (FileFits s.next_file) (λ f. length (shared.file_text f) ≤ FILE) (file_long s.next_file) [] s.files fits.files) (at_most 1024 (length s.files) fits.file_count.1) in
+    let channels = list_long shared.channel_text CHANNEL 256 s.channels (all_from (ChannelFits s.next_id) (λ c. length (shared.channel_text c) ≤ CHANNEL) (channel_long s.next_id) [] s.channels fits.channels) (at_most 256 (length s.channels) fits.channel_count.1) in
+    let described = list_long shared.description_text DESCRIPTION 32768 s.descriptions (all_from (DescriptionFits VERSION s.next_id s.files s.channels) (λ d. length (shared.description_text d) ≤ DESCRIPTION) (description_long s) [] s.descriptions fits.descriptions) (few_descriptions s is) in
+    let processes = list_long shared.process_text (33 + 21 * 2 ^ 32) 128 s.processes (all_from (ProcessFits s.next_id s.channels s.descriptions) (λ p. length (shared.process_text p) ≤ 33 + 21 * 2 ^ 32) (process_long s.next_id s) [] s.processes fits.processes) (at_most 128 (length s.processes) fits.process_count.1) in
     joined SHARED_MAGIC (number_text n32 s.next_id) (number_text n32 s.next_file) (shared.list_text shared.file_text s.files) (shared.list_text shared.channel_text s.channels) (shared.list_text shared.description_text s.descriptions) (shared.list_text shared.process_text s.processes)
-    refl (four s.next_id) (four s.next_file) (omega (arith, none_of_files, no_files)) (omega (arith, none_of_channels, no_channels)) described processes
+    refl (four s.next_id) (four s.next_file) files channels described processes
   where
-    joined : (a b c d e f g : List ℕ) → length a ≡ 8 → length b ≡ 4 → length c ≡ 4 → length d ≤ 4 → length e ≤ 4 → length f ≤ 4 + 17 * 2 ^ 32 → length g ≤ 4 + (33 + 21 * 2 ^ 32) * 1
+    joined : (a b c d e f g : List ℕ) → length a ≡ 8 → length b ≡ 4 → length c ≡ 4 → length d ≤ 4 + FILE * 1024 → length e ≤ 4 + CHANNEL * 256 → length f ≤ 4 + DESCRIPTION * 32768 → length g ≤ 4 + (33 + 21 * 2 ^ 32) * 128
         → length (a ++ b ++ c ++ d ++ e ++ f ++ g) < 2 ^ 64
     joined a b c d e f g la lb lc ld le lf lg = omega (arith, len7 a b c d e f g, la, lb, lc, ld, le, lf, lg)
 

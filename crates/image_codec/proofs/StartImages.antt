@@ -12,7 +12,7 @@ use Rattle.plain_tables.specs.Tables.{pid, slot}
 use Rattle.plain_process.specs.Start.{Launched}
 use Rattle.plain_machine.specs.Start.{FIRST_PID, console_descriptor, start_kernel, with_processes, with_process, with_files, empty_kernel}
 use Rattle.image_shared.specs.SharedFits.{IsShared}
-use Rattle.image_shared.specs.SharedTests.{is_whole_shared}
+use Rattle.image_shared.specs.WholeShared.{is_whole_shared}
 use Rattle.image_format.specs.Texts.{EachFrom}
 use Rattle.image_codec.specs.KernelParts.{kernel_of}
 use Rattle.image_codec.specs.StartImages.{start_image, StartHasImage}
@@ -26,10 +26,12 @@ start_fits host h = record {
   fields = record {
     next_id = (lit< tt, refl);
     next_file = (lit< tt, refl);
-    files = refl;
-    channels = refl;
+    file_count = (lit< tt, refl);
+    files = tt;
+    channel_count = (lit< tt, refl);
+    channels = tt;
     description_count = (lit< tt, refl);
-    descriptions = (record { maker = (lit< tt, refl); number = (lit< tt, refl); kind = (lit< tt, refl); flags = (lit< tt, refl); owner = (lit< tt, refl) }, tt);
+    descriptions = (record { maker = (lit< tt, refl); number = (lit< tt, refl); kind = (lit< tt, refl); flags = (lit< tt, refl); owner = (lit< tt, refl); what = tt }, tt);
     process_count = (lit< tt, refl);
     processes = (
       record {

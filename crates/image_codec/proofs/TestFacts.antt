@@ -1,7 +1,7 @@
 -- What tests that pass, or fail, tell of truth values and of numbers.
 use Rattle.std.proofs.Common.{◌≡◌, ℕ, ◌<◌, ◌≤◌, ◌==◌, ◌&&◌, ◌||◌, Less, Bool, true, false, inl, inr, refl, sym, arith}
 use Rattle.std.specs.Prelude.{◌⊎◌, not, nat_le, nat_lt}
-use Rattle.std.specs.Ordering.{nat_cmp}
+use Rattle.std.specs.Ordering.{nat_cmp, ordering_then}
 use Rattle.std.proofs.lemmas.Bool.Decides.{nat_tests}
 use Rattle.views.proofs.MapLaws.{true_false}
 
@@ -68,3 +68,7 @@ at_most m n h = grind (arith, nat_tests)
 
 pub below_number : (m n : ℕ) → nat_cmp m n ≡ Less → m < n
 below_number m n h = grind (arith, nat_tests)
+
+-- a pair above another
+pub pair_after : (a b c d : ℕ) → ordering_then (nat_cmp a c) (nat_cmp b d) ≡ Less → (nat_le a c ≡ true) × ((nat_lt a c || nat_lt b d) ≡ true)
+pair_after a b c d h = (grind (arith, nat_tests), grind (arith, nat_tests))

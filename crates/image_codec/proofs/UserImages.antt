@@ -32,7 +32,8 @@ use Rattle.sys_abi.specs.Lives.{lives}
 use Rattle.image_process.specs.ProcessFits.{IsPage, IsImage}
 use Rattle.image_process.specs.UserParts.{page_entry, thread_entry, user_of}
 use Rattle.image_codec.specs.Sets.{SpellsImages, user_entry}
-use Rattle.image_codec.proofs.KernelLaws.{both_true, nat_below, tids_rise, pids_sorted}
+use Rattle.image_codec.proofs.KernelLaws.{pids_sorted}
+use Rattle.image_codec.proofs.OrderedItems.{both_true, nat_below, tids_rise}
 use Rattle.image_process.proofs.ProcessFiles.{image_of as image_facts}
 use Rattle.image_process.proofs.Owners.{number-is, drop-at, same_tids}
 use Rattle.image_format.proofs.Rising.{RisesFrom, IsAfter, each_rising, entries_made, undone, all_from, keys-mapped}
@@ -92,7 +93,7 @@ module _ {X : Type 0} (f : X → Bool) where
   all_keys key P [] h = tt
   all_keys key P (x ∷ xs) h = elim (f x) as (λ b. AllByRecursion P (mapped key (cond b (x ∷ filter f xs) (filter f xs)))) [ true ↦ (h.0, all_keys key P xs h.1) | false ↦ all_keys key P xs h.1 ]
 
-  sorted_filter : {K : Type 0} (R : K → K → Ordering) (key : X → K) (xs : List X) → IsStrictlySortedBy R (mapped key xs) → IsStrictlySortedBy R (mapped key (filter f xs))
+  pub sorted_filter : {K : Type 0} (R : K → K → Ordering) (key : X → K) (xs : List X) → IsStrictlySortedBy R (mapped key xs) → IsStrictlySortedBy R (mapped key (filter f xs))
   unfolding IsStrictlySortedBy
   sorted_filter R key [] h = tt
   sorted_filter R key (x ∷ xs) h = elim (f x) as (λ b. IsStrictlySortedBy R (mapped key (cond b (x ∷ filter f xs) (filter f xs)))) [
@@ -105,17 +106,17 @@ all_at P [] i x h at = absurd (cc)
 all_at P (y ∷ xs) zero x h at = let same : y ≡ x = cc in subst P same h.0
 all_at P (y ∷ xs) (suc i) x h at = all_at P xs i x h.1 at
 
-abbrev pid_of : ProcessEntry → VPid
+abbrev pub pid_of : ProcessEntry → VPid
 pid_of e = e.pid
 
-abbrev image_pid : ProcImage → VPid
+abbrev pub image_pid : ProcImage → VPid
 image_pid image = image.pid
 
 abbrev HasRisingThreads : ProcessEntry → Type 0
 HasRisingThreads e = RisesFrom nat_cmp None (tids_of e.threads)
 
 module _ (shared : Shared) (fits : SharedFits shared) where
-  abbrev living : List ProcessEntry
+  abbrev pub living : List ProcessEntry
   living = filter (λ (e : ProcessEntry). lives e.life) shared.processes
 
   all_rise : AllByRecursion HasRisingThreads living
@@ -140,7 +141,7 @@ module _ (shared : Shared) (fits : SharedFits shared) where
   images_back file (text ∷ texts) (image ∷ images) h = (image_back (pid_at shared file) (tids_at shared file) image (tids_at_rise file) (image_facts (pid_at shared file) (tids_at shared file) text image h.0), images_back (file + 1) texts images h.1)
 
   -- and their numbers are those of the live processes
-  at_place : (file i : ℕ) → file ≡ i + 2 → process_at shared file ≡ slice_get living i
+  pub at_place : (file i : ℕ) → file ≡ i + 2 → process_at shared file ≡ slice_get living i
   unfolding process_at
   at_place file i is =
       let late : nat_lt file 2 ≡ false = grind (arith, nat_tests) in
@@ -151,7 +152,7 @@ module _ (shared : Shared) (fits : SharedFits shared) where
   named None n is = absurd (cc)
   named (Some e) n is = (e, refl, cc)
 
-  next_is : (file i : ℕ) (text : List ℕ) (image : ProcImage) → file ≡ i + 2 → SpellsProcess (pid_at shared file) (tids_at shared file) text image
+  pub next_is : (file i : ℕ) (text : List ℕ) (image : ProcImage) → file ≡ i + 2 → SpellsProcess (pid_at shared file) (tids_at shared file) text image
       → (e : ProcessEntry) × (drop i living ≡ e ∷ drop (i + 1) living) × (e.pid ≡ image.pid)
   next_is file i text image is spells =
       let (e, found, number) = named (process_at shared file) image.pid.0 (number-is (pid_at shared file) image.pid.0 (image_facts (pid_at shared file) (tids_at shared file) text image spells).fields.number) in

@@ -4,9 +4,9 @@
 --     HasArrived k      all bytes of each direction have arrived
 --     IsImage s k      s can be spelled and stands for k      HasImage k      some s is its image
 --     KernelComesBack      what is made of the entries of a kernel part stands for it
---     IsLone k      what an image has a place for so far      LoneHasImage      it is what is made of the entries
+--     KernelHasImage      and it is its image      ImageIsKernel      an image stands for one that a run may reach
 -- Source: docs/FORMATS.md, "Shared image".
-use Rattle.std.specs.Prelude.{◌≡◌, ℕ, Bool, true, false, List, [], length, Option, Some, None, filter}
+use Rattle.std.specs.Prelude.{◌≡◌, ℕ, Bool, false, List, [], length, Option, Some, None, filter}
 use Rattle.std.specs.Prelude.{map as each, unwrap_or}
 use Rattle.std.specs.Ordering.{nat_cmp}
 use Rattle.std.specs.FinMap as map
@@ -15,7 +15,6 @@ use Rattle.sys_abi.specs.declared.identity.Slot.{Slot}
 use Rattle.sys_abi.specs.declared.identity.DescId.{DescId}
 use Rattle.sys_abi.specs.declared.identity.ConnId.{ConnId}
 use Rattle.sys_abi.specs.declared.identity.VirtAddr.{VirtAddr}
-use Rattle.sys_abi.specs.Lives.{lives}
 use Rattle.plain_process.specs.Valid.{Each}
 use Rattle.plain_tables.specs.declared.channel.Channel.{Channel}
 use Rattle.plain_tables.specs.declared.channel.Direction.{Direction}
@@ -156,13 +155,8 @@ abbrev pub KernelComesBack : Type 0
 KernelComesBack =
     (k : PlainKernel) → IsKernel k → IsSupported k → HasArrived k → kernel_of (shared_of k) ≡ k
 
--- so far: one process, which lives, and the console is all that is open
-pub record IsLone (k : PlainKernel) : Type 0 where
-  pub one : map.len k.processes ≡ 1
-  pub alive : Each k.processes (λ p process. lives process.life ≡ true)
-  pub files : k.files ≡ map.empty
-  pub channels : k.channels ≡ map.empty
-  pub consoles : Each k.descriptions (λ d description. description.object ≡ object.Console)
+abbrev pub KernelHasImage : Type 0
+KernelHasImage = (k : PlainKernel) → IsKernel k → IsSupported k → HasArrived k → IsImage (shared_of k) k
 
-abbrev pub LoneHasImage : Type 0
-LoneHasImage = (k : PlainKernel) → IsKernel k → IsLone k → IsImage (shared_of k) k
+abbrev pub ImageIsKernel : Type 0
+ImageIsKernel = (s : Shared) → IsShared s → IsKernel (kernel_of s)

@@ -1,12 +1,10 @@
 -- What the shared image stands for: the kernel part, which all processes share.
 --     kernel_of s      its lists as maps, where all bytes of a direction have arrived
---     is_side_named descriptions conn side      whether a stream, or the queue of a listener, names the side of the channel
 -- Source: docs/FORMATS.md, "Shared image".
-use Rattle.std.specs.Prelude.{◌==◌, ◌&&◌, ℕ, Bool, false, List, [], ◌∷◌, length, Option, Some, None}
+use Rattle.std.specs.Prelude.{ℕ, List, [], ◌∷◌, length, Option, Some, None}
 use Rattle.std.specs.Prelude.{map as each}
-use Rattle.std.specs.List.{flat_map, filter_map, list_any}
+use Rattle.std.specs.List.{flat_map, filter_map}
 use Rattle.std.specs.declared.cmp.Ordering.{Ordering}
-use Rattle.std.specs.Ordering.{eq_by_cmp}
 use Rattle.std.specs.FinMap as map
 use Rattle.sys_abi.specs.declared.identity.VPid.{VPid}
 use Rattle.sys_abi.specs.declared.identity.Slot.{Slot}
@@ -14,7 +12,6 @@ use Rattle.sys_abi.specs.declared.identity.DescId.{DescId}
 use Rattle.sys_abi.specs.declared.identity.ConnId.{ConnId}
 use Rattle.sys_abi.specs.declared.identity.Dir.{Dir}
 use Rattle.sys_abi.specs.declared.identity.VirtAddr.{VirtAddr}
-use Rattle.sys_abi.specs.Orders.{conn_cmp}
 use Rattle.plain_tables.specs.declared.process.Process.{Process}
 use Rattle.plain_tables.specs.declared.process.Maker.{Maker}
 use Rattle.plain_tables.specs.declared.description.Description.{Description}
@@ -37,6 +34,7 @@ use Rattle.image_shared.specs.declared.shared.ThreadEntry.{ThreadEntry}
 use Rattle.image_shared.specs.declared.shared.DescriptorEntry.{DescriptorEntry}
 use Rattle.image_shared.specs.declared.shared.ProcessEntry.{ProcessEntry}
 use Rattle.image_shared.specs.declared.shared.Shared.{Shared}
+use Rattle.image_shared.specs.Sides.{is_side_named}
 
 -- processes, their threads and their descriptors
 abbrev pub signals_entry : ThreadEntry → ℕ × ℕ
@@ -100,17 +98,6 @@ abbrev pub name_entry : FileImage → Option (List ℕ × ℕ)
 name_entry image = named_entry image.name image.number
 
 -- channels: a side that nothing names is closed
-abbrev pub same_channel : ConnId → ConnId → Bool
-same_channel = eq_by_cmp conn_cmp
-
-abbrev pub names_side : ConnId → ℕ → ObjectImage → Bool
-names_side conn side (Stream other at) = same_channel conn other && (side == at)
-names_side conn side (Listener address backlog pending) = (side == 1) && list_any (same_channel conn) pending
-names_side conn side _ = false
-
-unfoldable pub is_side_named : List DescriptionImage → ConnId → ℕ → Bool
-is_side_named descriptions conn side = list_any (λ it. names_side conn side it.object) descriptions
-
 abbrev pub channel_end : List DescriptionImage → ConnId → ℕ → SideImage → ChannelEnd
 channel_end descriptions conn side image = record {
   address = image.address;
@@ -127,16 +114,16 @@ channel_entry descriptions image = (
   },
 )
 
+abbrev pub direction_of : SideImage → Direction
+direction_of image = record {
+  left = image.left;
+  arrived = length image.left;
+  ended = image.ended;
+  unread = image.unread;
+}
+
 abbrev pub direction_entry : ConnId → ℕ → SideImage → Dir × Direction
-direction_entry conn side image = (
-  record { conn = conn; side = side },
-  record {
-    left = image.left;
-    arrived = length image.left;
-    ended = image.ended;
-    unread = image.unread;
-  },
-)
+direction_entry conn side image = (record { conn = conn; side = side }, direction_of image)
 
 abbrev pub direction_entries : ChannelImage → List (Dir × Direction)
 direction_entries image =

@@ -1,5 +1,6 @@
 pub mod KernelImages
 pub mod KernelParts
-pub mod OneProcess
+pub mod LiveImages
+pub mod NamedSides
 pub mod Sets
 pub mod StartImages

@@ -5,7 +5,8 @@
 --     SpellsSet manifest files g state      the set of the generation g spells this plain state
 --     OneStateOfSet      a set spells one state of one generation at most
 --     OneSetOfState      a state has one set of a generation at most
---     HasSet state g, LoneHasSet      which plain states have a set of the generation g
+--     HasSet state g, StateHasSet      which plain states have a set of the generation g
+--     SetIsValid      and what a set spells is such a state
 --     FilesApart, FilesEither      no files spell values and are damaged, and all files of bytes do one of both
 --     OneDamageOfFiles      files have one first damage at most
 -- Source: docs/FORMATS.md, "Whole sets".
@@ -14,6 +15,7 @@ use Rattle.std.specs.Prelude.{map as each}
 use Rattle.std.specs.FinMap as map
 use Rattle.sys_abi.specs.declared.identity.VPid.{VPid}
 use Rattle.plain_process.specs.declared.user_part.UserPart.{UserPart}
+use Rattle.plain_process.specs.Valid.{IsByte}
 use Rattle.plain_machine.specs.declared.plain.Plain.{Plain}
 use Rattle.image_process.specs.declared.process_image.ProcImage.{ProcImage}
 use Rattle.image_shared.specs.declared.shared.Shared.{Shared}
@@ -22,7 +24,7 @@ use Rattle.image_shared.specs.SharedFormat.{SpellsShared, DamagedShared}
 use Rattle.image_process.specs.ProcessImages.{SpellsFileAt, DamagedFileAt}
 use Rattle.plain_machine.specs.Valid.{IsValid}
 use Rattle.image_codec.specs.KernelParts.{kernel_of}
-use Rattle.image_codec.specs.KernelImages.{IsLone}
+use Rattle.image_codec.specs.KernelImages.{IsSupported, HasArrived}
 use Rattle.image_process.specs.UserParts.{user_of}
 use Rattle.sys_abi.specs.Lives.{lives}
 
@@ -94,9 +96,20 @@ pub record HasSet (state : Plain) (g : ℕ) : Type 0 where
   pub files : List (List ℕ)
   pub spells : SpellsSet manifest files g state
 
--- so far each valid state of one process with the console alone has one
-abbrev pub LoneHasSet : Type 0
-LoneHasSet = (state : Plain) (g : ℕ) → g < 2 ^ 64 → IsValid state → IsLone state.kernel → HasSet state g
+-- each valid state has one, where no datagram end or event counter is open and all bytes have arrived
+pub record MayBeSet (state : Plain) : Type 0 where
+  pub valid : IsValid state
+  pub supported : IsSupported state.kernel
+  pub arrived : HasArrived state.kernel
+
+abbrev pub StateHasSet : Type 0
+StateHasSet = (state : Plain) (g : ℕ) → g < 2 ^ 64 → MayBeSet state → HasSet state g
+
+-- and back, where the files are of bytes
+abbrev pub SetIsValid : Type 0
+SetIsValid =
+    (files : List (List ℕ)) (shared : Shared) (images : List ProcImage) (state : Plain)
+    → All (All IsByte) files → SpellsFiles files shared images → IsStateOf shared images state → MayBeSet state
 
 -- files that spell values are damaged nowhere
 abbrev pub FilesApart : Type 0

@@ -2,10 +2,7 @@
 
 ghost use Rattle.std.specs.Prelude.{◌≡◌, IfOk, filter, map as each};
 ghost use Rattle.std.specs.FinMap as map;
-ghost use Rattle.image_codec.specs.KernelParts.{kernel_of};
-ghost use Rattle.image_shared.specs.SharedFits.{IsShared};
-ghost use Rattle.plain_machine.specs.Kernels.{IsKernel};
-ghost use Rattle.image_codec.specs.KernelImages.{IsImage, IsLone, description_image, descriptor_image};
+ghost use Rattle.image_codec.specs.KernelImages.{IsImage, shared_of, description_image, descriptor_image};
 ghost use Rattle.image_codec.specs.KernelImages.{is_of, listener_image, maker_or, object_image};
 ghost use Rattle.image_codec.specs.KernelImages.{process_image, thread_image};
 
@@ -22,12 +19,10 @@ use views::duplicate::Duplicate;
 use views::list_of::ListOf;
 use views::number_map::NumberMap;
 
-/// The image of the kernel part, which is the only one. So far it has one process, which lives, and the console alone.
+/// What is made of the entries of the kernel part, which is its one image, if it has one.
 #[tactic(auto, unfolding(crate::specs::KernelImages::shared_of))]
 pub fn shared_image(alloc: Global, k: &PlainKernel) -> Result<Shared, AllocError>
-    requires valid { IsKernel k.now }
-    requires lone { IsLone k.now }
-    ensures image { IfOk result (λ s. IsImage s k.now) }
+    ensures image { IfOk result (λ s. s ≡ shared_of k.now) }
     ensures only { (s : Shared) → IsImage s k.now → IfOk result (λ found. found ≡ s) }
 {
     Ok(Shared {

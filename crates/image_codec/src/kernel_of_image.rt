@@ -2,48 +2,93 @@
 
 ghost use Rattle.std.specs.Prelude.{◌≡◌, IfOk, OnOk, map as each};
 ghost use Rattle.std.specs.FinMap as map;
-ghost use Rattle.std.specs.List.{flat_map};
+ghost use Rattle.std.specs.List.{filter_map, flat_map};
 ghost use Rattle.image_shared.specs.SharedFits.{IsShared};
 ghost use Rattle.plain_machine.specs.Kernels.{IsKernel};
-ghost use Rattle.image_codec.specs.KernelImages.{IsLone};
-ghost use Rattle.image_codec.specs.KernelParts.{kernel_of, inserted, description_entry, descriptor_entries};
-ghost use Rattle.image_codec.specs.KernelParts.{descriptor_entry, maker_entry, object_of, process_entry};
-ghost use Rattle.image_codec.specs.KernelParts.{signals_entry};
+ghost use Rattle.image_codec.specs.KernelParts.{kernel_of, inserted, channel_entry, description_entry};
+ghost use Rattle.image_codec.specs.KernelParts.{descriptor_entries, descriptor_entry, direction_entries};
+ghost use Rattle.image_codec.specs.KernelParts.{file_entry, listening_of, maker_entry, name_entry};
+ghost use Rattle.image_codec.specs.KernelParts.{process_entry, signals_entry};
 
-use id_maps::{ByAddress, ByConn, ByDesc, ByDir, ByName, ByPid, BySlot};
-use image_shared::{
-    DescriptionImage, DescriptorEntry, ObjectImage, ProcessEntry, Shared, ThreadEntry,
+use crate::restored_objects::{
+    channels_of, descriptions_of, directions_of, files_of, listeners_of, names_of,
 };
+use id_maps::{ByPid, BySlot};
+use image_shared::{DescriptorEntry, ProcessEntry, Shared, ThreadEntry};
 use plain_machine::PlainKernel;
-use plain_tables::{Description, Descriptor, Maker, Object, Process};
+use plain_tables::{Descriptor, Maker, Process};
 use std::alloc::{AllocError, Global};
 use sys_abi::{Slot, VPid};
 use views::list_of::ListOf;
 use views::number_map::NumberMap;
 
-/// The kernel part that the image stands for, of which an image can be made again. No file, channel or listener has an
-/// image so far.
-#[tactic(auto, unfolding(crate::specs::KernelParts::kernel_of))]
+/// The kernel part that the image stands for, which is one that a run may reach.
 pub fn restored_kernel(alloc: Global, s: &Shared) -> Result<PlainKernel, AllocError>
     requires { IsShared s.now }
     ensures kernel { IfOk result (λ k. k ≡ kernel_of s.now) }
     ensures valid { IfOk result (λ k. IsKernel k) }
-    ensures lone { IfOk result (λ k. IsLone k) }
 {
-    Ok(PlainKernel {
-        processes: processes_of(alloc, &s.processes)?,
-        makers: makers_of(alloc, &s.processes)?,
-        descriptors: descriptors_of(alloc, &s.processes)?,
-        descriptions: descriptions_of(alloc, &s.descriptions)?,
-        names: ByName::new(alloc),
-        files: NumberMap::new(alloc),
-        next_file: s.next_file,
-        channels: ByConn::new(alloc),
-        directions: ByDir::new(alloc),
-        listeners: ByAddress::new(alloc),
-        inboxes: ByDesc::new(alloc),
-        next_id: s.next_id,
-    })
+    let mut k = PlainKernel::empty(alloc);
+    restore(alloc, &mut k, s)?;
+    Ok(k)
+}
+
+/// All of it but its inboxes, which no image has.
+#[tactic(auto, unfolding(crate::specs::KernelParts::kernel_of))]
+fn restore(alloc: Global, k: &mut PlainKernel, s: &Shared) -> Result<(), AllocError>
+    ensures { OnOk result (k.new ≡ record (kernel_of s.now) { inboxes = k.old.inboxes }) }
+{
+    k.next_id = s.next_id;
+    k.next_file = s.next_file;
+    restore_processes(alloc, k, &s.processes)?;
+    restore_files(alloc, k, s)?;
+    restore_channels(alloc, k, s)
+}
+
+/// The processes with what they hold.
+fn restore_processes(
+    alloc: Global,
+    k: &mut PlainKernel,
+    images: &ListOf<ProcessEntry>,
+) -> Result<(), AllocError>
+    ensures { OnOk result (k.new ≡ record k.old {
+      processes = map.from_entries (each process_entry images.now);
+      makers = map.from_entries (each maker_entry images.now);
+      descriptors = map.from_entries (flat_map descriptor_entries images.now);
+    }) }
+{
+    k.processes = processes_of(alloc, images)?;
+    k.makers = makers_of(alloc, images)?;
+    k.descriptors = descriptors_of(alloc, images)?;
+    Ok(())
+}
+
+/// The files with their names, and what is open.
+fn restore_files(alloc: Global, k: &mut PlainKernel, s: &Shared) -> Result<(), AllocError>
+    ensures { OnOk result (k.new ≡ record k.old {
+      names = map.from_entries (filter_map name_entry s.now.files);
+      files = map.from_entries (each file_entry s.now.files);
+      descriptions = map.from_entries (each description_entry s.now.descriptions);
+    }) }
+{
+    k.names = names_of(alloc, &s.files)?;
+    k.files = files_of(alloc, &s.files)?;
+    k.descriptions = descriptions_of(alloc, &s.descriptions)?;
+    Ok(())
+}
+
+/// The channels with their directions, and who listens.
+fn restore_channels(alloc: Global, k: &mut PlainKernel, s: &Shared) -> Result<(), AllocError>
+    ensures { OnOk result (k.new ≡ record k.old {
+      channels = map.from_entries (each (channel_entry s.now.descriptions) s.now.channels);
+      directions = map.from_entries (flat_map direction_entries s.now.channels);
+      listeners = map.from_entries (filter_map (λ it. listening_of it.object) s.now.descriptions);
+    }) }
+{
+    k.channels = channels_of(alloc, &s.channels, &s.descriptions)?;
+    k.directions = directions_of(alloc, &s.channels)?;
+    k.listeners = listeners_of(alloc, &s.descriptions)?;
+    Ok(())
 }
 
 #[tactic(auto, using(crate::proofs::Inserted::inserted_none, crate::proofs::Inserted::inserted_one))]
@@ -125,42 +170,4 @@ fn insert_descriptors(
         descriptors.insert(slot, descriptor)?;
     }
     Ok(())
-}
-
-#[tactic(auto, using(crate::proofs::Inserted::inserted_none, crate::proofs::Inserted::inserted_one))]
-fn descriptions_of(
-    alloc: Global,
-    images: &ListOf<DescriptionImage>,
-) -> Result<ByDesc<Description>, AllocError>
-    ensures { IfOk result (λ descriptions.
-        descriptions ≡ map.from_entries (each description_entry images.now)) }
-{
-    let mut descriptions = ByDesc::new(alloc);
-    for image in images.iter().rev() {
-        let description = Description {
-            object: object_of(&image.object),
-            flags: image.flags,
-            owner: image.owner,
-        };
-        descriptions.insert(image.id, description)?;
-    }
-    Ok(descriptions)
-}
-
-fn object_of(image: &ObjectImage) -> Object
-    ensures { result ≡ object_of image.now }
-{
-    match image {
-        ObjectImage::Console => Object::Console,
-        ObjectImage::File { number, offset } => Object::File {
-            number: *number,
-            offset: *offset,
-        },
-        ObjectImage::Stream { conn, side } => Object::Stream {
-            conn: *conn,
-            side: *side,
-        },
-        ObjectImage::Socket { address } => Object::Socket { address: *address },
-        ObjectImage::Listener { address, .. } => Object::Listener { address: *address },
-    }
 }

@@ -5,6 +5,7 @@ pub mod LiveProcesses
 pub mod Owners
 pub mod ProcessFiles
 pub mod ProcessLaws
+pub mod RebuiltUsers
 pub mod ReturnContent
 pub mod RisingKeys
 pub mod ThreadKeys

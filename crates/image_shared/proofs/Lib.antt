@@ -1,1 +1,4 @@
+pub mod FieldLaws
+pub mod ItemLaws
+pub mod ObjectLaws
 pub mod SharedLaws

@@ -21,68 +21,21 @@ use Rattle.image_format.specs.Format.{FormatOf, n8, n32, any, number_text, count
 use Rattle.image_format.specs.Reading.{read}
 use Rattle.image_format.specs.Texts.{FitsField}
 use Rattle.image_shared.specs.SharedTests as field
-use Rattle.image_shared.specs.SharedFits.{IsShared, SharedFits, DescriptionFits, ThreadFits, DescriptorFits, LifeFits, ProcessFits, kind_of, state_of, status_of}
-use Rattle.image_shared.specs.SharedTexts.{IsSharedText, HasCounts, list_text, flag, file_text, channel_text, description_text, thread_text, descriptor_text, life_text, process_text, shared_text}
+use Rattle.image_shared.specs.WholeShared.{is_whole_shared}
+use Rattle.image_shared.specs.SharedFits.{IsShared, SharedFits, FileFits, ChannelFits, DescriptionFits, ObjectFits, ThreadFits, DescriptorFits, LifeFits, ProcessFits, flag, state_of, status_of}
+use Rattle.image_shared.specs.SharedTexts.{IsSharedText, HasCounts, HasFileCounts, HasSideCounts, HasQueueCount, file_text, channel_text, description_text, thread_text, descriptor_text, life_text, process_text, shared_text}
 use Rattle.image_shared.specs.SharedFormat as format
 use Rattle.image_shared.specs.SharedFormat.{SHARED_MAGIC, VERSION, SpellsShared, DamagedShared}
 use Rattle.image_format.proofs.Numerals.{AllBytes}
 use Rattle.image_format.proofs.Rising.{all_items}
 use Rattle.image_format.proofs.Texts.{Law, in_words, next_law, unsigned_law, raw_law, counted_law, give_law}
+use Rattle.image_shared.proofs.FieldLaws.{is_zero, both_true, flag_of_number, number_of_flag, flag_fits}
+use Rattle.image_shared.proofs.ItemLaws.{file_law, channel_law}
+use Rattle.image_shared.proofs.ObjectLaws.{description_law}
 use Rattle.image_format.proofs.WholeFiles.{spells_whole, only_value, no_value, no_value_after, laws_of}
-
--- numbers that tests settle
-
-is_zero : (n : ℕ) → IsTrue (n == 0) → n ≡ 0
-is_zero n h = grind (arith, nat_tests)
-
-both_true : (a b : Bool) → IsTrue (a && b) → IsTrue a × IsTrue b
-both_true true true h = (refl, refl)
-both_true true false h = cc
-both_true false b h = cc
 
 is-magic : (bytes wanted : List ℕ) → IsTrue (is_bytes wanted bytes) → bytes ≡ wanted
 is-magic bytes wanted h = (bytes_eq-Decides bytes wanted).0 h
-
-flag_of_number : (n : ℕ) → IsTrue (field.is_flag n) → flag (n == 1) ≡ n
-flag_of_number n h = grind (arith, nat_tests)
-
-number_of_flag : (b : Bool) → (flag b == 1) ≡ b
-number_of_flag true = refl
-number_of_flag false = refl
-
-flag_fits : (b : Bool) → FitsField n8 field.is_flag (flag b)
-flag_fits true = (lit< tt, refl)
-flag_fits false = (lit< tt, refl)
-
--- descriptions
-
-console : (version : ℕ) (object : ObjectImage) → IsTrue (field.is_object_kind version (kind_of object)) → object ≡ Console
-console version Console h = refl
-console version (File number offset) h = cc
-console version (Stream conn side) h = cc
-console version (Socket address) h = cc
-console version (Listener address backlog pending) h = cc
-
-kind_is : (version kind : ℕ) (object : ObjectImage) → IsTrue (field.is_object_kind version kind) → object ≡ Console → kind ≡ kind_of object
-kind_is version kind object h is = is_zero kind h ∙ sym (ap kind_of is)
-
-pub description_law : (version next_id : ℕ) (files : List FileImage) (channels : List ChannelImage) (front : List DescriptionImage)
-    → Law (format.description version next_id files channels front) description_text (DescriptionFits version next_id files channels front)
-unfolding format.description format.object description_text
-description_law version next_id files channels front =
-    in_words _ _ _ _ _
-    (λ d h. simp (append_assoc, append-nil))
-    (λ d h.
-    let (maker, (number, (kind, (flags, (owner, (what, is)))))) = h in
-    record { maker = maker; number = number; kind = kind; flags = flags; owner = owner })
-    (λ d h. (h.maker, (h.number, (h.kind, (h.flags, (h.owner, (console version d.object h.kind.1, refl)))))))
-    (next_law _ _ _ _ _ _ (λ (d : DescriptionImage). d.id.pid.0) (unsigned_law n32 _) (λ b d h o. let (number, (kind, (flags, (owner, (what, is))))) = o in sym (ap (λ (d : DescriptionImage). d.id.pid.0) is)) (λ maker.
-    next_law _ _ _ _ _ _ (λ (d : DescriptionImage). d.id.num) (unsigned_law n32 _) (λ b d h o. let (kind, (flags, (owner, (what, is)))) = o in sym (ap (λ (d : DescriptionImage). d.id.num) is)) (λ number.
-    next_law _ _ _ _ _ _ (λ (d : DescriptionImage). kind_of d.object) (unsigned_law n8 _) (λ b d h o. let (flags, (owner, (what, is))) = o in kind_is version b d.object h.1 what) (λ kind.
-    next_law _ _ _ _ _ _ (λ (d : DescriptionImage). d.flags) (unsigned_law n32 _) (λ b d h o. let (owner, (what, is)) = o in sym (ap (λ (d : DescriptionImage). d.flags) is)) (λ flags.
-    next_law _ _ _ _ _ _ (λ (d : DescriptionImage). d.owner) (unsigned_law n32 _) (λ b d h o. let (what, is) = o in sym (ap (λ (d : DescriptionImage). d.owner) is)) (λ owner.
-    next_law _ _ _ _ _ _ (λ (d : DescriptionImage). d.object) (give_law Console) (λ b d h o. sym (ap (λ (d : DescriptionImage). d.object) o)) (λ what.
-    give_law _)))))))
 
 -- processes
 
@@ -180,22 +133,6 @@ process_law next_id channels descriptions front =
     next_law _ _ _ _ _ _ (λ (p : ProcessEntry). p.descriptors) (counted_law _ _ descriptor_text (DescriptorFits descriptions) (descriptor_law descriptions)) (λ b p h o. sym (ap (λ (p : ProcessEntry). p.descriptors) o)) (λ descriptors.
     give_law _)))))))))
 
--- lists that are empty so far
-
-each_none : {X : Type 0} (item : List X → FormatOf X) (n : ℕ) (t : List ℕ) (items : List X) → n ≡ 0 → Spells (each item n []) t items → (t ≡ []) × (items ≡ [])
-unfolding Spells each
-each_none item n t items h s = let r = subst (λ (m : ℕ). Spells (each item m []) t items) h s in (r.0, r.1)
-
-pub none_law : {X : Type 0} (item : List X → FormatOf X) (text : X → List ℕ) → Law (counted (λ n. n == 0) item) (list_text text) (λ items. items ≡ [])
-unfolding Spells counted each
-none_law item text = record {
-  only = λ t items (n, first, rest, e, s, r).
-      let none = is_zero n s.2 in
-      let left = each_none item n rest items none r in
-      (e ∙ (λ i. s.0 i ++ left.0 i) ∙ append-nil (number_text n32 n) ∙ ap (number_text n32) none ∙ sym (append-nil (number_text n32 0)) ∙ sym (ap (list_text text) left.1), left.1);
-  again = λ items h. (0, number_text n32 0, [], ap (list_text text) h, (refl, lit< tt, refl), (refl, h));
-}
-
 -- the whole
 
 regrouped : (m a b c1 c2 d1 d2 e1 e2 f1 f2 : List ℕ)
@@ -215,19 +152,21 @@ shared_law =
     record {
       next_id = next_id;
       next_file = next_file;
-      files = files;
-      channels = channels;
+      file_count = files.0;
+      files = files.1;
+      channel_count = channels.0;
+      channels = channels.1;
       description_count = descriptions.0;
       descriptions = descriptions.1;
       process_count = processes.0;
       processes = processes.1;
     })
-    (λ s h. ((refl, refl), (h.next_id, (h.next_file, (h.files, (h.channels, ((h.description_count, h.descriptions), ((h.process_count, h.processes), refl))))))))
+    (λ s h. ((refl, refl), (h.next_id, (h.next_file, ((h.file_count, h.files), ((h.channel_count, h.channels), ((h.description_count, h.descriptions), ((h.process_count, h.processes), refl))))))))
     (next_law _ _ _ _ _ _ (λ (s : Shared). SHARED_MAGIC) (raw_law 8 (is_bytes SHARED_MAGIC)) (λ b s h o. is-magic b _ h.1) (λ _.
     next_law _ _ _ _ _ _ (λ (s : Shared). s.next_id) (unsigned_law n32 _) (λ b s h o. let (next_file, (files, (channels, (descriptions, (processes, is))))) = o in sym (ap (λ (s : Shared). s.next_id) is)) (λ next_id.
     next_law _ _ _ _ _ _ (λ (s : Shared). s.next_file) (unsigned_law n32 _) (λ b s h o. let (files, (channels, (descriptions, (processes, is)))) = o in sym (ap (λ (s : Shared). s.next_file) is)) (λ next_file.
-    next_law _ _ _ _ _ _ (λ (s : Shared). s.files) (none_law (format.file next_file) file_text) (λ b s h o. let (channels, (descriptions, (processes, is))) = o in sym (ap (λ (s : Shared). s.files) is)) (λ files.
-    next_law _ _ _ _ _ _ (λ (s : Shared). s.channels) (none_law (format.channel next_id) channel_text) (λ b s h o. let (descriptions, (processes, is)) = o in sym (ap (λ (s : Shared). s.channels) is)) (λ channels.
+    next_law _ _ _ _ _ _ (λ (s : Shared). s.files) (counted_law field.is_file_count (format.file next_file) file_text (FileFits next_file) (file_law next_file)) (λ b s h o. let (channels, (descriptions, (processes, is))) = o in sym (ap (λ (s : Shared). s.files) is)) (λ files.
+    next_law _ _ _ _ _ _ (λ (s : Shared). s.channels) (counted_law field.is_channel_count (format.channel next_id) channel_text (ChannelFits next_id) (channel_law next_id)) (λ b s h o. let (descriptions, (processes, is)) = o in sym (ap (λ (s : Shared). s.channels) is)) (λ channels.
     next_law _ _ _ _ _ _ (λ (s : Shared). s.descriptions) (counted_law any (format.description VERSION next_id files channels) description_text (DescriptionFits VERSION next_id files channels) (description_law VERSION next_id files channels)) (λ b s h o. let (processes, is) = o in sym (ap (λ (s : Shared). s.descriptions) is)) (λ descriptions.
     next_law _ _ _ _ _ _ (λ (s : Shared). s.processes) (counted_law field.is_process_count (format.process next_id channels descriptions) process_text (ProcessFits next_id channels descriptions) (process_law next_id channels descriptions)) (λ b s h o. sym (ap (λ (s : Shared). s.processes) o)) (λ processes.
     give_law _))))))))
@@ -245,22 +184,43 @@ unfolding SpellsFile
 of_text text s h = (subst (λ (t : List ℕ). Spells format.shared t s) (sym h.text_is) (shared_law.again s h.keeps.fields), h.keeps.whole)
 
 pub laws : FileLaws SpellsShared DamagedShared
-laws = laws_of format.shared field.is_whole_shared shared_text SharedFits shared_law
+laws = laws_of format.shared is_whole_shared shared_text SharedFits shared_law
 
-pub found : (text : List ℕ) (s : Shared) (rest : List ℕ) → AllBytes text → read format.shared text ≡ Ok (s, rest) → rest ≡ [] → IsTrue (field.is_whole_shared s) → SpellsShared text s
-found text s rest bytes e none whole = spells_whole format.shared field.is_whole_shared text s rest bytes e none whole
+pub found : (text : List ℕ) (s : Shared) (rest : List ℕ) → AllBytes text → read format.shared text ≡ Ok (s, rest) → rest ≡ [] → IsTrue (is_whole_shared s) → SpellsShared text s
+found text s rest bytes e none whole = spells_whole format.shared is_whole_shared text s rest bytes e none whole
 
 pub only : (text : List ℕ) (s : Shared) (rest : List ℕ) → read format.shared text ≡ Ok (s, rest) → (k : Shared) → SpellsShared text k → s ≡ k
-only text s rest e k h = only_value format.shared field.is_whole_shared text s k rest e h
+only text s rest e k h = only_value format.shared is_whole_shared text s k rest e h
 
 pub none_left : (text : List ℕ) (left : ℕ) → read format.shared text ≡ Err left → (k : Shared) → SpellsShared text k → ⊥
-none_left text left e k h = no_value format.shared field.is_whole_shared text left k e h
+none_left text left e k h = no_value format.shared is_whole_shared text left k e h
 
-pub none_after : (text : List ℕ) (s : Shared) (rest : List ℕ) → read format.shared text ≡ Ok (s, rest) → (0 < length rest) ⊎ (field.is_whole_shared s ≡ false) → (k : Shared) → SpellsShared text k → ⊥
-none_after text s rest e why k h = no_value_after format.shared field.is_whole_shared text s rest k e why h
+pub none_after : (text : List ℕ) (s : Shared) (rest : List ℕ) → read format.shared text ≡ Ok (s, rest) → (0 < length rest) ⊎ (is_whole_shared s ≡ false) → (k : Shared) → SpellsShared text k → ⊥
+none_after text s rest e why k h = no_value_after format.shared is_whole_shared text s rest k e why h
 
--- the lists of processes have counts that are written
+-- the lists of items have counts that are written
 
 pub counts : (s : Shared) → IsShared s → All HasCounts s.processes
 counts s h =
     all_items (ProcessFits s.next_id s.channels s.descriptions) HasCounts (λ front p fits. record { threads = fits.thread_count.0; descriptors = fits.descriptor_count.0 }) [] s.processes h.fields.processes
+
+pub file_counts : (s : Shared) → IsShared s → All HasFileCounts s.files
+file_counts s h =
+    all_items (FileFits s.next_file) HasFileCounts (λ front f fits. record { name = fits.name_size.0; bytes = fits.size.0 }) [] s.files h.fields.files
+
+pub side_counts : (s : Shared) → IsShared s → All HasSideCounts s.channels
+side_counts s h =
+    all_items (ChannelFits s.next_id) HasSideCounts (λ front c fits. record { first = fits.first.size.0; second = fits.second.size.0 }) [] s.channels h.fields.channels
+
+queue_count : (files : List FileImage) (channels : List ChannelImage) (front : List DescriptionImage) (flags : ℕ) (object : ObjectImage)
+    → ObjectFits files channels front flags object → HasQueueCount object
+queue_count files channels front flags Console h = tt
+queue_count files channels front flags (File number offset) h = tt
+queue_count files channels front flags (Stream conn side) h = tt
+queue_count files channels front flags (Socket address) h = tt
+queue_count files channels front flags (Listener address backlog pending) h = h.count.0
+
+pub queue_counts : (s : Shared) → IsShared s → All (λ (d : DescriptionImage). HasQueueCount d.object) s.descriptions
+queue_counts s h =
+    all_items (DescriptionFits VERSION s.next_id s.files s.channels) (λ (d : DescriptionImage). HasQueueCount d.object)
+    (λ front d fits. queue_count s.files s.channels front d.flags d.object fits.what) [] s.descriptions h.fields.descriptions

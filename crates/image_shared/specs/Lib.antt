@@ -2,3 +2,5 @@ pub mod SharedFits
 pub mod SharedFormat
 pub mod SharedTests
 pub mod SharedTexts
+pub mod Sides
+pub mod WholeShared

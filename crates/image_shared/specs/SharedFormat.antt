@@ -4,11 +4,12 @@
 --     SpellsShared text s      the bytes are the file of this value
 --     DamagedShared text n      the bytes are the file of no value: n is the place where they break the format
 -- An item's format takes what it may look at: the version of the file, the lists before its own, the fields
--- before, and the items of its own list before it. The tests of files and channels are those of a field
--- alone: no file and no channel has an image so far, since their counts are 0.
+-- before, and the items of its own list before it.
 -- Source: docs/FORMATS.md, "Shared image".
-use Rattle.std.specs.Prelude.{ℕ, ◌==◌, ◌%◌, nat_le, List, Option, Some, None, codes, if◌then◌else◌}
+use Rattle.std.specs.Prelude.{ℕ, ◌==◌, ◌%◌, nat_le, Bool, true, false, List, Option, Some, None, codes}
+use Rattle.std.specs.Prelude.{if◌then◌else◌}
 use Rattle.sys_abi.specs.declared.identity.VirtAddr.{VirtAddr}
+use Rattle.sys_abi.specs.declared.identity.ConnId.{ConnId}
 use Rattle.sys_abi.specs.declared.identity.DescId.{DescId}
 use Rattle.sys_abi.specs.declared.life.Life.{Life}
 use Rattle.sys_abi.specs.declared.life.Life.TheVariants.{Live, Zombie}
@@ -19,7 +20,8 @@ use Rattle.image_shared.specs.declared.shared.FileImage.{FileImage}
 use Rattle.image_shared.specs.declared.shared.SideImage.{SideImage}
 use Rattle.image_shared.specs.declared.shared.ChannelImage.{ChannelImage}
 use Rattle.image_shared.specs.declared.shared.ObjectImage.{ObjectImage}
-use Rattle.image_shared.specs.declared.shared.ObjectImage.TheVariants.{Console}
+use Rattle.image_shared.specs.declared.shared.ObjectImage.TheVariants.{Console, File, Stream, Socket}
+use Rattle.image_shared.specs.declared.shared.ObjectImage.TheVariants.{Listener}
 use Rattle.image_shared.specs.declared.shared.DescriptionImage.{DescriptionImage}
 use Rattle.image_shared.specs.declared.shared.ThreadEntry.{ThreadEntry}
 use Rattle.image_shared.specs.declared.shared.DescriptorEntry.{DescriptorEntry}
@@ -29,6 +31,8 @@ use Rattle.image_format.specs.Fields.{is_bytes, is_within}
 use Rattle.image_format.specs.Format.{FormatOf, unsigned, raw, give, ◌>>=◌, counted, any, n8, n16, n32}
 use Rattle.image_format.specs.Format.{SpellsFile, Damaged}
 use Rattle.image_shared.specs.SharedTests as field
+use Rattle.image_shared.specs.SharedTests.{conn}
+use Rattle.image_shared.specs.WholeShared.{is_whole_shared}
 
 abbrev pub SHARED_MAGIC : List ℕ
 SHARED_MAGIC = codes "DMTSHR01"
@@ -46,7 +50,7 @@ file next_file front = do
   name_size ← unsigned n16 (is_within 0 255)
   name ← raw name_size (field.is_file_name front)
   size ← unsigned n32 (field.is_file_size front)
-  bytes ← raw size any
+  bytes ← raw size field.are_bytes
   give (record { number = number; name = name; bytes = bytes })
 
 abbrev pub channel_kind : ℕ → ChannelKind
@@ -59,7 +63,7 @@ unfoldable pub side : ℕ → ℕ → FormatOf SideImage
 side kind number = do
   flags ← unsigned n8 field.is_side_flags
   size ← unsigned n32 (field.is_left_count kind number flags)
-  left ← raw size any
+  left ← raw size field.are_bytes
   host ← unsigned n32 (field.is_side_host kind)
   port ← unsigned n32 (field.is_side_port kind)
   give (record {
@@ -77,16 +81,59 @@ channel next_id front = do
   first ← side kind 0
   second ← side kind 1
   give (record {
-    id = record { pid = pid maker; num = number };
+    id = conn maker number;
     kind = channel_kind kind;
     first = first;
     second = second;
   })
 
--- what follows in a description of a kind, after its flags: nothing, for the console
+-- what follows in a description of a kind, after its owner: of the console, nothing
+unfoldable pub open_file : List FileImage → FormatOf ObjectImage
+open_file files = do
+  number ← unsigned n32 (field.is_file files)
+  offset ← unsigned n32 any
+  give (File number offset)
+
+unfoldable pub stream : List ChannelImage → List DescriptionImage → ℕ → FormatOf ObjectImage
+stream channels front flags = do
+  maker ← unsigned n32 any
+  number ← unsigned n32 (field.is_channel channels maker)
+  end ← unsigned n8 (field.is_stream_side channels front flags (conn maker number))
+  give (Stream (conn maker number) end)
+
+unfoldable pub socket : List DescriptionImage → FormatOf ObjectImage
+socket front = do
+  host ← unsigned n32 field.is_host
+  port ← unsigned n32 (field.is_socket_port front host)
+  give (Socket (record { host = host; port = port }))
+
+-- a connection that waits to be accepted
+unfoldable pub connection : List ChannelImage → List DescriptionImage → List ConnId → FormatOf ConnId
+connection channels front earlier = do
+  maker ← unsigned n32 any
+  number ← unsigned n32 (field.is_pending channels front earlier maker)
+  give (conn maker number)
+
+unfoldable pub listener : List ChannelImage → List DescriptionImage → FormatOf ObjectImage
+listener channels front = do
+  host ← unsigned n32 field.is_host
+  port ← unsigned n32 (field.is_listener_port front host)
+  backlog ← unsigned n32 any
+  pending ← counted (field.is_queue_count backlog) (connection channels front)
+  give (Listener (record { host = host; port = port }) backlog pending)
+
+-- the first format where the test is met, and else the second
+unfoldable pub choice : {A : Type 0} → Bool → FormatOf A → FormatOf A → FormatOf A
+choice true first second = first
+choice false first second = second
+
 unfoldable pub object : ℕ → List FileImage → List ChannelImage → List DescriptionImage → ℕ → ℕ
     → FormatOf ObjectImage
-object version files channels front kind flags = give Console
+object version files channels front kind flags =
+    choice (kind == 0) (give Console)
+    (choice (kind == 1) (open_file files)
+    (choice (kind == 2) (stream channels front flags)
+    (choice (kind == 3) (socket front) (listener channels front))))
 
 unfoldable pub description : ℕ → ℕ → List FileImage → List ChannelImage → List DescriptionImage
     → FormatOf DescriptionImage
@@ -163,7 +210,7 @@ shared = do
   })
 
 abbrev pub SpellsShared : List ℕ → Shared → Type 0
-SpellsShared = SpellsFile shared field.is_whole_shared
+SpellsShared = SpellsFile shared is_whole_shared
 
 abbrev pub DamagedShared : List ℕ → ℕ → Type 0
-DamagedShared = Damaged shared field.is_whole_shared
+DamagedShared = Damaged shared is_whole_shared

@@ -1,20 +1,27 @@
 -- Which values the fields of the shared image may have, each after the fields before it.
 --     is_next_id .. is_flag      a field, after the fields of the item and of the items before it
---     is_whole_shared s      what is tested at the end of the file, over the whole value
+-- What is tested at the end of the file stands in `WholeShared.antt`.
 -- Source: docs/FORMATS.md, "Shared image".
-use Rattle.std.specs.Prelude.{◌==◌, ◌&&◌, ◌||◌, ℕ, ◌+◌, ◌-◌, ◌^◌, nat_le, nat_lt, bit_and, Bool, true, not}
+use Rattle.std.specs.Prelude.{◌==◌, ◌&&◌, ◌||◌, ℕ, ◌+◌, ◌-◌, ◌%◌, ◌^◌, nat_le, nat_lt, bit_and, Bool, true}
+use Rattle.std.specs.Prelude.{false, not}
 use Rattle.std.specs.Prelude.{List, length, sum_by, Option, Some, None, option_map, if◌then◌else◌}
 use Rattle.std.specs.List.{list_any, list_all}
 use Rattle.sys_abi.specs.declared.identity.DescId.{DescId}
+use Rattle.sys_abi.specs.declared.identity.ConnId.{ConnId}
 use Rattle.views.specs.NumberMap.{is_above}
 use Rattle.sys_abi.specs.declared.life.Life.{Life}
+use Rattle.plain_tables.specs.declared.channel.ChannelKind.{ChannelKind}
+use Rattle.plain_tables.specs.declared.channel.ChannelKind.TheVariants.{Internet, Pipe}
+use Rattle.plain_tables.specs.Tables.{pid}
 use Rattle.image_shared.specs.declared.shared.FileImage.{FileImage}
 use Rattle.image_shared.specs.declared.shared.ChannelImage.{ChannelImage}
+use Rattle.image_shared.specs.declared.shared.ObjectImage.{ObjectImage}
+use Rattle.image_shared.specs.declared.shared.ObjectImage.TheVariants.{Socket, Listener}
 use Rattle.image_shared.specs.declared.shared.DescriptionImage.{DescriptionImage}
 use Rattle.image_shared.specs.declared.shared.ThreadEntry.{ThreadEntry}
 use Rattle.image_shared.specs.declared.shared.DescriptorEntry.{DescriptorEntry}
 use Rattle.image_shared.specs.declared.shared.ProcessEntry.{ProcessEntry}
-use Rattle.image_shared.specs.declared.shared.Shared.{Shared}
+use Rattle.image_shared.specs.Sides.{same_channel, is_side_named}
 use Rattle.image_format.specs.Fields.{is_bytes, is_within, last_item}
 use Rattle.sys_abi.specs.Lives.{lives}
 
@@ -28,18 +35,25 @@ is_next_id n = nat_le 40000 n && nat_lt n (2 ^ 31)
 abbrev pub is_next_file : ℕ → Bool
 is_next_file n = nat_le 1 n
 
--- no file and no channel has an image so far, and of the processes one
 abbrev pub is_file_count : ℕ → Bool
-is_file_count n = n == 0
+is_file_count n = nat_le n 1024
 
 abbrev pub is_channel_count : ℕ → Bool
-is_channel_count n = n == 0
+is_channel_count n = nat_le n 256
 
 abbrev pub is_process_count : ℕ → Bool
-is_process_count n = n == 1
+is_process_count n = nat_le n 128
 
 abbrev pub is_host : ℕ → Bool
 is_host n = nat_lt n 16
+
+-- a port, which is 0 where there is none
+abbrev pub is_port : ℕ → Bool
+is_port n = nat_le n 65535
+
+-- each item of a file's text is one
+abbrev pub are_bytes : List ℕ → Bool
+are_bytes bytes = list_all (λ byte. nat_lt byte (2 ^ 8)) bytes
 
 -- files: a name holds no zero byte, and no two files have the same one
 abbrev pub last_file : List FileImage → Option ℕ
@@ -55,7 +69,7 @@ abbrev pub is_new_name : List FileImage → List ℕ → Bool
 is_new_name front name = (length name == 0) || not (list_any (file_has_name name) front)
 
 abbrev pub is_file_name : List FileImage → List ℕ → Bool
-is_file_name front name = list_all (λ byte. not (byte == 0)) name && is_new_name front name
+is_file_name front name = list_all (is_within 1 255) name && is_new_name front name
 
 abbrev pub is_file_size : List FileImage → ℕ → Bool
 is_file_size front size = nat_le (sum_by (λ file. length file.bytes) front + size) 67108864
@@ -96,15 +110,73 @@ abbrev pub is_side_host : ℕ → ℕ → Bool
 is_side_host kind n = if kind == 1 then is_host n else n == 0xFFFFFFFF
 
 abbrev pub is_side_port : ℕ → ℕ → Bool
-is_side_port kind n = if kind == 1 then nat_le n 65535 else n == 0
+is_side_port kind n = if kind == 1 then is_port n else n == 0
 
--- the console alone has an image so far, in every version of the file
+-- 0 is the console, 1 a file, 2 a stream, 3 a socket, 4 a listener
 abbrev pub is_object_kind : ℕ → ℕ → Bool
-is_object_kind version kind = kind == 0
+is_object_kind version kind = nat_le kind 4
 
 -- the access mode (0, 1 or 2), O_APPEND and O_NONBLOCK (`man 2 open`)
 abbrev pub is_status_flags : ℕ → Bool
 is_status_flags flags = (bit_and flags 0xC03 == flags) && not (bit_and flags 3 == 3)
+
+-- the file and the channel that a description names are there
+abbrev pub is_file : List FileImage → ℕ → Bool
+is_file files n = list_any (λ file. file.number == n) files
+
+abbrev pub conn : ℕ → ℕ → ConnId
+conn maker n = record { pid = pid maker; num = n }
+
+abbrev pub is_channel : List ChannelImage → ℕ → ℕ → Bool
+is_channel channels maker n = list_any (λ channel. same_channel (conn maker n) channel.id) channels
+
+-- a pipe is written at side 0 and read at side 1
+abbrev pub fits_mode : ChannelKind → ℕ → ℕ → Bool
+fits_mode Pipe flags side = flags % 4 == (if side == 0 then 1 else 0)
+fits_mode _ flags side = true
+
+abbrev pub has_end : ConnId → ℕ → ℕ → ChannelImage → Bool
+has_end name flags side channel = same_channel name channel.id && fits_mode channel.kind flags side
+
+-- a side of a stream's channel, which nothing names before
+abbrev pub is_stream_side : List ChannelImage → List DescriptionImage → ℕ → ConnId → ℕ → Bool
+is_stream_side channels front flags name side =
+    nat_le side 1 && list_any (has_end name flags side) channels && not (is_side_named front name side)
+
+-- no two sockets or listeners of a host have one port
+abbrev pub has_port : ℕ → ℕ → ObjectImage → Bool
+has_port host port (Socket address) = (address.host == host) && (address.port == port)
+has_port host port (Listener address backlog pending) = (address.host == host) && (address.port == port)
+has_port host port _ = false
+
+abbrev pub is_port_used : List DescriptionImage → ℕ → ℕ → Bool
+is_port_used front host port = list_any (λ it. has_port host port it.object) front
+
+abbrev pub is_socket_port : List DescriptionImage → ℕ → ℕ → Bool
+is_socket_port front host port = is_port port && ((port == 0) || not (is_port_used front host port))
+
+abbrev pub is_listener_port : List DescriptionImage → ℕ → ℕ → Bool
+is_listener_port front host port = is_within 1 65535 port && not (is_port_used front host port)
+
+abbrev pub is_queue_count : ℕ → ℕ → Bool
+is_queue_count backlog n = nat_le n backlog
+
+-- what waits at a listener: internet connections, of which nothing names side 1 before
+abbrev pub is_internet : ChannelKind → Bool
+is_internet Internet = true
+is_internet _ = false
+
+abbrev pub is_connection : ConnId → ChannelImage → Bool
+is_connection name channel = same_channel name channel.id && is_internet channel.kind
+
+abbrev pub may_wait : List ChannelImage → List DescriptionImage → List ConnId → ConnId → Bool
+may_wait channels front earlier name =
+    list_any (is_connection name) channels
+    && not (is_side_named front name 1)
+    && not (list_any (same_channel name) earlier)
+
+abbrev pub is_pending : List ChannelImage → List DescriptionImage → List ConnId → ℕ → ℕ → Bool
+is_pending channels front earlier maker n = may_wait channels front earlier (conn maker n)
 
 -- processes
 abbrev pub lists_thread : ℕ → ProcessEntry → Bool
@@ -140,9 +212,9 @@ abbrev pub is_made : List ChannelImage → List DescriptionImage → ℕ → ℕ
 is_made channels descriptions pid made =
     is_above_channels pid made channels && is_above_descriptions pid made descriptions
 
--- 0 lives, 1 is a zombie, which has a parent: none has an image so far
+-- 0 lives, 1 is a zombie, which has a parent
 abbrev pub LAST_STATE : ℕ
-LAST_STATE = 0
+LAST_STATE = 1
 
 abbrev pub is_state : List ChannelImage → List DescriptionImage → ℕ → ℕ → ℕ → ℕ → Bool
 is_state channels descriptions pid parent made state =
@@ -190,46 +262,3 @@ is_description descriptions maker n = list_any (λ description. is_pair maker n 
 
 abbrev pub is_flag : ℕ → Bool
 is_flag n = nat_le n 1
-
--- at the end: the hosts of the processes that hold a description, one for each descriptor
-abbrev pub names_description : DescId → DescriptorEntry → Bool
-names_description id descriptor = is_pair id.pid.0 id.num descriptor.desc
-
-abbrev pub holds : DescId → ProcessEntry → Bool
-holds id process = list_any (names_description id) process.descriptors
-
-abbrev pub is_held_by_some : List ProcessEntry → DescId → Bool
-is_held_by_some processes id = list_any (holds id) processes
-
--- two processes that hold a description are of one host, and so is a live process that is its owner
-abbrev pub may_share : ProcessEntry → DescId → ProcessEntry → Bool
-may_share process id other = not (holds id other) || (other.host == process.host)
-
-abbrev pub is_owner_of : ℕ → ℕ → ProcessEntry → Bool
-is_owner_of owner host process = is_live_entry owner process && (process.host == host)
-
-abbrev pub is_owner : List ProcessEntry → ℕ → ℕ → Bool
-is_owner processes host owner = (owner == 0) || list_any (is_owner_of owner host) processes
-
-abbrev pub is_rightly_held_by : List ProcessEntry → DescriptionImage → ProcessEntry → Bool
-is_rightly_held_by processes description process =
-    not (holds description.id process)
-    || (list_all (may_share process description.id) processes
-    && is_owner processes process.host description.owner)
-
-abbrev pub is_rightly_held : List ProcessEntry → DescriptionImage → Bool
-is_rightly_held processes description =
-    is_held_by_some processes description.id
-    && list_all (is_rightly_held_by processes description) processes
-
--- a parent is of its child's host
-abbrev pub is_of_parents_host : ProcessEntry → ProcessEntry → Bool
-is_of_parents_host child parent = not (child.parent == parent.pid.0) || (child.host == parent.host)
-
-abbrev pub is_near_parent : List ProcessEntry → ProcessEntry → Bool
-is_near_parent processes child = list_all (is_of_parents_host child) processes
-
-unfoldable pub is_whole_shared : Shared → Bool
-is_whole_shared s =
-    list_all (is_rightly_held s.processes) s.descriptions
-    && list_all (is_near_parent s.processes) s.processes

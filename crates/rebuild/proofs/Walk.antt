@@ -1,7 +1,7 @@
 -- A walk over the files of processes: what is left to be read decides what all of them spell, and where they are damaged
 use Rattle.std.proofs.Common.{◌≡◌, ℕ, ◌+◌, ◌<◌, ◌≤◌, inl, inr, List, [], ◌∷◌, ◌++◌, length, drop, get_or, refl, sym, ap, subst, ◌∙◌, append_assoc, append-nil, add-one, suc, Err, arith}
 use Rattle.std.proofs.Math.Seq.{drop-cons}
-use Rattle.std.specs.Prelude.{◌≢◌, ◌==◌, IsTrue}
+use Rattle.std.specs.Prelude.{◌≢◌, nat_le, IsTrue}
 use Rattle.std.proofs.lemmas.Bool.Decides.{nat_tests}
 use Rattle.std.proofs.lemmas.List.{drop_all}
 use Rattle.std.proofs.lemmas.List.Sums.{count_by-le-length}
@@ -178,14 +178,14 @@ unfolding DamagedFiles
 damage_of_count files first texts shared n is h differs place = subst (λ (f : List (List ℕ)). DamagedFiles f 1 n) (sym is) (inr (inl (shared, h, differs, refl, place)))
 
 -- the number of live processes is small
-pub live_count-le : (first : List ℕ) (shared : Shared) → SpellsShared first shared → live_count shared ≤ 1
+pub live_count-le : (first : List ℕ) (shared : Shared) → SpellsShared first shared → live_count shared ≤ 128
 unfolding live_count
 live_count-le first shared h =
-    let one : length shared.processes ≡ 1 = is_one (length shared.processes) (text_of first shared h).keeps.fields.process_count.1 in
-    omega (arith, count_by-le-length (λ (process : ProcessEntry). lives process.life) shared.processes)
+    let few : length shared.processes ≤ 128 = at_most (length shared.processes) (text_of first shared h).keeps.fields.process_count.1 in
+    omega (arith, count_by-le-length (λ (process : ProcessEntry). lives process.life) shared.processes, few)
   where
-    is_one : (n : ℕ) → IsTrue (n == 1) → n ≡ 1
-    is_one n h = grind (arith, nat_tests)
+    at_most : (n : ℕ) → IsTrue (nat_le n 128) → n ≤ 128
+    at_most n h = grind (arith, nat_tests)
 
 pub fault_of_images : (files : List (List ℕ)) (first : List ℕ) (texts : List (List ℕ)) (shared : Shared) (fault : ReadFault) → files ≡ first ∷ texts
     → ((s : Shared) → SpellsShared first s → shared ≡ s) → ((images : List ProcImage) → SpellsImages shared 2 texts images → IsRead (Err fault) images)

@@ -5,9 +5,8 @@ ghost use Rattle.image_codec.specs.Sets.{live_count, SpellsFiles, DamagedFiles, 
 ghost use Rattle.rebuild.specs.Places.{IsDamageOf};
 ghost use Rattle.sys_abi.specs.Lives.{lives};
 
-use image_codec::{
-    Damage, ProcImage, ProcessEntry, ReadFault, SetBytes, Shared, read_process, read_shared,
-};
+use image_codec::{Damage, ProcImage, ProcessEntry, ReadFault, SetBytes, Shared, read_process};
+use shared_reader::read_shared;
 use std::alloc::Global;
 use views::list_of::ListOf;
 

@@ -1,4 +1,4 @@
-//! Worked manifests and shared images, read, written and damaged, and whole sets read back.
+//! Worked manifests, read, written and damaged, the shared image of a start, and whole sets read back.
 //!
 //! Each test is named by what it shows. Nothing is proved here but that the tests are safe and end.
 #![tactic(auto)]

@@ -6,7 +6,7 @@ use crate::asserts::{holds, same};
 use crate::damages::{Change, changed, cut, damage_at, longer};
 use crate::process_texts::{RETURN_PAGE, image_with, live_after_zombie};
 use image_codec::{
-    ProcImage, ReadFault, Shared, image_laws, read_process, set_laws, write_process,
+    ProcImage, ReadFault, Shared, file_laws, image_laws, read_process, set_laws, write_process,
 };
 use std::alloc::{AllocError, Global};
 use std::process::Abort;
@@ -63,6 +63,7 @@ fn assert_start(rt: &impl Abort, image: &ProcImage) {
 #[test]
 fn start_of_a_program_both_ways(rt: HostRuntime) -> Result<(), Fail> {
     let alloc = rt.alloc();
+    file_laws();
     image_laws();
     set_laws();
     let bytes = start_bytes(alloc)?;

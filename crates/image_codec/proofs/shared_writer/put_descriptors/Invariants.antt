@@ -1,7 +1,0 @@
-use Rattle.std.proofs.Common.{◌≡◌, ◌++◌, take}
-use Rattle.std.specs.List.{flat_map}
-use Rattle.image_shared.specs.SharedTexts.{descriptor_text}
-use Rattle.image_codec.proofs.shared_writer.put_descriptors.Given as goal
-
-abbrev pub invariant-loop-item : goal.invariant-loop-item
-invariant-loop-item l = l.bytes.items ≡ l.initial.bytes.items ++ flat_map descriptor_text (take l.item-index l.items)

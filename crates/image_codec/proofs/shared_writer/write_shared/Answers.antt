@@ -1,6 +1,0 @@
-use Rattle.std.proofs.lemmas.Result.{IfOk-weaker}
-use Rattle.image_shared.proofs.SharedLaws.{of_text}
-use Rattle.image_codec.proofs.shared_writer.write_shared.Goals as goal
-
-pub returns : goal.returns
-returns c = IfOk-weaker c.shared_text.result _ _ (λ bytes is. of_text bytes.items c.args.s.now is) c.shared_text.ensures

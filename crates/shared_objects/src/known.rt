@@ -1,0 +1,125 @@
+//! Maps of what the lists of the shared image have so far, in which a reader looks up what a field names.
+
+ghost use Rattle.std.specs.Prelude.{◌≡◌, ◌==◌, ◌&&◌, ◌||◌, IfOk, OnOk, is_some};
+ghost use Rattle.std.specs.List.{list_any};
+ghost use Rattle.std.specs.FinMap as map;
+ghost use Rattle.image_shared.specs.SharedTests as field;
+ghost use Rattle.image_shared.specs.WholeShared.{opens};
+ghost use Rattle.image_shared.specs.Sides.{names_side, same_channel};
+ghost use Rattle.shared_objects.specs.Known.{HasKeys, KnowsDescriptions, KnowsFiles, KnowsOpened, KnowsSides};
+
+use id_maps::{ByAddress, ByDesc, ByDir};
+use image_shared::{DescriptionImage, FileImage, ObjectImage};
+use std::alloc::{AllocError, Global};
+use sys_abi::{ConnId, Dir};
+use views::number_map::NumberMap;
+
+/// The numbers of the files.
+pub fn numbers_of(alloc: Global, files: &[FileImage]) -> Result<NumberMap<()>, AllocError>
+    ensures { IfOk result (λ numbers. KnowsFiles numbers files.now) }
+{
+    let mut numbers = NumberMap::new(alloc);
+    for file in files {
+        numbers.insert(file.number, ())?;
+    }
+    Ok(numbers)
+}
+
+/// Notes the connections that wait at a listener.
+fn note_queue(sides: &mut ByDir<()>, pending: &[ConnId]) -> Result<(), AllocError>
+    ensures { OnOk result (HasKeys sides.new (λ at. is_some (map.get sides.old at)
+        || ((at.side == 1) && list_any (same_channel at.conn) pending.now))) }
+{
+    for conn in pending {
+        let accepting = Dir {
+            conn: *conn,
+            side: 1,
+        };
+        sides.insert(accepting, ())?;
+    }
+    Ok(())
+}
+
+/// Notes the sides of channels that the object names.
+pub fn note_sides(sides: &mut ByDir<()>, object: &ObjectImage) -> Result<(), AllocError>
+    ensures { OnOk result (HasKeys sides.new (λ at. is_some (map.get sides.old at)
+        || names_side at.conn at.side object.now)) }
+{
+    match object {
+        ObjectImage::Stream { conn, side } => {
+            let end = Dir {
+                conn: *conn,
+                side: *side,
+            };
+            sides.insert(end, ())?;
+        }
+        ObjectImage::Listener { pending, .. } => note_queue(sides, pending.as_slice())?,
+        _ => {}
+    }
+    Ok(())
+}
+
+/// Notes the address of a socket or a listener.
+pub fn note_port(ports: &mut ByAddress<()>, object: &ObjectImage) -> Result<(), AllocError>
+    ensures { OnOk result (HasKeys ports.new (λ address. is_some (map.get ports.old address)
+        || field.has_port address.host address.port object.now)) }
+{
+    match object {
+        ObjectImage::Socket { address } => {
+            ports.insert(*address, ())?;
+        }
+        ObjectImage::Listener { address, .. } => {
+            ports.insert(*address, ())?;
+        }
+        _ => {}
+    }
+    Ok(())
+}
+
+/// The sides of channels that some description names.
+pub fn sides_of(alloc: Global, descriptions: &[DescriptionImage]) -> Result<ByDir<()>, AllocError>
+    ensures { IfOk result (λ sides. KnowsSides sides descriptions.now) }
+{
+    let mut sides = ByDir::new(alloc);
+    for description in descriptions {
+        note_sides(&mut sides, &description.object)?;
+    }
+    Ok(sides)
+}
+
+/// The names of the descriptions.
+pub fn ids_of(alloc: Global, descriptions: &[DescriptionImage]) -> Result<ByDesc<()>, AllocError>
+    ensures { IfOk result (λ ids. KnowsDescriptions ids descriptions.now) }
+{
+    let mut ids = ByDesc::new(alloc);
+    for description in descriptions {
+        ids.insert(description.id, ())?;
+    }
+    Ok(ids)
+}
+
+fn note_file(numbers: &mut NumberMap<()>, object: &ObjectImage) -> Result<(), AllocError>
+    ensures { OnOk result (HasKeys numbers.new (λ n. is_some (map.get numbers.old n) || opens n object.now)) }
+{
+    match object {
+        ObjectImage::File { number, .. } => {
+            numbers.insert(*number, ())?;
+        }
+        _ => {}
+    }
+    Ok(())
+}
+
+/// The numbers of the files that are open.
+pub fn opened_of(
+    alloc: Global,
+    descriptions: &[DescriptionImage],
+) -> Result<NumberMap<()>, AllocError>
+    ensures { IfOk result (λ opened. KnowsOpened opened descriptions.now) }
+{
+    let mut opened = NumberMap::new(alloc);
+    for description in descriptions {
+        note_file(&mut opened, &description.object)?;
+    }
+    Ok(opened)
+}

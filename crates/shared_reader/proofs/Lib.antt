@@ -1,0 +1,3 @@
+mod HolderLaws
+mod HolderPasses
+mod KnownThreads

@@ -1,0 +1,8 @@
+use Rattle.std.proofs.Common.{◌≡◌, ◌-◌, []}
+use Rattle.image_format.specs.Format.{each}
+use Rattle.image_shared.specs.SharedFormat as format
+use Rattle.image_format.specs.Reading.{read}
+use Rattle.shared_reader.proofs.processes.descriptors_at.Given as goal
+
+abbrev pub invariant-loop-item : goal.invariant-loop-item
+invariant-loop-item l = read (each (format.descriptor l.descriptions) (l.count - l._item) l.descriptors) l.rest ≡ read (each (format.descriptor l.descriptions) l.count []) l.initial.rest

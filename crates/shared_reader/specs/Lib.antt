@@ -1,0 +1,2 @@
+pub mod HoldersOf
+pub mod KnownThreads

@@ -1,0 +1,16 @@
+//! The shared image of a checkpoint set, read.
+//!
+//! [`read_shared`] gives the value that the bytes spell, or the first byte of the first field whose value is not allowed
+//! after the fields before it; where the file ends too early, or lacks something as a whole, that is its length.
+//!
+//! Proved: all of that, for all bytes. Not proved, but so written: a reader takes no more memory than the bytes that are
+//! there account for.
+#![tactic(auto)]
+
+mod holders;
+mod process_tests;
+mod processes;
+pub mod reader;
+mod whole;
+
+pub use reader::read_shared;

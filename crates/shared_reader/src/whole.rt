@@ -1,0 +1,225 @@
+// What is tested at the end of the file, over the whole value.
+ghost use Rattle.std.specs.Prelude.{◌≡◌, IfOk, is_some};
+ghost use Rattle.std.specs.List.{list_all, list_any};
+ghost use Rattle.std.specs.FinMap as map;
+ghost use Rattle.image_shared.specs.WholeShared as whole;
+ghost use Rattle.shared_objects.specs.Known.{KnowsOpened, KnowsSides};
+ghost use Rattle.shared_reader.specs.HoldersOf.{KnowsHolders, verdict};
+
+use crate::holders::{Holders, holders_of};
+use crate::process_tests::is_live_entry;
+use id_maps::{ByDesc, ByDir};
+use image_shared::{ChannelImage, DescriptionImage, FileImage, ObjectImage, ProcessEntry, Shared};
+use shared_items::item_tests::is_same_channel;
+use shared_objects::{opened_of, sides_of};
+use std::alloc::{AllocError, Global};
+use sys_abi::{ConnId, Dir, VirtAddr};
+use views::number_map::NumberMap;
+
+fn is_owner_of(process: &ProcessEntry, host: u32, owner: u32) -> bool
+    ensures { result ≡ whole.is_owner_of owner host process.now }
+{
+    is_live_entry(process, owner) && process.host == host
+}
+
+fn is_owner_of_some(processes: &[ProcessEntry], host: u32, owner: u32) -> bool
+    ensures { result ≡ list_any (whole.is_owner_of owner host) processes.now }
+{
+    processes
+        .iter()
+        .any(|process| is_owner_of(process, host, owner))
+}
+
+fn is_owner(processes: &[ProcessEntry], host: u32, owner: u32) -> bool
+    ensures { result ≡ whole.is_owner processes.now host owner }
+{
+    owner == 0 || is_owner_of_some(processes, host, owner)
+}
+
+fn is_of_host(host: u32, address: Option<VirtAddr>) -> bool
+    ensures { result ≡ whole.is_of_host host address }
+{
+    match address {
+        None => true,
+        Some(address) => address.host == host,
+    }
+}
+
+fn is_end_of_host(channel: &ChannelImage, host: u32, conn: ConnId, side: u8) -> bool
+    ensures { result ≡ whole.is_end_of_host host conn side channel.now }
+{
+    let image = if side == 0 {
+        &channel.first
+    } else {
+        &channel.second
+    };
+    !is_same_channel(conn, channel.id) || is_of_host(host, image.address)
+}
+
+/// Whether the side of the channel, where it has an address, is of the host.
+fn is_side_of_host(channels: &[ChannelImage], host: u32, side: u8, conn: ConnId) -> bool
+    ensures { result ≡ whole.is_side_of_host channels.now host side conn }
+{
+    channels
+        .iter()
+        .all(|channel| is_end_of_host(channel, host, conn, side))
+}
+
+fn is_queue_of_host(channels: &[ChannelImage], host: u32, pending: &[ConnId]) -> bool
+    ensures { result ≡ list_all (whole.is_side_of_host channels.now host 1) pending.now }
+{
+    pending
+        .iter()
+        .all(|conn| is_side_of_host(channels, host, 1, *conn))
+}
+
+/// Whether what the description stands for is of the host, where it is of one.
+fn is_object_of_host(channels: &[ChannelImage], host: u32, object: &ObjectImage) -> bool
+    ensures { result ≡ whole.is_object_of_host channels.now host object.now }
+{
+    match object {
+        ObjectImage::Stream { conn, side } => is_side_of_host(channels, host, *side, *conn),
+        ObjectImage::Socket { address } => address.host == host,
+        ObjectImage::Listener {
+            address,
+            pending,
+            ..
+        } => address.host == host && is_queue_of_host(channels, host, pending.as_slice()),
+        _ => true,
+    }
+}
+
+fn is_near_parent(processes: &[ProcessEntry], child: &ProcessEntry) -> bool
+    ensures { result ≡ whole.is_near_parent processes.now child.now }
+{
+    processes.iter().all(|parent| child.parent != parent.pid.0 || child.host == parent.host)
+}
+
+fn are_near_parents(processes: &[ProcessEntry]) -> bool
+    ensures { result ≡ list_all (whole.is_near_parent processes.now) processes.now }
+{
+    processes
+        .iter()
+        .all(|process| is_near_parent(processes, process))
+}
+
+fn is_named(sides: &ByDir<()>, conn: ConnId, side: u8) -> bool
+    ensures { result ≡ is_some (map.get sides.now (record { conn = conn; side = side })) }
+{
+    sides.contains_key(Dir { conn, side })
+}
+
+/// Whether a side of the channel is named, and each that is not is closed.
+fn is_rightly_named(
+    descriptions: &[DescriptionImage],
+    sides: &ByDir<()>,
+    channel: &ChannelImage,
+) -> bool
+    requires { KnowsSides sides.now descriptions.now }
+    ensures { result ≡ whole.is_rightly_named descriptions.now channel.now }
+{
+    let _ = descriptions;
+    let id = channel.id;
+    let first = is_named(sides, id, 0);
+    let second = is_named(sides, id, 1);
+    (first || second)
+        && (first || (channel.first.ended && channel.second.unread))
+        && (second || (channel.second.ended && channel.first.unread))
+}
+
+fn are_rightly_named(
+    descriptions: &[DescriptionImage],
+    sides: &ByDir<()>,
+    channels: &[ChannelImage],
+) -> bool
+    requires { KnowsSides sides.now descriptions.now }
+    ensures { result ≡ list_all (whole.is_rightly_named descriptions.now) channels.now }
+{
+    channels
+        .iter()
+        .all(|channel| is_rightly_named(descriptions, sides, channel))
+}
+
+/// Whether a description with these holders is rightly held: all are of one host, and so are its owner and what it
+/// stands for.
+fn is_held_by(
+    channels: &[ChannelImage],
+    processes: &[ProcessEntry],
+    description: &DescriptionImage,
+    found: Option<Holders>,
+) -> bool
+    ensures { result ≡ verdict channels.now processes.now description.now found }
+{
+    match found {
+        Some(Holders::OfHost(host)) => {
+            is_owner(processes, host, description.owner)
+                && is_object_of_host(channels, host, &description.object)
+        }
+        Some(Holders::Apart) | None => false,
+    }
+}
+
+fn is_rightly_held(
+    channels: &[ChannelImage],
+    processes: &[ProcessEntry],
+    holders: &ByDesc<Holders>,
+    description: &DescriptionImage,
+) -> bool
+    requires { KnowsHolders holders.now processes.now }
+    ensures { result ≡ whole.is_rightly_held channels.now processes.now description.now }
+{
+    let found = holders.get(description.id).copied();
+    is_held_by(channels, processes, description, found)
+}
+
+fn are_rightly_held(
+    channels: &[ChannelImage],
+    processes: &[ProcessEntry],
+    holders: &ByDesc<Holders>,
+    descriptions: &[DescriptionImage],
+) -> bool
+    requires { KnowsHolders holders.now processes.now }
+    ensures { result ≡ list_all (whole.is_rightly_held channels.now processes.now) descriptions.now }
+{
+    descriptions.iter().all(|description| is_rightly_held(
+        channels,
+        processes,
+        holders,
+        description,
+    ))
+}
+
+/// Whether the file has a name or is open.
+fn is_kept(descriptions: &[DescriptionImage], opened: &NumberMap<()>, file: &FileImage) -> bool
+    requires { KnowsOpened opened.now descriptions.now }
+    ensures { result ≡ whole.is_kept descriptions.now file.now }
+{
+    let _ = descriptions;
+    !file.name.is_empty() || opened.contains_key(file.number)
+}
+
+fn are_kept(descriptions: &[DescriptionImage], opened: &NumberMap<()>, files: &[FileImage]) -> bool
+    requires { KnowsOpened opened.now descriptions.now }
+    ensures { result ≡ list_all (whole.is_kept descriptions.now) files.now }
+{
+    files.iter().all(|file| is_kept(descriptions, opened, file))
+}
+
+/// What is tested at the end of the file, over the whole value.
+#[tactic(auto, unfolding(image_shared::specs::WholeShared::is_whole_shared))]
+pub fn is_whole_shared(alloc: Global, s: &Shared) -> Result<bool, AllocError>
+    ensures { IfOk result (λ b. b ≡ whole.is_whole_shared s.now) }
+{
+    let channels = s.channels.as_slice();
+    let descriptions = s.descriptions.as_slice();
+    let processes = s.processes.as_slice();
+    let opened = opened_of(alloc, descriptions)?;
+    let sides = sides_of(alloc, descriptions)?;
+    let holders = holders_of(alloc, processes)?;
+    Ok(
+        are_kept(descriptions, &opened, s.files.as_slice())
+            && are_rightly_named(descriptions, &sides, channels)
+            && are_rightly_held(channels, processes, &holders, descriptions)
+            && are_near_parents(processes),
+    )
+}

@@ -1,0 +1,7 @@
+use Rattle.std.proofs.Common.{◌≡◌, ◌++◌, take}
+use Rattle.std.specs.List.{flat_map}
+use Rattle.image_shared.specs.SharedTexts.{connection_text}
+use Rattle.shared_writer.proofs.opened.put_queue.Given as goal
+
+abbrev pub invariant-loop-item : goal.invariant-loop-item
+invariant-loop-item l = l.bytes.items ≡ l.initial.bytes.items ++ flat_map connection_text (take l.item-index l.items)

@@ -1,5 +1,0 @@
-use Rattle.image_shared.proofs.SharedLaws.{text_of}
-use Rattle.worked_images.proofs.shared_images.descriptors.Goals as goal
-
-pub restored_kernel-requires : goal.restored_kernel-requires
-restored_kernel-requires c = (text_of _ _ c.in_ok-image.ensures.found).keeps
