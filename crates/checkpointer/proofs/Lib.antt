@@ -1,0 +1,13 @@
+pub mod Sinks
+pub mod Results
+pub mod Walks
+pub mod Running
+pub mod Safety
+pub mod Checkpoints
+pub mod Served
+pub mod Passing
+pub mod Arrived
+pub mod Supported
+pub mod FilesOfProcesses
+pub mod SpelledStates
+pub mod RestoredStates
