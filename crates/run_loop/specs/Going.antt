@@ -1,0 +1,57 @@
+-- A run on its way, as the loop that makes it has it between two records.
+--     IsGoing ..         all is as the trace says, and the round has come this far
+--     IsChosen ..        the same once it was chosen what is due next
+--     HasEnded end ..    all that is said of a run that ended so
+--     end_of stop        how it ends where a record or a checkpoint stops it
+use Rattle.std.specs.Prelude.{◌≡◌, ℕ, List, Some}
+use Rattle.sys_abi.specs.declared.record.Record.{Record}
+use Rattle.set_disk.specs.SeenFolder.{SeenFolder}
+use Rattle.plain_machine.specs.declared.plain.Plain.{Plain}
+use Rattle.trace_log.specs.declared.requests.Schedule.{Schedule}
+use Rattle.trace_log.specs.Trace.{TraceState}
+use Rattle.trace_log.specs.Requests.{IsAnswered}
+use Rattle.computation.specs.declared.computation.Stop.{Stop}
+use Rattle.computation.specs.declared.computation.Stop.TheVariants as stopped_by
+use Rattle.computation.specs.Computations.{plain_of}
+use Rattle.computation.specs.Sinks.{Sunk}
+use Rattle.computation.specs.Turns.{Upcoming, due_at}
+use Rattle.scheduler.specs.declared.rounds.Chosen.{Chosen}
+use Rattle.scheduler.specs.declared.rounds.Rounds.{Rounds}
+use Rattle.scheduler.specs.Scheduling.{IsCome, chosen}
+use Rattle.checkpointer.specs.Keeping.{IsSafe}
+use Rattle.checkpointer.specs.Rounds.{GoesInRounds}
+use Rattle.checkpointer.specs.UnderWay.{IsUnderWay, IsSettled}
+use Rattle.run_loop.specs.declared.run_end.RunEnd.{RunEnd}
+use Rattle.run_loop.specs.declared.run_end.RunEnd.TheVariants.{SinkFault, Memory}
+use Rattle.run_loop.specs.declared.start.Start.{Start}
+use Rattle.run_loop.specs.RunEnds.{EndsRun}
+use Rattle.run_loop.specs.Pace.{KeepsPace}
+
+pub record IsGoing (schedule : Schedule) (g : Plain) (now : Start) (rounds : Rounds) (trace : TraceState)
+    (sink log : Sunk) (first disk : SeenFolder) : Type 0 where
+  pub upcoming : Upcoming
+  pub under : IsUnderWay schedule g (plain_of now.computation) upcoming now.checkpointer trace sink log first
+      disk
+  pub settled : IsSettled under.running.requests trace
+  pub come : IsCome rounds (plain_of now.computation) upcoming
+
+-- no request is open there
+pub record IsChosen (schedule : Schedule) (g : Plain) (now : Start) (rounds : Rounds) (choice : Chosen)
+    (trace : TraceState) (sink log : Sunk) (first disk : SeenFolder) : Type 0 where
+  pub upcoming : Upcoming
+  pub under : IsUnderWay schedule g (plain_of now.computation) upcoming now.checkpointer trace sink log first
+      disk
+  pub free : IsAnswered under.running.requests
+  pub due : due_at (plain_of now.computation) upcoming
+      ≡ chosen rounds (plain_of now.computation) (Some choice)
+
+pub record HasEnded (end : RunEnd) (schedule : Schedule) (g : Plain) (room : ℕ) (trace : List Record)
+    (sink log : Sunk) (first disk : SeenFolder) : Type 0 where
+  pub ends : EndsRun end schedule g room trace sink log
+  pub pace : KeepsPace end g trace sink log
+  pub in_rounds : GoesInRounds schedule g trace
+  pub safe : IsSafe g trace first disk
+
+abbrev pub end_of : Stop → RunEnd
+end_of stopped_by.Sink = SinkFault
+end_of stopped_by.Memory = Memory

@@ -1,0 +1,3 @@
+pub mod RunEnds
+pub mod Pace
+pub mod Going

@@ -1,0 +1,14 @@
+/// How a run ended.
+#[derive(Clone, Copy, Debug, PartialEq, Eq)]
+pub enum RunEnd {
+    /// Nobody lives.
+    Done,
+    /// The trace is full, and somebody lives.
+    Budget,
+    /// Somebody lives, and nobody can go on.
+    Stuck,
+    /// The console failed.
+    SinkFault,
+    /// There was no memory.
+    Memory,
+}

@@ -1,0 +1,9 @@
+use checkpointer::Checkpointer;
+use computation::Computation;
+
+/// A run at its start: the computation, and what makes its checkpoints.
+#[derive(Drop)]
+pub struct Start {
+    pub computation: Computation,
+    pub checkpointer: Checkpointer,
+}
