@@ -5,3 +5,4 @@ pub mod Walks
 pub mod Defaults
 pub mod OneJob
 pub mod JobFacts
+pub mod Outlines

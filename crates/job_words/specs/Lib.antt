@@ -4,3 +4,4 @@ pub mod Jobs
 pub mod Parts
 pub mod Answers
 pub mod Parsed
+pub mod Outlines

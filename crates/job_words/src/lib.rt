@@ -5,6 +5,7 @@
 //! defaults filled in. A program's arguments come as the bytes that a process is started with, each string with its zero
 //! byte. The name of a file is a [`FileName`], which contracts see as the list of its bytes. `specs/Commands.antt` says
 //! which words a command line has, `specs/Jobs.antt` what it asks for; options and numbers stand in `option_words`.
+//! [`outline_words`] tells what a job is and where it runs, as far as that takes no memory.
 //!
 //! That the words are of the grammar is tested first. Then the options of a restart or of a ring are handed to `clap`,
 //! whose contract says what it makes of the words, so that no parse fails but for want of memory; those of a launch are
@@ -18,6 +19,7 @@
 #![tactic(auto)]
 
 mod job;
+mod outline;
 mod parsed;
 mod programs;
 mod reader;
@@ -25,5 +27,6 @@ mod word_fault;
 
 pub use job::{Job, LaunchJob, NamedProgram, RestartJob, RingJob};
 pub use option_words::FileName;
+pub use outline::{LaunchOutline, Outline, RestartOutline, outline_words};
 pub use reader::{read_words, word_laws};
 pub use word_fault::WordFault;

@@ -62,7 +62,7 @@ fn name_of(listed: &str) -> &str
 }
 
 /// One more than the greatest host of these programs. `None` exactly where some word is of no program.
-fn hosts_in(words: &[String]) -> Option<u32>
+pub(crate) fn hosts_in(words: &[String]) -> Option<u32>
     ensures some { IfSome result (λ hosts. AreCounted (texts_of words.now) hosts) }
     ensures none { IfNone result ((programs : List ProgramText) → ArePrograms (texts_of words.now) programs → ⊥) }
 {
