@@ -15,7 +15,7 @@
 ghost use Rattle.std.specs.Prelude.{◌≡◌, ◌≢◌, map, string_bytes, option_map, codes};
 ghost use Rattle.std.specs.IoError.{error_kind};
 ghost use Rattle.std.specs.Process.{exit_status};
-ghost use Rattle.dmtcp_top.specs.Statuses.{number_of};
+ghost use Rattle.endings.specs.Statuses.{number_of};
 ghost use Rattle.dmtcp.specs.Answers.{Greets, Said};
 
 use dmtcp_top::{Status, dmtcp};
@@ -35,8 +35,8 @@ const TRACE_FILE: &str = "dmtcp.trace";
 /// Where the sets of checkpoints lie.
 const SET_FOLDER: &str = "dmtcp_set";
 
-const HELP: &str =
-    "dmtcp launch [--every K] [--records M] 0:NAME\ndmtcp restart [--every K] [--records M]\n";
+const HELP: &str = "dmtcp launch [--every K] [--records M] [--file NAME].. HOST:NAME[,ARGUMENT]..\n\
+    dmtcp restart [--every K] [--records M]\n";
 
 const VERSION: &str = "dmtcp 0.1.0\n";
 

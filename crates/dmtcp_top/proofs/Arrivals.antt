@@ -10,28 +10,30 @@ use Rattle.plain_machine.specs.declared.plain.Plain.{Plain}
 use Rattle.plain_machine.specs.Valid.{IsValid}
 use Rattle.trace_log.specs.declared.requests.Schedule.{Schedule}
 use Rattle.trace_log.specs.LogText.{log_text}
-use Rattle.dmtcp_top.specs.declared.ending.Ending.{Ending}
-use Rattle.dmtcp_top.specs.declared.ending.Ending.TheVariants.{Done, Usage, InputFault, Missing, BadElf, SinkFault, DiskFault, NoSet, Damaged, Budget, Stuck, Memory}
-use Rattle.dmtcp_top.specs.declared.run_end.RunEnd.{RunEnd}
-use Rattle.dmtcp_top.specs.declared.run_end.RunEnd.TheVariants.{Done as RunDone, Budget as RunBudget, Stuck as RunStuck, SinkFault as RunSinkFault, Memory as RunMemory}
-use Rattle.dmtcp_top.specs.declared.start.Start.{Start}
+use Rattle.endings.specs.declared.ending.Ending.{Ending}
+use Rattle.endings.specs.declared.ending.Ending.TheVariants.{Done, Usage, InputFault, Missing, BadElf, TooBig, SinkFault, DiskFault, NoSet, Damaged, Budget, Stuck, Memory}
+use Rattle.run_loop.specs.declared.run_end.RunEnd.{RunEnd}
+use Rattle.run_loop.specs.declared.run_end.RunEnd.TheVariants.{Done as RunDone, Budget as RunBudget, Stuck as RunStuck, SinkFault as RunSinkFault, Memory as RunMemory}
+use Rattle.run_loop.specs.declared.start.Start.{Start}
 use Rattle.job_words.specs.declared.job.Job.TheVariants.{Launch, Restart}
 use Rattle.job_words.specs.declared.job.LaunchJob.{LaunchJob}
 use Rattle.job_words.specs.declared.job.RestartJob.{RestartJob}
-use Rattle.dmtcp_top.specs.Jobs.{Asks, AskNothing, AreOfCommand, settings_of}
-use Rattle.dmtcp_top.specs.Log.{budget_line}
-use Rattle.dmtcp_top.specs.Sessions.{Sunk, Beginning, Session, given, session, Took}
+use Rattle.dmtcp_top.specs.Jobs.{Asks, AskNothing, AskSomething, settings_of}
+use Rattle.endings.specs.Log.{budget_line}
+use Rattle.computation.specs.Sinks.{Sunk, Took}
+use Rattle.dmtcp_top.specs.Sessions.{Beginning, Session, given, session}
 use Rattle.dmtcp_top.specs.Launches.{LaunchAsked, RestartAsked, Begun, origin, settings_in, schedule_in, beginning, schedule_of}
 use Rattle.dmtcp_top.specs.Launches.Begun.{ByLaunch, ByRestart}
-use Rattle.dmtcp_top.specs.RunEnds.{EndsRun}
+use Rattle.run_loop.specs.RunEnds.{EndsRun}
 use Rattle.dmtcp_top.specs.Ends.{NotBegun}
 use Rattle.dmtcp_top.specs.Ends.NeedsStore.{ToLaunch, ToRestart}
 use Rattle.dmtcp_top.specs.Endings.{IsAtEnding, KeepsPaceAt}
-use Rattle.dmtcp_top.specs.Machines.{plain_of}
+use Rattle.computation.specs.Computations.{plain_of}
 use Rattle.dmtcp_top.specs.Loads.{IsLaunched, IsRestarted, RefusesWords, RefusesLaunch, RefusesRestart}
-use Rattle.dmtcp_top.specs.Pace.{KeepsPace, LinesOf}
-use Rattle.dmtcp_top.proofs.Decisions.{of_command}
-use Rattle.dmtcp_top.proofs.Sinks.{took_front}
+use Rattle.run_loop.specs.Pace.{KeepsPace}
+use Rattle.run_loop.specs.Pace.{LinesOf}
+use Rattle.dmtcp_top.proofs.Decisions.{of_job}
+use Rattle.checkpointer.proofs.Sinks.{took_front}
 
 abbrev pub ending_by : RunEnd → ℕ → Ending
 ending_by RunDone records = Done
@@ -57,8 +59,8 @@ module _ (words : List (List ℕ)) (files : Option NamedFiles) (folder : Option 
   pub usage_arrives : AskNothing words → IsAtEnding Usage unbegun_call log
   usage_arrives nothing = ((unbegun, nothing, refl), lines)
 
-  pub memory_arrives : AreOfCommand words → IsAtEnding Memory unbegun_call log
-  memory_arrives command = ((inl (unbegun, command), refl), took_front log (log_text trace) lines)
+  pub memory_arrives : AskSomething words → IsAtEnding Memory unbegun_call log
+  memory_arrives something = ((inl (unbegun, something), refl), took_front log (log_text trace) lines)
 
   pub words_refused : (ending : Ending) → RefusesWords ending words → IsAtEnding ending unbegun_call log
   words_refused Usage why = usage_arrives why
@@ -67,6 +69,7 @@ module _ (words : List (List ℕ)) (files : Option NamedFiles) (folder : Option 
   words_refused (InputFault who) why = absurd why
   words_refused (Missing who) why = absurd why
   words_refused (BadElf who fault) why = absurd why
+  words_refused TooBig why = absurd why
   words_refused SinkFault why = absurd why
   words_refused DiskFault why = absurd why
   words_refused NoSet why = absurd why
@@ -86,6 +89,7 @@ module _ (words : List (List ℕ)) (files : Option NamedFiles) (folder : Option 
   unbegun_paced (InputFault who) there = tt
   unbegun_paced (Missing who) there = tt
   unbegun_paced (BadElf who fault) there = tt
+  unbegun_paced TooBig there = tt
   unbegun_paced DiskFault there = tt
   unbegun_paced NoSet there = tt
   unbegun_paced (Damaged slot damage) there = tt
@@ -100,8 +104,9 @@ module _ (words : List (List ℕ)) (files : Option NamedFiles) (folder : Option 
   launch_refused (InputFault who) job asks why = ((who.now, (record { nothing = unbegun; asked = launch_asked job asks; first = why }, refl)), lines)
   launch_refused (Missing who) job asks why = ((who.now, (record { nothing = unbegun; asked = launch_asked job asks; first = why }, refl)), lines)
   launch_refused (BadElf who fault) job asks why = ((who.now, (fault, (record { nothing = unbegun; asked = launch_asked job asks; first = why }, refl))), lines)
+  launch_refused TooBig job asks why = ((record { nothing = unbegun; asked = launch_asked job asks; first = why }, refl), lines)
   launch_refused DiskFault job asks why = (record { nothing = unbegun; needs = ToLaunch (launch_asked job asks) why.1.0 why.0 why.1.1; line = refl }, lines)
-  launch_refused Memory job asks why = memory_arrives (of_command words (Launch job) asks)
+  launch_refused Memory job asks why = memory_arrives (of_job words (Launch job) asks)
   launch_refused Done job asks why = absurd why
   launch_refused Usage job asks why = absurd why
   launch_refused SinkFault job asks why = absurd why
@@ -117,19 +122,20 @@ module _ (words : List (List ℕ)) (files : Option NamedFiles) (folder : Option 
   restart_refused DiskFault job asks why = (record { nothing = unbegun; needs = ToRestart (restart_asked job asks); line = refl }, lines)
   restart_refused NoSet job asks why = (record { nothing = unbegun; asked = restart_asked job asks; none = why; line = refl }, lines)
   restart_refused (Damaged slot damage) job asks why = (record { nothing = unbegun; asked = restart_asked job asks; slot = slot; damage = damage; spoilt = why; line = refl }, lines)
-  restart_refused Memory job asks why = memory_arrives (of_command words (Restart job) asks)
+  restart_refused Memory job asks why = memory_arrives (of_job words (Restart job) asks)
   restart_refused Done job asks why = absurd why
   restart_refused Usage job asks why = absurd why
   restart_refused (InputFault who) job asks why = absurd why
   restart_refused (Missing who) job asks why = absurd why
   restart_refused (BadElf who fault) job asks why = absurd why
+  restart_refused TooBig job asks why = absurd why
   restart_refused SinkFault job asks why = absurd why
   restart_refused (Budget number) job asks why = absurd why
   restart_refused Stuck job asks why = absurd why
 
--- how a machine began
+-- how a computation began
 abbrev pub beginning_of : Start → Beginning
-beginning_of start = record { state = plain_of start.machine; schedule = start.keeper.schedule }
+beginning_of start = record { state = plain_of start.computation; schedule = start.checkpointer.schedule }
 
 -- a run that began so comes to its end so
 module _ (words : List (List ℕ)) (files : Option NamedFiles) (folder : Option Folder) (trace : List Record) (console log : Sunk) (at : Beginning) where
@@ -163,7 +169,7 @@ begins_so state other schedule same states schedules = ap (λ g. same_beginning 
 
 pub launch_arrives : (words : List (List ℕ)) (files : Option NamedFiles) (folder : Option Folder) (trace : List Record) (console log : Sunk) (end : RunEnd) (start : Start) (job : LaunchJob) (room : ℕ)
     → Asks words (Launch job) → (launched : IsLaunched files folder job start) → room ≡ job.records
-    → EndsRun end start.keeper.schedule (plain_of start.machine) room trace console log
+    → EndsRun end start.checkpointer.schedule (plain_of start.computation) room trace console log
     → IsAtEnding (ending_by end job.records) (session (given words files folder) (Some (beginning_of start)) trace console) log
 launch_arrives words files folder trace console log end start job room asks launched full ends =
     let begun : Begun (given words files folder) = ByLaunch (record {
@@ -174,22 +180,22 @@ launch_arrives words files folder trace console log end start job room asks laun
       opening = launched.opening;
       opened = launched.opened;
     }) in
-    let from = begins_so (plain_of start.machine) (origin begun) start.keeper.schedule (schedule_of (settings_of (Launch job)) launched.opening) launched.state launched.keeper.schedule in
+    let from = begins_so (plain_of start.computation) (origin begun) start.checkpointer.schedule (schedule_of (settings_of (Launch job)) launched.opening) launched.state launched.checkpointer.schedule in
     arrives_by words files folder trace console log (beginning_of start) end begun job.records from refl (ends_at words files folder trace console log (beginning_of start) end begun room from full ends)
 
 pub restart_arrives : (words : List (List ℕ)) (files : Option NamedFiles) (folder : Option Folder) (trace : List Record) (console log : Sunk) (end : RunEnd) (start : Start) (job : RestartJob) (room : ℕ)
     → Asks words (Restart job) → (restarted : IsRestarted folder (settings_of (Restart job)) start) → room ≡ job.records
-    → EndsRun end start.keeper.schedule (plain_of start.machine) room trace console log
+    → EndsRun end start.checkpointer.schedule (plain_of start.computation) room trace console log
     → IsAtEnding (ending_by end job.records) (session (given words files folder) (Some (beginning_of start)) trace console) log
 restart_arrives words files folder trace console log end start job room asks restarted full ends =
     let begun : Begun (given words files folder) = ByRestart (record {
       asked = record { job = job; asks = asks };
       generation = restarted.generation;
-      state = plain_of start.machine;
+      state = plain_of start.computation;
       valid = restarted.ready.valid;
       images = restarted.images;
       spelled = restarted.spelled;
       counted = restarted.counted;
     }) in
-    let from = begins_so (plain_of start.machine) (plain_of start.machine) start.keeper.schedule (schedule_of (settings_of (Restart job)) restarted.generation) refl restarted.keeper.schedule in
+    let from = begins_so (plain_of start.computation) (plain_of start.computation) start.checkpointer.schedule (schedule_of (settings_of (Restart job)) restarted.generation) refl restarted.checkpointer.schedule in
     arrives_by words files folder trace console log (beginning_of start) end begun job.records from refl (ends_at words files folder trace console log (beginning_of start) end begun room from full ends)

@@ -4,8 +4,8 @@
 --     ends_on            somebody lives after it where somebody did before
 --     rests_on           nobody lives or can go on after it where nobody did before
 --     none_arrives       it is no step where all bytes have arrived
-use Rattle.std.proofs.Common.{◌≡◌, ℕ, ◌+◌, ◌≤◌, Bool, true, false, not, cond, [], Option, Some, None, inl, inr, refl, sym, ap, subst, ◌∙◌, length, arith, tests}
-use Rattle.std.specs.Prelude.{◌⊎◌, ◌&&◌, nat_le, is_some}
+use Rattle.std.proofs.Common.{◌≡◌, ℕ, ◌+◌, true, not, [], Option, Some, None, inl, inr, refl, sym, ap, ◌∙◌, length, arith, tests}
+use Rattle.std.specs.Prelude.{◌&&◌, nat_le}
 use Rattle.std.specs.Option.{option_map}
 use Rattle.std.specs.FinMap as map
 use Rattle.views.specs.Maps.{map_values}
@@ -18,10 +18,10 @@ use Rattle.sys_abi.specs.declared.record.Record.TheVariants.{Arrive}
 use Rattle.plain_machine.specs.declared.plain.Plain.{Plain}
 use Rattle.plain_tables.specs.declared.channel.Direction.{Direction}
 use Rattle.plain_machine.specs.Records.{Outcome, outcome, step, outcome_of_arrival, with_arrived, quiet}
-use Rattle.plain_machine.specs.Tests.{ended, has_life, full_arrive, all_arrived, IsStuck}
+use Rattle.plain_machine.specs.Tests.{ended, has_life, full_arrive, all_arrived}
 use Rattle.plain_process.proofs.Giving.{Giving, gives, nothing, where_}
 use Rattle.dmtcp_top.specs.OneOrder.{ComesToRest}
-use Rattle.dmtcp_top.proofs.Walks.{left_true, right_true}
+use Rattle.checkpointer.proofs.Walks.{left_true, right_true}
 
 record HasArrived (g : Plain) (dir : Dir) (n : ℕ) (found : Option Direction) (o : Outcome) : Type 0 where
   pub direction : Direction

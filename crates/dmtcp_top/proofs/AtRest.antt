@@ -2,6 +2,7 @@
 --     at_rest
 use Rattle.std.proofs.Common.{◌≡◌, ℕ, Bool, true, false, cond, not, Option, Some, None, inl, inr, refl, sym, ap, ◌∙◌}
 use Rattle.std.specs.Prelude.{◌&&◌, is_some, nat_le, option_and_then}
+use Rattle.std.specs.Option.{option_map}
 use Rattle.std.specs.FinMap as map
 use Rattle.views.proofs.MapLaws.{true_false}
 use Rattle.sys_abi.specs.declared.identity.VPid.{VPid}
@@ -20,9 +21,9 @@ use Rattle.plain_machine.specs.Records.{Outcome, QUANTUM, outcome, outcome_of_us
 use Rattle.plain_machine.specs.Tests.{ended, full_arrive, is_work, IsStuck}
 use Rattle.plain_machine.specs.Valid.{IsValid}
 use Rattle.dmtcp_top.specs.OneOrder.{ComesToRest}
-use Rattle.dmtcp_top.proofs.Endings.{somebody_lives}
-use Rattle.dmtcp_top.proofs.GoingCalls.{is_there, lent_goes}
-use Rattle.dmtcp_top.proofs.Standstill.{users_arrived, pending_arrived}
+use Rattle.run_loop.proofs.Lives.{somebody_lives}
+use Rattle.run_loop.proofs.Standstill.{users_arrived, pending_arrived}
+use Rattle.dmtcp_top.proofs.ArrivedCalls.{arrived_goes}
 use Rattle.dmtcp_top.proofs.Determined.{HasAsked, has_asked}
 
 -- once nobody lives no work is a step
@@ -65,9 +66,15 @@ user_alike g h p t n (Some user) =
     by None = refl
     by (Some after) = if_alike (user_ends n t after) (Some _) (Some _) refl
 
-asked_goes : (h : Plain) (p : VPid) (t : Tid) (found : Option UserPart) → HasAsked found t.0 → is_some (outcome_of_call h p t.0 found) ≡ true
-asked_goes h p t None ask = let none : NoThread ≡ Asks ask.q = ask.asks in absurd (cc)
-asked_goes h p t (Some user) ask = ap (λ place. is_some (outcome_of_ask h p t.0 user place)) ask.asks ∙ lent_goes h p t user ask.q (lent user.memory ask.q)
+is_there : {A B : Type 0} (f : A → B) (o : Option A) → is_some (option_map f o) ≡ is_some o
+is_there f None = refl
+is_there f (Some a) = refl
+
+asked_goes : (g : Plain) (p : VPid) (t : Tid) (found : Option UserPart) → IsValid g → HasAsked found t.0 → is_some (outcome_of_call g p t.0 found) ≡ true → is_some (outcome_of_call (full_arrive g) p t.0 found) ≡ true
+asked_goes g p t None valid ask goes = let none : NoThread ≡ Asks ask.q = ask.asks in absurd (cc)
+asked_goes g p t (Some user) valid ask goes =
+    ap (λ place. is_some (outcome_of_ask (full_arrive g) p t.0 user place)) ask.asks
+    ∙ arrived_goes g p t.0 user ask.q (lent user.memory ask.q) valid (sym (ap (λ place. is_some (outcome_of_ask g p t.0 user place)) ask.asks) ∙ goes)
 
 either_alike : (b c d : Bool) (x y z w : Outcome) → c ≡ d → is_some (cond b (Some x) (cond c (Some y) None)) ≡ is_some (cond b (Some z) (cond d (Some w) None))
 either_alike true c d x y z w same = refl
@@ -83,26 +90,26 @@ signal_alike : (g : Plain) (p : VPid) (t s : ℕ) (found : Option UserPart) → 
 signal_alike g p t s None = refl
 signal_alike g p t s (Some user) = pending_alike g p t s user (map.get user.threads t)
 
-goes_arrived : (g : Plain) (r : Record) (o : Outcome) → is_work r ≡ true → outcome g r ≡ Some o → is_some (outcome (full_arrive g) r) ≡ true
+goes_arrived : (g : Plain) (r : Record) (o : Outcome) → IsValid g → is_work r ≡ true → outcome g r ≡ Some o → is_some (outcome (full_arrive g) r) ≡ true
 unfolding outcome
-goes_arrived g (User p t n) o work goes =
+goes_arrived g (User p t n) o valid work goes =
     ap (λ users. is_some (outcome_of_user (full_arrive g) p t.0 n (map.get users p))) (users_arrived g) ∙ user_alike (full_arrive g) g p t.0 n (map.get g.users p) ∙ ap is_some goes
-goes_arrived g (Call p t) o work goes =
-    ap (λ users. is_some (outcome_of_call (full_arrive g) p t.0 (map.get users p))) (users_arrived g) ∙ asked_goes (full_arrive g) p t (map.get g.users p) (has_asked g p t o goes)
-goes_arrived g (Deliver p t s) o work goes =
+goes_arrived g (Call p t) o valid work goes =
+    ap (λ users. is_some (outcome_of_call (full_arrive g) p t.0 (map.get users p))) (users_arrived g) ∙ asked_goes g p t (map.get g.users p) valid (has_asked g p t o goes) (ap is_some goes)
+goes_arrived g (Deliver p t s) o valid work goes =
     ap (λ users. is_some (outcome_of_signal (full_arrive g) p t.0 s.0 (map.get users p))) (users_arrived g) ∙ signal_alike g p t.0 s.0 (map.get g.users p) ∙ ap is_some goes
-goes_arrived g (Arrive dir n) o work goes = true_false (sym work)
-goes_arrived g (Cut generation) o work goes = true_false (sym work)
-goes_arrived g (Drained dir n) o work goes = true_false (sym work)
-goes_arrived g (Refilled dir n) o work goes = true_false (sym work)
-goes_arrived g (Complete generation) o work goes = true_false (sym work)
-goes_arrived g (Refused cause) o work goes = true_false (sym work)
-goes_arrived g Lapsed o work goes = true_false (sym work)
+goes_arrived g (Arrive dir n) o valid work goes = true_false (sym work)
+goes_arrived g (Cut generation) o valid work goes = true_false (sym work)
+goes_arrived g (Drained dir n) o valid work goes = true_false (sym work)
+goes_arrived g (Refilled dir n) o valid work goes = true_false (sym work)
+goes_arrived g (Complete generation) o valid work goes = true_false (sym work)
+goes_arrived g (Refused cause) o valid work goes = true_false (sym work)
+goes_arrived g Lapsed o valid work goes = true_false (sym work)
 
-stuck_stays : {A : Type 0} (g : Plain) (r : Record) (o : Outcome) → IsStuck g → is_work r ≡ true → outcome g r ≡ Some o → A
-stuck_stays g r o stuck work goes =
-    true_false (sym (goes_arrived g r o work goes) ∙ sym (is_there (λ (x : Outcome). x.state) (outcome (full_arrive g) r)) ∙ ap is_some (stuck.still r work))
+stuck_stays : {A : Type 0} (g : Plain) (r : Record) (o : Outcome) → IsValid g → IsStuck g → is_work r ≡ true → outcome g r ≡ Some o → A
+stuck_stays g r o valid stuck work goes =
+    true_false (sym (goes_arrived g r o valid work goes) ∙ sym (is_there (λ (x : Outcome). x.state) (outcome (full_arrive g) r)) ∙ ap is_some (stuck.still r work))
 
 pub at_rest : {A : Type 0} (g : Plain) (r : Record) (o : Outcome) → IsValid g → ComesToRest g → is_work r ≡ true → outcome g r ≡ Some o → A
 at_rest g r o valid (inl over) work goes = no_work g r o valid over work goes
-at_rest g r o valid (inr stuck) work goes = stuck_stays g r o stuck work goes
+at_rest g r o valid (inr stuck) work goes = stuck_stays g r o valid stuck work goes

@@ -9,18 +9,19 @@ use Rattle.sys_abi.specs.declared.record.Record.{Record}
 use Rattle.edge_io.specs.Inputs.{NamedFiles}
 use Rattle.set_disk.specs.Files.{FolderFiles as Folder}
 use Rattle.trace_log.specs.declared.requests.Schedule.{Schedule}
-use Rattle.dmtcp_top.specs.declared.ending.Ending.{Ending}
+use Rattle.endings.specs.declared.ending.Ending.{Ending}
 use Rattle.job_words.specs.declared.job.Job.{Job}
 use Rattle.job_words.specs.declared.job.Job.TheVariants.{Launch, Restart, Ring, Help}
 use Rattle.job_words.proofs.JobFacts.{launch_every, restart_every}
-use Rattle.dmtcp_top.specs.declared.run_end.RunEnd.{RunEnd}
-use Rattle.dmtcp_top.specs.declared.start.Start.{Start}
+use Rattle.run_loop.specs.declared.run_end.RunEnd.{RunEnd}
+use Rattle.run_loop.specs.declared.start.Start.{Start}
 use Rattle.dmtcp_top.specs.Endings.{IsAtEnding}
 use Rattle.dmtcp_top.specs.Jobs.{Asks, settings_of}
 use Rattle.dmtcp_top.specs.Loads.{Begins}
-use Rattle.dmtcp_top.specs.Machines.{plain_of}
-use Rattle.dmtcp_top.specs.RunEnds.{EndsRun}
-use Rattle.dmtcp_top.specs.Sessions.{Sunk, given, session, Took}
+use Rattle.computation.specs.Computations.{plain_of}
+use Rattle.run_loop.specs.RunEnds.{EndsRun}
+use Rattle.computation.specs.Sinks.{Sunk, Took}
+use Rattle.dmtcp_top.specs.Sessions.{given, session}
 use Rattle.dmtcp_top.proofs.Arrivals.{beginning_of, ending_by, launch_arrives, launch_refused, restart_arrives, restart_refused}
 
 pub from_ok : {A E P : Type 0} (r : Result A E) → is_ok r ≡ true → OnOk r P → P
@@ -39,23 +40,23 @@ module _ (words : List (List ℕ)) (files : Option NamedFiles) (folder : Option 
   begun_refused Help ending asks refuses none quiet unlogged = absurd refuses
 
   by_job : (end : RunEnd) (start : Start) (job : Job) (room : ℕ) → Asks words job → Begins (Ok start) job files folder → room ≡ (settings_of job).records
-      → EndsRun end start.keeper.schedule (plain_of start.machine) room trace console log → IsAtEnding (ending_by end (settings_of job).records) (session (given words files folder) (Some (beginning_of start)) trace console) log
+      → EndsRun end start.checkpointer.schedule (plain_of start.computation) room trace console log → IsAtEnding (ending_by end (settings_of job).records) (session (given words files folder) (Some (beginning_of start)) trace console) log
   by_job end start (Launch job) room asks begins full ends = launch_arrives words files folder trace console log end start job room asks begins full ends
   by_job end start (Restart job) room asks begins full ends = restart_arrives words files folder trace console log end start job room asks begins full ends
   by_job end start (Ring job) room asks begins full ends = absurd begins
   by_job end start Help room asks begins full ends = absurd begins
 
   pub begun_arrives : (end result : RunEnd) (start : Start) (job : Job) (room records : ℕ) → Asks words job → Begins (Ok start) job files folder → room ≡ records → records ≡ (settings_of job).records → result ≡ end
-      → EndsRun result start.keeper.schedule (plain_of start.machine) room trace console log → IsAtEnding (ending_by end records) (session (given words files folder) (Some (beginning_of start)) trace console) log
+      → EndsRun result start.checkpointer.schedule (plain_of start.computation) room trace console log → IsAtEnding (ending_by end records) (session (given words files folder) (Some (beginning_of start)) trace console) log
   begun_arrives end result start job room records asks begins full same is ends =
       subst (λ n. IsAtEnding (ending_by end n) (session (given words files folder) (Some (beginning_of start)) trace console) log) (sym same)
-      (by_job end start job room asks begins (full ∙ same) (subst (λ (e : RunEnd). EndsRun e start.keeper.schedule (plain_of start.machine) room trace console log) is ends))
+      (by_job end start job room asks begins (full ∙ same) (subst (λ (e : RunEnd). EndsRun e start.checkpointer.schedule (plain_of start.computation) room trace console log) is ends))
 
 scheduled : (schedule : Schedule) (every : Option ℕ) → schedule.every ≡ every → IfSome every (λ n. 0 < n) → IfSome schedule.every (λ n. 0 < n)
 scheduled schedule every is some = subst (λ o. IfSome o (λ n. 0 < n)) (sym is) some
 
-pub every_is_some : (words : List (List ℕ)) (files : Option NamedFiles) (folder : Option Folder) (start : Start) (job : Job) → Asks words job → Begins (Ok start) job files folder → IfSome start.keeper.schedule.every (λ every. 0 < every)
-every_is_some words files folder start (Launch job) asks begins = scheduled start.keeper.schedule job.every (ap (λ (s : Schedule). s.every) begins.keeper.schedule) (launch_every words job asks.is)
-every_is_some words files folder start (Restart job) asks begins = scheduled start.keeper.schedule job.every (ap (λ (s : Schedule). s.every) begins.keeper.schedule) (restart_every words job asks.is)
+pub every_is_some : (words : List (List ℕ)) (files : Option NamedFiles) (folder : Option Folder) (start : Start) (job : Job) → Asks words job → Begins (Ok start) job files folder → IfSome start.checkpointer.schedule.every (λ every. 0 < every)
+every_is_some words files folder start (Launch job) asks begins = scheduled start.checkpointer.schedule job.every (ap (λ (s : Schedule). s.every) begins.checkpointer.schedule) (launch_every words job asks.is)
+every_is_some words files folder start (Restart job) asks begins = scheduled start.checkpointer.schedule job.every (ap (λ (s : Schedule). s.every) begins.checkpointer.schedule) (restart_every words job asks.is)
 every_is_some words files folder start (Ring job) asks begins = absurd begins
 every_is_some words files folder start Help asks begins = absurd begins

@@ -1,20 +1,23 @@
 -- How a call ends, from how it came to its end and what became of the last line.
 use Rattle.std.specs.Prelude.{◌⊎◌}
-use Rattle.std.proofs.Common.{◌≡◌, ◌≢◌, ℕ, zero, suc, List, [], ◌∷◌, ◌++◌, take, Option, inl, inr, refl, sym, ap, subst, ◌∙◌, append-nil}
+use Rattle.std.proofs.Common.{◌≡◌, ◌≢◌, ℕ, zero, suc, List, [], ◌++◌, take, Option, inl, inr, refl, sym, ap, subst, ◌∙◌, append-nil}
 use Rattle.edge_io.specs.Sink.{appended}
 use Rattle.sys_abi.specs.declared.record.Record.{Record}
 use Rattle.plain_machine.specs.declared.plain.Plain.{Plain}
 use Rattle.trace_log.specs.LogText.{log_text}
-use Rattle.dmtcp_top.specs.declared.status.Status.{Status}
-use Rattle.dmtcp_top.specs.declared.status.Status.TheVariants.{SinkFault as IsSinkFault, Memory as IsMemory}
-use Rattle.dmtcp_top.specs.declared.ending.Ending.{Ending}
-use Rattle.dmtcp_top.specs.declared.ending.Ending.TheVariants.{Done, Usage, InputFault, Missing, BadElf, SinkFault, DiskFault, NoSet, Damaged, Budget, Stuck, Memory}
-use Rattle.dmtcp_top.specs.Log.{memory_line}
-use Rattle.dmtcp_top.specs.Sessions.{Sunk, sunk, Session, Took, TookFront}
-use Rattle.dmtcp_top.specs.Pace.{StopsAtRecord, LinesOf, CutLines}
+use Rattle.endings.specs.declared.status.Status.{Status}
+use Rattle.endings.specs.declared.status.Status.TheVariants.{SinkFault as IsSinkFault, Memory as IsMemory}
+use Rattle.endings.specs.declared.ending.Ending.{Ending}
+use Rattle.endings.specs.declared.ending.Ending.TheVariants.{Done, Usage, InputFault, Missing, BadElf, TooBig, SinkFault, DiskFault, NoSet, Damaged, Budget, Stuck, Memory}
+use Rattle.endings.specs.Log.{memory_line}
+use Rattle.computation.specs.Sinks.{Sunk, sunk, Took, TookFront}
+use Rattle.dmtcp_top.specs.Sessions.{Session}
+use Rattle.run_loop.specs.Pace.{StopsAtRecord, LinesOf}
+use Rattle.checkpointer.specs.Pace.{CutLines}
 use Rattle.dmtcp_top.specs.Ends.{Ends, Reaches, SinkFailed, LogFailed, Stopped, CallKeepsPace}
-use Rattle.dmtcp_top.specs.Endings.{status_of, line_of, IsAtEnding, KeepsPaceAt, Concludes}
-use Rattle.dmtcp_top.proofs.Sinks.{took_both, took_then}
+use Rattle.endings.specs.Endings.{status_of, line_of, Concludes}
+use Rattle.dmtcp_top.specs.Endings.{IsAtEnding, KeepsPaceAt}
+use Rattle.checkpointer.proofs.Sinks.{took_both, took_then}
 
 -- no first part of nothing is more than nothing
 take_of_nothing : (n : ℕ) (xs : List ℕ) → xs ≡ [] → take n xs ≡ []
@@ -73,6 +76,7 @@ module _ (session : Session) (had mid has : Option (List ℕ)) where
   logged (InputFault name) there took = record { last = line_of (InputFault name); reached = there.0; took = reached_whole (InputFault name) there.0 there.1 took }
   logged (Missing name) there took = record { last = line_of (Missing name); reached = there.0; took = reached_whole (Missing name) there.0 there.1 took }
   logged (BadElf name fault) there took = record { last = line_of (BadElf name fault); reached = there.0; took = reached_whole (BadElf name fault) there.0 there.1 took }
+  logged TooBig there took = record { last = line_of TooBig; reached = there.0; took = reached_whole TooBig there.0 there.1 took }
   logged SinkFault there took = inl (cut_off there took)
   logged DiskFault there took = record { last = line_of DiskFault; reached = there.0; took = reached_whole DiskFault there.0 there.1 took }
   logged NoSet there took = record { last = line_of NoSet; reached = there.0; took = reached_whole NoSet there.0 there.1 took }
@@ -96,6 +100,7 @@ module _ (session : Session) (had mid has : Option (List ℕ)) where
   logged_paced (InputFault name) there at took = tt
   logged_paced (Missing name) there at took = tt
   logged_paced (BadElf name fault) there at took = tt
+  logged_paced TooBig there at took = tt
   logged_paced SinkFault there at took = inl (stopped at took)
   logged_paced DiskFault there at took = tt
   logged_paced NoSet there at took = tt
@@ -116,6 +121,7 @@ module _ (session : Session) (had mid has : Option (List ℕ)) where
   cut (InputFault name) there front = fails (InputFault name) there.0 there.1 front
   cut (Missing name) there front = fails (Missing name) there.0 there.1 front
   cut (BadElf name fault) there front = fails (BadElf name fault) there.0 there.1 front
+  cut TooBig there front = fails TooBig there.0 there.1 front
   cut SinkFault there front = inl (cut_off there (front_of_nothing (sunk mid has) front))
   cut DiskFault there front = fails DiskFault there.0 there.1 front
   cut NoSet there front = fails NoSet there.0 there.1 front
@@ -139,6 +145,7 @@ module _ (session : Session) (had mid has : Option (List ℕ)) where
   cut_paced (InputFault name) there at front = paced (InputFault name) there.0 there.1 front
   cut_paced (Missing name) there at front = paced (Missing name) there.0 there.1 front
   cut_paced (BadElf name fault) there at front = paced (BadElf name fault) there.0 there.1 front
+  cut_paced TooBig there at front = paced TooBig there.0 there.1 front
   cut_paced SinkFault there at front = inl (stopped at (front_of_nothing (sunk mid has) front))
   cut_paced DiskFault there at front = paced DiskFault there.0 there.1 front
   cut_paced NoSet there at front = paced NoSet there.0 there.1 front

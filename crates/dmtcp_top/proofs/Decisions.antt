@@ -2,7 +2,6 @@
 use Rattle.std.proofs.Common.{◌≡◌, ◌≢◌, ℕ, List, Option, Some, None, IfSome, inl, inr, refl, sym, ap, subst, ◌∙◌}
 use Rattle.std.specs.Prelude.{◌↔◌}
 use Rattle.edge_io.specs.Inputs.{NamedFiles}
-use Rattle.elf32.specs.declared.fault.ElfFault.{ElfFault}
 use Rattle.set_disk.specs.Files.{FolderFiles as Folder}
 use Rattle.plain_machine.specs.declared.plain.Plain.{Plain}
 use Rattle.image_format.specs.declared.damage.Damage.{Damage}
@@ -12,19 +11,20 @@ use Rattle.job_words.specs.declared.job.Job.{Job}
 use Rattle.job_words.specs.declared.job.Job.TheVariants.{Launch, Restart}
 use Rattle.job_words.specs.declared.job.LaunchJob.{LaunchJob}
 use Rattle.job_words.specs.declared.job.RestartJob.{RestartJob}
-use Rattle.job_words.specs.Commands.{SpellNothing}
 use Rattle.job_words.proofs.OneJob.{one_job}
-use Rattle.dmtcp_top.specs.declared.status.Status.{Status}
-use Rattle.dmtcp_top.specs.declared.status.Status.TheVariants.{Done, Usage, InputFault, Missing, BadElf, SinkFault, DiskFault, NoSet, Damaged, Budget, Stuck, Memory}
-use Rattle.dmtcp_top.specs.Jobs.{Asks, AskNothing, AreOfCommand}
-use Rattle.dmtcp_top.specs.JobInputs.{JobInputs, Refusal, missing, bad, IsMissing, IsBad, AreInputs, first_refusal, inputs_in}
-use Rattle.dmtcp_top.specs.Sets.{SpellsSet, SpoilsSet}
-use Rattle.dmtcp_top.specs.Sessions.{Sunk, Session}
+use Rattle.endings.specs.declared.status.Status.{Status}
+use Rattle.endings.specs.declared.status.Status.TheVariants.{Done, Usage, InputFault, Missing, BadElf, SinkFault, DiskFault, NoSet, Damaged, Budget, Stuck, Memory, TooBig}
+use Rattle.dmtcp_top.specs.Jobs.{Asks, AskNothing, AskSomething}
+use Rattle.dmtcp_top.specs.JobInputs.{JobInputs, Refusal, missing, bad, too_big, IsMissing, IsBad, IsTooBig, AreInputs, first_refusal, inputs_in}
+use Rattle.checkpointer.specs.Sets.{SpellsSet, SpoilsSet}
+use Rattle.computation.specs.Sinks.{Sunk}
+use Rattle.dmtcp_top.specs.Sessions.{Session}
 use Rattle.dmtcp_top.specs.Launches.{LaunchAsked, RestartAsked, Begun}
 use Rattle.dmtcp_top.specs.Launches.Begun.{ByLaunch, ByRestart}
 use Rattle.dmtcp_top.specs.Ends.{Ends, WordsDecide, InputsDecide, IsDecided, Reaches, RunsOn, NeedsStore}
 use Rattle.dmtcp_top.specs.Ends.NeedsStore.{ToLaunch, ToRestart}
-use Rattle.dmtcp_top.proofs.JobInputs.{IsKnown, told_refusal}
+use Rattle.dmtcp_top.proofs.Refusals.{IsKnown}
+use Rattle.dmtcp_top.proofs.JobInputs.{told_refusal}
 use Rattle.dmtcp_top.proofs.SetLaws.{SetLaws, none_spelled, none_spoilt, spelled_or_spoilt}
 
 none_some : {A P : Type 0} (a : A) → None ≡ Some a → P
@@ -54,9 +54,9 @@ pub not_both : (words : List Text) (job : LaunchJob) (other : RestartJob) → As
 unfolding launch_in
 not_both words job other launch restart = none_some job (sym (ap launch_in (one_job words (Launch job) (Restart other) launch.is restart.is)))
 
--- words that ask for a job are those of a command
-pub of_command : (words : List Text) (job : Job) → Asks words job → AreOfCommand words
-of_command words job asks nothing = nothing asks.is.command asks.is.spell
+-- words that ask for a job ask for something
+pub of_job : (words : List Text) (job : Job) → Asks words job → AskSomething words
+of_job words job asks nothing = nothing job asks
 
 seen_in : {A : Type 0} (P : A → Type 0) (o : Option A) (a : A) → o ≡ Some a → IfSome o P → P a
 seen_in P o a is holds = subst (λ (p : Option _). IfSome p P) is holds
@@ -65,17 +65,20 @@ seen_in P o a is holds = subst (λ (p : Option _). IfSome p P) is holds
 abbrev IsRefusedSo : Status → Option Refusal → Type 0
 IsRefusedSo Missing refusal = IsMissing refusal
 IsRefusedSo BadElf refusal = IsBad refusal
+IsRefusedSo TooBig refusal = IsTooBig refusal
 IsRefusedSo _ refusal = refusal ≡ None
 
 not_none : {A P : Type 0} (o : Option A) (a : A) → o ≡ None → o ≡ Some a → P
 not_none o a none some = none_some a (sym none ∙ some)
 
-not_bad : {P : Type 0} (o : Option Refusal) (name who : Text) (fault : ElfFault) → o ≡ Some (missing name) → o ≡ Some (bad who fault) → P
-not_bad o name who fault first second = absurd (let same : Some (missing name) ≡ Some (bad who fault) = sym first ∙ second in cc)
+-- of two things one alone is the refusal
+not_both_refuse : {P : Type 0} (o : Option Refusal) (a b : Refusal) → (Some a ≡ Some b → ⊥) → o ≡ Some a → o ≡ Some b → P
+not_both_refuse o a b apart first second = absurd (apart (sym first ∙ second))
 
 missing_decided : (status : Status) (refusal : Option Refusal) → IsRefusedSo status refusal → (status ≡ Missing) ↔ IsMissing refusal
 missing_decided Missing refusal so = (λ is. so, λ there. refl)
-missing_decided BadElf refusal so = (λ is. absurd (cc), λ there. not_bad refusal there.0 so.0 so.1.0 there.1 so.1.1)
+missing_decided BadElf refusal so = (λ is. absurd (cc), λ there. not_both_refuse refusal (missing there.0) (bad so.0 so.1.0) (λ e. absurd (cc)) there.1 so.1.1)
+missing_decided TooBig refusal so = (λ is. absurd (cc), λ there. not_both_refuse refusal (missing there.0) too_big (λ e. absurd (cc)) there.1 so)
 missing_decided Done refusal so = (λ is. absurd (cc), λ there. not_none refusal (missing there.0) so there.1)
 missing_decided Usage refusal so = (λ is. absurd (cc), λ there. not_none refusal (missing there.0) so there.1)
 missing_decided InputFault refusal so = (λ is. absurd (cc), λ there. not_none refusal (missing there.0) so there.1)
@@ -89,7 +92,8 @@ missing_decided Memory refusal so = (λ is. absurd (cc), λ there. not_none refu
 
 bad_decided : (status : Status) (refusal : Option Refusal) → IsRefusedSo status refusal → (status ≡ BadElf) ↔ IsBad refusal
 bad_decided BadElf refusal so = (λ is. so, λ there. refl)
-bad_decided Missing refusal so = (λ is. absurd (cc), λ there. not_bad refusal so.0 there.0 there.1.0 so.1 there.1.1)
+bad_decided Missing refusal so = (λ is. absurd (cc), λ there. not_both_refuse refusal (missing so.0) (bad there.0 there.1.0) (λ e. absurd (cc)) so.1 there.1.1)
+bad_decided TooBig refusal so = (λ is. absurd (cc), λ there. not_both_refuse refusal too_big (bad there.0 there.1.0) (λ e. absurd (cc)) so there.1.1)
 bad_decided Done refusal so = (λ is. absurd (cc), λ there. not_none refusal (bad there.0 there.1.0) so there.1.1)
 bad_decided Usage refusal so = (λ is. absurd (cc), λ there. not_none refusal (bad there.0 there.1.0) so there.1.1)
 bad_decided InputFault refusal so = (λ is. absurd (cc), λ there. not_none refusal (bad there.0 there.1.0) so there.1.1)
@@ -100,6 +104,21 @@ bad_decided Damaged refusal so = (λ is. absurd (cc), λ there. not_none refusal
 bad_decided Budget refusal so = (λ is. absurd (cc), λ there. not_none refusal (bad there.0 there.1.0) so there.1.1)
 bad_decided Stuck refusal so = (λ is. absurd (cc), λ there. not_none refusal (bad there.0 there.1.0) so there.1.1)
 bad_decided Memory refusal so = (λ is. absurd (cc), λ there. not_none refusal (bad there.0 there.1.0) so there.1.1)
+
+too_big_decided : (status : Status) (refusal : Option Refusal) → IsRefusedSo status refusal → (status ≡ TooBig) ↔ IsTooBig refusal
+too_big_decided TooBig refusal so = (λ is. so, λ there. refl)
+too_big_decided Missing refusal so = (λ is. absurd (cc), λ there. not_both_refuse refusal (missing so.0) too_big (λ e. absurd (cc)) so.1 there)
+too_big_decided BadElf refusal so = (λ is. absurd (cc), λ there. not_both_refuse refusal (bad so.0 so.1.0) too_big (λ e. absurd (cc)) so.1.1 there)
+too_big_decided Done refusal so = (λ is. absurd (cc), λ there. not_none refusal too_big so there)
+too_big_decided Usage refusal so = (λ is. absurd (cc), λ there. not_none refusal too_big so there)
+too_big_decided InputFault refusal so = (λ is. absurd (cc), λ there. not_none refusal too_big so there)
+too_big_decided SinkFault refusal so = (λ is. absurd (cc), λ there. not_none refusal too_big so there)
+too_big_decided DiskFault refusal so = (λ is. absurd (cc), λ there. not_none refusal too_big so there)
+too_big_decided NoSet refusal so = (λ is. absurd (cc), λ there. not_none refusal too_big so there)
+too_big_decided Damaged refusal so = (λ is. absurd (cc), λ there. not_none refusal too_big so there)
+too_big_decided Budget refusal so = (λ is. absurd (cc), λ there. not_none refusal too_big so there)
+too_big_decided Stuck refusal so = (λ is. absurd (cc), λ there. not_none refusal too_big so there)
+too_big_decided Memory refusal so = (λ is. absurd (cc), λ there. not_none refusal too_big so there)
 
 module _ (called : Session) (line : List ℕ) where
   against_both : {P : Type 0} → LaunchAsked called.given → RestartAsked called.given → P
@@ -132,49 +151,26 @@ module _ (called : Session) (line : List ℕ) where
   usage_only Budget r is = absurd (cc)
   usage_only Stuck r is = absurd (cc)
   usage_only Memory r is = absurd (cc)
+  usage_only TooBig r is = absurd (cc)
 
-  usage_there : (s : Status) → Reaches s called line → s ≢ Memory → AskNothing called.given.words → s ≡ Usage
-  usage_there Usage r memory nothing = refl
-  usage_there Done r memory nothing = none_begun r.0.begun nothing
-  usage_there InputFault r memory nothing = none_launched r.1.0.asked nothing
-  usage_there Missing r memory nothing = none_launched r.1.0.asked nothing
-  usage_there BadElf r memory nothing = none_launched r.1.1.0.asked nothing
-  usage_there SinkFault r memory nothing = absurd r
-  usage_there DiskFault r memory nothing = none_needed r.needs nothing
-  usage_there NoSet r memory nothing = none_restarted r.asked nothing
-  usage_there Damaged r memory nothing = none_restarted r.asked nothing
-  usage_there Budget r memory nothing = none_begun r.begun nothing
-  usage_there Stuck r memory nothing = none_begun r.0.begun nothing
-  usage_there Memory r memory nothing = absurd (memory refl)
-
-  spelled_begun : Begun called.given → AreOfCommand called.given.words
-  spelled_begun (ByLaunch launched) = of_command called.given.words (Launch launched.asked.job) launched.asked.asks
-  spelled_begun (ByRestart restarted) = of_command called.given.words (Restart restarted.asked.job) restarted.asked.asks
-
-  -- words of no command ask for nothing
-  nothing_spelled : SpellNothing called.given.words → AskNothing called.given.words
-  nothing_spelled nothing job asks = of_command called.given.words job asks nothing
-
-  usage_spelled : (s : Status) → Reaches s called line → SpellNothing called.given.words → s ≡ Usage
-  usage_spelled Memory (inl unbegun, is) nothing = absurd (unbegun.1 nothing)
-  usage_spelled Memory (inr cut, is) nothing = absurd (spelled_begun cut.begun nothing)
-  usage_spelled Usage r nothing = refl
-  usage_spelled Done r nothing = usage_there Done r (λ e. absurd (cc)) (nothing_spelled nothing)
-  usage_spelled InputFault r nothing = usage_there InputFault r (λ e. absurd (cc)) (nothing_spelled nothing)
-  usage_spelled Missing r nothing = usage_there Missing r (λ e. absurd (cc)) (nothing_spelled nothing)
-  usage_spelled BadElf r nothing = usage_there BadElf r (λ e. absurd (cc)) (nothing_spelled nothing)
-  usage_spelled SinkFault r nothing = absurd r
-  usage_spelled DiskFault r nothing = usage_there DiskFault r (λ e. absurd (cc)) (nothing_spelled nothing)
-  usage_spelled NoSet r nothing = usage_there NoSet r (λ e. absurd (cc)) (nothing_spelled nothing)
-  usage_spelled Damaged r nothing = usage_there Damaged r (λ e. absurd (cc)) (nothing_spelled nothing)
-  usage_spelled Budget r nothing = usage_there Budget r (λ e. absurd (cc)) (nothing_spelled nothing)
-  usage_spelled Stuck r nothing = usage_there Stuck r (λ e. absurd (cc)) (nothing_spelled nothing)
+  usage_there : (s : Status) → Reaches s called line → AskNothing called.given.words → s ≡ Usage
+  usage_there Usage r nothing = refl
+  usage_there Done r nothing = none_begun r.0.begun nothing
+  usage_there InputFault r nothing = none_launched r.1.0.asked nothing
+  usage_there Missing r nothing = none_launched r.1.0.asked nothing
+  usage_there BadElf r nothing = none_launched r.1.1.0.asked nothing
+  usage_there SinkFault r nothing = absurd r
+  usage_there DiskFault r nothing = none_needed r.needs nothing
+  usage_there NoSet r nothing = none_restarted r.asked nothing
+  usage_there Damaged r nothing = none_restarted r.asked nothing
+  usage_there Budget r nothing = none_begun r.begun nothing
+  usage_there Stuck r nothing = none_begun r.0.begun nothing
+  usage_there Memory (inl unbegun, is) nothing = absurd (unbegun.1 nothing)
+  usage_there Memory (inr begun, is) nothing = none_begun begun.begun nothing
+  usage_there TooBig r nothing = none_launched r.0.asked nothing
 
   words_decided : (status : Status) → Reaches status called line → WordsDecide status called.given.words
-  words_decided status r = record {
-    usage = λ memory. (usage_only status r, usage_there status r memory);
-    none = usage_spelled status r;
-  }
+  words_decided status r = (usage_only status r, usage_there status r)
 
   -- what the inputs hold is what the call read
   module _ (held : NamedFiles) (asked : LaunchAsked called.given) (holds : called.given.files ≡ Some held) where
@@ -184,7 +180,7 @@ module _ (called : Session) (line : List ℕ) where
     same_inputs : (other : LaunchAsked called.given) (inputs : JobInputs) (refusal : Option Refusal) → AreInputs called.given.files other.job inputs → first_refusal inputs ≡ refusal → IsKnown refusal → told ≡ refusal
     same_inputs other inputs refusal are is known =
         ap (λ job. first_refusal (inputs_in held job)) (same_launch called.given.words asked.job other.job asked.asks other.asks)
-        ∙ told_refusal held called.given.files other.job inputs refusal holds other.asks.built are is known
+        ∙ told_refusal held called.given.files holds other.job inputs are refusal is known
 
     begun_loaded : Begun called.given → told ≡ None
     begun_loaded (ByLaunch launched) = same_inputs launched.asked launched.inputs None launched.loaded.are launched.loaded.none tt
@@ -202,6 +198,7 @@ module _ (called : Session) (line : List ℕ) where
         (r.0, same_inputs r.1.0.asked r.1.0.first.inputs (Some (missing r.0)) r.1.0.first.are r.1.0.first.first tt)
     refused_so BadElf r fault memory =
         (r.0, (r.1.0, same_inputs r.1.1.0.asked r.1.1.0.first.inputs (Some (bad r.0 r.1.0)) r.1.1.0.first.are r.1.1.0.first.first tt))
+    refused_so TooBig r fault memory = same_inputs r.0.asked r.0.first.inputs (Some too_big) r.0.first.are r.0.first.first tt
     refused_so SinkFault r fault memory = absurd r
     refused_so DiskFault r fault memory = needed_loaded r.needs
     refused_so NoSet r fault memory = against_both asked r.asked
@@ -216,6 +213,7 @@ module _ (called : Session) (line : List ℕ) where
     launch_decided InputFault r fault disk fine = absurd (fault refl)
     launch_decided Missing r fault disk fine = let so = refused_so Missing r fault (λ e. absurd (cc)) in not_none told (missing so.0) fine so.1
     launch_decided BadElf r fault disk fine = let so = refused_so BadElf r fault (λ e. absurd (cc)) in not_none told (bad so.0 so.1.0) fine so.1.1
+    launch_decided TooBig r fault disk fine = not_none told too_big fine (refused_so TooBig r fault (λ e. absurd (cc)))
     launch_decided SinkFault r fault disk fine = absurd r
     launch_decided DiskFault r fault disk fine = absurd (disk refl)
     launch_decided NoSet r fault disk fine = against_both asked r.asked
@@ -239,6 +237,7 @@ module _ (called : Session) (line : List ℕ) where
     setless_decided InputFault r disk memory = (λ is. absurd (cc), λ none. against_both r.1.0.asked asked)
     setless_decided Missing r disk memory = (λ is. absurd (cc), λ none. against_both r.1.0.asked asked)
     setless_decided BadElf r disk memory = (λ is. absurd (cc), λ none. against_both r.1.1.0.asked asked)
+    setless_decided TooBig r disk memory = (λ is. absurd (cc), λ none. against_both r.0.asked asked)
     setless_decided SinkFault r disk memory = absurd r
     setless_decided DiskFault r disk memory = absurd (disk refl)
     setless_decided NoSet r disk memory = (λ is. seen_in (λ there. set_that_counts there ≡ None) called.given.folder files reads r.none, λ none. refl)
@@ -255,6 +254,7 @@ module _ (called : Session) (line : List ℕ) where
       spoiled slot damage spoils InputFault r disk memory = against_both r.1.0.asked asked
       spoiled slot damage spoils Missing r disk memory = against_both r.1.0.asked asked
       spoiled slot damage spoils BadElf r disk memory = against_both r.1.1.0.asked asked
+      spoiled slot damage spoils TooBig r disk memory = against_both r.0.asked asked
       spoiled slot damage spoils SinkFault r disk memory = absurd r
       spoiled slot damage spoils DiskFault r disk memory = absurd (disk refl)
       spoiled slot damage spoils NoSet r disk memory =
@@ -277,6 +277,7 @@ module _ (called : Session) (line : List ℕ) where
       spoilt_in Budget r is = absurd (cc)
       spoilt_in Stuck r is = absurd (cc)
       spoilt_in Memory r is = absurd (cc)
+      spoilt_in TooBig r is = absurd (cc)
 
       spoilt_decided : (status : Status) → Reaches status called line → status ≢ DiskFault → status ≢ Memory → (status ≡ Damaged) ↔ ((slot : ℕ) × ((damage : Damage) × SpoilsSet files slot damage))
       spoilt_decided status reached disk memory = (spoilt_in status reached, λ there. spoiled there.0 there.1.0 there.1.1 status reached disk memory)
@@ -287,6 +288,7 @@ module _ (called : Session) (line : List ℕ) where
       restart_decided generation g spells InputFault r disk = against_both r.1.0.asked asked
       restart_decided generation g spells Missing r disk = against_both r.1.0.asked asked
       restart_decided generation g spells BadElf r disk = against_both r.1.1.0.asked asked
+      restart_decided generation g spells TooBig r disk = against_both r.0.asked asked
       restart_decided generation g spells SinkFault r disk = absurd r
       restart_decided generation g spells DiskFault r disk = absurd (disk refl)
       restart_decided generation g spells NoSet r disk =
@@ -311,6 +313,7 @@ reached_of Damaged called log ends sink = (ends.last, ends.reached)
 reached_of Budget called log ends sink = (ends.last, ends.reached)
 reached_of Stuck called log ends sink = (ends.last, ends.reached)
 reached_of Memory called log ends sink = (ends.last, ends.reached)
+reached_of TooBig called log ends sink = (ends.last, ends.reached)
 
 pub words_decide : (status : Status) (called : Session) (log : Sunk) → Ends status called log → status ≢ SinkFault → WordsDecide status called.given.words
 words_decide status called log ends sink = let there = reached_of status called log ends sink in words_decided called there.0 status there.1
@@ -321,6 +324,7 @@ inputs_decide status called log ends fault sink =
     record {
       missing = λ held asked holds memory. missing_decided status (first_refusal (inputs_in held asked.job)) (refused_so called there.0 held asked holds status there.1 fault memory);
       bad = λ held asked holds memory. bad_decided status (first_refusal (inputs_in held asked.job)) (refused_so called there.0 held asked holds status there.1 fault memory);
+      too_big = λ held asked holds memory. too_big_decided status (first_refusal (inputs_in held asked.job)) (refused_so called there.0 held asked holds status there.1 fault memory);
     }
 
 pub decided : SetLaws → (status : Status) (called : Session) (log : Sunk) → Ends status called log → status ≢ InputFault → status ≢ SinkFault → status ≢ DiskFault → IsDecided status called.given

@@ -1,153 +1,185 @@
--- What a launch of one program reads: its one input, and what it is refused for.
---     one, one_are           the inputs of one program and no file
---     first_of_one           they are refused for what that program is refused for
---     refused, loaded        from what reading the program gave
---     passed_on, unopened    how the launch ends then, and without a store
---     told_refusal           and what inputs are refused for that tell what they hold
-use Rattle.std.proofs.Common.{◌≡◌, ◌≢◌, ℕ, suc, ◌<◌, ◌≤◌, List, [], ◌∷◌, map, length, Option, Some, None, refl, sym, ap, subst, ◌∙◌, arith}
-use Rattle.std.specs.Prelude.{All, Result, Ok, Err, IsErrAnd}
-use Rattle.std.specs.Option.{option_map, option_or}
-use Rattle.std.proofs.lemmas.List.Elements.{All-nil, All-cons, All-head}
-use Rattle.elf32.specs.Programs.{program_of}
-use Rattle.elf32.specs.Rules.{first_fault}
-use Rattle.plain_machine.specs.Start.{start}
+-- What a launch reads, and what it is refused for.
+--     file_first, program_first       the first thing that is refused, by how much was read before it
+--     sum_first, all_loaded           nothing was, but the sum, or nothing at all
+--     told_refusal                    what inputs are refused for that tell what they hold
+use Rattle.std.proofs.Common.{◌≡◌, List, [], ◌∷◌, ◌++◌, map, Option, Some, None, refl, sym, ap, subst, ◌∙◌}
+use Rattle.std.specs.Prelude.{All}
+use Rattle.std.specs.Option.{option_or}
+use Rattle.std.proofs.lemmas.List.{map-append}
+use Rattle.std.proofs.lemmas.List.Elements.{All-append, All-cons, All-nil}
 use Rattle.edge_io.specs.Inputs.{NamedFiles}
-use Rattle.set_disk.specs.Files.{FolderFiles as Folder}
 use Rattle.option_words.specs.Options.{Text}
-use Rattle.job_words.specs.declared.job.Job.TheVariants.{Launch}
 use Rattle.job_words.specs.declared.job.LaunchJob.{LaunchJob}
 use Rattle.job_words.specs.declared.job.NamedProgram.{NamedProgram}
-use Rattle.job_words.proofs.JobFacts.{programs_placed, arguments_some, arguments_short}
-use Rattle.dmtcp_top.specs.declared.ending.Ending.{Ending}
-use Rattle.dmtcp_top.specs.declared.ending.Ending.TheVariants.{Done, Usage, InputFault, Missing, BadElf, SinkFault, DiskFault, NoSet, Damaged, Budget, Stuck, Memory}
-use Rattle.dmtcp_top.specs.Sessions.{IsInput}
-use Rattle.dmtcp_top.specs.Jobs.{Asks, IsBuiltLaunch}
-use Rattle.dmtcp_top.specs.JobInputs.{Content, found, absent, failed, FileInput, ProgramInput, JobInputs, IsContent, AreInputs, Refusal, unread, missing, bad, program_refusal, sum_refusal, first_refusal, IsFirstRefusal, AreLoaded, content_of, content_in, file_in, program_in, inputs_in, loaded_job}
-use Rattle.dmtcp_top.specs.declared.start.Start.{Start}
-use Rattle.dmtcp_top.specs.Loads.{IsReadProgram, RefusesLaunch, Launches, Reopened}
+use Rattle.dmtcp_top.specs.JobInputs.{Content, found, absent, failed, FileInput, ProgramInput, JobInputs, IsContent, AreInputs, Refusal, unread, file_refusal, program_refusal, sum_refusal, first_refusal, IsFirstRefusal, content_of, content_in, file_in, program_in, inputs_in}
+use Rattle.dmtcp_top.specs.JobStarts.{file_input, program_input, IsFileRefused, IsProgramRefused}
+use Rattle.dmtcp_top.proofs.Refusals.{first, first_refusal_is, none_refused, one_refused, IsKnown, told_first, all_told}
 
-abbrev input : NamedProgram → Content → ProgramInput
-input program content = record { program = program; content = content }
+-- names that weren't read
+unread_file : Text → FileInput
+unread_file name = file_input name failed
 
-abbrev pub one : NamedProgram → Content → JobInputs
-one program content = record { files = []; programs = input program content ∷ [] }
+unread_program : NamedProgram → ProgramInput
+unread_program program = program_input program failed
 
-no_sum : sum_refusal [] ≡ None
-no_sum = refl
+abbrev IsFileTold : Option NamedFiles → FileInput → Type 0
+IsFileTold files input = IsContent files input.name input.content
 
-first_or_none : (o : Option Refusal) → option_or (option_or None o) (sum_refusal []) ≡ o
-first_or_none None = no_sum
-first_or_none (Some refusal) = refl
+abbrev IsProgramTold : Option NamedFiles → ProgramInput → Type 0
+IsProgramTold files input = IsContent files input.program.name input.content
 
-pub first_of_one : (program : NamedProgram) (content : Content) → first_refusal (one program content) ≡ program_refusal (input program content)
-first_of_one program content = first_or_none (program_refusal (input program content))
+unread_names : (names : List Text) → map (λ (input : FileInput). input.name) (map unread_file names) ≡ names
+unfolding unread_file
+unread_names [] = refl
+unread_names (name ∷ names) = ap (λ rest. name ∷ rest) (unread_names names)
 
-pub one_start : (program : NamedProgram) (bytes : List ℕ) → program.host ≡ 0
-    → start (record { host = 0; program = program_of bytes; arguments = program.arguments } ∷ []) [] ≡ loaded_job (one program (found bytes))
-one_start program bytes host = ap (λ h. start (record { host = h; program = program_of bytes; arguments = program.arguments } ∷ []) []) (sym host)
+unread_programs : (programs : List NamedProgram) → map (λ (input : ProgramInput). input.program) (map unread_program programs) ≡ programs
+unfolding unread_program
+unread_programs [] = refl
+unread_programs (program ∷ programs) = ap (λ rest. program ∷ rest) (unread_programs programs)
 
-module _ (files : Option NamedFiles) (job : LaunchJob) (program : NamedProgram) (no_files : job.file ≡ []) (programs : job.programs ≡ program ∷ []) where
-  pub one_are : (content : Content) → IsContent files program.name content → AreInputs files job (one program content)
-  one_are content is = record {
-    names = sym no_files;
-    programs = sym programs;
-    files_told = All-nil (λ (it : FileInput). IsContent files it.name it.content);
-    programs_told = All-cons (λ (it : ProgramInput). IsContent files it.program.name it.content) (input program content) [] is (All-nil (λ (it : ProgramInput). IsContent files it.program.name it.content));
-  }
+unread_told : (files : Option NamedFiles) (names : List Text) → All (IsFileTold files) (map unread_file names)
+unfolding unread_file
+unread_told files [] = All-nil (IsFileTold files)
+unread_told files (name ∷ names) = All-cons (IsFileTold files) (unread_file name) (map unread_file names) tt (unread_told files names)
 
-  first : (content : Content) (refusal : Refusal) → IsContent files program.name content → program_refusal (input program content) ≡ Some refusal → IsFirstRefusal files job refusal
-  first content refusal is refuses = record { inputs = one program content; are = one_are content is; first = first_of_one program content ∙ refuses }
+unread_programs_told : (files : Option NamedFiles) (programs : List NamedProgram) → All (IsProgramTold files) (map unread_program programs)
+unfolding unread_program
+unread_programs_told files [] = All-nil (IsProgramTold files)
+unread_programs_told files (program ∷ programs) = All-cons (IsProgramTold files) (unread_program program) (map unread_program programs) tt (unread_programs_told files programs)
 
-  pub loaded : (bytes : List ℕ) → IsInput files program.name (Some bytes) → first_fault bytes ≡ None → AreLoaded files job (one program (found bytes))
-  loaded bytes is fine = record { are = one_are (found bytes) is; none = first_of_one program (found bytes) ∙ ap (option_map (bad program.name)) fine }
+module _ (files : Option NamedFiles) (job : LaunchJob) where
+  -- a file is refused, and none before it
+  pub file_first : (before : List FileInput) (name : Text) (after : List Text) (why : Refusal) → All (IsFileTold files) before → All (λ (input : FileInput). file_refusal input ≡ None) before
+      → map (λ (input : FileInput). input.name) before ++ name ∷ after ≡ job.file → IsFileRefused files name why → IsFirstRefusal files job why
+  file_first before name after why told fine names refused =
+      let here = file_input name refused.content in
+      let all = before ++ here ∷ map unread_file after in
+      let inputs : JobInputs = record { files = all; programs = map unread_program job.programs } in
+      record {
+        inputs = inputs;
+        are = record {
+          names =
+              map-append (λ (input : FileInput). input.name) before (here ∷ map unread_file after)
+              ∙ ap (λ rest. map (λ (input : FileInput). input.name) before ++ name ∷ rest) (unread_names after) ∙ names;
+          programs = unread_programs job.programs;
+          files_told = All-append (IsFileTold files) before (here ∷ map unread_file after) told (All-cons (IsFileTold files) here (map unread_file after) refused.told (unread_told files after));
+          programs_told = unread_programs_told files job.programs;
+        };
+        first =
+            first_refusal_is inputs
+            ∙ ap (λ o. option_or o (option_or (first (map program_refusal inputs.programs)) (sum_refusal all))) (one_refused file_refusal before here (map unread_file after) why fine refused.refused);
+      }
 
-  pub refused : (ending : Ending) → IsReadProgram (Err ending) files program.name → RefusesLaunch ending files job
-  refused (InputFault who) is = subst (λ name. IsFirstRefusal files job (unread name)) (sym is) (first failed (unread program.name) tt refl)
-  refused (Missing who) is = subst (λ name. IsFirstRefusal files job (missing name)) (sym is.0) (first absent (missing program.name) is.1 refl)
-  refused (BadElf who fault) is =
-      subst (λ name. IsFirstRefusal files job (bad name fault)) (sym is.0)
-      (first (found is.1.0) (bad program.name fault) is.1.1.0 (ap (option_map (bad program.name)) is.1.1.1))
-  refused Memory is = tt
-  refused Done is = absurd is
-  refused Usage is = absurd is
-  refused SinkFault is = absurd is
-  refused DiskFault is = absurd is
-  refused NoSet is = absurd is
-  refused (Damaged slot damage) is = absurd is
-  refused (Budget records) is = absurd is
-  refused Stuck is = absurd is
+  -- a program is refused, and no file, and no program before it
+  pub program_first : (read : List FileInput) (before : List ProgramInput) (program : NamedProgram) (after : List NamedProgram) (why : Refusal)
+      → All (IsFileTold files) read → All (λ (input : FileInput). file_refusal input ≡ None) read → map (λ (input : FileInput). input.name) read ≡ job.file
+      → All (IsProgramTold files) before → All (λ (input : ProgramInput). program_refusal input ≡ None) before
+      → map (λ (input : ProgramInput). input.program) before ++ program ∷ after ≡ job.programs → IsProgramRefused files program why → IsFirstRefusal files job why
+  program_first read before program after why told fine names programs_told programs_fine programs refused =
+      let here = program_input program refused.content in
+      let all = before ++ here ∷ map unread_program after in
+      let inputs : JobInputs = record { files = read; programs = all } in
+      record {
+        inputs = inputs;
+        are = record {
+          names = names;
+          programs =
+              map-append (λ (input : ProgramInput). input.program) before (here ∷ map unread_program after)
+              ∙ ap (λ rest. map (λ (input : ProgramInput). input.program) before ++ program ∷ rest) (unread_programs after) ∙ programs;
+          files_told = told;
+          programs_told = All-append (IsProgramTold files) before (here ∷ map unread_program after) programs_told
+              (All-cons (IsProgramTold files) here (map unread_program after) refused.told (unread_programs_told files after));
+        };
+        first =
+            first_refusal_is inputs
+            ∙ ap (λ o. option_or o (option_or (first (map program_refusal all)) (sum_refusal read))) (none_refused file_refusal read fine)
+            ∙ ap (λ o. option_or o (sum_refusal read)) (one_refused program_refusal before here (map unread_program after) why programs_fine refused.refused);
+      }
 
--- what words that are built keep to
-module _ (words : List Text) (job : LaunchJob) (program : NamedProgram) (asks : Asks words (Launch job)) (programs : job.programs ≡ program ∷ []) where
-  one_of_all : (P : NamedProgram → Type 0) → All P job.programs → P program
-  one_of_all P all = All-head P program [] (subst (All P) programs all)
+-- nothing is refused but the sum, if that is
+pub sum_alone : (inputs : JobInputs) → All (λ (input : FileInput). file_refusal input ≡ None) inputs.files → All (λ (input : ProgramInput). program_refusal input ≡ None) inputs.programs → first_refusal inputs ≡ sum_refusal inputs.files
+sum_alone inputs fine programs =
+    first_refusal_is inputs
+    ∙ ap (λ o. option_or o (option_or (first (map program_refusal inputs.programs)) (sum_refusal inputs.files))) (none_refused file_refusal inputs.files fine)
+    ∙ ap (λ o. option_or o (sum_refusal inputs.files)) (none_refused program_refusal inputs.programs programs)
 
-  pub host_is : program.host ≡ 0
-  host_is = let below = one_of_all (λ (named : NamedProgram). named.host < job.nodes) (programs_placed words job asks.is) in let nodes = asks.built.nodes in omega arith
+-- ---- what inputs tell
 
-  pub some_arguments : 1 ≤ length program.arguments
-  some_arguments = one_of_all (λ (named : NamedProgram). 1 ≤ length named.arguments) (arguments_some words job asks.is)
+none_unknown : {P : Type 0} → IsKnown (Some (unread [])) → P
+none_unknown known = absurd known
 
-  pub few_arguments : length program.arguments ≤ 4096
-  few_arguments = one_of_all (λ (named : NamedProgram). length named.arguments ≤ 4096) (arguments_short words job asks.is)
+module _ (held : NamedFiles) (files : Option NamedFiles) (tells : files ≡ Some held) where
+  held_file : FileInput → FileInput
+  held_file input = file_in held input.name
 
-no_items : {A B : Type 0} (f : A → B) (xs : List A) → map f xs ≡ [] → xs ≡ []
-no_items f [] is = refl
-no_items f (x ∷ xs) is = absurd (cc)
+  held_program : ProgramInput → ProgramInput
+  held_program input = program_in held input.program
 
-one_item : {A B : Type 0} (f : A → B) (xs : List A) (ys : List B) → map f xs ≡ ys → length ys ≡ 1 → (x : A) × ((xs ≡ x ∷ []) × (ys ≡ f x ∷ []))
-one_item f [] ys is one_long = absurd (let none : 0 ≡ 1 = ap length is ∙ one_long in cc)
-one_item f (x ∷ []) ys is one_long = (x, (refl, sym is))
-one_item f (x ∷ y ∷ xs) ys is one_long = absurd (let many : suc (suc (length (map f xs))) ≡ 1 = ap length is ∙ one_long in omega arith)
+  same_content : (name : Text) (content : Content) → IsContent files name content → (content ≡ failed → ⊥) → content ≡ content_in held name
+  same_content name (found bytes) told known = sym (ap content_of (told held tells))
+  same_content name absent told known = sym (ap content_of (told held tells))
+  same_content name failed told known = absurd (known refl)
 
--- what came of each read is known
-abbrev pub IsKnown : Option Refusal → Type 0
-IsKnown (Some (unread name)) = ⊥
-IsKnown _ = Unit {0}
+  same_file : (input : FileInput) → IsFileTold files input → IsKnown (file_refusal input) → input ≡ held_file input
+  unfolding held_file
+  same_file input told known =
+      ap (file_input input.name) (same_content input.name input.content told (λ is. subst (λ content. IsKnown (file_refusal (file_input input.name content))) is known))
 
-content_same : (held : NamedFiles) (files : Option NamedFiles) (program : NamedProgram) (content : Content) → files ≡ Some held → IsContent files program.name content → IsKnown (program_refusal (input program content))
-    → content ≡ content_in held program.name
-content_same held files program (found bytes) tells is known = sym (ap content_of (is held tells))
-content_same held files program absent tells is known = sym (ap content_of (is held tells))
-content_same held files program failed tells is known = absurd known
+  same_program : (input : ProgramInput) → IsProgramTold files input → IsKnown (program_refusal input) → input ≡ held_program input
+  unfolding held_program
+  same_program input told known =
+      ap (program_input input.program) (same_content input.program.name input.content told (λ is. subst (λ content. IsKnown (program_refusal (program_input input.program content))) is known))
 
--- inputs that tell what they hold are refused for what was found
-pub told_refusal : (held : NamedFiles) (files : Option NamedFiles) (job : LaunchJob) (inputs : JobInputs) (refusal : Option Refusal) → files ≡ Some held → IsBuiltLaunch job → AreInputs files job inputs → first_refusal inputs ≡ refusal
-    → IsKnown refusal → first_refusal (inputs_in held job) ≡ refusal
-told_refusal held files job inputs refusal tells built are is known =
-    let item = one_item (λ (it : ProgramInput). it.program) inputs.programs job.programs are.programs built.programs in
-    let it : ProgramInput = item.0 in
-    let no_files : inputs.files ≡ [] = no_items (λ (file : FileInput). file.name) inputs.files (are.names ∙ built.file) in
-    let same : first_refusal inputs ≡ program_refusal it =
-    ap (λ files. first_refusal (record { files = files; programs = inputs.programs })) no_files
-    ∙ ap (λ programs. first_refusal (record { files = []; programs = programs })) item.1.0
-    ∙ first_of_one it.program it.content in
-    let refuses : program_refusal it ≡ refusal = sym same ∙ is in
-    let tell : IsContent files it.program.name it.content =
-    All-head (λ (p : ProgramInput). IsContent files p.program.name p.content) it [] (subst (All (λ (p : ProgramInput). IsContent files p.program.name p.content)) item.1.0 are.programs_told) in
-    let content : it.content ≡ content_in held it.program.name = content_same held files it.program it.content tells tell (subst IsKnown (sym refuses) known) in
-    ap (λ names. first_refusal (record { files = map (file_in held) names; programs = (inputs_in held job).programs })) built.file
-    ∙ ap (λ programs. first_refusal (record { files = []; programs = map (program_in held) programs })) item.1.1
-    ∙ first_of_one it.program (content_in held it.program.name)
-    ∙ ap (λ c. program_refusal (input it.program c)) (sym content)
-    ∙ refuses
+  held_files : (inputs : List FileInput) → map held_file inputs ≡ map (file_in held) (map (λ (input : FileInput). input.name) inputs)
+  unfolding held_file
+  held_files [] = refl
+  held_files (input ∷ inputs) = ap (λ rest. file_in held input.name ∷ rest) (held_files inputs)
 
--- what ended a launch is handed on
-pub passed_on : (files : Option NamedFiles) (folder : Option Folder) (job : LaunchJob) (result : Result Start Ending) (ending : Ending) → IsErrAnd result (λ e. e ≡ ending) → RefusesLaunch ending files job → Launches result files folder job
-passed_on files folder job (Ok start) ending is why = absurd is
-passed_on files folder job (Err e) ending is why = subst (λ (x : Ending). RefusesLaunch x files job) (sym is) why
+  held_programs : (inputs : List ProgramInput) → map held_program inputs ≡ map (program_in held) (map (λ (input : ProgramInput). input.program) inputs)
+  unfolding held_program
+  held_programs [] = refl
+  held_programs (input ∷ inputs) = ap (λ rest. program_in held input.program ∷ rest) (held_programs inputs)
 
--- why there is no store
-pub unopened : (files : Option NamedFiles) (folder : Option Folder) (job : LaunchJob) (inputs : JobInputs) (ending : Ending) → job.every ≢ None → AreLoaded files job inputs → Reopened (Err ending) folder → RefusesLaunch ending files job
-unopened files folder job inputs DiskFault every are is = (every, (inputs, are))
-unopened files folder job inputs Memory every are is = tt
-unopened files folder job inputs Done every are is = absurd is
-unopened files folder job inputs Usage every are is = absurd is
-unopened files folder job inputs (InputFault who) every are is = absurd is
-unopened files folder job inputs (Missing who) every are is = absurd is
-unopened files folder job inputs (BadElf who fault) every are is = absurd is
-unopened files folder job inputs SinkFault every are is = absurd is
-unopened files folder job inputs NoSet every are is = absurd is
-unopened files folder job inputs (Damaged slot damage) every are is = absurd is
-unopened files folder job inputs (Budget records) every are is = absurd is
-unopened files folder job inputs Stuck every are is = absurd is
+  module _ (job : LaunchJob) (inputs : JobInputs) (are : AreInputs files job inputs) where
+    abbrev there : JobInputs
+    there = inputs_in held job
+
+    files_there : map held_file inputs.files ≡ there.files
+    files_there = held_files inputs.files ∙ ap (map (file_in held)) are.names
+
+    programs_there : map held_program inputs.programs ≡ there.programs
+    programs_there = held_programs inputs.programs ∙ ap (map (program_in held)) are.programs
+
+    file_told : (refusal : Option Refusal) → first (map file_refusal inputs.files) ≡ refusal → IsKnown refusal → first (map file_refusal there.files) ≡ refusal
+    file_told refusal is known =
+        ap (λ list. first (map file_refusal list)) (sym files_there) ∙ told_first file_refusal held_file (IsFileTold files) same_file inputs.files refusal are.files_told is known
+
+    program_told : (refusal : Option Refusal) → first (map program_refusal inputs.programs) ≡ refusal → IsKnown refusal → first (map program_refusal there.programs) ≡ refusal
+    program_told refusal is known =
+        ap (λ list. first (map program_refusal list)) (sym programs_there) ∙ told_first program_refusal held_program (IsProgramTold files) same_program inputs.programs refusal are.programs_told is known
+
+    files_same : first (map file_refusal inputs.files) ≡ None → inputs.files ≡ there.files
+    files_same none = all_told file_refusal held_file (IsFileTold files) same_file inputs.files are.files_told none ∙ files_there
+
+    -- inputs that tell what they hold are refused for what was found
+    pub told_refusal : (refusal : Option Refusal) → first_refusal inputs ≡ refusal → IsKnown refusal → first_refusal there ≡ refusal
+    told_refusal refusal is known = first_refusal_is there ∙ by (first (map file_refusal inputs.files)) refl (first (map program_refusal inputs.programs)) refl (sym (first_refusal_is inputs) ∙ is)
+      where
+        by : (f : Option Refusal) → first (map file_refusal inputs.files) ≡ f → (p : Option Refusal) → first (map program_refusal inputs.programs) ≡ p
+            → option_or (first (map file_refusal inputs.files)) (option_or (first (map program_refusal inputs.programs)) (sum_refusal inputs.files)) ≡ refusal
+            → option_or (first (map file_refusal there.files)) (option_or (first (map program_refusal there.programs)) (sum_refusal there.files)) ≡ refusal
+        by (Some why) here p programs whole =
+            let same : refusal ≡ Some why = sym whole ∙ ap (λ o. option_or o (option_or (first (map program_refusal inputs.programs)) (sum_refusal inputs.files))) here in
+            ap (λ o. option_or o (option_or (first (map program_refusal there.programs)) (sum_refusal there.files))) (file_told (Some why) here (subst IsKnown same known)) ∙ sym same
+        by None here (Some why) programs whole =
+            let same : refusal ≡ Some why =
+            sym whole ∙ ap (λ o. option_or o (option_or (first (map program_refusal inputs.programs)) (sum_refusal inputs.files))) here ∙ ap (λ o. option_or o (sum_refusal inputs.files)) programs in
+            ap (λ o. option_or o (option_or (first (map program_refusal there.programs)) (sum_refusal there.files))) (file_told None here tt)
+            ∙ ap (λ o. option_or o (sum_refusal there.files)) (program_told (Some why) programs (subst IsKnown same known)) ∙ sym same
+        by None here None programs whole =
+            ap (λ o. option_or o (option_or (first (map program_refusal there.programs)) (sum_refusal there.files))) (file_told None here tt)
+            ∙ ap (λ o. option_or o (sum_refusal there.files)) (program_told None programs tt)
+            ∙ ap sum_refusal (sym (files_same here))
+            ∙ sym (ap (λ o. option_or o (option_or (first (map program_refusal inputs.programs)) (sum_refusal inputs.files))) here ∙ ap (λ o. option_or o (sum_refusal inputs.files)) programs)
+            ∙ whole

@@ -1,10 +1,9 @@
 -- Looking at the folder of sets before a run, and the run after it.
 --     looks_none, looks_then           no call of the folder, and two stretches that only look
 --     whole_unbegun, whole_begun       what a crash leaves of a call that began no run, and of one that did
---     kept                             what a keeper knows whose sets follow those of a store
-use Rattle.std.proofs.Common.{Fits, w8, get_or, ◌≡◌, ℕ, zero, suc, ◌<◌, List, [], ◌∷◌, Option, Some, None, inl, inr, refl, sym, ap, subst, ◌∙◌, arith}
-use Rattle.std.specs.Prelude.{◌⊎◌, IfSome, All, Result, Ok, Err, max, option_map}
-use Rattle.std.proofs.lemmas.List.{get_or_default}
+--     kept                             what a checkpointer knows whose sets follow those of a store
+use Rattle.std.proofs.Common.{◌≡◌, ℕ, suc, List, [], Option, Some, None, inl, inr, refl, sym, ap, subst, ◌∙◌, arith}
+use Rattle.std.specs.Prelude.{◌⊎◌, IfSome, Result, Ok, Err, max, option_map}
 use Rattle.std.proofs.Math.Nat.{zero-max}
 use Rattle.std.specs.List.{Contains}
 use Rattle.std.specs.Option.{ForSome, option_map_or}
@@ -20,21 +19,20 @@ use Rattle.image_store.specs.declared.set_info.SetInfo.{SetInfo}
 use Rattle.image_store.specs.Slots.{last}
 use Rattle.image_format.specs.declared.damage.Damage.{Damage}
 use Rattle.image_codec.specs.Sets.{DamagedFiles}
-use Rattle.plain_process.specs.Valid.{IsByte}
 use Rattle.image_store.specs.SetDamages.{HasDamage}
 use Rattle.image_store.specs.FoundSets.{FoundSet, set_of, last_set, IsSet, HasSet}
 use Rattle.image_store.specs.StoreStates.{Known, FitsFolder, next_generation, generation_after}
 use Rattle.image_store.specs.StoreCrashes.{ChangesNothing}
 use Rattle.image_store.proofs.Passing.{passes_then}
-use Rattle.dmtcp_top.specs.declared.keeper.Keeper.{Keeper}
-use Rattle.dmtcp_top.specs.declared.ending.Ending.{Ending}
-use Rattle.dmtcp_top.specs.declared.ending.Ending.TheVariants.{Done, Usage, InputFault, Missing, BadElf, SinkFault, DiskFault, NoSet, Damaged, Budget, Stuck, Memory}
-use Rattle.dmtcp_top.specs.declared.machine.Machine.{Machine}
-use Rattle.dmtcp_top.specs.Sets.{SpoilsSet}
+use Rattle.checkpointer.specs.declared.checkpointer.Checkpointer.{Checkpointer}
+use Rattle.endings.specs.declared.ending.Ending.{Ending}
+use Rattle.endings.specs.declared.ending.Ending.TheVariants.{Done, Usage, InputFault, Missing, BadElf, TooBig, SinkFault, DiskFault, NoSet, Damaged, Budget, Stuck, Memory}
+use Rattle.computation.specs.declared.computation.Computation.{Computation}
+use Rattle.checkpointer.specs.Sets.{SpoilsSet}
 use Rattle.dmtcp_top.specs.declared.settings.Settings.{Settings}
-use Rattle.dmtcp_top.specs.Keeping.{IsOpening, SpellsCut, CountsFaults, IsKept, IsSafe}
+use Rattle.checkpointer.specs.Keeping.{IsOpening, SpellsCut, CountsFaults, IsKept, IsSafe}
 use Rattle.dmtcp_top.specs.Launches.{schedule_of}
-use Rattle.dmtcp_top.specs.Loads.{IsMachineOf, OnlyLooks, Restored}
+use Rattle.dmtcp_top.specs.Loads.{IsComputationOf, OnlyLooks, Restored}
 use Rattle.dmtcp_top.specs.Promise.{SpellsCutOf, StaysWhole}
 
 nothing_there : (generation : ℕ) → Contains {X = Record} [] (Complete generation) → ⊥
@@ -116,36 +114,19 @@ next_after store none = ap (λ floor. suc (max floor (generation_of store.last))
 none_some : {A : Type 0} (o : Option A) (a : A) → o ≡ Some a → o ≡ None → ⊥
 none_some o a some none = cc
 
-pub kept : (keeper : Keeper) (settings : Settings) (store : Known) (folder : SeenFolder) → keeper.store ≡ Some store → keeper.tally ≡ first_tally (schedule_of settings (generation_of store.last))
-    → store.floor ≡ 0 → FitsFolder store folder → IsKept keeper folder
-kept keeper settings store folder stored tallied none fits = record {
+pub kept : (checkpointer : Checkpointer) (settings : Settings) (store : Known) (folder : SeenFolder) → checkpointer.store ≡ Some store → checkpointer.tally ≡ first_tally (schedule_of settings (generation_of store.last))
+    → store.floor ≡ 0 → FitsFolder store folder → IsKept checkpointer folder
+kept checkpointer settings store folder stored tallied none fits = record {
   fits = λ other is. let same : store ≡ other = cc in
       (subst (λ (s : Known). FitsFolder s folder) same fits, ap next_generation (sym same) ∙ next_after store none ∙ ap suc (sym greatest));
   above = λ files is. told_then (last files) (λ info at.
       let found : store.last ≡ Some info = sym (fits files is).last ∙ at in
-      let bound : keeper.tally.greatest ≡ info.generation = greatest ∙ ap generation_of found in omega arith);
-  floor = λ no_store. absurd (none_some keeper.store store stored no_store);
+      let bound : checkpointer.tally.greatest ≡ info.generation = greatest ∙ ap generation_of found in omega arith);
+  floor = λ no_store. absurd (none_some checkpointer.store store stored no_store);
 }
   where
-    greatest : keeper.tally.greatest ≡ generation_of store.last
+    greatest : checkpointer.tally.greatest ≡ generation_of store.last
     greatest = ap (λ tally. tally.greatest) tallied
-
--- bytes are bytes
-pub all_bytes : (bytes : List ℕ) → ((k : ℕ) → Fits w8 (get_or bytes k 0)) → All IsByte bytes
-all_bytes bytes fits k d inside = rw (get_or_default bytes k d 0 inside) (omega (arith, fits k))
-
-pub zero_byte : All IsByte (0 ∷ [])
-zero_byte = all_bytes (0 ∷ []) zeros
-  where
-    zeros : (k : ℕ) → Fits w8 (get_or (0 ∷ []) k 0)
-    zeros zero = omega arith
-    zeros (suc k) = omega arith
-
-pub one_more : (P : ℕ → Type 0) (n : ℕ) → ((k : ℕ) → k < n → P k) → P n → (k : ℕ) → k < suc n → P k
-one_more P zero before here zero below = here
-one_more P zero before here (suc k) below = absurd (omega arith)
-one_more P (suc n) before here zero below = before zero (omega arith)
-one_more P (suc n) before here (suc k) below = one_more (λ m. P (suc m)) n (λ m less. before (suc m) (omega arith)) here k (omega arith)
 
 module _ (folder : SeenFolder) (store : Known) (info : SetInfo) (known : store.last ≡ Some info) (fits : FitsFolder store folder) where
   -- the set that counts is the one that the store knows
@@ -177,8 +158,8 @@ module _ (folder : SeenFolder) (store : Known) (info : SetInfo) (known : store.l
         damaged = inr (bytes, (subst (λ n. IsSet found.0 n bytes) (sym found.2.generation) found.2, damaged));
       })
 
-  pub restored : (result : Result Machine Ending) (bytes : List (List ℕ)) → ForSome folder.files (λ files. HasSet (last_set files) info.generation bytes) → IsMachineOf result info.slot bytes → Restored result info folder.files
-  restored (Ok m) bytes has of = record {
+  pub restored : (result : Result Computation Ending) (bytes : List (List ℕ)) → ForSome folder.files (λ files. HasSet (last_set files) info.generation bytes) → IsComputationOf result info.slot bytes → Restored result info folder.files
+  restored (Ok c) bytes has of = record {
     images = bytes;
     spelled = of.0;
     counted = told_then folder.files (λ files is. record { images = bytes; counts = has files is; state = of.0 });
@@ -191,6 +172,7 @@ module _ (folder : SeenFolder) (store : Known) (info : SetInfo) (known : store.l
   restored (Err (InputFault who)) bytes has of = absurd of
   restored (Err (Missing who)) bytes has of = absurd of
   restored (Err (BadElf who fault)) bytes has of = absurd of
+  restored (Err TooBig) bytes has of = absurd of
   restored (Err SinkFault) bytes has of = absurd of
   restored (Err DiskFault) bytes has of = absurd of
   restored (Err NoSet) bytes has of = absurd of

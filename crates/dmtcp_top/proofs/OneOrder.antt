@@ -25,23 +25,30 @@ use Rattle.trace_log.specs.declared.requests.Schedule.{Schedule}
 use Rattle.trace_log.specs.declared.requests.Tally.{Tally}
 use Rattle.trace_log.specs.Requests.{Requests, Phase, NoRequest, Requested, AfterCut, asks, is_mark, is_multiple_of, next_requests, phase_after, tally_after}
 use Rattle.trace_log.proofs.RequestMarks.{has_no_marks, is_each_without_marks}
-use Rattle.dmtcp_top.specs.Rounds.{Place, Arrival, InTurn, Upcoming, NewRound, After, Standing, GoesInRounds, threads_in, first_thread, first_turn, coming, round_of, round_from, new_round, next_turn, same_turn, stands_in, goes_on, due_at, is_due_at, is_due, is_first_arrival, is_due_for_cut, request_waits, moved, moved_by, standing_after, each_is_due, first_standing}
-use Rattle.dmtcp_top.specs.declared.run_end.RunEnd.{RunEnd}
-use Rattle.dmtcp_top.specs.declared.run_end.RunEnd.TheVariants.{Done as RunDone, Budget as RunBudget, Stuck as RunStuck, SinkFault as RunSinkFault, Memory as RunMemory}
-use Rattle.dmtcp_top.specs.RunEnds.{IsRun, RanOut, EndsRun}
+use Rattle.computation.specs.Turns.{Place, Arrival, InTurn, Upcoming, due_signal, turn_of, turn_with, NewRound, After, threads_in, first_thread, first_turn, coming, round_of, round_from, new_round, next_turn, same_turn, stands_in, goes_on, due_at, is_due_at}
+use Rattle.checkpointer.specs.Rounds.{Standing, GoesInRounds, is_due, is_first_arrival, is_due_for_cut, request_waits, moved, moved_by, standing_after, each_is_due, first_standing}
+use Rattle.run_loop.specs.declared.run_end.RunEnd.{RunEnd}
+use Rattle.run_loop.specs.declared.run_end.RunEnd.TheVariants.{Done as RunDone, Budget as RunBudget, Stuck as RunStuck, SinkFault as RunSinkFault, Memory as RunMemory}
+use Rattle.run_loop.specs.RunEnds.{IsRun, RanOut, EndsRun}
 use Rattle.job_words.specs.declared.job.Job.TheVariants.{Launch, Restart}
 use Rattle.dmtcp_top.specs.Jobs.{NameNoEvery}
 use Rattle.dmtcp_top.specs.Launches.{Begun, origin, schedule_in, beginning}
 use Rattle.dmtcp_top.specs.Launches.Begun.{ByLaunch, ByRestart}
-use Rattle.dmtcp_top.specs.Sessions.{Sunk, Session, Given, Beginning, Took}
+use Rattle.computation.specs.Sinks.{Sunk, Took}
+use Rattle.dmtcp_top.specs.Sessions.{Session, Given, Beginning}
 use Rattle.dmtcp_top.specs.Ends.{CameTo, CallGoesInRounds}
 use Rattle.dmtcp_top.specs.OneOrder.{work_in, steps_in, OneOrder, OneTrace, EndsThere, OneEnd, OneEnding, EndsSo, OneAnswer, BeganWith, RunsToEnd, no_checkpoints, ComesToRest, IsAnswer}
-use Rattle.dmtcp_top.proofs.Walks.{left_true, right_true, mark_stays}
-use Rattle.dmtcp_top.proofs.Running.{mark_is_quiet}
-use Rattle.dmtcp_top.proofs.NextTurns.{gone}
+use Rattle.checkpointer.proofs.Walks.{left_true, right_true, mark_stays}
+use Rattle.checkpointer.proofs.Running.{mark_is_quiet}
 use Rattle.dmtcp_top.proofs.AtRest.{at_rest, nobody_there}
 use Rattle.dmtcp_top.proofs.Arriving.{arrives_fully, arrives_quietly, ends_on, rests_on, none_arrives}
 use Rattle.dmtcp_top.proofs.Determined.{one_record}
+
+-- a process that has ended has no turn
+gone : (g : Plain) (p : VPid) (t : ℕ) (later : List ℕ) (processes : List VPid) → map.get g.users p ≡ None → turn_of g p t later processes ≡ None
+unfolding due_signal goes_on
+gone g p t later processes none =
+    ap (λ o. turn_with p t later processes (goes_on g p t o) (due_signal g p t (map.get g.users p))) none ∙ ap (λ o. turn_with p t later processes false (due_signal g p t o)) none
 
 -- the first of the records, and the rest of them
 record IsFirst (schedule : Schedule) (g : Plain) (at : Standing) (r : Record) (rest : List Record) : Type 0 where

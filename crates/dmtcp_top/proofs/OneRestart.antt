@@ -8,14 +8,15 @@ use Rattle.plain_machine.specs.Valid.{IsValid}
 use Rattle.set_disk.specs.Files.{FolderFiles as Folder}
 use Rattle.trace_log.specs.declared.requests.Schedule.{Schedule}
 use Rattle.job_words.specs.declared.job.Job.TheVariants.{Restart}
-use Rattle.dmtcp_top.specs.declared.run_end.RunEnd.{RunEnd}
-use Rattle.dmtcp_top.specs.declared.run_end.RunEnd.TheVariants.{Done as RunDone, Budget as RunBudget, Stuck as RunStuck, Memory as RunMemory}
+use Rattle.run_loop.specs.declared.run_end.RunEnd.{RunEnd}
+use Rattle.run_loop.specs.declared.run_end.RunEnd.TheVariants.{Done as RunDone, Budget as RunBudget, Stuck as RunStuck, Memory as RunMemory}
 use Rattle.dmtcp_top.specs.declared.settings.Settings.{Settings}
-use Rattle.dmtcp_top.specs.declared.status.Status.{Status}
-use Rattle.dmtcp_top.specs.declared.status.Status.TheVariants.{Done, Budget, Stuck, Memory}
+use Rattle.endings.specs.declared.status.Status.{Status}
+use Rattle.endings.specs.declared.status.Status.TheVariants.{Done, Budget, Stuck, Memory}
 use Rattle.dmtcp_top.specs.Jobs.{settings_of}
-use Rattle.dmtcp_top.specs.Sessions.{Sunk, Session}
-use Rattle.dmtcp_top.specs.Sets.{SpellsSet}
+use Rattle.computation.specs.Sinks.{Sunk}
+use Rattle.dmtcp_top.specs.Sessions.{Session}
+use Rattle.checkpointer.specs.Sets.{SpellsSet}
 use Rattle.dmtcp_top.specs.Launches.{RestartAsked, Begun, origin, settings_in, opening_in, schedule_of}
 use Rattle.dmtcp_top.specs.Launches.Begun.{ByLaunch, ByRestart}
 use Rattle.dmtcp_top.specs.Ends.{Ends, RunsOn, CallGoesInRounds}

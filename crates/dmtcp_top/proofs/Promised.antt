@@ -8,20 +8,22 @@ use Rattle.views.proofs.FaultCounts.{Rose-after}
 use Rattle.sys_abi.specs.declared.record.Record.{Record}
 use Rattle.edge_io.specs.Sink.{SeenSink}
 use Rattle.option_words.specs.Options.{Text}
-use Rattle.dmtcp_top.specs.declared.status.Status.{Status}
-use Rattle.dmtcp_top.specs.declared.status.Status.TheVariants.{Usage as IsUsage, InputFault, SinkFault, DiskFault, Memory as IsMemory}
-use Rattle.dmtcp_top.specs.declared.ending.Ending.{Ending}
-use Rattle.dmtcp_top.specs.declared.ending.Ending.TheVariants as an_ending
-use Rattle.dmtcp_top.specs.Endings.{status_of, ComesToEnd, Concludes}
+use Rattle.endings.specs.declared.status.Status.{Status}
+use Rattle.endings.specs.declared.status.Status.TheVariants.{Usage as IsUsage, InputFault, SinkFault, DiskFault, Memory as IsMemory}
+use Rattle.endings.specs.declared.ending.Ending.{Ending}
+use Rattle.endings.specs.declared.ending.Ending.TheVariants as an_ending
+use Rattle.endings.specs.Endings.{status_of, Concludes}
+use Rattle.dmtcp_top.specs.Endings.{ComesToEnd}
 use Rattle.dmtcp_top.specs.Loads.{RefusesWords}
 use Rattle.dmtcp_top.specs.Promise.{IsPromised}
-use Rattle.dmtcp_top.specs.Sessions.{Outside, InputsFailed, StreamsFailed, FolderFailed, outside, session_in, sunk}
+use Rattle.dmtcp_top.specs.Sessions.{Outside, InputsFailed, StreamsFailed, FolderFailed, outside, session_in}
+use Rattle.computation.specs.Sinks.{sunk}
 use Rattle.dmtcp_top.proofs.Arrivals.{words_refused, unbegun_paced}
 use Rattle.dmtcp_top.proofs.Conclusions.{call_ends, call_keeps_pace, status_kept}
 use Rattle.dmtcp_top.proofs.Decisions.{words_decide, inputs_decide, decided}
 use Rattle.dmtcp_top.proofs.Loads.{looks_none, whole_unbegun}
 use Rattle.dmtcp_top.proofs.SetLaws.{set_laws}
-use Rattle.dmtcp_top.proofs.Sinks.{took_nothing}
+use Rattle.checkpointer.proofs.Sinks.{took_nothing}
 
 pub refused_start : (ending : Ending) (words : List Text) (trace : List Record) (at : Outside) → trace ≡ [] → RefusesWords ending words → ComesToEnd ending words trace at at
 refused_start ending words trace at none why =
@@ -46,6 +48,7 @@ refused_status an_ending.Done words why = absurd why
 refused_status (an_ending.InputFault who) words why = absurd why
 refused_status (an_ending.Missing who) words why = absurd why
 refused_status (an_ending.BadElf who fault) words why = absurd why
+refused_status an_ending.TooBig words why = absurd why
 refused_status an_ending.SinkFault words why = absurd why
 refused_status an_ending.DiskFault words why = absurd why
 refused_status an_ending.NoSet words why = absurd why

@@ -3,10 +3,12 @@ use Rattle.std.proofs.Common.{◌≡◌, ℕ, List, Some, sym, subst, ◌∙◌}
 use Rattle.plain_machine.specs.declared.plain.Plain.{Plain}
 use Rattle.image_codec.specs.Sets.{SpellsSet as SpellsFilesSet}
 use Rattle.image_codec.proofs.SetLaws.{one_state_of_set}
+use Rattle.image_codec.proofs.ValidSets.{set_is_valid}
+use Rattle.dmtcp_top.specs.OneOrder.{SetIsValid}
 use Rattle.image_store.specs.FoundSets.{FoundSet, IsSet}
 use Rattle.trace_log.specs.Requests.{CutAt}
 use Rattle.dmtcp_top.specs.Promise.{OneState, RoundTrip}
-use Rattle.dmtcp_top.specs.Sets.{SpellsState}
+use Rattle.checkpointer.specs.Sets.{SpellsState}
 use Rattle.dmtcp_top.proofs.SetLaws.{set_laws}
 
 as_set : (found : FoundSet) (generation : ℕ) (images : List (List ℕ)) (g : Plain) → IsSet found generation images → SpellsState images g → SpellsFilesSet found.manifest images generation g
@@ -34,3 +36,7 @@ pub round_trip : RoundTrip
 round_trip g records files generation state cut spells =
     let same = one_state files cut.generation generation cut.state state cut.set spells in
     subst (λ (h : Plain). CutAt g records generation h) same.1 (subst (λ n. CutAt g records n cut.state) same.0 cut.cut)
+
+-- what the files of a set spell is valid
+pub set_valid : SetIsValid
+set_valid images g bytes spells = (set_is_valid images spells.shared spells.processes g bytes spells.spelled spells.stands).valid

@@ -17,19 +17,21 @@ use Rattle.image_format.specs.declared.damage.Damage.{Damage}
 use Rattle.image_store.specs.Slots.{last as set_that_counts}
 use Rattle.trace_log.specs.declared.requests.Schedule.{Schedule}
 use Rattle.trace_log.specs.LogText.{log_text}
-use Rattle.dmtcp_top.specs.declared.status.Status.{Status}
-use Rattle.dmtcp_top.specs.declared.status.Status.TheVariants.{Done, Usage, InputFault, Missing, BadElf, SinkFault, DiskFault, NoSet, Damaged, Budget, Stuck, Memory}
+use Rattle.endings.specs.declared.status.Status.{Status}
+use Rattle.endings.specs.declared.status.Status.TheVariants.{Done, Usage, InputFault, Missing, BadElf, SinkFault, DiskFault, NoSet, Damaged, Budget, Stuck, Memory, TooBig}
 use Rattle.option_words.specs.Options.{Text}
-use Rattle.job_words.specs.Commands.{SpellNothing}
-use Rattle.dmtcp_top.specs.Jobs.{AskNothing, AreOfCommand}
-use Rattle.dmtcp_top.specs.JobInputs.{Refusal, unread, missing, bad, JobInputs, IsMissing, IsBad, IsFirstRefusal, AreLoaded, first_refusal, inputs_in}
-use Rattle.dmtcp_top.specs.Log.{done_line, usage_line, input_fault_line, missing_line, bad_program_line, disk_fault_line, no_set_line, damaged_line, budget_line, stuck_line, memory_line}
-use Rattle.dmtcp_top.specs.Sessions.{Sunk, Given, Beginning, Session, Took, TookFront, TookThen}
-use Rattle.dmtcp_top.specs.Sets.{SpellsSet, SpoilsSet}
+use Rattle.dmtcp_top.specs.Jobs.{AskNothing, AskSomething}
+use Rattle.dmtcp_top.specs.JobInputs.{Refusal, unread, missing, bad, too_big, JobInputs, IsMissing, IsBad, IsTooBig, IsFirstRefusal, AreLoaded, first_refusal, inputs_in}
+use Rattle.endings.specs.Log.{done_line, usage_line, input_fault_line, missing_line, bad_program_line, too_big_line, disk_fault_line, no_set_line, damaged_line, budget_line, stuck_line, memory_line}
+use Rattle.computation.specs.Sinks.{Sunk, Took, TookFront}
+use Rattle.dmtcp_top.specs.Sessions.{Given, Beginning, Session}
+use Rattle.checkpointer.specs.Pace.{TookThen}
+use Rattle.checkpointer.specs.Sets.{SpellsSet, SpoilsSet}
 use Rattle.dmtcp_top.specs.Launches.{LaunchAsked, RestartAsked, Begun, origin, settings_in, schedule_in, beginning}
-use Rattle.dmtcp_top.specs.Rounds.{GoesInRounds}
-use Rattle.dmtcp_top.specs.RunEnds.{RanOut, FilledUp, GotStuck, Shown, ShownInPart}
-use Rattle.dmtcp_top.specs.Pace.{CutLines, StopsAtRecord}
+use Rattle.checkpointer.specs.Rounds.{GoesInRounds}
+use Rattle.run_loop.specs.RunEnds.{RanOut, FilledUp, GotStuck, Shown, ShownInPart}
+use Rattle.checkpointer.specs.Pace.{CutLines}
+use Rattle.run_loop.specs.Pace.{StopsAtRecord}
 
 -- a run was begun, and it came to this
 pub record CameTo (There : Schedule → Plain → ℕ → List Record → Sunk → Type 0) (session : Session)
@@ -97,6 +99,7 @@ Reaches Missing session last =
 Reaches BadElf session last =
     (name : Text)
     × ((fault : ElfFault) × (Refused session (bad name fault) × (last ≡ bad_program_line name fault)))
+Reaches TooBig session last = Refused session too_big × (last ≡ too_big_line)
 Reaches SinkFault session last = ⊥
 Reaches DiskFault session last = Unopened session last
 Reaches NoSet session last = Setless session last
@@ -104,7 +107,7 @@ Reaches Damaged session last = Spoilt session last
 Reaches Budget session last = Spent session last
 Reaches Stuck session last = CameTo GotStuck session × (last ≡ stuck_line)
 Reaches Memory session last =
-    ((NotBegun session × AreOfCommand session.given.words) ⊎ CameTo Shown session) × (last ≡ memory_line)
+    ((NotBegun session × AskSomething session.given.words) ⊎ CameTo Shown session) × (last ≡ memory_line)
 
 -- the log took the lines of the checkpoints, and the last line
 pub record Logged (status : Status) (session : Session) (log : Sunk) : Type 0 where
@@ -165,11 +168,10 @@ CallGoesInRounds session =
 abbrev pub RunsOn : Status → Type 0
 RunsOn status = (status ≡ Done) ⊎ (status ≡ Budget) ⊎ (status ≡ Stuck) ⊎ (status ≡ Memory)
 
--- where no sink failed the words decide whether it is Usage: exactly where they ask for nothing, but for want
--- of memory, which never comes in place of it where they are those of no command
-pub record WordsDecide (status : Status) (words : List Text) : Type 0 where
-  pub usage : status ≢ Memory → (status ≡ Usage) ↔ AskNothing words
-  pub none : SpellNothing words → status ≡ Usage
+-- where no sink failed the words decide whether it is Usage: exactly where they ask for nothing, also where there
+-- is no memory
+abbrev pub WordsDecide : Status → List Text → Type 0
+WordsDecide status words = (status ≡ Usage) ↔ AskNothing words
 
 -- where no input and no sink failed, what the inputs hold decides whether a launch is refused, and for what,
 -- but for want of memory
@@ -178,6 +180,8 @@ pub record InputsDecide (status : Status) (given : Given) : Type 0 where
       → (status ≡ Missing) ↔ IsMissing (first_refusal (inputs_in held asked.job))
   pub bad : (held : NamedFiles) (asked : LaunchAsked given) → given.files ≡ Some held → status ≢ Memory
       → (status ≡ BadElf) ↔ IsBad (first_refusal (inputs_in held asked.job))
+  pub too_big : (held : NamedFiles) (asked : LaunchAsked given) → given.files ≡ Some held → status ≢ Memory
+      → (status ≡ TooBig) ↔ IsTooBig (first_refusal (inputs_in held asked.job))
 
 -- where no input, no sink and not the folder failed, what the inputs hold and the files of the folder decide
 -- which status comes, but for want of memory

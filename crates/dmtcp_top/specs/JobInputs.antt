@@ -58,7 +58,7 @@ pub data Refusal : Type 0 where
   unread : Text → Refusal
   missing : Text → Refusal
   bad : Text → ElfFault → Refusal
-  large : Refusal
+  too_big : Refusal
 
 abbrev pub refusal_by : (List ℕ → Option Refusal) → Text → Content → Option Refusal
 refusal_by tested name (found bytes) = tested bytes
@@ -81,15 +81,18 @@ bytes_in failed = []
 
 abbrev pub sum_refusal : List FileInput → Option Refusal
 sum_refusal files =
-    if nat_lt 67108864 (sum_by (λ (input : FileInput). length (bytes_in input.content)) files) then Some large
+    if nat_lt 67108864 (sum_by (λ (input : FileInput). length (bytes_in input.content)) files) then Some too_big
     else None
 
--- for a name that is not held; for a program
+-- for a name that is not held; for a program; for the sum of the files
 abbrev pub IsMissing : Option Refusal → Type 0
 IsMissing refusal = (name : Text) × (refusal ≡ Some (missing name))
 
 abbrev pub IsBad : Option Refusal → Type 0
 IsBad refusal = (name : Text) × ((fault : ElfFault) × (refusal ≡ Some (bad name fault)))
+
+abbrev pub IsTooBig : Option Refusal → Type 0
+IsTooBig refusal = refusal ≡ Some too_big
 
 -- in the order in which they are tried
 abbrev pub refusals : JobInputs → List (Option Refusal)

@@ -2,25 +2,23 @@
 --     IsBuilt job            the one place that says what is built
 --     Asks words job         the words ask for this job, and it is built
 --     AskNothing words       they ask for none
---     AreOfCommand words     they are those of a command, whether it is built or not
+--     AskSomething words     they ask for one
 --     settings_of job        after how many records of work each a job asks for a checkpoint, if ever, and how
 --                            many records its trace has room for
-use Rattle.std.specs.Prelude.{◌≡◌, List, [], length, Some, None}
+use Rattle.std.specs.Prelude.{◌≡◌, List, Some, None}
 use Rattle.option_words.specs.Options.{Text}
 use Rattle.job_words.specs.declared.job.Job.{Job}
 use Rattle.job_words.specs.declared.job.Job.TheVariants.{Launch, Restart, Ring, Help}
 use Rattle.job_words.specs.declared.job.LaunchJob.{LaunchJob}
 use Rattle.job_words.specs.declared.job.RestartJob.{RestartJob}
-use Rattle.job_words.specs.Commands.{SpellNothing}
 use Rattle.job_words.specs.Jobs.{IsJob}
+use Rattle.job_words.specs.Outlines.{hosts_used}
 use Rattle.dmtcp_top.specs.declared.settings.Settings.{Settings}
 
--- one program on one node, without workers and without files
+-- without workers, and just the nodes that its hosts need
 pub record IsBuiltLaunch (job : LaunchJob) : Type 0 where
-  pub nodes : job.nodes ≡ 1
+  pub nodes : job.nodes ≡ hosts_used job.programs
   pub workers : job.workers ≡ 0
-  pub file : job.file ≡ []
-  pub programs : length job.programs ≡ 1
 
 -- without workers, and all of the nodes as they are where the words don't say
 pub record IsBuiltRestart (job : RestartJob) : Type 0 where
@@ -43,8 +41,8 @@ pub record Asks (words : List Text) (job : Job) : Type 0 where
 abbrev pub AskNothing : List Text → Type 0
 AskNothing words = (job : Job) → Asks words job → ⊥
 
-abbrev pub AreOfCommand : List Text → Type 0
-AreOfCommand words = SpellNothing words → ⊥
+abbrev pub AskSomething : List Text → Type 0
+AskSomething words = AskNothing words → ⊥
 
 abbrev pub settings_of : Job → Settings
 settings_of (Launch job) = record { every = job.every; records = job.records }

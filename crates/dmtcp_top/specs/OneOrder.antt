@@ -28,16 +28,18 @@ use Rattle.plain_machine.specs.Valid.{IsValid}
 use Rattle.trace_log.specs.declared.requests.Schedule.{Schedule}
 use Rattle.trace_log.specs.Requests.{is_mark}
 use Rattle.set_disk.specs.Files.{FolderFiles as Folder}
-use Rattle.dmtcp_top.specs.declared.status.Status.{Status}
-use Rattle.dmtcp_top.specs.declared.status.Status.TheVariants.{Done, Budget, Stuck, Memory as WantsMemory}
+use Rattle.endings.specs.declared.status.Status.{Status}
+use Rattle.endings.specs.declared.status.Status.TheVariants.{Done, Budget, Stuck, Memory as WantsMemory}
 use Rattle.dmtcp_top.specs.Jobs.{NameNoEvery}
 use Rattle.dmtcp_top.specs.Launches.{RestartAsked}
-use Rattle.dmtcp_top.specs.Sets.{SpellsState, SpellsSet}
-use Rattle.dmtcp_top.specs.Rounds.{GoesInRounds, new_round}
-use Rattle.dmtcp_top.specs.declared.run_end.RunEnd.{RunEnd}
-use Rattle.dmtcp_top.specs.declared.run_end.RunEnd.TheVariants.{Done as Ended, SinkFault, Memory}
-use Rattle.dmtcp_top.specs.RunEnds.{IsRun, RanOut, EndsRun}
-use Rattle.dmtcp_top.specs.Sessions.{Sunk, Beginning, Session, Took}
+use Rattle.checkpointer.specs.Sets.{SpellsState, SpellsSet}
+use Rattle.checkpointer.specs.Rounds.{GoesInRounds}
+use Rattle.computation.specs.Turns.{new_round}
+use Rattle.run_loop.specs.declared.run_end.RunEnd.{RunEnd}
+use Rattle.run_loop.specs.declared.run_end.RunEnd.TheVariants.{Done as Ended, SinkFault, Memory}
+use Rattle.run_loop.specs.RunEnds.{IsRun, RanOut, EndsRun}
+use Rattle.computation.specs.Sinks.{Sunk, Took}
+use Rattle.dmtcp_top.specs.Sessions.{Beginning, Session}
 use Rattle.dmtcp_top.specs.Ends.{Ends, IsDecided, CallGoesInRounds}
 
 abbrev pub work_in : List Record → List Record

@@ -14,13 +14,13 @@ use Rattle.set_disk.specs.Moments.{LeavesOnly}
 use Rattle.set_disk.specs.SeenFolder.{SeenFolder}
 use Rattle.plain_machine.specs.declared.plain.Plain.{Plain}
 use Rattle.image_format.specs.declared.damage.Damage.{Damage}
-use Rattle.dmtcp_top.specs.declared.status.Status.{Status}
-use Rattle.dmtcp_top.specs.declared.status.Status.TheVariants.{InputFault, SinkFault, DiskFault}
+use Rattle.endings.specs.declared.status.Status.{Status}
+use Rattle.endings.specs.declared.status.Status.TheVariants.{InputFault, SinkFault, DiskFault}
 use Rattle.dmtcp_top.specs.Sessions.{Beginning, Outside, InputsFailed, StreamsFailed, FolderFailed, given_in, session_in, log_in}
 use Rattle.trace_log.specs.Requests.{CutAt}
 use Rattle.dmtcp_top.specs.Ends.{Ends, CallKeepsPace, CallGoesInRounds, WordsDecide, InputsDecide, IsDecided}
-use Rattle.dmtcp_top.specs.Sets.{SpellsSet, SpoilsSet}
-use Rattle.dmtcp_top.specs.Keeping.{IsOpening, SpellsCut, KeepsComplete, CountsFaults}
+use Rattle.checkpointer.specs.Sets.{SpellsSet, SpoilsSet}
+use Rattle.checkpointer.specs.Keeping.{IsOpening, SpellsCut, KeepsComplete, CountsFaults}
 
 pub record SpellsCutOf (start : Option Beginning) (trace : List Record) (image : Folder) : Type 0 where
   pub begun : Beginning
@@ -54,8 +54,8 @@ pub record IsPromised (status : Status) (words : List (List ℕ)) (trace : List 
   pub sink_failed : status ≡ SinkFault → StreamsFailed before after
   pub disk_failed : status ≡ DiskFault → FolderFailed before after
   -- Where no stream failed the words decide whether it is Usage; where no input failed either, what the
-  -- inputs hold whether a launch is refused; and where nothing outside failed, what the call was given
-  -- decides the rest, but for want of memory.
+  -- inputs hold decides whether a launch is refused, but for want of memory; and where nothing outside failed,
+  -- what the call was given decides the rest in the same way.
   pub usage : (StreamsFailed before after → ⊥) → WordsDecide status words
   pub inputs : (InputsFailed before after → ⊥) → (StreamsFailed before after → ⊥)
       → InputsDecide status (given_in words before)

@@ -1,35 +1,16 @@
 -- A call of the program, as far as its promise speaks of it: what it was given, what it left, and what is
 -- seen of what is outside.
-use Rattle.std.specs.Prelude.{◌≡◌, ◌⊎◌, ℕ, List, ◌++◌, take, Option, Some}
+use Rattle.std.specs.Prelude.{◌≡◌, ◌⊎◌, ℕ, List, Option, Some}
 use Rattle.std.specs.FinMap as map
 use Rattle.sys_abi.specs.declared.record.Record.{Record}
 use Rattle.views.specs.Faults.{Rose}
 use Rattle.edge_io.specs.Inputs.{NamedFiles, SeenInputs}
-use Rattle.edge_io.specs.Sink.{SeenSink, appended}
+use Rattle.edge_io.specs.Sink.{SeenSink}
 use Rattle.set_disk.specs.Files.{FolderFiles as Folder}
 use Rattle.set_disk.specs.SeenFolder.{SeenFolder}
 use Rattle.plain_machine.specs.declared.plain.Plain.{Plain}
 use Rattle.trace_log.specs.declared.requests.Schedule.{Schedule}
-
--- the bytes that a sink had taken before the call and has taken after it, where it tells them
-pub record Sunk : Type 0 where
-  pub before : Option (List ℕ)
-  pub after : Option (List ℕ)
-
-abbrev pub sunk : Option (List ℕ) → Option (List ℕ) → Sunk
-sunk before after = record { before = before; after = after }
-
--- in the call the sink took these bytes
-abbrev pub Took : Sunk → List ℕ → Type 0
-Took sink bytes = sink.after ≡ appended sink.before bytes
-
--- in the call the sink took some first part of these bytes
-abbrev pub TookFront : Sunk → List ℕ → Type 0
-TookFront sink bytes = (n : ℕ) × Took sink (take n bytes)
-
--- in the call the sink took these bytes, and then some first part of those that follow
-abbrev pub TookThen : Sunk → List ℕ → List ℕ → Type 0
-TookThen sink bytes more = (n : ℕ) × Took sink (bytes ++ take n more)
+use Rattle.computation.specs.Sinks.{Sunk, sunk}
 
 -- what a call was given: the words of the command line, and the files that the inputs hold and those that the
 -- folder of sets had at the start, where they tell them

@@ -1,17 +1,17 @@
 ghost use Rattle.std.specs.Prelude.{◌≡◌, ◌≤◌, ◌⊎◌, List, []};
 ghost use Rattle.views.specs.Faults.{Rose};
 ghost use Rattle.option_words.specs.Options.{Text};
-ghost use Rattle.dmtcp_top.specs.Endings.{status_of, ComesToEnd};
+ghost use Rattle.endings.specs.Endings.{status_of};
+ghost use Rattle.dmtcp_top.specs.Endings.{ComesToEnd};
 ghost use Rattle.dmtcp_top.specs.Jobs.{Asks, IsQuiet};
 ghost use Rattle.dmtcp_top.specs.Sessions.{outside};
 
-use crate::ending::Ending;
 use crate::loading::begin;
-use crate::run_end::RunEnd;
 use crate::settings::Settings;
-use crate::status::Status;
 use edge_io::{Inputs, Sink};
+use endings::{Ending, Status};
 use job_words::Job;
+use run_loop::RunEnd;
 use set_disk::Folder;
 use std::alloc::Global;
 use trace_log::Trace;

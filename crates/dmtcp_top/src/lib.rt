@@ -1,12 +1,12 @@
 //! The top call of the checkpointer: [`dmtcp`] does what the words of a command line ask for.
 //!
-//! `launch 0:NAME` runs the program in the file NAME, an ELF executable for RV32IM, in one process of up to
-//! 64 threads, and `restart` goes on from the set that counts in the folder of sets; each ends when nobody
-//! lives, nobody can go on, or the trace is full. With `--every K` a set of the whole state goes to the
-//! folder after every K records of work. The words are read by `job_words`, and `IsBuilt` in
-//! `specs/Jobs.antt` says which of its jobs are built. `specs/JobInputs.antt` says what a launch reads and is
-//! refused for, `specs/Ends.antt` in one line for each status what holds of the trace, the console and the
-//! log, and `specs/Promise.antt` what a crash at any moment leaves of the folder.
+//! `launch 0:NAME 1:NAME ..` runs the programs in the files of these names, ELF executables for RV32IM, each in a
+//! process of its own on a host, beside the files that `--file` names; `restart` goes on from the set that counts in
+//! the folder of sets. Each ends when nobody lives, nobody can go on, or the trace is full. With `--every K` a set of
+//! the whole state goes to the folder after every K records of work. The words are read by `job_words`, and `IsBuilt`
+//! in `specs/Jobs.antt` says which of its jobs are built. `specs/JobInputs.antt` says what a launch reads and is
+//! refused for, `specs/Ends.antt` in one line for each status what holds of the trace, the console and the log, and
+//! `specs/Promise.antt` what a crash at any moment leaves of the folder. The run itself is `run_loop`'s.
 //!
 //! The contract of [`dmtcp`] says all of that for every word list, all inputs, sinks and folders, also where
 //! these fail; what it says of files, sets, the console and the log it says of those that tell their content.
@@ -17,22 +17,13 @@
 #![tactic(auto)]
 
 mod carry_out;
-mod ending;
-mod images;
 mod job;
-mod keeper;
+pub mod job_start;
 pub mod laws;
 mod loading;
-mod machine;
-mod restore;
-mod rounds;
-mod run_end;
+mod read_inputs;
 mod settings;
-mod start;
-pub mod status;
 pub mod top_call;
-mod turn;
-mod turns;
 
-pub use status::Status;
+pub use endings::Status;
 pub use top_call::{dmtcp, run_words};

@@ -1,34 +1,30 @@
-ghost use Rattle.std.specs.Prelude.{◌≡◌, ◌≢◌, ◌≤◌, ℕ, Option, List, Some, None, IfOk, IfErr, All};
+ghost use Rattle.std.specs.Prelude.{◌≡◌, ◌≢◌, ℕ, List, None, Some, IfOk, IfErr, All};
 ghost use Rattle.std.specs.Option.{option_map_or};
 ghost use Rattle.views.specs.Faults.{Rose};
-ghost use Rattle.elf32.specs.Pages.{page_count};
-ghost use Rattle.elf32.specs.Programs.{IsWellPlaced, program_of};
-ghost use Rattle.elf32.specs.Rules.{first_fault};
 ghost use Rattle.plain_process.specs.Valid.{IsByte};
 ghost use Rattle.image_store.specs.FoundSets.{last_set, HasSet};
 ghost use Rattle.image_store.specs.StoreStates.{FitsFolder};
 ghost use Rattle.option_words.specs.Options.{Text};
 ghost use Rattle.job_words.specs.declared.job.Job.TheVariants.{Launch};
-ghost use Rattle.dmtcp_top.specs.Endings.{status_of};
+ghost use Rattle.checkpointer.specs.Keeping.{IsKept};
+ghost use Rattle.endings.specs.Endings.{status_of};
 ghost use Rattle.dmtcp_top.specs.Jobs.{Asks, IsQuiet, settings_of};
-ghost use Rattle.dmtcp_top.specs.Keeping.{IsKept};
-ghost use Rattle.dmtcp_top.specs.Loads.{Begins, IsFresh, IsMachineOf, IsProgramIn, IsReadProgram, Launches, OnlyLooks, Reopened, Restarts, Restored};
+ghost use Rattle.dmtcp_top.specs.Loads.{Begins, IsComputationOf, IsFresh, IsMade, IsUnmade, Launches, OnlyLooks, Reopened, Restarts, Restored};
 
-use crate::ending::Ending;
-use crate::job::only_program;
-use crate::keeper::Keeper;
-use crate::machine::Machine;
+use crate::job_start::load;
+use crate::read_inputs::look_at_bytes;
 use crate::settings::Settings;
-use crate::start::Start;
-use crate::status::Status;
-use edge_io::{InputFault, Inputs};
-use elf32::{ElfReason, Program, read_elf};
+use checkpointer::{Checkpointer, restored};
+use computation::Computation;
+use edge_io::Inputs;
+use endings::{Ending, Status};
 use image_codec::{ReadFault, SetBytes};
 use image_store::{SetInfo, Store, StoreFault};
 use job_words::{Job, LaunchJob};
 use rebuild::decode_set;
+use run_loop::Start;
 use set_disk::Folder;
-use std::alloc::{AllocError, Global};
+use std::alloc::Global;
 use views::list_of::ListOf;
 
 /// The start of the run that a job asks for.
@@ -40,8 +36,8 @@ pub(crate) fn begin<'a, I: Inputs, F: Folder>(
 ) -> Result<Start, Ending<'a>>
     requires asked { (words : List Text) × Asks words job.now }
     ensures begins { Begins result job.now (I.seen inputs.old).files (F.seen disk.old).files }
-    ensures kept { IfOk result (λ start. start.keeper.schedule.every ≢ None
-        → IsKept start.keeper (F.seen disk.new)) }
+    ensures kept { IfOk result (λ start. start.checkpointer.schedule.every ≢ None
+        → IsKept start.checkpointer (F.seen disk.new)) }
     ensures input { IfErr result (λ ending. status_of ending ≡ Status.InputFault
         → Rose (I.seen inputs.old).faults (I.seen inputs.new).faults) }
     ensures sink { IfErr result (λ ending. status_of ending ≢ Status.SinkFault) }
@@ -70,8 +66,8 @@ fn launch<'a, I: Inputs, F: Folder>(
     requires asked { (words : List Text) × Asks words (Launch job.now) }
     requires set { settings ≡ settings_of (Launch job.now) }
     ensures launches { Launches result (I.seen inputs.old).files (F.seen disk.old).files job.now }
-    ensures kept { IfOk result (λ start. start.keeper.schedule.every ≢ None
-        → IsKept start.keeper (F.seen disk.new)) }
+    ensures kept { IfOk result (λ start. start.checkpointer.schedule.every ≢ None
+        → IsKept start.checkpointer (F.seen disk.new)) }
     ensures input { IfErr result (λ ending. status_of ending ≡ Status.InputFault
         → Rose (I.seen inputs.old).faults (I.seen inputs.new).faults) }
     ensures disk { IfErr result (λ ending. status_of ending ≡ Status.DiskFault
@@ -80,53 +76,32 @@ fn launch<'a, I: Inputs, F: Folder>(
     ensures untouched { job.now.every ≡ None → disk.new ≡ disk.old }
     ensures same { (I.seen inputs.new).files ≡ (I.seen inputs.old).files }
 {
-    let named = only_program(job);
-    let program = read_program(alloc, named.name.as_str(), inputs)?;
-    let keeper = match settings.every {
-        None => Keeper::new(settings, None, 0),
-        Some(_) => keeper_of(settings, open(alloc, disk)?),
-    };
-    let arguments = named.arguments.as_slice();
-    look_at_bytes(arguments);
-    match Machine::start(alloc, &program, arguments) {
-        Ok(machine) => Ok(Start { machine, keeper }),
-        Err(AllocError) => Err(Ending::Memory),
-    }
+    let computation = load(alloc, job, inputs)?;
+    let checkpointer = first_checkpointer(alloc, settings, disk)?;
+    Ok(Start {
+        computation,
+        checkpointer,
+    })
 }
 
-/// The program in the file of this name.
-fn read_program<'a, I: Inputs>(
+/// The checkpointer of a launch. The folder is not looked at where there are no checkpoints.
+fn first_checkpointer<'a, F: Folder>(
     alloc: Global,
-    name: &'a str,
-    inputs: &mut I,
-) -> Result<Program, Ending<'a>>
-    ensures reads { IsReadProgram result (I.seen inputs.old).files name.now }
-    ensures input { IfErr result (λ ending. status_of ending ≡ Status.InputFault
-        → Rose (I.seen inputs.old).faults (I.seen inputs.new).faults) }
-    ensures same { (I.seen inputs.new).files ≡ (I.seen inputs.old).files }
+    settings: Settings,
+    disk: &mut F,
+) -> Result<Checkpointer, Ending<'a>>
+    ensures made { IfOk result (IsMade (F.seen disk.old).files settings) }
+    ensures unmade { IfErr result (IsUnmade settings) }
+    ensures kept { IfOk result (λ checkpointer. checkpointer.schedule.every ≢ None
+        → IsKept checkpointer (F.seen disk.new)) }
+    ensures disk { IfErr result (λ ending. status_of ending ≡ Status.DiskFault
+        → Rose (F.seen disk.old).faults (F.seen disk.new).faults) }
+    ensures looks { OnlyLooks (F.seen disk.old) (F.seen disk.new) }
+    ensures untouched { settings.every ≡ None → disk.new ≡ disk.old }
 {
-    let bytes = match inputs.read(alloc, name) {
-        Ok(Some(bytes)) => bytes,
-        Ok(None) => return Err(Ending::Missing(name)),
-        Err(InputFault::Failed) => return Err(Ending::InputFault(name)),
-        Err(InputFault::Memory) => return Err(Ending::Memory),
-    };
-    program_in(alloc, name, bytes.as_slice())
-}
-
-/// The program that the bytes of a file describe.
-fn program_in<'a>(alloc: Global, name: &'a str, file: &[u8]) -> Result<Program, Ending<'a>>
-    ensures { IsProgramIn result name.now file.now }
-{
-    match read_elf(alloc, file) {
-        Ok(program) => Ok(program),
-        Err(fault) => {
-            if fault.reason == ElfReason::Memory {
-                Err(Ending::Memory)
-            } else {
-                Err(Ending::BadElf(name, fault))
-            }
-        }
+    match settings.every {
+        None => Ok(Checkpointer::new(settings.schedule(0), None)),
+        Some(_) => Ok(checkpointer_of(settings, open(alloc, disk)?)),
     }
 }
 
@@ -145,8 +120,8 @@ fn open<'a, F: Folder>(alloc: Global, disk: &mut F) -> Result<Store, Ending<'a>>
     }
 }
 
-/// The keeper of a run whose sets follow those of this store.
-fn keeper_of(settings: Settings, store: Store) -> Keeper
+/// The checkpointer of a run whose sets follow those of this store.
+fn checkpointer_of(settings: Settings, store: Store) -> Checkpointer
     ensures fresh { IsFresh result settings
         (option_map_or (λ (info : SetInfo). info.generation) store.last 0) }
     ensures store { result.store ≡ Some store }
@@ -155,7 +130,7 @@ fn keeper_of(settings: Settings, store: Store) -> Keeper
         Some(info) => info.generation,
         None => 0,
     };
-    Keeper::new(settings, Some(store), opening)
+    Checkpointer::new(settings.schedule(opening), Some(store))
 }
 
 /// The run at the state that the set which counts spells.
@@ -165,7 +140,7 @@ fn restart<'a, F: Folder>(
     disk: &mut F,
 ) -> Result<Start, Ending<'a>>
     ensures restarts { Restarts result (F.seen disk.old).files settings }
-    ensures kept { IfOk result (λ start. IsKept start.keeper (F.seen disk.new)) }
+    ensures kept { IfOk result (λ start. IsKept start.checkpointer (F.seen disk.new)) }
     ensures disk { IfErr result (λ ending. status_of ending ≡ Status.DiskFault
         → Rose (F.seen disk.old).faults (F.seen disk.new).faults) }
     ensures looks { OnlyLooks (F.seen disk.old) (F.seen disk.new) }
@@ -174,18 +149,21 @@ fn restart<'a, F: Folder>(
     let Some(info) = store.last() else {
         return Err(Ending::NoSet);
     };
-    let machine = restore(alloc, &store, info, disk)?;
-    let keeper = keeper_of(settings, store);
-    Ok(Start { machine, keeper })
+    let computation = restore(alloc, &store, info, disk)?;
+    let checkpointer = checkpointer_of(settings, store);
+    Ok(Start {
+        computation,
+        checkpointer,
+    })
 }
 
-/// The machine at the state that the set which counts spells.
+/// The computation at the state that the set which counts spells.
 fn restore<'a, F: Folder>(
     alloc: Global,
     store: &Store,
     info: SetInfo,
     disk: &mut F,
-) -> Result<Machine, Ending<'a>>
+) -> Result<Computation, Ending<'a>>
     requires last { store.now.last ≡ Some info }
     requires fits { FitsFolder store.now (F.seen disk.old) }
     ensures restored { Restored result info (F.seen disk.old).files }
@@ -201,12 +179,12 @@ fn restore<'a, F: Folder>(
         Err(StoreFault::Damaged(damage)) => return Err(Ending::Damaged(info.slot, damage)),
         Err(StoreFault::Memory) => return Err(Ending::Memory),
     };
-    machine_of(alloc, info.slot, &set)
+    computation_of(alloc, info.slot, &set)
 }
 
-/// The machine at the state that the files of a set in this slot spell.
-fn machine_of<'a>(alloc: Global, slot: u32, set: &SetBytes) -> Result<Machine, Ending<'a>>
-    ensures { IsMachineOf result slot set.now.files }
+/// The computation at the state that the files of a set in this slot spell.
+fn computation_of<'a>(alloc: Global, slot: u32, set: &SetBytes) -> Result<Computation, Ending<'a>>
+    ensures { IsComputationOf result slot set.now.files }
 {
     look_at_files(set.files.as_slice());
     let decoded = match decode_set(alloc, set) {
@@ -214,9 +192,9 @@ fn machine_of<'a>(alloc: Global, slot: u32, set: &SetBytes) -> Result<Machine, E
         Err(ReadFault::Damaged(damage)) => return Err(Ending::Damaged(slot, damage)),
         Err(ReadFault::Memory) => return Err(Ending::Memory),
     };
-    match Machine::restore(alloc, decoded) {
-        Ok(machine) => Ok(machine),
-        Err(AllocError) => Err(Ending::Memory),
+    match restored(alloc, decoded) {
+        Ok(computation) => Ok(computation),
+        Err(_) => Err(Ending::Memory),
     }
 }
 
@@ -228,7 +206,3 @@ fn look_at_files(files: &[ListOf<u8>])
         look_at_bytes(file.as_slice());
     }
 }
-
-fn look_at_bytes(bytes: &[u8])
-    ensures { All IsByte bytes.now }
-{}

@@ -1,7 +1,9 @@
 ghost use Rattle.std.specs.Prelude.{◌≡◌};
 ghost use Rattle.dmtcp_top.specs.Jobs.{settings_of};
+ghost use Rattle.dmtcp_top.specs.Launches.{schedule_of};
 
 use job_words::Job;
+use trace_log::Schedule;
 
 /// What a job sets for its run.
 #[derive(Clone, Copy, Debug, PartialEq, Eq)]
@@ -25,6 +27,16 @@ impl Settings {
             Job::Restart(job) => Settings::new(job.every, job.records),
             Job::Ring(job) => Settings::new(Some(job.every), RING_RECORDS),
             Job::Help => Settings::new(None, 0),
+        }
+    }
+
+    /// When checkpoints are asked for, after a set of this generation.
+    pub fn schedule(self, opening: u64) -> Schedule
+        ensures { result ≡ schedule_of self opening }
+    {
+        Schedule {
+            every: self.every,
+            opening,
         }
     }
 

@@ -5,8 +5,8 @@ ghost use Rattle.dmtcp_top.specs.Jobs.{MakesNoCheckpoints};
 
 use crate::carry_out::carry_out;
 use crate::job::read_job;
-use crate::status::Status;
 use edge_io::{Inputs, Sink};
+use endings::Status;
 use set_disk::Folder;
 use std::alloc::Global;
 use std::sync::Wait;
@@ -15,11 +15,11 @@ use trace_log::Trace;
 
 /// Does what the words of a command line ask for.
 ///
-/// `launch 0:NAME` runs the program in the input NAME, with its arguments, to its end, or until nobody can go
-/// on or the trace has no room. `restart` goes on in the same way from the last complete set in `disk`. After
+/// `launch` runs the programs in the inputs that its words name, with their arguments and files, until nobody lives or
+/// can go on, or the trace has no room. `restart` goes on in the same way from the last complete set in `disk`. After
 /// every so many records of work, where the words ask for it, a set of the whole state goes to `disk`.
 ///
-/// The bytes that the program writes go to `out`. `log` gets a line for each checkpoint, and how the call
+/// The bytes that the programs write go to `out`. `log` gets a line for each checkpoint, and how the call
 /// ended in one last line. `trace` gets a record for each step of the run and a mark for each stage of a
 /// checkpoint.
 pub fn dmtcp<R: Wait + Threads + Sync, I: Inputs, O: Sink, L: Sink, F: Folder>(

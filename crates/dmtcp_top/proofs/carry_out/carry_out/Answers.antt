@@ -1,17 +1,17 @@
 use Rattle.std.proofs.Common.{◌≡◌, [], Some, None, ap, subst, ◌∙◌}
 use Rattle.trace_log.specs.Trace.{TraceState}
-use Rattle.dmtcp_top.specs.declared.run_end.RunEnd.{RunEnd}
-use Rattle.dmtcp_top.specs.declared.run_end.RunEnd.TheVariants.{Done as RunDone, Budget as RunBudget, Stuck as RunStuck, SinkFault as RunSinkFault, Memory as RunMemory}
-use Rattle.dmtcp_top.specs.declared.ending.Ending.TheVariants.{Memory}
+use Rattle.run_loop.specs.declared.run_end.RunEnd.{RunEnd}
+use Rattle.run_loop.specs.declared.run_end.RunEnd.TheVariants.{Done as RunDone, Budget as RunBudget, Stuck as RunStuck, SinkFault as RunSinkFault, Memory as RunMemory}
+use Rattle.endings.specs.declared.ending.Ending.TheVariants.{Memory}
 use Rattle.dmtcp_top.specs.declared.settings.Settings.{Settings}
-use Rattle.dmtcp_top.specs.Machines.{plain_of}
-use Rattle.dmtcp_top.specs.Pace.{KeepsPace}
-use Rattle.dmtcp_top.specs.Sessions.{sunk}
+use Rattle.computation.specs.Computations.{plain_of}
+use Rattle.run_loop.specs.Pace.{KeepsPace}
+use Rattle.computation.specs.Sinks.{sunk}
 use Rattle.dmtcp_top.proofs.Arrivals.{beginning_of, memory_arrives, paced_by, unbegun_paced}
 use Rattle.dmtcp_top.proofs.Carried.{from_ok, from_err, begun_refused, begun_arrives, every_is_some}
-use Rattle.dmtcp_top.proofs.Decisions.{of_command}
+use Rattle.dmtcp_top.proofs.Decisions.{of_job}
 use Rattle.dmtcp_top.proofs.Loads.{looks_none, whole_unbegun, whole_begun}
-use Rattle.dmtcp_top.proofs.Sinks.{took_nothing}
+use Rattle.checkpointer.proofs.Sinks.{took_nothing}
 use Rattle.dmtcp_top.proofs.carry_out.carry_out.Goals as goal
 
 pub returns-then-is_err-clause-ends : goal.returns-then-is_err-clause-ends
@@ -25,7 +25,7 @@ returns-then-is_err-clause-ends g c words asks =
     let unlogged = took_nothing (g.L.Sink.seen c.args.log.now).taken in
     let same = from_err c.reserve.result c.if-is_err.ensures.value c.reserve.ensures.err in
     let none : trace ≡ [] = ap (λ (t : TraceState). t.records) same ∙ c.requires.empty in
-    let at_end = memory_arrives words files folder trace console log none quiet unlogged (of_command words c.args.job.now asks) in
+    let at_end = memory_arrives words files folder trace console log none quiet unlogged (of_job words c.args.job.now asks) in
     record {
       start = None;
       there = at_end;
@@ -131,7 +131,7 @@ returns-in-SinkFault-clause-ends g c words asks =
           (ap (λ (s : Settings). s.records) c.of-records.ensures) c.in-SinkFault.is c.run.ensures.ends;
       pace =
           paced_by words files folder c.run.new.trace.records console log (beginning_of c.in-Ok.start) RunSinkFault records
-          (subst (λ (e : RunEnd). KeepsPace e (plain_of c.in-Ok.start.machine) c.run.new.trace.records console log) c.in-SinkFault.is c.run.ensures.pace);
+          (subst (λ (e : RunEnd). KeepsPace e (plain_of c.in-Ok.start.computation) c.run.new.trace.records console log) c.in-SinkFault.is c.run.ensures.pace);
       in_rounds = c.run.ensures.in_rounds;
       whole = whole_begun (beginning_of c.in-Ok.start) c.run.new.trace.records (g.F.Folder.seen c.args.disk.now) (g.F.Folder.seen c.begin.new.disk) (g.F.Folder.seen c.run.new.disk) c.begin.ensures.looks c.run.ensures.safe;
     }
@@ -152,7 +152,7 @@ returns-clause-ends g c words asks =
           (ap (λ (s : Settings). s.records) c.of-records.ensures) c.in-Memory.is c.run.ensures.ends;
       pace =
           paced_by words files folder c.run.new.trace.records console log (beginning_of c.in-Ok.start) RunMemory records
-          (subst (λ (e : RunEnd). KeepsPace e (plain_of c.in-Ok.start.machine) c.run.new.trace.records console log) c.in-Memory.is c.run.ensures.pace);
+          (subst (λ (e : RunEnd). KeepsPace e (plain_of c.in-Ok.start.computation) c.run.new.trace.records console log) c.in-Memory.is c.run.ensures.pace);
       in_rounds = c.run.ensures.in_rounds;
       whole = whole_begun (beginning_of c.in-Ok.start) c.run.new.trace.records (g.F.Folder.seen c.args.disk.now) (g.F.Folder.seen c.begin.new.disk) (g.F.Folder.seen c.run.new.disk) c.begin.ensures.looks c.run.ensures.safe;
     }

@@ -1,20 +1,14 @@
-use Rattle.std.proofs.Common.{◌≡◌, List, map, string_bytes, Bool, false, subst}
-use Rattle.std.specs.Prelude.{IsTrue}
-use Rattle.option_words.specs.Options.{Text}
-use Rattle.job_words.specs.declared.job.Job.{Job}
-use Rattle.job_words.specs.Jobs.{IsJob}
-use Rattle.job_words.proofs.OneJob.{one_job}
-use Rattle.dmtcp_top.specs.Jobs.{AskNothing, IsBuilt}
+use Rattle.std.proofs.Common.{◌≡◌, map, string_bytes, Err, Result}
+use Rattle.job_words.specs.declared.word_fault.WordFault.{WordFault}
+use Rattle.job_words.specs.declared.word_fault.WordFault.TheVariants.{Usage, Memory}
+use Rattle.dmtcp_top.proofs.Asking.{some_asked}
 use Rattle.dmtcp_top.proofs.job.read_job.Goals as goal
 
--- the one job that the words ask for is not built
-asks_nothing : (words : List Text) (job : Job) → IsJob words job → (IsBuilt job → ⊥) → AskNothing words
-asks_nothing words job is unbuilt other asks = unbuilt (subst IsBuilt (one_job words other job asks.is is) asks.built)
+apart : {A : Type 0} (result : Result A WordFault) (fault : WordFault) → result ≡ Err fault → fault ≡ Memory → result ≡ Err Usage → ⊥
+apart result fault is memory usage = cc
 
-not_both : (b : Bool) → IsTrue b → b ≡ false → ⊥
-not_both b is not = let one = is in let other = not in cc
-
-pub returns-clause-refused : goal.returns-clause-refused
-returns-clause-refused c =
-    asks_nothing (map string_bytes c.args.words.now) c.in-Ok.job c.in-Ok.ensures.found
-    (λ built. not_both c.is_built.result (c.is_built.ensures.1 built) c.if-is_built.false)
+pub returns-in-Err-Memory-clause-refused : goal.returns-in-Err-Memory-clause-refused
+returns-in-Err-Memory-clause-refused c =
+    some_asked (map string_bytes c.args.words.now)
+    (λ nothing. apart c.read_words.result c.in-Err-Memory.field-0 c.in-Err-Memory.is c.in-Err-Memory.field-0-is (c.read_words.ensures.usage.1 nothing))
+    (λ job is. (c.is_built.ensures job (c.outline_words.ensures job is)).0 c.if-not-is_built.false)

@@ -1,8 +1,8 @@
 use Rattle.dmtcp_top.proofs.OneOrder.{one_order, one_trace, ends_there, one_end, one_ending, ends_so, one_answer}
 use Rattle.dmtcp_top.proofs.OneRestart.{one_restart}
 use Rattle.dmtcp_top.proofs.MissedRequests.{lacks_no_request}
-use Rattle.dmtcp_top.proofs.Standstill.{stands_still}
-use Rattle.dmtcp_top.proofs.Restored.{set_is_valid}
+use Rattle.run_loop.proofs.Standstill.{stands_still}
+use Rattle.dmtcp_top.proofs.RoundTrips.{set_valid}
 use Rattle.dmtcp_top.proofs.laws.order_laws.Goals as goal
 
 pub returns-clause-order : goal.returns-clause-order
@@ -24,7 +24,7 @@ pub returns-clause-restart : goal.returns-clause-restart
 returns-clause-restart c = one_restart
 
 pub returns-clause-valid : goal.returns-clause-valid
-returns-clause-valid c = set_is_valid
+returns-clause-valid c = set_valid
 
 pub returns-clause-answer : goal.returns-clause-answer
 returns-clause-answer c = one_answer

@@ -2,8 +2,8 @@ use Rattle.std.proofs.Common.{Err, IfSome, ap, sym, subst, ◌∙◌}
 use Rattle.image_format.specs.declared.damage.Damage.{Damage as Place}
 use Rattle.image_store.specs.declared.set_info.SetInfo.{SetInfo}
 use Rattle.image_store.specs.FoundSets.{last_set, HasSet}
-use Rattle.dmtcp_top.specs.Sets.{SpoilsSet}
-use Rattle.dmtcp_top.proofs.Safety.{at_some}
+use Rattle.checkpointer.specs.Sets.{SpoilsSet}
+use Rattle.checkpointer.proofs.Safety.{at_some}
 use Rattle.dmtcp_top.proofs.Loads.{damage_found, restored}
 use Rattle.dmtcp_top.proofs.loading.restore.Goals as goal
 
@@ -17,6 +17,6 @@ returns-in-Err-Damaged-clause-restored g c =
 
 pub returns-clause-restored : goal.returns-clause-restored
 returns-clause-restored g c =
-    restored (g.F.Folder.seen c.args.disk.now) c.args.store.now c.args.info c.requires.last c.requires.fits c.machine_of.result c.in-Ok.set.files
+    restored (g.F.Folder.seen c.args.disk.now) c.args.store.now c.args.info c.requires.last c.requires.fits c.computation_of.result c.in-Ok.set.files
     (λ files is. at_some (λ (info : SetInfo). HasSet (last_set files) info.generation c.in-Ok.set.files) c.args.store.now.last c.args.info c.requires.last (c.in-Ok.ensures.found files is))
-    c.machine_of.ensures
+    c.computation_of.ensures

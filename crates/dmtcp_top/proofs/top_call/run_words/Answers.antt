@@ -1,9 +1,9 @@
 use Rattle.std.proofs.Common.{◌≡◌, ◌≢◌, inl, inr, map, string_bytes, refl, sym, subst, ◌∙◌, arith}
 use Rattle.std.specs.Prelude.{◌⊎◌}
 use Rattle.views.specs.Faults.{Rose}
-use Rattle.dmtcp_top.specs.declared.status.Status.{Status}
-use Rattle.dmtcp_top.specs.declared.status.Status.TheVariants.{Usage, InputFault, SinkFault, DiskFault, Memory}
-use Rattle.dmtcp_top.specs.Endings.{status_of}
+use Rattle.endings.specs.declared.status.Status.{Status}
+use Rattle.endings.specs.declared.status.Status.TheVariants.{Usage, InputFault, SinkFault, DiskFault, Memory}
+use Rattle.endings.specs.Endings.{status_of}
 use Rattle.dmtcp_top.specs.Sessions.{outside}
 use Rattle.dmtcp_top.proofs.Promised.{promised, refused_start, refused_status}
 use Rattle.dmtcp_top.proofs.top_call.run_words.Goals as goal
