@@ -120,7 +120,7 @@ pub changed-missing : (m : Memory) (k : ℕ) (f : Frame → Frame) → map.get m
 changed-missing m k f is = ap (λ o. with_cell m k (option_map f o)) is ∙ remove_absent nat_cmp_total map.nat_cmp-IsAntisymmetric m k is
 
 -- what was read of the rows at an index is the row there
-row_read : (rows : Rows) (i : ℕ) (row : List (Option Frame)) → i < length rows → row ≡ slice_index_or rows i row → row ≡ slice_index_or rows i []
+pub row_read : (rows : Rows) (i : ℕ) (row : List (Option Frame)) → i < length rows → row ≡ slice_index_or rows i row → row ≡ slice_index_or rows i []
 row_read rows i row within read = read ∙ get_or_default rows i row [] within
 
 pub get-in_row : (rows : Rows) (m : Memory) (k : ℕ) (row : List (Option Frame)) → frames_of rows ≡ m → k / 1024 < length rows → row ≡ slice_index_or rows (k / 1024) row

@@ -4,6 +4,7 @@ pub mod Writes
 pub mod Checks
 pub mod Copies
 pub mod FrameTables
+pub mod OpenTables
 pub mod PageRuns
 pub mod NextPages
 pub mod FreeRuns

@@ -2,9 +2,10 @@
 --     IsSpace memory                         no page lies past the addresses of 32 bits, and there are at most 2,048
 --     IsFree memory page count               none of the pages is there
 --     without_pages memory page count        the memory without these pages
---     IsCodePage memory page bytes           the page is there, may be executed and holds these bytes
+--     IsCode memory page                     the page is there and may be executed
 --     IsFirstTaken memory page count taken   the first of the pages that is there, if one is
-use Rattle.std.specs.Prelude.{◌≡◌, ◌^◌, ℕ, ◌+◌, ◌<◌, ◌≤◌, List, length, Option, Some, None, Ok, is_some, true}
+use Rattle.std.specs.Prelude.{◌≡◌, ◌^◌, ℕ, ◌+◌, ◌<◌, ◌≤◌, Option, Some, None, is_some, true}
+use Rattle.std.specs.Result.{is_ok}
 use Rattle.std.specs.FinMap as map
 use Rattle.plain_process.specs.declared.memory.Right.TheVariants.{Execute}
 use Rattle.plain_process.specs.Memory.{Memory}
@@ -25,7 +26,5 @@ abbrev pub IsFirstTaken : Memory → ℕ → ℕ → Option ℕ → Type 0
 IsFirstTaken memory page count None = IsFree memory page count
 IsFirstTaken memory page count (Some number) = IsTaken memory page count number
 
-pub record IsCodePage (memory : Memory) (page : ℕ) (bytes : List ℕ) : Type 0 where
-  pub rights : ℕ
-  pub there : granted Execute (map.get memory page) ≡ Ok (record { rights = rights; page = bytes })
-  pub whole : length bytes ≡ 4096
+abbrev pub IsCode : Memory → ℕ → Type 0
+IsCode memory page = is_ok (granted Execute (map.get memory page)) ≡ true

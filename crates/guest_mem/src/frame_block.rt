@@ -1,11 +1,11 @@
-ghost use Rattle.std.specs.Prelude.{◌≡◌, ◌≢◌, ◌+◌, ◌<◌, ◌≤◌, ◌⊎◌, ℕ, [], Some, None, length, option_map, slice_index_or, slice_set, IfSome, IfOk, OnOk, OnErr};
+ghost use Rattle.std.specs.Prelude.{◌≡◌, ◌≢◌, ◌+◌, ◌<◌, ◌≤◌, ◌⊎◌, ℕ, [], Some, None, length, option_map, slice_index_or, slice_set, false, IsTrue, IfSome, IfOk, OnOk, OnErr};
 ghost use Rattle.std.specs.Option.{option_copied};
 ghost use Rattle.plain_process.specs.Memory.{low_bytes};
 ghost use Rattle.guest_mem.specs.Bytes.{with_piece};
-ghost use Rattle.guest_mem.specs.Cells.{IsSameCells, SetsCell, IsNextPlace};
+ghost use Rattle.guest_mem.specs.Cells.{IsSameCells, SetsCell, IsNextPlace, Writes};
 
 use crate::access;
-use plain_process::Frame;
+use plain_process::{Frame, Right};
 use std::alloc::{AllocError, Global};
 use std::marker::Model;
 use sys_abi::Page;
@@ -80,6 +80,46 @@ impl FrameBlock {
             return;
         };
         access::put_number(frame, offset, size, value);
+    }
+
+    /// Puts the first `size` bytes of a number into the frame at a place, where there is one that may be written, and tells
+    /// whether.
+    #[inline(always)]
+    pub fn store(&mut self, at: usize, offset: usize, size: u32, value: u32) -> bool
+        requires size { (size ≡ 1) ⊎ (size ≡ 2) ⊎ (size ≡ 4) }
+        requires inside { offset + size ≤ 4096 }
+        ensures made { IsTrue result → Writes self.old self.new at (λ frame. with_piece frame offset (low_bytes size value)) }
+        ensures refused { result ≡ false → self.new ≡ self.old }
+    {
+        match self.get(at) {
+            Some(frame) if access::allows(Right::Write, frame.rights) => {}
+            _ => return false,
+        }
+        self.put_number(at, offset, size, value);
+        true
+    }
+
+    /// Takes the frame at a place out, where there is one.
+    #[inline(always)]
+    pub fn take(&mut self, at: usize) -> Option<Frame>
+        ensures taken { result ≡ slice_index_or self.old at None }
+        ensures left { self.new ≡ slice_set self.old at None }
+        ensures place { IfSome result (λ _. at < length self.new) }
+    {
+        if at < self.cells.len() {
+            self.cells[at].take()
+        } else {
+            None
+        }
+    }
+
+    /// Puts a frame at a place that is there.
+    #[inline(always)]
+    pub fn put_back(&mut self, at: usize, frame: Frame)
+        requires { at < length self.old }
+        ensures { self.new ≡ slice_set self.old at (Some frame) }
+    {
+        self.cells[at] = Some(frame);
     }
 
     /// Puts a piece into the frame at a place, where there is one.

@@ -4,20 +4,23 @@ ghost use Rattle.std.specs.FinMap as map;
 ghost use Rattle.plain_process.specs.Memory.{low_bytes};
 ghost use Rattle.guest_mem.specs.Bytes.{with_piece};
 ghost use Rattle.guest_mem.specs.FrameTable.{IsSameRows, IsNextPage, changed_at};
+ghost use Rattle.guest_mem.specs.Pages.{IsCode, IsSpace};
 
 use crate::frame_block::FrameBlock;
+use crate::open_space::OpenSpace;
 use plain_process::Frame;
 use std::alloc::{AllocError, Global};
 use std::marker::Model;
+use std::mem;
 
 /// How many page numbers a block has places for.
-const BLOCK_SIZE: u32 = 1024;
+pub(crate) const BLOCK_SIZE: u32 = 1024;
 
 /// Frames by page number, found in two steps of an index: a map from the numbers to the frames.
 #[derive(Drop)]
 pub struct FrameTable {
-    blocks: Vec<FrameBlock>,
-    count: usize,
+    pub(crate) blocks: Vec<FrameBlock>,
+    pub(crate) count: usize,
 }
 
 impl Model for FrameTable {
@@ -124,6 +127,30 @@ impl FrameTable {
         let number = (page / BLOCK_SIZE) as usize;
         if number < self.blocks.len() {
             self.blocks[number].write((page % BLOCK_SIZE) as usize, offset, piece);
+        }
+    }
+
+    /// Takes all frames out, that of the page of an address apart from the others.
+    #[inline(always)]
+    pub fn open(&mut self, address: u32) -> OpenSpace
+        requires code { IsCode self.old (address / 4096) }
+        requires space { IsSpace self.old }
+        ensures all { result ≡ self.old }
+        ensures empty { self.new ≡ map.empty }
+    {
+        let alloc = *self.blocks.allocator();
+        let mut blocks = mem::replace(&mut self.blocks, Vec::new(alloc));
+        let count = mem::replace(&mut self.count, 0);
+        let page = address / 4096;
+        let Some(code) = blocks[(page / BLOCK_SIZE) as usize].take((page % BLOCK_SIZE) as usize)
+        else {
+            unreachable!();
+        };
+        OpenSpace {
+            blocks,
+            count,
+            start: address - address % 4096,
+            code,
         }
     }
 

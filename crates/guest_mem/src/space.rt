@@ -12,9 +12,9 @@ ghost use Rattle.guest_mem.specs.FrameTable.{start_of, IsNextPage};
 ghost use Rattle.guest_mem.specs.Pages.{IsFree, without_pages};
 
 use crate::access::{allows, number_at, room_in_page};
-use crate::code::Code;
 use crate::frame_table::FrameTable;
 use crate::mem_fault::MemFault;
+use crate::open_space::OpenSpace;
 use plain_process::{Frame, Right};
 use std::alloc::{AllocError, Global};
 use std::marker::Model;
@@ -118,19 +118,24 @@ impl Space {
         self.read(Right::Execute, address, 4)
     }
 
-    /// The page of an address, where it is there and may be executed.
+    /// Takes all pages out, that of an address apart from the others, where it is there and may be executed.
     #[inline(always)]
-    pub fn code(&self, address: u32) -> Option<Code<'_>>
-        ensures { IfSome result (λ code. code ≡ self.now) }
+    pub fn open(&mut self, address: u32) -> Option<OpenSpace>
+        ensures some { IfSome result (λ apart. apart ≡ self.old) }
+        ensures none { result ≡ None → self.new ≡ self.old }
     {
-        match self.frame(Right::Execute, address / 4096) {
-            Ok(frame) => Some(Code {
-                space: self,
-                start: address - address % 4096,
-                bytes: frame.page.as_slice(),
-            }),
-            Err(_) => None,
+        if self.frame(Right::Execute, address / 4096).is_err() {
+            return None;
         }
+        Some(self.frames.open(address))
+    }
+
+    /// Has the pages that were taken out, in the place of its own.
+    #[inline(always)]
+    pub fn close(&mut self, apart: OpenSpace)
+        ensures { self.new ≡ apart }
+    {
+        self.frames = apart.close();
     }
 
     #[inline(always)]

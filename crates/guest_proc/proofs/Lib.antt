@@ -10,7 +10,6 @@ pub mod LendLemmas
 pub mod GuestLemmas
 pub mod Loading
 pub mod Images
-pub mod RebuiltUsers
 pub mod Breaks
 pub mod StackLemmas
 pub mod Taking

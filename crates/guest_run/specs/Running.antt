@@ -1,17 +1,13 @@
 -- Instructions in a row, as the loop of a run sees them.
 --     HasRun n regs memory regs' memory'    so many instructions lead from the one to the other
 --     IsStop stop effect                    what a stop tells of the next instruction
---     IsHalt halt effect regs memory        what a stretch of instructions in one page tells of the next instruction
 use Rattle.std.specs.Prelude.{◌≡◌, ℕ, Some}
 use Rattle.plain_process.specs.declared.regs.Regs.{Regs}
-use Rattle.plain_process.specs.Memory.{Memory, store}
-use Rattle.plain_process.specs.Instructions.{Effect, Calls, Traps, stores}
+use Rattle.plain_process.specs.Memory.{Memory}
+use Rattle.plain_process.specs.Instructions.{Effect, Calls, Traps}
 use Rattle.plain_process.specs.Steps.{Running, instructions}
-use Rattle.rv_isa.specs.Accesses.{IsAccessSize}
 use Rattle.guest_run.specs.declared.run.Stop.{Stop}
 use Rattle.guest_run.specs.declared.run.Stop.TheVariants.{Quantum, Call, Trap}
-use Rattle.guest_run.specs.declared.stretch.Halt.{Halt}
-use Rattle.guest_run.specs.declared.stretch.Halt.TheVariants.{Store, Other}
 
 abbrev pub running : Regs → Memory → Running
 running regs memory = record { regs = regs; memory = memory }
@@ -23,7 +19,3 @@ abbrev pub IsStop : Stop → Effect → Type 0
 IsStop Quantum effect = Unit {0}
 IsStop Call effect = effect ≡ Calls
 IsStop (Trap signal) effect = effect ≡ Traps signal.0
-
-abbrev pub IsHalt : Halt → Effect → Regs → Memory → Type 0
-IsHalt (Store s) effect regs memory = IsAccessSize s.size × (effect ≡ stores regs (store memory s.address s.size s.value))
-IsHalt Other effect regs memory = Unit {0}

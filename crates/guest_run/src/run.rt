@@ -1,12 +1,12 @@
 ghost use Rattle.std.specs.Prelude.{◌≡◌, ◌≢◌, ◌↔◌, ◌≤◌};
 ghost use Rattle.plain_process.specs.Steps.{effect_at};
-ghost use Rattle.guest_run.specs.Running.{HasRun, IsHalt, IsStop};
+ghost use Rattle.guest_run.specs.Running.{HasRun, IsStop};
 ghost use Rattle.rv_isa.specs.Outcomes.{IsOutcome, KeepsUnlessNext};
 
 use crate::ram::Ram;
-use crate::stretch::{Halt, stretch};
+use crate::stretch::stretch;
 use plain_process::Regs;
-use rv_isa::{Outcome, decode, exec, store};
+use rv_isa::{Outcome, decode, exec};
 use sys_abi::Signal;
 
 /// SIGILL and SIGSEGV (`man 7 signal`).
@@ -54,21 +54,6 @@ fn instruction_apart(regs: &mut Regs, ram: &mut Ram) -> Outcome
     outcome
 }
 
-/// The instruction at the program counter, of which a stretch has told what it is.
-#[inline(always)]
-fn halted(regs: &mut Regs, ram: &mut Ram, halt: Halt) -> Outcome
-    requires { IsHalt halt (effect_at regs.old ram.old) regs.old ram.old }
-    ensures outcome { IsOutcome result (effect_at regs.old ram.old) regs.new ram.new }
-    ensures regs { KeepsUnlessNext result regs.old regs.new }
-    ensures ram { KeepsUnlessNext result ram.old ram.new }
-    ensures no_want { result ≢ Outcome.Memory }
-{
-    match halt {
-        Halt::Store(stored) => store(regs, ram, stored.address, stored.size, stored.value),
-        Halt::Other => instruction_apart(regs, ram),
-    }
-}
-
 /// Instructions in a row, until one does not go on or there were `quantum`.
 pub fn run_instructions(regs: &mut Regs, ram: &mut Ram, quantum: u32) -> (u32, Stop)
     ensures run { HasRun result.0 regs.old ram.old regs.new ram.new }
@@ -92,12 +77,11 @@ fn run_hart(hart: &mut Regs, ram: &mut Ram, quantum: u32) -> (u32, Stop)
 {
     let mut count = 0;
     while count < quantum {
-        let (done, halt) = stretch(hart, ram, quantum - count);
-        count += done;
+        count += stretch(hart, ram, quantum - count);
         if count == quantum {
             break;
         }
-        match halted(hart, ram, halt) {
+        match instruction_apart(hart, ram) {
             Outcome::Next => count += 1,
             Outcome::Call => return (count, Stop::Call),
             Outcome::Trap(signal) => return (count, Stop::Trap(signal)),

@@ -3,7 +3,7 @@
 //! [`decode`] answers the instruction of a word, [`encode`] the word of an instruction, [`is_valid`]
 //! whether an instruction has a word, and [`exec`] does one instruction on registers and on any
 //! memory that keeps the contract of [`GuestMemory`]. [`step`] does both at once where an instruction goes on, for a loop
-//! over many: it tells a store in place of making it, and leaves calls, traps and fences to the two.
+//! over many, and leaves calls, traps and fences to the two.
 //!
 //! Proved: `decode` and `exec` are the instruction table and the effects that `plain_machine`
 //! defines; at most one row of the table matches a word; `encode` and `decode` undo each other; a
@@ -27,10 +27,8 @@ mod operands;
 pub mod outcome;
 mod registers;
 mod stepper;
-pub mod steps;
 mod values;
 
-pub use accesses::store;
 pub use decoder::decode;
 pub use encoder::{encode, is_valid};
 pub use executor::exec;
@@ -38,4 +36,3 @@ pub use guest_memory::{AccessFault, GuestMemory};
 pub use outcome::Outcome;
 pub use plain_process::{Insn, Op, Regs};
 pub use stepper::step;
-pub use steps::{Step, Stored};

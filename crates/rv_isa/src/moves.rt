@@ -1,13 +1,12 @@
-ghost use Rattle.std.specs.Prelude.{◌≡◌, ◌<◌, ◌+◌, ◌%◌, ◌^◌, ℕ, List};
-ghost use Rattle.plain_process.specs.Instructions.{jumps, branches, loads, same, sign_extended};
-ghost use Rattle.plain_process.specs.Memory.{Memory, load};
+ghost use Rattle.std.specs.Prelude.{◌≡◌, ◌<◌, ◌+◌, ◌%◌, ◌^◌, ℕ, List, Some, None};
+ghost use Rattle.plain_process.specs.Instructions.{jumps, branches, loads, stores, same, sign_extended};
+ghost use Rattle.plain_process.specs.Memory.{Memory, load, store};
 ghost use Rattle.plain_process.specs.Registers.{reg, with_reg};
 ghost use Rattle.rv_isa.specs.Accesses.{IsAccessSize};
 ghost use Rattle.rv_isa.specs.Steps.{IsStep, IsZeroHeld, regs_at};
 
 use crate::accesses::{sign_extended_byte, sign_extended_half};
 use crate::guest_memory::GuestMemory;
-use crate::steps::Step;
 
 /// The value of register `index`, where the place of x0 holds 0.
 #[inline(always)]
@@ -36,46 +35,46 @@ pub fn put(x: &mut [u32; 32], index: u32, value: u32)
 
 /// Writes register `index` and goes on at the next instruction.
 #[inline(always)]
-pub fn set(x: &mut [u32; 32], pc: u32, index: u32, value: u32) -> Step
+pub fn set(x: &mut [u32; 32], pc: u32, index: u32, value: u32) -> Option<u32>
     requires index { index < 32 }
     requires zero { IsZeroHeld x.old }
-    ensures step { result ≡ Step.To ((pc + 4) % 2 ^ 32) }
+    ensures step { result ≡ Some ((pc + 4) % 2 ^ 32) }
     ensures x { (at : ℕ) → regs_at x.new at ≡ with_reg (regs_at x.old at) index value }
     ensures zero { IsZeroHeld x.new }
 {
     put(x, index, value);
-    Step::To(pc.wrapping_add(4))
+    Some(pc.wrapping_add(4))
 }
 
 /// JAL, JALR: goes to `target`, with the address of the next instruction in register `index`.
 #[inline(always)]
-pub fn jump(x: &mut [u32; 32], pc: u32, index: u32, target: u32) -> Step
+pub fn jump(x: &mut [u32; 32], pc: u32, index: u32, target: u32) -> Option<u32>
     requires index { index < 32 }
     requires zero { IsZeroHeld x.old }
     ensures step { (memory : Memory) →
-        IsStep result (jumps (regs_at x.old pc) memory index target) x.old pc x.new memory }
+        IsStep result (jumps (regs_at x.old pc) memory index target) x.old x.new memory }
     ensures zero { IsZeroHeld x.new }
 {
     if target % 4 != 0 {
-        return Step::Other;
+        return None;
     }
     put(x, index, pc.wrapping_add(4));
-    Step::To(target)
+    Some(target)
 }
 
 /// A branch to `target`, where it is taken.
 #[inline(always)]
-pub fn branch(pc: u32, is_taken: bool, target: u32) -> Step
+pub fn branch(pc: u32, is_taken: bool, target: u32) -> Option<u32>
     ensures { (x : List ℕ) (memory : Memory) →
-        IsStep result (branches (regs_at x pc) memory is_taken target) x pc x memory }
+        IsStep result (branches (regs_at x pc) memory is_taken target) x x memory }
 {
     if !is_taken {
-        return Step::To(pc.wrapping_add(4));
+        return Some(pc.wrapping_add(4));
     }
     if target % 4 != 0 {
-        return Step::Other;
+        return None;
     }
-    Step::To(target)
+    Some(target)
 }
 
 /// LBU, LHU, LW: loads a number of `size` bytes into register `rd`.
@@ -87,18 +86,18 @@ pub fn load<M: GuestMemory>(
     rd: u32,
     address: u32,
     size: u32,
-) -> Step
+) -> Option<u32>
     requires size { IsAccessSize size }
     requires rd { rd < 32 }
     requires zero { IsZeroHeld x.old }
     ensures step { IsStep result
         (loads (regs_at x.old pc) (M.memory memory.now) rd same (load (M.memory memory.now) address size))
-        x.old pc x.new (M.memory memory.now) }
+        x.old x.new (M.memory memory.now) }
     ensures zero { IsZeroHeld x.new }
 {
     match memory.load(address, size) {
         Ok(value) => set(x, pc, rd, value),
-        Err(_) => Step::Other,
+        Err(_) => None,
     }
 }
 
@@ -110,17 +109,17 @@ pub fn load_signed_byte<M: GuestMemory>(
     memory: &M,
     rd: u32,
     address: u32,
-) -> Step
+) -> Option<u32>
     requires rd { rd < 32 }
     requires zero { IsZeroHeld x.old }
     ensures step { IsStep result
         (loads (regs_at x.old pc) (M.memory memory.now) rd (sign_extended 8) (load (M.memory memory.now) address 1))
-        x.old pc x.new (M.memory memory.now) }
+        x.old x.new (M.memory memory.now) }
     ensures zero { IsZeroHeld x.new }
 {
     match memory.load(address, 1) {
         Ok(value) => set(x, pc, rd, sign_extended_byte(value)),
-        Err(_) => Step::Other,
+        Err(_) => None,
     }
 }
 
@@ -132,16 +131,36 @@ pub fn load_signed_half<M: GuestMemory>(
     memory: &M,
     rd: u32,
     address: u32,
-) -> Step
+) -> Option<u32>
     requires rd { rd < 32 }
     requires zero { IsZeroHeld x.old }
     ensures step { IsStep result
         (loads (regs_at x.old pc) (M.memory memory.now) rd (sign_extended 16) (load (M.memory memory.now) address 2))
-        x.old pc x.new (M.memory memory.now) }
+        x.old x.new (M.memory memory.now) }
     ensures zero { IsZeroHeld x.new }
 {
     match memory.load(address, 2) {
         Ok(value) => set(x, pc, rd, sign_extended_half(value)),
-        Err(_) => Step::Other,
+        Err(_) => None,
+    }
+}
+
+/// SB, SH, SW: stores the lowest `size` bytes of a number.
+#[inline(always)]
+pub fn store<M: GuestMemory>(
+    pc: u32,
+    memory: &mut M,
+    address: u32,
+    size: u32,
+    value: u32,
+) -> Option<u32>
+    requires { IsAccessSize size }
+    ensures step { (x : List ℕ) → IsStep result
+        (stores (regs_at x pc) (store (M.memory memory.old) address size value)) x x (M.memory memory.new) }
+    ensures memory { result ≡ None → M.memory memory.new ≡ M.memory memory.old }
+{
+    match memory.store(address, size, value) {
+        Ok(()) => Some(pc.wrapping_add(4)),
+        Err(_) => None,
     }
 }

@@ -1,4 +1,4 @@
-ghost use Rattle.std.specs.Prelude.{◌≡◌, ◌<◌, ◌/◌, ◌^◌, ℕ, List};
+ghost use Rattle.std.specs.Prelude.{◌≡◌, ◌<◌, ◌/◌, ◌^◌, ℕ, List, None};
 ghost use Rattle.plain_process.specs.Instructions.{bits};
 ghost use Rattle.plain_process.specs.Memory.{Memory};
 ghost use Rattle.plain_process.specs.Registers.{reg};
@@ -9,8 +9,7 @@ use crate::guest_memory::GuestMemory;
 use crate::immediates::{
     field, immediate_b, immediate_i, immediate_j, immediate_s, immediate_u, shift_amount,
 };
-use crate::moves::{branch, get, jump, load, load_signed_byte, load_signed_half, set};
-use crate::steps::{Step, Stored};
+use crate::moves::{branch, get, jump, load, load_signed_byte, load_signed_half, set, store};
 use crate::values::{is_taken, of_immediate, of_registers};
 
 #[inline(always)]
@@ -41,37 +40,37 @@ fn second(x: &[u32; 32], word: u32) -> u32
 
 /// Writes the value, where there is a row.
 #[inline(always)]
-fn written(x: &mut [u32; 32], pc: u32, index: u32, value: Option<u32>) -> Step
+fn written(x: &mut [u32; 32], pc: u32, index: u32, value: Option<u32>) -> Option<u32>
     requires index { index < 32 }
     requires zero { IsZeroHeld x.old }
     ensures step { (memory : Memory) →
-        IsStep result (effect_of_value value index (regs_at x.old pc) memory) x.old pc x.new memory }
+        IsStep result (effect_of_value value index (regs_at x.old pc) memory) x.old x.new memory }
     ensures zero { IsZeroHeld x.new }
 {
     match value {
         Some(value) => set(x, pc, index, value),
-        None => Step::Other,
+        None => None,
     }
 }
 
 /// Goes to the target where the branch is taken, and where there is a row.
 #[inline(always)]
-fn turned(pc: u32, is_taken: Option<bool>, target: u32) -> Step
+fn turned(pc: u32, is_taken: Option<bool>, target: u32) -> Option<u32>
     ensures { (x : List ℕ) (memory : Memory) →
-        IsStep result (effect_of_branch is_taken target (regs_at x pc) memory) x pc x memory }
+        IsStep result (effect_of_branch is_taken target (regs_at x pc) memory) x x memory }
 {
     match is_taken {
         Some(is_taken) => branch(pc, is_taken, target),
-        None => Step::Other,
+        None => None,
     }
 }
 
 /// LUI.
 #[inline(always)]
 #[tactic(auto, unfolding(crate::specs::Fields::row_at, plain_process::specs::Instructions::encoding, plain_process::specs::Instructions::insn_of, plain_process::specs::Instructions::effect, plain_process::specs::Instructions::effect_by))]
-fn load_upper(x: &mut [u32; 32], pc: u32, word: u32) -> Step
+fn load_upper(x: &mut [u32; 32], pc: u32, word: u32) -> Option<u32>
     requires { IsZeroHeld x.old }
-    ensures step { (f g : ℕ) (memory : Memory) → IsStepOfFields result 0x37 f g word x.old pc x.new memory }
+    ensures step { (f g : ℕ) (memory : Memory) → IsStepOfFields result 0x37 f g word x.old pc memory x.new memory }
     ensures zero { IsZeroHeld x.new }
 {
     set(x, pc, rd(word), immediate_u(word).cast_unsigned())
@@ -80,9 +79,9 @@ fn load_upper(x: &mut [u32; 32], pc: u32, word: u32) -> Step
 /// AUIPC.
 #[inline(always)]
 #[tactic(auto, unfolding(crate::specs::Fields::row_at, plain_process::specs::Instructions::encoding, plain_process::specs::Instructions::insn_of, plain_process::specs::Instructions::effect, plain_process::specs::Instructions::effect_by))]
-fn add_upper(x: &mut [u32; 32], pc: u32, word: u32) -> Step
+fn add_upper(x: &mut [u32; 32], pc: u32, word: u32) -> Option<u32>
     requires { IsZeroHeld x.old }
-    ensures step { (f g : ℕ) (memory : Memory) → IsStepOfFields result 0x17 f g word x.old pc x.new memory }
+    ensures step { (f g : ℕ) (memory : Memory) → IsStepOfFields result 0x17 f g word x.old pc memory x.new memory }
     ensures zero { IsZeroHeld x.new }
 {
     let value = pc.wrapping_add(immediate_u(word).cast_unsigned());
@@ -92,9 +91,9 @@ fn add_upper(x: &mut [u32; 32], pc: u32, word: u32) -> Step
 /// JAL.
 #[inline(always)]
 #[tactic(auto, unfolding(crate::specs::Fields::row_at, plain_process::specs::Instructions::encoding, plain_process::specs::Instructions::insn_of, plain_process::specs::Instructions::effect, plain_process::specs::Instructions::effect_by))]
-fn jump_near(x: &mut [u32; 32], pc: u32, word: u32) -> Step
+fn jump_near(x: &mut [u32; 32], pc: u32, word: u32) -> Option<u32>
     requires { IsZeroHeld x.old }
-    ensures step { (f g : ℕ) (memory : Memory) → IsStepOfFields result 0x6F f g word x.old pc x.new memory }
+    ensures step { (f g : ℕ) (memory : Memory) → IsStepOfFields result 0x6F f g word x.old pc memory x.new memory }
     ensures zero { IsZeroHeld x.new }
 {
     let target = pc.wrapping_add(immediate_j(word).cast_unsigned());
@@ -104,9 +103,9 @@ fn jump_near(x: &mut [u32; 32], pc: u32, word: u32) -> Step
 /// JALR.
 #[inline(always)]
 #[tactic(auto, unfolding(crate::specs::Fields::row_at, plain_process::specs::Instructions::encoding, plain_process::specs::Instructions::insn_of, plain_process::specs::Instructions::effect, plain_process::specs::Instructions::effect_by))]
-fn jump_far(x: &mut [u32; 32], pc: u32, word: u32) -> Step
+fn jump_far(x: &mut [u32; 32], pc: u32, word: u32) -> Option<u32>
     requires { IsZeroHeld x.old }
-    ensures step { (g : ℕ) (memory : Memory) → IsStepOfFields result 0x67 0 g word x.old pc x.new memory }
+    ensures step { (g : ℕ) (memory : Memory) → IsStepOfFields result 0x67 0 g word x.old pc memory x.new memory }
     ensures zero { IsZeroHeld x.new }
 {
     let address = first(x, word).wrapping_add(immediate_i(word).cast_unsigned());
@@ -115,9 +114,9 @@ fn jump_far(x: &mut [u32; 32], pc: u32, word: u32) -> Step
 
 /// BRANCH.
 #[inline(always)]
-fn branched(x: &[u32; 32], pc: u32, word: u32, funct3: u32) -> Step
+fn branched(x: &[u32; 32], pc: u32, word: u32, funct3: u32) -> Option<u32>
     requires { IsZeroHeld x.now }
-    ensures { (g : ℕ) (memory : Memory) → IsStepOfFields result 0x63 funct3 g word x.now pc x.now memory }
+    ensures { (g : ℕ) (memory : Memory) → IsStepOfFields result 0x63 funct3 g word x.now pc memory x.now memory }
 {
     let a = first(x, word);
     let b = second(x, word);
@@ -129,9 +128,15 @@ fn branched(x: &[u32; 32], pc: u32, word: u32, funct3: u32) -> Step
 /// LOAD.
 #[inline(always)]
 #[tactic(auto, unfolding(crate::specs::Fields::row_at, plain_process::specs::Instructions::encoding, plain_process::specs::Instructions::insn_of, plain_process::specs::Instructions::effect, plain_process::specs::Instructions::effect_by))]
-fn loaded<M: GuestMemory>(x: &mut [u32; 32], pc: u32, memory: &M, word: u32, funct3: u32) -> Step
+fn loaded<M: GuestMemory>(
+    x: &mut [u32; 32],
+    pc: u32,
+    memory: &M,
+    word: u32,
+    funct3: u32,
+) -> Option<u32>
     requires { IsZeroHeld x.old }
-    ensures step { (g : ℕ) → IsStepOfFields result 0x03 funct3 g word x.old pc x.new (M.memory memory.now) }
+    ensures step { (g : ℕ) → IsStepOfFields result 0x03 funct3 g word x.old pc (M.memory memory.now) x.new (M.memory memory.now) }
     ensures zero { IsZeroHeld x.new }
 {
     let rd = rd(word);
@@ -142,45 +147,40 @@ fn loaded<M: GuestMemory>(x: &mut [u32; 32], pc: u32, memory: &M, word: u32, fun
         2 => load(x, pc, memory, rd, address, 4),
         4 => load(x, pc, memory, rd, address, 1),
         5 => load(x, pc, memory, rd, address, 2),
-        _ => Step::Other,
+        _ => None,
     }
 }
 
 /// STORE.
 #[inline(always)]
 #[tactic(auto, unfolding(crate::specs::Fields::row_at, plain_process::specs::Instructions::encoding, plain_process::specs::Instructions::insn_of, plain_process::specs::Instructions::effect, plain_process::specs::Instructions::effect_by))]
-fn stored(x: &[u32; 32], pc: u32, word: u32, funct3: u32) -> Step
+fn stored<M: GuestMemory>(
+    x: &[u32; 32],
+    pc: u32,
+    memory: &mut M,
+    word: u32,
+    funct3: u32,
+) -> Option<u32>
     requires { IsZeroHeld x.now }
-    ensures { (g : ℕ) (memory : Memory) → IsStepOfFields result 0x23 funct3 g word x.now pc x.now memory }
+    ensures step { (g : ℕ) →
+        IsStepOfFields result 0x23 funct3 g word x.now pc (M.memory memory.old) x.now (M.memory memory.new) }
+    ensures memory { result ≡ None → M.memory memory.new ≡ M.memory memory.old }
 {
-    let _ = pc;
     let address = first(x, word).wrapping_add(immediate_s(word).cast_unsigned());
     let value = second(x, word);
     match funct3 {
-        0 => Step::Store(Stored {
-            address,
-            size: 1,
-            value,
-        }),
-        1 => Step::Store(Stored {
-            address,
-            size: 2,
-            value,
-        }),
-        2 => Step::Store(Stored {
-            address,
-            size: 4,
-            value,
-        }),
-        _ => Step::Other,
+        0 => store(pc, memory, address, 1, value),
+        1 => store(pc, memory, address, 2, value),
+        2 => store(pc, memory, address, 4, value),
+        _ => None,
     }
 }
 
 /// OP-IMM.
 #[inline(always)]
-fn computed_immediate(x: &mut [u32; 32], pc: u32, word: u32, funct3: u32) -> Step
+fn computed_immediate(x: &mut [u32; 32], pc: u32, word: u32, funct3: u32) -> Option<u32>
     requires { IsZeroHeld x.old }
-    ensures step { (memory : Memory) → IsStepOfFields result 0x13 funct3 (word / 2 ^ 25) word x.old pc x.new memory }
+    ensures step { (memory : Memory) → IsStepOfFields result 0x13 funct3 (word / 2 ^ 25) word x.old pc memory x.new memory }
     ensures zero { IsZeroHeld x.new }
 {
     let a = first(x, word);
@@ -192,9 +192,9 @@ fn computed_immediate(x: &mut [u32; 32], pc: u32, word: u32, funct3: u32) -> Ste
 
 /// OP.
 #[inline(always)]
-fn computed(x: &mut [u32; 32], pc: u32, word: u32, funct3: u32) -> Step
+fn computed(x: &mut [u32; 32], pc: u32, word: u32, funct3: u32) -> Option<u32>
     requires { IsZeroHeld x.old }
-    ensures step { (memory : Memory) → IsStepOfFields result 0x33 funct3 (word / 2 ^ 25) word x.old pc x.new memory }
+    ensures step { (memory : Memory) → IsStepOfFields result 0x33 funct3 (word / 2 ^ 25) word x.old pc memory x.new memory }
     ensures zero { IsZeroHeld x.new }
 {
     let a = first(x, word);
@@ -203,60 +203,72 @@ fn computed(x: &mut [u32; 32], pc: u32, word: u32, funct3: u32) -> Step
     written(x, pc, rd(word), value)
 }
 
-/// The instruction of a word by its key: the opcode and 128 times funct3. Its rows are told apart by one jump.
+/// The instruction of a word by its key: bits 2 to 6 of the opcode, whose lowest two are set, and 32 times funct3. Its rows
+/// are told apart by one jump.
 #[inline(always)]
-fn step_by<M: GuestMemory>(x: &mut [u32; 32], pc: u32, memory: &M, word: u32, key: u32) -> Step
+fn step_by<M: GuestMemory>(
+    x: &mut [u32; 32],
+    pc: u32,
+    memory: &mut M,
+    word: u32,
+    key: u32,
+) -> Option<u32>
     requires { IsZeroHeld x.old }
-    ensures step { IsStepOfKey result key word x.old pc x.new (M.memory memory.now) }
+    ensures step { IsStepOfKey result key word x.old pc (M.memory memory.old) x.new (M.memory memory.new) }
+    ensures memory { result ≡ None → M.memory memory.new ≡ M.memory memory.old }
     ensures zero { IsZeroHeld x.new }
 {
     match key {
-        0x003 => loaded(x, pc, memory, word, 0),
-        0x083 => loaded(x, pc, memory, word, 1),
-        0x103 => loaded(x, pc, memory, word, 2),
-        0x203 => loaded(x, pc, memory, word, 4),
-        0x283 => loaded(x, pc, memory, word, 5),
-        0x013 => computed_immediate(x, pc, word, 0),
-        0x093 => computed_immediate(x, pc, word, 1),
-        0x113 => computed_immediate(x, pc, word, 2),
-        0x193 => computed_immediate(x, pc, word, 3),
-        0x213 => computed_immediate(x, pc, word, 4),
-        0x293 => computed_immediate(x, pc, word, 5),
-        0x313 => computed_immediate(x, pc, word, 6),
-        0x393 => computed_immediate(x, pc, word, 7),
-        0x017 | 0x097 | 0x117 | 0x197 | 0x217 | 0x297 | 0x317 | 0x397 => add_upper(x, pc, word),
-        0x023 => stored(x, pc, word, 0),
-        0x0A3 => stored(x, pc, word, 1),
-        0x123 => stored(x, pc, word, 2),
-        0x033 => computed(x, pc, word, 0),
-        0x0B3 => computed(x, pc, word, 1),
-        0x133 => computed(x, pc, word, 2),
-        0x1B3 => computed(x, pc, word, 3),
-        0x233 => computed(x, pc, word, 4),
-        0x2B3 => computed(x, pc, word, 5),
-        0x333 => computed(x, pc, word, 6),
-        0x3B3 => computed(x, pc, word, 7),
-        0x037 | 0x0B7 | 0x137 | 0x1B7 | 0x237 | 0x2B7 | 0x337 | 0x3B7 => load_upper(x, pc, word),
-        0x063 => branched(x, pc, word, 0),
-        0x0E3 => branched(x, pc, word, 1),
-        0x263 => branched(x, pc, word, 4),
-        0x2E3 => branched(x, pc, word, 5),
-        0x363 => branched(x, pc, word, 6),
-        0x3E3 => branched(x, pc, word, 7),
-        0x067 => jump_far(x, pc, word),
-        0x06F | 0x0EF | 0x16F | 0x1EF | 0x26F | 0x2EF | 0x36F | 0x3EF => jump_near(x, pc, word),
-        _ => Step::Other,
+        0x00 => loaded(x, pc, memory, word, 0),
+        0x20 => loaded(x, pc, memory, word, 1),
+        0x40 => loaded(x, pc, memory, word, 2),
+        0x80 => loaded(x, pc, memory, word, 4),
+        0xA0 => loaded(x, pc, memory, word, 5),
+        0x04 => computed_immediate(x, pc, word, 0),
+        0x24 => computed_immediate(x, pc, word, 1),
+        0x44 => computed_immediate(x, pc, word, 2),
+        0x64 => computed_immediate(x, pc, word, 3),
+        0x84 => computed_immediate(x, pc, word, 4),
+        0xA4 => computed_immediate(x, pc, word, 5),
+        0xC4 => computed_immediate(x, pc, word, 6),
+        0xE4 => computed_immediate(x, pc, word, 7),
+        0x05 | 0x25 | 0x45 | 0x65 | 0x85 | 0xA5 | 0xC5 | 0xE5 => add_upper(x, pc, word),
+        0x08 => stored(x, pc, memory, word, 0),
+        0x28 => stored(x, pc, memory, word, 1),
+        0x48 => stored(x, pc, memory, word, 2),
+        0x0C => computed(x, pc, word, 0),
+        0x2C => computed(x, pc, word, 1),
+        0x4C => computed(x, pc, word, 2),
+        0x6C => computed(x, pc, word, 3),
+        0x8C => computed(x, pc, word, 4),
+        0xAC => computed(x, pc, word, 5),
+        0xCC => computed(x, pc, word, 6),
+        0xEC => computed(x, pc, word, 7),
+        0x0D | 0x2D | 0x4D | 0x6D | 0x8D | 0xAD | 0xCD | 0xED => load_upper(x, pc, word),
+        0x18 => branched(x, pc, word, 0),
+        0x38 => branched(x, pc, word, 1),
+        0x98 => branched(x, pc, word, 4),
+        0xB8 => branched(x, pc, word, 5),
+        0xD8 => branched(x, pc, word, 6),
+        0xF8 => branched(x, pc, word, 7),
+        0x19 => jump_far(x, pc, word),
+        0x1B | 0x3B | 0x5B | 0x7B | 0x9B | 0xBB | 0xDB | 0xFB => jump_near(x, pc, word),
+        _ => None,
     }
 }
 
-/// Does the instruction of a word on registers, where it goes on and its row is among those for speed, but for its store,
-/// which it tells: what [`decode`](crate::decode) and [`exec`](crate::exec) do, with one jump and no instruction between
-/// them. Calls, traps, fences and words without a row are left to these.
+/// Does the instruction of a word on registers and memory, where it goes on and its row is among those for speed, and tells
+/// the address of the next one: what [`decode`](crate::decode) and [`exec`](crate::exec) do, with one jump and no instruction
+/// between them. Calls, traps, fences, words without a row and accesses that fail are left to these: then nothing has changed.
 #[inline(always)]
-pub fn step<M: GuestMemory>(x: &mut [u32; 32], pc: u32, memory: &M, word: u32) -> Step
+pub fn step<M: GuestMemory>(x: &mut [u32; 32], pc: u32, memory: &mut M, word: u32) -> Option<u32>
     requires { IsZeroHeld x.old }
-    ensures step { IsStepOfWord result word x.old pc x.new (M.memory memory.now) }
+    ensures step { IsStepOfWord result word x.old pc (M.memory memory.old) x.new (M.memory memory.new) }
+    ensures memory { result ≡ None → M.memory memory.new ≡ M.memory memory.old }
     ensures zero { IsZeroHeld x.new }
 {
-    step_by(x, pc, memory, word, word % 128 + (word >> 12) % 8 * 128)
+    if word % 4 != 3 {
+        return None;
+    }
+    step_by(x, pc, memory, word, word / 4 % 32 + (word >> 12) % 8 * 32)
 }

@@ -10,29 +10,33 @@ pub loop-count-preserved : goal.loop-count-preserved
 loop-count-preserved c =
     let first = c.args.hart.now in
     let ram = c.loop-count.ram in
-    let stretched = run_on c.loop-count.count c.stretch-done.result.0 first c.args.ram.now c.loop-count.hart ram c.stretch-done.new.regs ram c.loop-count.invariant.run c.stretch-done.ensures.run in
+    let after = c.stretch-count.new.ram in
+    let stretched = run_on c.loop-count.count c.stretch-count.result first c.args.ram.now c.loop-count.hart ram c.stretch-count.new.regs after c.loop-count.invariant.run c.stretch-count.ensures.run in
     record {
-      within = omega (arith, c.loop-count-test.true, c.stretch-done.ensures.count, c.if-count-quantum.false);
-      run = one_more (c.loop-count.count + c.stretch-done.result.0) first c.args.ram.now c.stretch-done.new.regs ram c.halted.new.regs c.halted.new.ram stretched c.in-Next.ensures.outcome;
+      within = omega (arith, c.loop-count-test.true, c.stretch-count.ensures.count, c.if-count-quantum.false);
+      run = one_more (c.loop-count.count + c.stretch-count.result) first c.args.ram.now c.stretch-count.new.regs after c.instruction_apart.new.regs c.instruction_apart.new.ram stretched c.in-Next.ensures.outcome;
     }
 
 pub returns-in-Call-clause-run : goal.returns-in-Call-clause-run
 returns-in-Call-clause-run c =
     let first = c.args.hart.now in
     let ram = c.loop-count.ram in
-    let stretched = run_on c.loop-count.count c.stretch-done.result.0 first c.args.ram.now c.loop-count.hart ram c.stretch-done.new.regs ram c.loop-count.invariant.run c.stretch-done.ensures.run in
-    stays (c.loop-count.count + c.stretch-done.result.0) first c.args.ram.now c.stretch-done.new.regs ram c.halted.new.regs c.halted.new.ram stretched c.in-Call.ensures.regs c.in-Call.ensures.ram
+    let after = c.stretch-count.new.ram in
+    let stretched = run_on c.loop-count.count c.stretch-count.result first c.args.ram.now c.loop-count.hart ram c.stretch-count.new.regs after c.loop-count.invariant.run c.stretch-count.ensures.run in
+    stays (c.loop-count.count + c.stretch-count.result) first c.args.ram.now c.stretch-count.new.regs after c.instruction_apart.new.regs c.instruction_apart.new.ram stretched c.in-Call.ensures.regs c.in-Call.ensures.ram
 
 pub returns-in-Trap-clause-run : goal.returns-in-Trap-clause-run
 returns-in-Trap-clause-run c =
     let first = c.args.hart.now in
     let ram = c.loop-count.ram in
-    let stretched = run_on c.loop-count.count c.stretch-done.result.0 first c.args.ram.now c.loop-count.hart ram c.stretch-done.new.regs ram c.loop-count.invariant.run c.stretch-done.ensures.run in
-    stays (c.loop-count.count + c.stretch-done.result.0) first c.args.ram.now c.stretch-done.new.regs ram c.halted.new.regs c.halted.new.ram stretched c.in-Trap.ensures.regs c.in-Trap.ensures.ram
+    let after = c.stretch-count.new.ram in
+    let stretched = run_on c.loop-count.count c.stretch-count.result first c.args.ram.now c.loop-count.hart ram c.stretch-count.new.regs after c.loop-count.invariant.run c.stretch-count.ensures.run in
+    stays (c.loop-count.count + c.stretch-count.result) first c.args.ram.now c.stretch-count.new.regs after c.instruction_apart.new.regs c.instruction_apart.new.ram stretched c.in-Trap.ensures.regs c.in-Trap.ensures.ram
 
 pub returns-then-count-quantum-clause-run : goal.returns-then-count-quantum-clause-run
 returns-then-count-quantum-clause-run c =
     let first = c.args.hart.now in
     let ram = c.loop-count.ram in
-    let stretched = run_on c.loop-count.count c.stretch-done.result.0 first c.args.ram.now c.loop-count.hart ram c.stretch-done.new.regs ram c.loop-count.invariant.run c.stretch-done.ensures.run in
-    subst (λ (n : ℕ). HasRun n first c.args.ram.now c.stretch-done.new.regs ram) c.if-count-quantum.true stretched
+    let after = c.stretch-count.new.ram in
+    let stretched = run_on c.loop-count.count c.stretch-count.result first c.args.ram.now c.loop-count.hart ram c.stretch-count.new.regs after c.loop-count.invariant.run c.stretch-count.ensures.run in
+    subst (λ (n : ℕ). HasRun n first c.args.ram.now c.stretch-count.new.regs after) c.if-count-quantum.true stretched

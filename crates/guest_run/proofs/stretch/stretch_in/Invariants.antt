@@ -4,6 +4,6 @@ use Rattle.guest_run.proofs.stretch.stretch_in.Given as goal
 
 abbrev pub invariant-loop-count : goal.invariant-loop-count
 invariant-loop-count l = record {
-  run : HasRun l.count l.initial.regs l.ram (regs_at l.regs.x l.pc) l.ram;
+  run : HasRun l.count l.initial.regs l.initial.ram (regs_at l.regs.x l.pc) l.ram;
   zero : IsZeroHeld l.regs.x;
 }

@@ -11,7 +11,7 @@ returns c = λ g memory.
     let x = c.args.x.now in
     let regs = regs_at x c.args.pc in
     let row = row_at 0x63 c.args.funct3 g w in
-    subst (λ (e : Effect). IsStep c.turned.result e x c.args.pc x memory)
+    subst (λ (e : Effect). IsStep c.turned.result e x x memory)
     (sym (row_effect row B w 0 c.cast_unsigned.result c.first-a.result c.second-b.result regs memory (c.is_taken-is_taken.ensures.format g w)
     refl (search rules) c.first-a.ensures c.second-b.ensures
     ∙ c.is_taken-is_taken.ensures.taken g w 0 c.cast_unsigned.result regs memory))

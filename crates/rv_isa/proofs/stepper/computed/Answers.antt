@@ -13,7 +13,7 @@ returns-clause-step c = λ memory.
     let regs = regs_at x c.args.pc in
     let i = word (cast_signed w32 (immediate R w)) in
     let row = row_at 0x33 c.args.funct3 (w / 2 ^ 25) w in
-    subst (λ (e : Effect). IsStep c.written.result e x c.args.pc c.written.new.x memory)
+    subst (λ (e : Effect). IsStep c.written.result e x c.written.new.x memory)
     (sym (row_effect row R w c.rd.result i c.first-a.result c.second-b.result regs memory (c.of_registers-value.ensures.format w)
     c.rd.ensures.value refl c.first-a.ensures c.second-b.ensures
     ∙ c.of_registers-value.ensures.value w c.rd.result i regs memory))

@@ -9,10 +9,10 @@ use Rattle.rv_isa.proofs.Fields.{row_of-fields}
 use Rattle.rv_isa.proofs.stepper.step.Goals as goal
 
 -- the fields of a word from its key
-opcode : (w : ℕ) → (w % 128 + w / 4096 % 8 * 128) % 128 ≡ w % 128
-opcode w = omega arith
+opcode : (w : ℕ) → w % 4 ≡ 3 → 4 * ((w / 4 % 32 + w / 4096 % 8 * 32) % 32) + 3 ≡ w % 128
+opcode w whole = omega arith
 
-funct3 : (w : ℕ) → (w % 128 + w / 4096 % 8 * 128) / 128 ≡ w / 4096 % 8
+funct3 : (w : ℕ) → (w / 4 % 32 + w / 4096 % 8 * 32) / 32 ≡ w / 4096 % 8
 funct3 w = omega arith
 
 pub returns-clause-step : goal.returns-clause-step
@@ -20,6 +20,7 @@ unfolding decoded
 returns-clause-step g c =
     let w = c.args.word in
     let memory = g.M.GuestMemory.memory c.args.memory.now in
-    let row = (λ i. row_at (opcode w i) (funct3 w i) (w / 2 ^ 25) w) ∙ sym (row_of-fields w c.ranges.word.fits) in
-    subst (λ (row : Option Op). IsStep c.step_by.result (effect_of_insn (option_map (with_operands w) row) (regs_at c.args.x.now c.args.pc) memory) c.args.x.now c.args.pc c.step_by.new.x memory)
+    let after = g.M.GuestMemory.memory c.step_by.new.memory in
+    let row = (λ i. row_at (opcode w (omega arith) i) (funct3 w i) (w / 2 ^ 25) w) ∙ sym (row_of-fields w c.ranges.word.fits) in
+    subst (λ (row : Option Op). IsStep c.step_by.result (effect_of_insn (option_map (with_operands w) row) (regs_at c.args.x.now c.args.pc) memory) c.args.x.now c.step_by.new.x after)
     row c.step_by.ensures.step

@@ -2,7 +2,7 @@ use Rattle.std.proofs.Common.{ap, subst}
 use Rattle.plain_process.specs.Valid.{IsUser}
 use Rattle.guest_proc.specs.Threads.{ThreadTable}
 use Rattle.guest_proc.proofs.Images.{made_of}
-use Rattle.guest_proc.proofs.RebuiltUsers.{rebuilt_user}
+use Rattle.image_process.proofs.RebuiltUsers.{rebuilt_user}
 use Rattle.guest_proc.proofs.guest.Guest.of_image.Goals as goal
 
 pub returns-clause-valid : goal.returns-clause-valid
