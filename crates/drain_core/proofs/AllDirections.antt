@@ -2,22 +2,20 @@
 --     for_each                    what holds of each item of a list
 --     note_dir, note_sender, note_reader     what a step leaves of the notes on a direction
 --     own_after                   the direction of an item after the step
---     fits_after, named_after     the notes fit the network after a step
+--     fits_after                  the notes fit the network after a step
 use Rattle.std.proofs.Common.{◌≡◌, ◌≢◌, ℕ, ◌==◌, ◌+◌, Bool, true, false, List, [], ◌∷◌, ◌++◌, take, length, refl, sym, ap, ap₂, subst, ◌∙◌, inl, inr}
-use Rattle.std.specs.Prelude.{Option, Some, None, All, IsSome, is_some, ◌||◌, if◌then◌else◌}
+use Rattle.std.specs.Prelude.{Option, Some, None, All, IsSome, is_some, if◌then◌else◌}
 use Rattle.std.specs.Option.{option_map}
-use Rattle.std.specs.Ordering.{eq_by_cmp}
 use Rattle.std.proofs.lemmas.List.Elements.{All-nil, All-cons, All-head, All-tail, All-map}
 use Rattle.std.proofs.lemmas.List.Sums.{fold-append}
 use Rattle.sys_abi.specs.declared.identity.Dir.{Dir}
 use Rattle.sys_abi.specs.declared.identity.RealPid.{RealPid}
-use Rattle.sys_abi.specs.Orders.{dir_cmp}
 use Rattle.wire_net.specs.declared.cut_room.DirNotes.{DirNotes}
 use Rattle.wire_net.specs.Directions.{Direction, after_receive}
 use Rattle.wire_net.specs.Channels.{Channels, direction_at, at_direction, is_live_at}
 use Rattle.wire_net.specs.Whereabouts.{stream_on}
 use Rattle.drain_core.specs.Tasks.{is_agent, readable, sendable, with_sent, noted_read, noted_sent, note_after, direction_after}
-use Rattle.drain_core.specs.Drains.{Notes, IsNoted, IsDraining, IsInStep, dirs_of, Apart, Fits, has_notes, notes_after, channels_after}
+use Rattle.drain_core.specs.Drains.{Notes, IsNoted, IsDraining, IsInStep, dirs_of, Apart, Fits, notes_after, channels_after}
 use Rattle.wire_net.proofs.OneDirection.{direction_changed}
 pub use Rattle.wire_net.proofs.Items.{for_each, one_of}
 use Rattle.drain_core.proofs.OneDrain.{step_kept}
@@ -162,9 +160,3 @@ fits_after p m notes fits = record {
       ∙ sym (live_after p notes m x.dir.conn)
       ∙ ap (λ (d : Dir). is_live_at (channels_after p notes m) d.conn) (sym (note_dir p (direction_at m x.dir) x))));
 }
-
--- the same directions are noted
-pub named_after : (p : RealPid) (m : Channels) (notes : Notes) (d : Dir) → has_notes d (notes_after p m notes) ≡ has_notes d notes
-named_after p m [] d = refl
-named_after p m (x ∷ notes) d =
-    ap₂ (λ (e : Dir) (b : Bool). eq_by_cmp dir_cmp e d || b) (note_dir p (direction_at m x.dir) x) (named_after p m notes d)

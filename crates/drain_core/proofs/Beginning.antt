@@ -1,5 +1,6 @@
 -- How a drain begins.
 --     IsFresh, all_fresh          the notes on a direction before anything was read or sent
+--     dirs_begun                  they are on the directions of the room
 --     fits_begun                  they fit the network
 --     kept_begun                  the bytes of each direction are those in its queues
 --     noted_begun                 each direction of the network is noted
@@ -108,7 +109,7 @@ fresh_in_step m ends named for side = choice (is_live_at m named.0.conn) refl
 
 -- ---- all of them
 
-dirs_begun : (m : Channels) (ends : List AgentEnd) (lengths : List Named) → dirs_of (begun m ends lengths) ≡ each (λ named. named.0) lengths
+pub dirs_begun : (m : Channels) (ends : List AgentEnd) (lengths : List Named) → dirs_of (begun m ends lengths) ≡ each (λ named. named.0) lengths
 dirs_begun m ends [] = refl
 dirs_begun m ends (named ∷ lengths) = ap (λ (ds : List Dir). named.0 ∷ ds) (dirs_begun m ends lengths)
 

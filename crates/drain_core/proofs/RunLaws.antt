@@ -1,7 +1,7 @@
 -- Whole runs of a drain.
 --     event_fits, event_keeps, event_lowers       one event
 --     run_fits, run_keeps         all of them
---     gives_drained, gives_what_stood, ends_in_time
+--     gives_what_stood, ends_in_time
 use Rattle.std.proofs.Common.{◌≡◌, ℕ, ◌+◌, ◌<◌, ◌≤◌, Bool, true, false, List, [], ◌∷◌, length, refl, ◌∙◌, arith}
 use Rattle.std.specs.Prelude.{All, nat_lt, ◌&&◌}
 use Rattle.std.proofs.lemmas.Bool.{and_parts}
@@ -16,19 +16,21 @@ use Rattle.wire_net.specs.Channels.{direction_at, at_direction}
 use Rattle.wire_net.specs.Networks.{Network, bytes_on}
 use Rattle.wire_net.specs.Runs.{Event, Step, Move, UnderWay, after, run, IsAllowed, moving, moves_made}
 use Rattle.wire_net.specs.Whereabouts.{stream_on, whereabouts}
+use Rattle.wire_net.proofs.KeptFrames.{direction_framed}
+use Rattle.wire_net.proofs.NotedAgents.{noted_named}
 use Rattle.wire_net.proofs.Streams.{whereabouts-move}
 use Rattle.drain_core.specs.Drains.{Fits, has_notes, is_done}
 use Rattle.drain_core.specs.Holding.{agents_of}
 use Rattle.drain_core.specs.Openings.{IsNaming, begun, lists_of}
-use Rattle.drain_core.specs.Runs.{step, moves, GivesDrained, IsWhatStands}
+use Rattle.drain_core.specs.Runs.{step, moves, IsWhatStands}
 use Rattle.drain_core.specs.Work.{work_left}
 use Rattle.drain_core.proofs.AllDirections.{fits_after}
 use Rattle.drain_core.proofs.Beginning.{kept_begun, noted_begun}
 use Rattle.drain_core.proofs.Bytes.{kept_bytes}
-use Rattle.drain_core.proofs.DrainedLists.{sided, drained_lists, noted_list, named_lists}
+use Rattle.drain_core.proofs.DrainedLists.{sided, noted_list}
 use Rattle.drain_core.proofs.Given.{given}
 use Rattle.drain_core.proofs.Moving.{moved_fits, moved_no_more, moved_work}
-use Rattle.drain_core.proofs.Staying.{run_there, run_named}
+use Rattle.drain_core.proofs.Staying.{run_frames, run_agents}
 use Rattle.drain_core.proofs.WorkLaws.{step_work}
 use Rattle.wire_net.proofs.Gains.{gain}
 
@@ -46,7 +48,7 @@ event_keeps : (e : Event) (s : UnderWay) (d : Dir) → d.side < 2 → FitsNow s 
 event_keeps (Step p) s d side fits = kept_bytes p s.net s.notes d side fits
 event_keeps (Move m place n) s d side fits = whereabouts-move s.net (agents_of s.notes) m d place n
 
-pub run_fits : (events : List Event) (s : UnderWay) → FitsNow s → All IsAllowed events → FitsNow (run step events s)
+run_fits : (events : List Event) (s : UnderWay) → FitsNow s → All IsAllowed events → FitsNow (run step events s)
 run_fits [] s fits may = fits
 run_fits (e ∷ events) s fits may = run_fits events (after step e s) (event_fits e s fits (All-head IsAllowed e events may)) (All-tail IsAllowed e events may)
 
@@ -61,9 +63,6 @@ paired P Q R [] leads first second = All-nil R
 paired P Q R (list ∷ lists) leads first second =
     All-cons R list lists (leads list (All-head P list lists first) (All-head Q list lists second)) (paired P Q R lists leads (All-tail P list lists first) (All-tail Q list lists second))
 
-pub gives_drained : GivesDrained
-gives_drained t notes fits done = let is = given t notes fits done in (drained_lists t notes fits is, named_lists t notes fits is)
-
 pub gives_what_stood : (t : Network) (ends : List AgentEnd) (lengths : List Named) (events : List Event) → IsNaming t.channels lengths → Fits t.channels (begun t.channels ends lengths) → All IsAllowed events
     → is_done (run step events (record { net = t; notes = begun t.channels ends lengths })).net.channels (run step events (record { net = t; notes = begun t.channels ends lengths })).notes ≡ true
     → IsWhatStands t.channels (lists_of (run step events (record { net = t; notes = begun t.channels ends lengths })).net.channels (run step events (record { net = t; notes = begun t.channels ends lengths })).notes)
@@ -73,8 +72,8 @@ gives_what_stood t ends lengths events naming fits may done = record {
       (λ list is side. is ∙ run_keeps events first list.dir side fits may ∙ kept_begun t ends lengths list.dir naming)
       (given last.net last.notes (run_fits events first fits may) done).lists (sided last.net.channels last.notes (run_fits events first fits may));
   whole = λ d side there.
-      noted_list last.net.channels d last.notes (run_there events first d ∙ there)
-      (run_named events first d ∙ noted_begun t.channels ends lengths d ∙ naming.whole d side there);
+      noted_list last.net.channels d last.notes (direction_framed t.channels last.net.channels d (run_frames events first) ∙ there)
+      (noted_named d last.notes first.notes (run_agents events first) ∙ noted_begun t.channels ends lengths d ∙ naming.whole d side there);
 }
   where
     first : UnderWay

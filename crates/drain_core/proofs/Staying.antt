@@ -1,61 +1,59 @@
--- What stays in a drain: the ends of channels, and which directions are there.
---     step_keeps_ends        a step of an agent neither ends a direction nor stops its reader
---     event_ends             a list of ends fits the network after an event as before
---     event_there, run_there         the same directions are there after an event, and after a whole run
---     event_named, run_named         the same directions are noted
-use Rattle.std.proofs.Common.{◌≡◌, ◌==◌, Bool, true, false, List, [], ◌∷◌, take, refl, ◌∙◌}
-use Rattle.std.specs.Prelude.{is_some, if◌then◌else◌}
-use Rattle.sys_abi.specs.declared.identity.Dir.{Dir}
+-- What stays in a drain: the frames of channels, and the agents of the notes.
+--     step_keeps                     a step of an agent neither ends a direction nor stops its reader
+--     frames_after, agents_after     what stays in a step
+--     run_frames, run_agents         and in a whole run
+use Rattle.std.proofs.Common.{◌≡◌, ◌==◌, Bool, true, false, List, [], ◌∷◌, take, refl, ap₂, ◌∙◌}
+use Rattle.std.specs.Prelude.{if◌then◌else◌}
 use Rattle.sys_abi.specs.declared.identity.RealPid.{RealPid}
-use Rattle.wire_net.specs.declared.agents.AgentEnd.{AgentEnd}
 use Rattle.wire_net.specs.declared.cut_room.DirNotes.{DirNotes}
 use Rattle.wire_net.specs.Channels.{Channels, direction_at, at_direction}
 use Rattle.wire_net.specs.Directions.{Direction, after_receive, after_send, after_move}
-use Rattle.wire_net.specs.Ends.{IsFor}
+use Rattle.wire_net.specs.Frames.{flags_of, SameFrames}
+use Rattle.wire_net.specs.Noted.{NamedAgents}
 use Rattle.wire_net.specs.Runs.{Event, Step, Move, UnderWay, after, run}
-use Rattle.wire_net.proofs.KeptEnds.{KeepsEnds, direction_kept, for_kept, move_keeps}
-use Rattle.drain_core.specs.Drains.{Notes, has_notes, channels_after}
+use Rattle.wire_net.proofs.KeptFrames.{KeepsFlags, frames_kept, same_frames, then_same, moves_keep}
+use Rattle.wire_net.proofs.NotedAgents.{agents_same}
+use Rattle.drain_core.specs.Drains.{Notes, named_agents, notes_after, channels_after}
 use Rattle.drain_core.specs.Runs.{step}
-use Rattle.drain_core.specs.Tasks.{unsent, reads, sends, direction_after}
-use Rattle.drain_core.proofs.AllDirections.{named_after}
+use Rattle.drain_core.specs.Tasks.{unsent, reads, sends, note_after, direction_after}
+use Rattle.drain_core.proofs.AllDirections.{note_dir, note_sender, note_reader}
 
-pub step_keeps_ends : (p : RealPid) (x : DirNotes) → KeepsEnds (direction_after p x)
-step_keeps_ends p x direction = choice (sends p x middle == 0)
+step_keeps : (p : RealPid) (x : DirNotes) → KeepsFlags (direction_after p x)
+step_keeps p x direction = choice (sends p x middle == 0)
   where
     middle : Direction
     middle = after_receive (reads p x direction) direction
 
-    next : Bool → Direction
-    next none = if none then middle else after_send (take (sends p x middle) (unsent x)) middle
+    choice : (none : Bool) → flags_of (if none then middle else after_send (take (sends p x middle) (unsent x)) middle) ≡ flags_of direction
+    choice true = refl
+    choice false = refl
 
-    choice : (none : Bool) → ((next none).is_ended ≡ direction.is_ended) × ((next none).is_unread ≡ direction.is_unread)
-    choice true = (refl, refl)
-    choice false = (refl, refl)
+pub frames_after : (p : RealPid) (notes : Notes) (m : Channels) → SameFrames m (channels_after p notes m)
+frames_after p [] m = same_frames m
+frames_after p (x ∷ notes) m =
+    let next = at_direction m x.dir (direction_after p x) in
+    then_same m next (channels_after p notes next) (frames_kept m x.dir (direction_after p x) (step_keeps p x)) (frames_after p notes next)
 
-ends_after : (p : RealPid) (notes : Notes) (m : Channels) (ends : List AgentEnd) → IsFor m ends → IsFor (channels_after p notes m) ends
-ends_after p [] m ends for = for
-ends_after p (x ∷ notes) m ends for = ends_after p notes (at_direction m x.dir (direction_after p x)) ends (for_kept m ends x.dir (direction_after p x) (step_keeps_ends p x) for)
+pub agents_after : (p : RealPid) (m : Channels) (notes : Notes) → named_agents (notes_after p m notes) ≡ named_agents notes
+agents_after p m [] = refl
+agents_after p m (x ∷ notes) =
+    let found = direction_at m x.dir in
+    ap₂ (λ (agents : NamedAgents) (rest : List NamedAgents). agents ∷ rest) (agents_same (note_after p found x) x (note_dir p found x) (note_sender p found x) (note_reader p found x))
+    (agents_after p m notes)
 
-there_after : (p : RealPid) (notes : Notes) (m : Channels) (d : Dir) → is_some (direction_at (channels_after p notes m) d) ≡ is_some (direction_at m d)
-there_after p [] m d = refl
-there_after p (x ∷ notes) m d = there_after p notes (at_direction m x.dir (direction_after p x)) d ∙ direction_kept m x.dir d (direction_after p x)
+event_frames : (e : Event) (s : UnderWay) → SameFrames s.net.channels (after step e s).net.channels
+event_frames (Step p) s = frames_after p s.notes s.net.channels
+event_frames (Move d place n) s = frames_kept s.net.channels d (after_move place n) (moves_keep place n)
 
-pub event_ends : (ends : List AgentEnd) (e : Event) (s : UnderWay) → IsFor s.net.channels ends → IsFor (after step e s).net.channels ends
-event_ends ends (Step p) s for = ends_after p s.notes s.net.channels ends for
-event_ends ends (Move d place n) s for = for_kept s.net.channels ends d (after_move place n) (move_keeps place n) for
+pub run_frames : (events : List Event) (s : UnderWay) → SameFrames s.net.channels (run step events s).net.channels
+run_frames [] s = same_frames s.net.channels
+run_frames (e ∷ events) s =
+    then_same s.net.channels (after step e s).net.channels (run step events (after step e s)).net.channels (event_frames e s) (run_frames events (after step e s))
 
-pub event_there : (e : Event) (s : UnderWay) (d : Dir) → is_some (direction_at (after step e s).net.channels d) ≡ is_some (direction_at s.net.channels d)
-event_there (Step p) s d = there_after p s.notes s.net.channels d
-event_there (Move m place n) s d = direction_kept s.net.channels m d (after_move place n)
+event_agents : (e : Event) (s : UnderWay) → named_agents (after step e s).notes ≡ named_agents s.notes
+event_agents (Step p) s = agents_after p s.net.channels s.notes
+event_agents (Move d place n) s = refl
 
-pub run_there : (events : List Event) (s : UnderWay) (d : Dir) → is_some (direction_at (run step events s).net.channels d) ≡ is_some (direction_at s.net.channels d)
-run_there [] s d = refl
-run_there (e ∷ events) s d = run_there events (after step e s) d ∙ event_there e s d
-
-event_named : (e : Event) (s : UnderWay) (d : Dir) → has_notes d (after step e s).notes ≡ has_notes d s.notes
-event_named (Step p) s d = named_after p s.net.channels s.notes d
-event_named (Move m place n) s d = refl
-
-pub run_named : (events : List Event) (s : UnderWay) (d : Dir) → has_notes d (run step events s).notes ≡ has_notes d s.notes
-run_named [] s d = refl
-run_named (e ∷ events) s d = run_named events (after step e s) d ∙ event_named e s d
+pub run_agents : (events : List Event) (s : UnderWay) → named_agents (run step events s).notes ≡ named_agents s.notes
+run_agents [] s = refl
+run_agents (e ∷ events) s = run_agents events (after step e s) ∙ event_agents e s

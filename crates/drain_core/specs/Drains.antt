@@ -22,7 +22,7 @@ use Rattle.wire_net.specs.declared.limits.TheConstants.{QUEUE_LIMIT}
 use Rattle.wire_net.specs.Directions.{Direction, standing}
 use Rattle.wire_net.specs.Channels.{Channels, direction_at, at_direction, is_live_at}
 use Rattle.wire_net.specs.Whereabouts.{stream, stream_on}
-pub use Rattle.wire_net.specs.Noted.{Notes, IsFlowing, dirs_of, Apart, has_notes, answer_of}
+pub use Rattle.wire_net.specs.Noted.{Notes, IsFlowing, dirs_of, Apart, has_notes, named_agents, answer_of}
 use Rattle.drain_core.specs.declared.limits.TheConstants.{COOKIE_LENGTH}
 use Rattle.drain_core.specs.Tasks.{cookie, is_agent, has_sent, moves, direction_after, note_after}
 

@@ -1,26 +1,20 @@
 -- Whole runs of a drain: steps of agents and moves of bytes, in any order.
 --     step p s                what a step of an agent leaves of the network and the notes
 --     moves p s               it moves bytes
---     EndsStay                a list of ends fits the network after an event as before
---     DirectionsStay          the same directions are there
---     StaysFit                the notes fit the network all along
---     GivesDrained            the lists of a drain that is done are a drained network, and its room names them, as a refill asks
 --     IsWhatStands m lists    each list has the bytes that stand in its direction, and each direction has a list
 --     GivesWhatStood          whatever happens on the way, the lists of a drain that is done are what stood in the network when it began
 --     EndsInTime              no run has more events that move bytes than there was work
-use Rattle.std.specs.Prelude.{◌≡◌, ◌≤◌, Bool, true, List, All, is_some}
-use Rattle.sys_abi.specs.declared.identity.Dir.{Dir}
+use Rattle.std.specs.Prelude.{◌≡◌, ◌≤◌, Bool, true, List, All}
 use Rattle.sys_abi.specs.declared.identity.RealPid.{RealPid}
 use Rattle.wire_net.specs.declared.agents.AgentEnd.{AgentEnd}
 use Rattle.wire_net.specs.declared.cut_room.DirBytes.{DirBytes}
-use Rattle.wire_net.specs.CutRooms.{Named, names_of}
+use Rattle.wire_net.specs.CutRooms.{Named}
 use Rattle.wire_net.specs.Channels.{Channels, direction_at}
-use Rattle.wire_net.specs.DrainedNets.{IsDrained, HasLists, IsNamingLists}
-use Rattle.wire_net.specs.Ends.{IsFor}
+use Rattle.wire_net.specs.DrainedNets.{HasLists}
 use Rattle.wire_net.specs.Networks.{Network}
-use Rattle.wire_net.specs.Runs.{Event, IsAllowed, UnderWay, Steps, after, run, moves_made}
+use Rattle.wire_net.specs.Runs.{Event, IsAllowed, UnderWay, Steps, run, moves_made}
 use Rattle.wire_net.specs.Whereabouts.{stream_on}
-use Rattle.drain_core.specs.Drains.{Notes, Fits, moves_any, notes_after, channels_after, is_done}
+use Rattle.drain_core.specs.Drains.{Fits, moves_any, notes_after, channels_after, is_done}
 use Rattle.drain_core.specs.Openings.{IsNaming, begun, lists_of}
 use Rattle.drain_core.specs.Work.{work_left}
 
@@ -29,20 +23,6 @@ step p s = record { net = record s.net { channels = channels_after p s.notes s.n
 
 abbrev pub moves : RealPid → UnderWay → Bool
 moves p s = moves_any p s.net.channels s.notes
-
--- what refill and finish ask of the network later is as it was
-abbrev pub EndsStay : Type 0
-EndsStay = (ends : List AgentEnd) (e : Event) (s : UnderWay) → IsFor s.net.channels ends → IsFor (after step e s).net.channels ends
-
-abbrev pub DirectionsStay : Type 0
-DirectionsStay = (e : Event) (s : UnderWay) (d : Dir) → is_some (direction_at (after step e s).net.channels d) ≡ is_some (direction_at s.net.channels d)
-
-abbrev pub StaysFit : Type 0
-StaysFit = (events : List Event) (s : UnderWay) → Fits s.net.channels s.notes → All IsAllowed events → Fits (run step events s).net.channels (run step events s).notes
-
-abbrev pub GivesDrained : Type 0
-GivesDrained = (t : Network) (notes : Notes) → Fits t.channels notes → is_done t.channels notes ≡ true
-    → IsDrained t.channels (lists_of t.channels notes) × IsNamingLists (names_of notes) (lists_of t.channels notes)
 
 -- the lists are what stands in a network
 pub record IsWhatStands (m : Channels) (lists : List DirBytes) : Type 0 where

@@ -1,10 +1,11 @@
-ghost use Rattle.std.specs.Prelude.{◌≡◌, ◌==◌, ◌<◌, ◌↔◌, true, false, length, IsSome};
+ghost use Rattle.std.specs.Prelude.{◌≡◌, ◌≢◌, ◌==◌, ◌<◌, ◌↔◌, true, false, map as each, length, IsSome};
 ghost use Rattle.sys_abi.specs.declared.identity.Dir.{Dir};
 ghost use Rattle.wire_net.specs.declared.agents.Stepped.TheVariants.{Moved, Again};
 ghost use Rattle.wire_net.specs.CutRooms.{names_of};
 ghost use Rattle.wire_net.specs.Channels.{direction_at};
 ghost use Rattle.wire_net.specs.DrainedNets.{list_on, IsDrained, IsNamingLists, agents_of_lists};
 ghost use Rattle.wire_net.specs.Ends.{IsFor};
+ghost use Rattle.wire_net.specs.Frames.{SameFrames};
 ghost use Rattle.wire_net.specs.Whereabouts.{stream_on};
 ghost use Rattle.drain_core.specs.Drains as words;
 ghost use Rattle.drain_core.specs.Holding.{agents_of, whereabouts};
@@ -48,7 +49,8 @@ impl Drain {
         requires naming { openings.IsNaming net.now.channels room.lengths }
         ensures begun { result ≡ openings.begun net.now.channels ends.now room.lengths }
         ensures fits { words.Fits net.now.channels result }
-        ensures named { (d : Dir) → d.side < 2 → IsSome (direction_at net.now.channels d) → words.has_notes d result ≡ true }
+        ensures named { words.dirs_of result ≡ each (λ named. named.0) room.lengths }
+        ensures there { (d : Dir) → d.side < 2 → IsSome (direction_at net.now.channels d) → words.has_notes d result ≡ true }
 
         // The bytes of each direction are where they were.
         ensures kept { (d : Dir) → whereabouts net.now (agents_of result) d ≡ stream_on (direction_at net.now.channels d) }
@@ -72,17 +74,20 @@ impl Drain {
         ensures notes { self.new ≡ words.notes_after agent net.old.channels self.old }
         ensures net { net.new ≡ record net.old { channels = words.channels_after agent self.old net.old.channels } }
         ensures fits { words.Fits net.new.channels self.new }
-        ensures named { (d : Dir) → words.has_notes d self.new ≡ words.has_notes d self.old }
 
-        // The room is the same.
+        // The same directions are noted, with the same agents and room.
+        ensures agents { words.named_agents self.new ≡ words.named_agents self.old }
         ensures rooms { names_of self.new ≡ names_of self.old }
+
+        // The same channels are there, with the same directions ended or unread and the same ends open.
+        ensures frame { SameFrames net.old.channels net.new.channels }
 
         // The bytes of each direction are the same, wherever they are.
         ensures kept { (d : Dir) → d.side < 2 → whereabouts net.new (agents_of self.new) d ≡ whereabouts net.old (agents_of self.old) d }
 
-        // What moves bytes leaves less to do.
+        // What moves bytes leaves less to do, and what moves none leaves all as it was.
         ensures less { result ≡ Moved → work_left net.new.channels self.new < work_left net.old.channels self.old }
-        ensures idle { words.has_work agent self.old ≡ false → (self.new ≡ self.old) × (net.new ≡ net.old) }
+        ensures still { result ≢ Moved → (self.new ≡ self.old) × (net.new ≡ net.old) }
     {
         let has_work = self.has_work(net, agent);
         let moved = step_all(&mut self.notes, net, &mut self.transfer, agent);

@@ -1,5 +1,5 @@
 ghost use Rattle.drain_core.specs.Laws.{StepsAtEnds, OthersStay, MoveFits, MoveLowers};
-ghost use Rattle.drain_core.specs.Runs.{EndsStay, DirectionsStay, StaysFit, GivesDrained, GivesWhatStood, EndsInTime};
+ghost use Rattle.drain_core.specs.Runs.{GivesWhatStood, EndsInTime};
 
 /// What steps of agents and moves of bytes from queue to queue do while agents drain, and what whole runs of them come to.
 /// It does nothing.
@@ -13,13 +13,6 @@ pub fn drain_laws()
     // The notes of the agents fit the network after a move, and less is left to do where bytes were moved.
     ensures fits { MoveFits }
     ensures lowers { MoveLowers }
-
-    // Steps and moves keep the ends of all channels and which directions there are, so that what a refill and the end of the
-    // drain ask of the network is as it was.
-    ensures stay { EndsStay }
-    ensures there { DirectionsStay }
-    ensures fit { StaysFit }
-    ensures drained { GivesDrained }
 
     // Whatever steps and moves are made on the way, in any order, a drain that is done gives a list for each direction that
     // was there when it began, of what stood in it then; and no more of them move bytes than there was work.

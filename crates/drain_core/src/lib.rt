@@ -10,13 +10,14 @@
 //!
 //! Proved: each step leaves the bytes of every direction as they are, wherever they are: read, received, on the wire,
 //! sent. It takes bytes only off the front of queues that its agent reads, and adds some only at the back of queues to
-//! which its agent sends. What moves bytes leaves less to do, and while the drain is not done some agent's step or some
-//! move moves bytes. At the end the queues of live channels are empty, in others all bytes can be read, and, whatever
-//! steps and moves were made on the way, in any order, each direction has a list, of what stood in it when the drain
-//! began ([`drain_laws`]); lists and room are then as a refill asks. Not proved: that the caller makes the steps and
-//! the moves. The source is Ansel, Arya, Cooperman, "DMTCP: Transparent Checkpointing for Cluster Computations and the
-//! Desktop", 2009 (drain kernel buffers); that the number of bytes is known when the drain begins, and what a cookie
-//! has, is this project's own.
+//! which its agent sends; which channels there are, what is ended or unread and which ends are open stays, and so do the
+//! agents of the notes. A step that moves bytes leaves less to do, any other one changes nothing, and while the drain is
+//! not done some agent's step or some move moves bytes. At the end the queues of live channels are empty, in others all
+//! bytes can be read, and, whatever steps and moves were made on the way, in any order, each direction has a list, of
+//! what stood in it when the drain began ([`drain_laws`]); lists and room are then as a refill asks. Not proved: that the
+//! caller makes the steps and the moves. The source is Ansel, Arya, Cooperman, "DMTCP: Transparent Checkpointing for
+//! Cluster Computations and the Desktop", 2009 (drain kernel buffers); that the number of bytes is known when the drain
+//! begins, and what a cookie has, is this project's own.
 #![tactic(auto)]
 
 mod cookie;

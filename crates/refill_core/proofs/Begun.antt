@@ -1,5 +1,5 @@
 -- How a refill begins.
---     begun_dirs               the directions of the room are noted
+--     begun_dirs, noted_begun      the directions of the room are noted
 --     NamedAt, named_at        the notes on a direction that the room names
 --     fits_begun               the notes fit a network that was drained so
 --     held_begun               the bytes of each direction are the same, by the lists and by the notes
@@ -30,7 +30,7 @@ use Rattle.wire_net.proofs.ListsOn.{one_listed, list_dir, each_listed}
 use Rattle.wire_net.proofs.LiveAgents.{live_there, direction_there, not_there, agent_there, some_is}
 use Rattle.refill_core.specs.Beginnings.{IsNew, IsReady, IsBeginning, cleared, with_list, begun_on, begun}
 use Rattle.refill_core.specs.Holding.{agents_of, own_bytes}
-use Rattle.refill_core.specs.Refills.{Notes, Fits, IsAside, Apart, dirs_of, notes_at}
+use Rattle.refill_core.specs.Refills.{Notes, Fits, IsAside, Apart, dirs_of, has_notes, notes_at}
 use Rattle.refill_core.proofs.Bytes.{whereabouts_is}
 use Rattle.refill_core.proofs.Starting.{begins_fit}
 
@@ -53,6 +53,11 @@ begun_unread ends named found = by_place (λ x. x.read ≡ 0) ends named found r
 pub begun_dirs : (lists : List DirBytes) (ends : List AgentEnd) (lengths : List Named) → dirs_of (begun lists ends lengths) ≡ each (λ named. named.0) lengths
 begun_dirs lists ends [] = refl
 begun_dirs lists ends (named ∷ lengths) = ap₂ (λ (d : Dir) (ds : List Dir). d ∷ ds) (begun_dir ends named (list_on named.0 lists)) (begun_dirs lists ends lengths)
+
+pub noted_begun : (lists : List DirBytes) (ends : List AgentEnd) (lengths : List Named) (d : Dir) → has_notes d (begun lists ends lengths) ≡ list_any (λ named. eq_by_cmp dir_cmp named.0 d) lengths
+noted_begun lists ends [] d = refl
+noted_begun lists ends (named ∷ lengths) d =
+    ap₂ (λ (e : Dir) (b : Bool). eq_by_cmp dir_cmp e d || b) (begun_dir ends named (list_on named.0 lists)) (noted_begun lists ends lengths d)
 
 pub record NamedAt (lists : List DirBytes) (ends : List AgentEnd) (lengths : List Named) (d : Dir) : Type 0 where
   pub named : Named

@@ -3,7 +3,6 @@ mod OneWhereabouts
 mod Pairs
 mod EndFits
 mod Whole
-mod TurnLaws
 mod Bytes
 mod WorkLaws
 mod Moving
@@ -20,5 +19,7 @@ mod Steps
 mod Starting
 mod Turns
 mod Begun
-mod EndsKept
+mod Staying
+mod TurnLaws
+mod StepLaws
 mod RunLaws

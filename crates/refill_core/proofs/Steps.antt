@@ -1,7 +1,7 @@
 -- A whole step of an agent, as the list of the notes has it.
 --     written_back            the list that is written back is what the step made of it
---     step_fits .. step_idle  what the step leaves
-use Rattle.std.proofs.Common.{◌≡◌, ℕ, ◌<◌, false, ◌++◌, length, take, drop, sym, ap, subst, ◌∙◌, arith, append-nil}
+--     step_fits .. step_still     what the step leaves
+use Rattle.std.proofs.Common.{◌≡◌, ◌≢◌, ℕ, ◌<◌, false, ◌++◌, length, take, drop, sym, ap, subst, ◌∙◌, arith, append-nil, inl, inr}
 use Rattle.std.proofs.lemmas.List.{take_all, drop_all}
 use Rattle.sys_abi.specs.declared.identity.Dir.{Dir}
 use Rattle.sys_abi.specs.declared.identity.RealPid.{RealPid}
@@ -18,7 +18,7 @@ use Rattle.refill_core.proofs.OneCall.{with_channels}
 use Rattle.refill_core.proofs.Still.{ends_still}
 use Rattle.refill_core.proofs.Whole.{FitsNow, ends_fit, ends_dirs}
 use Rattle.refill_core.proofs.WorkLaws.{ends_lower}
-use Rattle.wire_net.proofs.Gains.{gain, has_moved}
+use Rattle.wire_net.proofs.Gains.{gain, has_moved, not_moved}
 
 pub written_back : (n : ℕ) (new seen old : Notes) → length new ≡ length seen → seen ≡ old → length seen ≡ n → take n (new ++ drop (length new) old) ≡ new
 written_back n new seen old many same all =
@@ -51,10 +51,14 @@ step_less p w l t u fits after is =
     let same : work_left u.channels w ≡ work_left (turns_after p (dirs_of l) s).channels (turns_after p (dirs_of l) s).notes = ap (λ (r : Refilling). work_left r.channels r.notes) after in
     omega (arith, one, lower, same)
 
-still : (p : RealPid) (w l : Notes) (t u : Network) → Fits t.channels l → state w u ≡ turns_after p (dirs_of l) (state l t) → has_work p l ≡ false → state w u ≡ state l t
-still p w l t u fits after none = after ∙ ends_still p (dirs_of l) (state l t) fits (idle_any p (dirs_of l) (state l t) fits none)
+-- what does not answer that it moved bytes moves none
+unmoved : (p : RealPid) (l : Notes) (t : Network) → Fits t.channels l → step_answer p (state l t) ≢ Moved → moved_any p (dirs_of l) (state l t) ≡ false
+unmoved p l t fits other = elim (not_moved (has_work p l) (moved_any p (dirs_of l) (state l t)) other) [
+  | inl none ↦ idle_any p (dirs_of l) (state l t) fits none
+  | inr none ↦ none
+]
 
-pub step_idle : (p : RealPid) (w l : Notes) (t u : Network) → Fits t.channels l → state w u ≡ turns_after p (dirs_of l) (state l t) → u ≡ with_channels t u.channels → has_work p l ≡ false → (w ≡ l) × (u ≡ t)
-step_idle p w l t u fits after net none =
-    let same = still p w l t u fits after none in
+pub step_still : (p : RealPid) (w l : Notes) (t u : Network) → Fits t.channels l → state w u ≡ turns_after p (dirs_of l) (state l t) → u ≡ with_channels t u.channels → step_answer p (state l t) ≢ Moved → (w ≡ l) × (u ≡ t)
+step_still p w l t u fits after net other =
+    let same = after ∙ ends_still p (dirs_of l) (state l t) fits (unmoved p l t fits other) in
     (ap (λ (s : Refilling). s.notes) same, net ∙ ap (λ (s : Refilling). with_channels t s.channels) same)

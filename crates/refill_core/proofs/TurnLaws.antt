@@ -1,9 +1,11 @@
 -- What a turn of an agent does to each direction, and to the lists of its notes.
---     steps_at_ends      it reads and sends at ends for which it acts, and keeps what it reads
-use Rattle.std.proofs.Common.{◌≡◌, ◌≢◌, ℕ, ◌==◌, ◌-◌, ◌<◌, Bool, true, false, List, [], ◌++◌, take, drop, length, refl, sym, ap, subst, ◌∙◌, arith, append-nil, inl, inr}
+--     AtEnds, turn_at_ends       it reads and sends at ends for which it acts, and keeps what it reads
+--     none_at_ends               so it is where nothing happens
+use Rattle.std.proofs.Common.{◌≡◌, ◌≢◌, ℕ, ◌==◌, ◌+◌, ◌-◌, ◌<◌, Bool, true, false, List, [], ◌++◌, take, length, refl, sym, ap, subst, ◌∙◌, arith, append-nil, inl, inr}
 use Rattle.std.specs.Prelude.{Option, Some, None, IfSome, is_some, if◌then◌else◌}
 use Rattle.std.specs.Option.{option_map_or}
-use Rattle.std.proofs.lemmas.List.{take_all, take-append-drop}
+use Rattle.std.proofs.Math.Seq.{drop-nil}
+use Rattle.std.proofs.lemmas.List.{length-take, take-append-drop}
 use Rattle.views.proofs.MapLaws.{same_or_other, true_false}
 use Rattle.sys_abi.specs.declared.identity.Dir.{Dir}
 use Rattle.sys_abi.specs.declared.identity.RealPid.{RealPid}
@@ -14,13 +16,15 @@ use Rattle.wire_net.specs.Directions.{Direction, after_receive, after_send}
 use Rattle.wire_net.specs.Channels.{Channels, direction_at}
 use Rattle.wire_net.specs.Networks.{received_on}
 use Rattle.wire_net.specs.Whereabouts.{reverse}
-use Rattle.wire_net.proofs.KeptEnds.{direction_kept}
+use Rattle.wire_net.proofs.KeptFrames.{direction_framed}
 use Rattle.refill_core.specs.declared.limits.TheConstants.{HEADER_LENGTH}
-use Rattle.refill_core.specs.Laws.{acts, IsNotedTurn, IsTurnOn}
+use Rattle.refill_core.specs.Laws.{acts, IsNotedStep, IsStepAt}
 use Rattle.refill_core.specs.Refills.{Refilling, notes_at, put_notes, turn_after}
-use Rattle.refill_core.specs.Tasks.{is_agent, part, read_count, note_read, channels_read, send_count, sent_on, turn_channels}
+use Rattle.refill_core.specs.Tasks.{is_agent, sent_on, turn_channels}
 use Rattle.refill_core.proofs.EndFits.{Ended, ended}
+use Rattle.refill_core.proofs.Going.{read_is}
 use Rattle.refill_core.proofs.Pairs.{twice_around, put_found, put_beside}
+use Rattle.refill_core.proofs.Staying.{channels_framed}
 use Rattle.refill_core.proofs.Whole.{FitsNow, Turn, end_cases, result_of}
 
 -- ---- two look-ups that find something, or the same
@@ -49,16 +53,17 @@ no_step reads sends direction = record {
   silent = λ is. refl;
 }
 
-no_list : (before after : List ℕ) (x : DirNotes) → after ≡ before → IsNotedTurn before after x x
+no_list : (before after : List ℕ) (x : DirNotes) → after ≡ before → IsNotedStep before after x x
 no_list before after x same = record {
   read = [];
   front = sym same;
-  returned = record { from = 0; count = 0; grown = sym (append-nil x.returned.items) };
+  counted = omega arith;
+  returned = sym (ap (λ (l : List ℕ). x.returned.items ++ l) (drop-nil (HEADER_LENGTH - x.read)) ∙ append-nil x.returned.items);
   drained = refl;
   sender = refl;
 }
 
-still_on : (p : RealPid) (e : Dir) (s : Refilling) → IsTurnOn p e s s
+still_on : (p : RealPid) (e : Dir) (s : Refilling) → IsStepAt p e s s
 still_on p e s =
     let reads = acts p (notes_at (reverse e) s.notes) in
     let sends = acts p (notes_at e s.notes) in
@@ -66,7 +71,7 @@ still_on p e s =
       there = refl;
       queues = same_both (IsStepOn reads sends) (direction_at s.channels e) (direction_at s.channels e) refl (no_step reads sends);
       noted = refl;
-      lists = same_both (IsNotedTurn read read) (notes_at e s.notes) (notes_at e s.notes) refl (λ x. no_list read read x refl);
+      lists = same_both (IsNotedStep read read) (notes_at e s.notes) (notes_at e s.notes) refl (λ x. no_list read read x refl);
     }
 
 -- ---- on the channel of the turn
@@ -110,11 +115,9 @@ same_reverse q d side few same = sym (twice_around q side) ∙ ap reverse same �
 of_found : (p : RealPid) (found : Option DirNotes) (x : DirNotes) → found ≡ Some x → is_agent p x.sender ≡ true → acts p found ≡ true
 of_found p found x at agent = ap (λ (o : Option DirNotes). option_map_or (λ (z : DirNotes). is_agent p z.sender) o false) at ∙ agent
 
-turn_on : (p : RealPid) (d : Dir) (s : Refilling) (t : Turn p d s) (q : Dir) → q.side < 2 → IsTurnOn p q s (result_of p d s t.x t.y)
-turn_on p d s t q side = subst (λ (v : DirNotes). IsTurnOn p q s (record { notes = put_notes d v s.notes; channels = after })) (sym e.after_is) (record {
-  there =
-      direction_kept (channels_read p t.x s.channels) t.x.dir q (sent_on (send_count p (note_read p t.x s.channels) t.y (channels_read p t.x s.channels)) (part (note_read p t.x s.channels) t.y))
-      ∙ direction_kept s.channels (reverse t.x.dir) q (after_receive (read_count p t.x s.channels));
+turn_on : (p : RealPid) (d : Dir) (s : Refilling) (t : Turn p d s) (q : Dir) → q.side < 2 → IsStepAt p q s (result_of p d s t.x t.y)
+turn_on p d s t q side = subst (λ (v : DirNotes). IsStepAt p q s (record { notes = put_notes d v s.notes; channels = after })) (sym e.after_is) (record {
+  there = direction_framed s.channels after q (channels_framed p t.x t.y s.channels);
   queues = queues;
   noted = noted;
   lists = lists;
@@ -168,36 +171,40 @@ turn_on p d s t q side = subst (λ (v : DirNotes). IsTurnOn p q s (record { note
       | inr apart ↦ ap received_on (e.beside (reverse q) (omega (arith, side)) apart (λ same. differ (same_reverse q d side t.pair.side same)))
     ]
 
-    own_lists : IsNotedTurn (read_on s.channels d) (read_on after d) t.x e.after
+    own_lists : IsNotedStep (read_on s.channels d) (read_on after d) t.x e.after
     own_lists =
         let piece = take e.n t.pair.other.received in
-        let kept = drop (HEADER_LENGTH - t.x.read) piece in record {
+        let count = read_is p d s t.x t.y t.pair t.agent in
+        let many : length piece ≡ e.n = length-take e.n t.pair.other.received ∙ (let is = e.reads in omega (arith, is, count)) in record {
           read = piece;
           front =
               ap received_on t.pair.other_at ∙ sym (take-append-drop e.n t.pair.other.received)
               ∙ ap (λ (l : List ℕ). piece ++ l) (sym (ap received_on e.other_at ∙ ap (λ (r : Direction). r.received) e.other_is));
-          returned = record {
-            from = HEADER_LENGTH - t.x.read;
-            count = length kept;
-            grown = e.returned_after ∙ ap (λ (l : List ℕ). t.x.returned.items ++ l) (sym (take_all (length kept) kept (omega arith)));
-          };
+          counted = e.read_after ∙ ap (λ (k : ℕ). t.x.read + k) (sym many);
+          returned = e.returned_after;
           drained = e.drained;
           sender = e.sender;
         }
 
-    lists : IfSome (notes_at q s.notes) (λ x. IfSome (notes_at q (put_notes d e.after s.notes)) (IsNotedTurn (read_on s.channels q) (read_on after q) x))
+    lists : IfSome (notes_at q s.notes) (λ x. IfSome (notes_at q (put_notes d e.after s.notes)) (IsNotedStep (read_on s.channels q) (read_on after q) x))
     lists = elim (same_or_other dir_total dir_exact q d) [
       | inl same ↦
-          found_both (IsNotedTurn (read_on s.channels q) (read_on after q)) (notes_at q s.notes) (notes_at q (put_notes d e.after s.notes)) t.x e.after (ap (λ (f : Dir). notes_at f s.notes) same ∙ t.pair.x_at)
+          found_both (IsNotedStep (read_on s.channels q) (read_on after q)) (notes_at q s.notes) (notes_at q (put_notes d e.after s.notes)) t.x e.after (ap (λ (f : Dir). notes_at f s.notes) same ∙ t.pair.x_at)
           (ap (λ (f : Dir). notes_at f (put_notes d e.after s.notes)) same ∙ put_found d t.x e.after s.notes e.dir t.pair.x_at)
-          (subst (λ (f : Dir). IsNotedTurn (read_on s.channels f) (read_on after f) t.x e.after) (sym same) own_lists)
+          (subst (λ (f : Dir). IsNotedStep (read_on s.channels f) (read_on after f) t.x e.after) (sym same) own_lists)
       | inr differ ↦
-          same_both (IsNotedTurn (read_on s.channels q) (read_on after q)) (notes_at q s.notes) (notes_at q (put_notes d e.after s.notes)) (put_beside d q e.after s.notes e.dir differ)
+          same_both (IsNotedStep (read_on s.channels q) (read_on after q)) (notes_at q s.notes) (notes_at q (put_notes d e.after s.notes)) (put_beside d q e.after s.notes e.dir differ)
           (λ x. no_list (read_on s.channels q) (read_on after q) x (unread differ))
     ]
 
-pub steps_at_ends : (p : RealPid) (d : Dir) (s : Refilling) → FitsNow s → (q : Dir) → q.side < 2 → IsTurnOn p q s (turn_after p d s)
-steps_at_ends p d s fits q side = elim (end_cases p d s fits) [
-  | inl still ↦ subst (IsTurnOn p q s) (sym still.is) (still_on p q s)
-  | inr turn ↦ subst (IsTurnOn p q s) (sym turn.is) (turn_on p d s turn q side)
+abbrev pub AtEnds : RealPid → Refilling → Refilling → Type 0
+AtEnds p s t = (q : Dir) → q.side < 2 → IsStepAt p q s t
+
+pub none_at_ends : (p : RealPid) (s : Refilling) → AtEnds p s s
+none_at_ends p s q side = still_on p q s
+
+pub turn_at_ends : (p : RealPid) (d : Dir) (s : Refilling) → FitsNow s → AtEnds p s (turn_after p d s)
+turn_at_ends p d s fits q side = elim (end_cases p d s fits) [
+  | inl still ↦ subst (IsStepAt p q s) (sym still.is) (still_on p q s)
+  | inr turn ↦ subst (IsStepAt p q s) (sym turn.is) (turn_on p d s turn q side)
 ]

@@ -23,7 +23,7 @@ use Rattle.wire_net.specs.Directions.{Direction}
 use Rattle.wire_net.specs.Channels.{Channels, direction_at, is_live_at}
 use Rattle.wire_net.specs.Networks.{received_on}
 use Rattle.wire_net.specs.Whereabouts.{stream, stream_on, reverse}
-pub use Rattle.wire_net.specs.Noted.{Notes, IsFlowing, dirs_of, Apart, has_notes}
+pub use Rattle.wire_net.specs.Noted.{Notes, IsFlowing, dirs_of, Apart, has_notes, named_agents}
 use Rattle.refill_core.specs.declared.limits.TheConstants.{HEADER_LENGTH}
 use Rattle.refill_core.specs.Tasks.{frame_length, sent_in_all, is_agent, turn_note, turn_channels}
 

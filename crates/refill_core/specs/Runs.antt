@@ -1,6 +1,5 @@
 -- Whole runs of a refill: steps of agents and moves of bytes, in any order.
 --     step, moves        what a step of an agent leaves, and whether it moves bytes
---     EndsStay           a list of ends that fits the network fits it after each event
 --     GivesBack          whatever happens on the way, when a refill is done the bytes of each list, and no others, can be read from its direction
 --     EndsInTime         no run has more events that move bytes than there was work
 use Rattle.std.specs.Prelude.{◌≡◌, ◌≤◌, Bool, true, List, All}
@@ -11,7 +10,7 @@ use Rattle.wire_net.specs.CutRooms.{Named}
 use Rattle.wire_net.specs.DrainedNets.{IsDrained, HasLists, IsNamingLists}
 use Rattle.wire_net.specs.Ends.{IsFor}
 use Rattle.wire_net.specs.Networks.{Network}
-use Rattle.wire_net.specs.Runs.{Event, IsAllowed, UnderWay, Steps, after, run, moves_made}
+use Rattle.wire_net.specs.Runs.{Event, IsAllowed, UnderWay, Steps, run, moves_made}
 use Rattle.refill_core.specs.Beginnings.{begun, IsGivenBack}
 use Rattle.refill_core.specs.Refills.{Refilling, dirs_of, Fits, turns_after}
 use Rattle.refill_core.specs.Stepping.{state}
@@ -25,9 +24,6 @@ step p s = put_state s (turns_after p (dirs_of s.notes) (state s.notes s.net))
 
 abbrev pub moves : RealPid → UnderWay → Bool
 moves p s = moved_any p (dirs_of s.notes) (state s.notes s.net)
-
-abbrev pub EndsStay : Type 0
-EndsStay = (ends : List AgentEnd) (e : Event) (s : UnderWay) → IsFor s.net.channels ends → IsFor (after step e s).net.channels ends
 
 abbrev pub GivesBack : Type 0
 GivesBack = (t : Network) (ends : List AgentEnd) (lengths : List Named) (lists : List DirBytes) (events : List Event) → IsFor t.channels ends → IsDrained t.channels lists → HasLists t.channels lists

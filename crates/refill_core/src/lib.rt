@@ -9,12 +9,14 @@
 //!
 //! Proved: a refill that begins of what was drained fits the network from which it was drained, and the bytes of each
 //! direction are the same, those of its list if it has one. Each step leaves them as they are, wherever they are: with
-//! the agent that drained them, in a frame, with the agent that got them back, or sent. An agent reads and sends only
-//! at ends for which it acts. What moves bytes leaves less to do, and while the refill is not done some agent's step or
-//! some move moves bytes. When it is done all bytes of each direction can be read, and, whatever steps and moves were
-//! made on the way, in any order, they are those of its list ([`refill_laws`]). Not proved: that the caller makes the
-//! steps and the moves. The source is Ansel, Arya, Cooperman, "DMTCP: Transparent Checkpointing for Cluster
-//! Computations and the Desktop", 2009 (refill kernel buffers); the frame is this project's own.
+//! the agent that drained them, in a frame, with the agent that got them back, or sent. It takes bytes only off the front
+//! of queues that its agent reads, and adds some only at the back of queues to which its agent sends; which channels
+//! there are, what is ended or unread and which ends are open stays, and so do the agents of the notes. A step that moves
+//! bytes leaves less to do, any other one changes nothing, and while the refill is not done some agent's step or some
+//! move moves bytes. When it is done all bytes of each direction can be read, and, whatever steps and moves were made on
+//! the way, in any order, they are those of its list ([`refill_laws`]). Not proved: that the caller makes the steps and
+//! the moves. The source is Ansel, Arya, Cooperman, "DMTCP: Transparent Checkpointing for Cluster Computations and the
+//! Desktop", 2009 (refill kernel buffers); the frame is this project's own.
 #![tactic(auto)]
 
 mod beginning;

@@ -1,10 +1,11 @@
-ghost use Rattle.std.specs.Prelude.{◌≡◌, ◌==◌, ◌<◌, ◌≤◌, ◌↔◌, true, false, length, map as each, All};
+ghost use Rattle.std.specs.Prelude.{◌≡◌, ◌≢◌, ◌==◌, ◌<◌, ◌≤◌, ◌↔◌, true, false, length, map as each, IsSome, All};
 ghost use Rattle.sys_abi.specs.declared.identity.Dir.{Dir};
 ghost use Rattle.wire_net.specs.declared.agents.Stepped.TheVariants.{Moved, Again};
 ghost use Rattle.wire_net.specs.declared.limits.TheConstants.{QUEUE_LIMIT};
-ghost use Rattle.wire_net.specs.Channels.{Channels};
+ghost use Rattle.wire_net.specs.Channels.{Channels, direction_at};
 ghost use Rattle.wire_net.specs.DrainedNets.{IsDrained, HasLists, IsNamingLists, agents_of_lists};
 ghost use Rattle.wire_net.specs.Ends.{IsFor};
+ghost use Rattle.wire_net.specs.Frames.{SameFrames};
 ghost use Rattle.wire_net.specs.Networks.{Network};
 ghost use Rattle.refill_core.specs.Beginnings as beginnings;
 ghost use Rattle.refill_core.specs.Refills as words;
@@ -42,6 +43,8 @@ impl Refill {
         requires few { All (λ list. length list.bytes ≤ QUEUE_LIMIT) drained.lists }
         ensures begun { result ≡ beginnings.begun drained.lists ends.now room.lengths }
         ensures named { words.dirs_of result ≡ each (λ named. named.0) room.lengths }
+        ensures there { (m : Channels) → HasLists m drained.lists
+            → (d : Dir) → d.side < 2 → IsSome (direction_at m d) → words.has_notes d result ≡ true }
 
         // It fits each network that was drained so.
         ensures fits { (m : Channels) → IsFor m ends.now → IsDrained m drained.lists → HasLists m drained.lists → words.Fits m result }
@@ -75,14 +78,19 @@ impl Refill {
         ensures after { state self.new net.new ≡ words.turns_after agent (words.dirs_of self.old) (state self.old net.old) }
         ensures net { net.new ≡ record net.old { channels = net.new.channels } }
         ensures fits { words.Fits net.new.channels self.new }
-        ensures named { words.dirs_of self.new ≡ words.dirs_of self.old }
+
+        // The same directions are noted, with the same agents.
+        ensures agents { words.named_agents self.new ≡ words.named_agents self.old }
+
+        // The same channels are there, with the same directions ended or unread and the same ends open.
+        ensures frame { SameFrames net.old.channels net.new.channels }
 
         // The bytes of each direction are the same, wherever they are.
         ensures kept { (d : Dir) → d.side < 2 → whereabouts net.new (agents_of self.new) d ≡ whereabouts net.old (agents_of self.old) d }
 
-        // What moves bytes leaves less to do.
+        // What moves bytes leaves less to do, and what moves none leaves all as it was.
         ensures less { result ≡ Moved → work.work_left net.new.channels self.new < work.work_left net.old.channels self.old }
-        ensures idle { work.has_work agent self.old ≡ false → (self.new ≡ self.old) × (net.new ≡ net.old) }
+        ensures still { result ≢ Moved → (self.new ≡ self.old) × (net.new ≡ net.old) }
     {
         let has_work = self.has_work(net, agent);
         let moved = step_all(&mut self.notes, net, &mut self.transfer, agent);

@@ -5,8 +5,8 @@
 --     cut_down                what is less by some bytes is less by a gain
 --     both_zero               a weighted sum of two is 0 where both are
 --     stream_length           how many bytes stand in a direction
---     again_is, has_moved     what an answer tells
-use Rattle.std.proofs.Common.{◌≡◌, ℕ, ◌==◌, ◌+◌, ◌*◌, ◌<◌, ◌≤◌, Bool, true, false, [], ◌∷◌, ◌++◌, length, refl, sym, ap, ◌∙◌, arith, length-append, inl, inr}
+--     again_is, has_moved, not_moved      what an answer tells
+use Rattle.std.proofs.Common.{◌≡◌, ◌≢◌, ℕ, ◌==◌, ◌+◌, ◌*◌, ◌<◌, ◌≤◌, Bool, true, false, [], ◌∷◌, ◌++◌, length, refl, sym, ap, ◌∙◌, arith, length-append, inl, inr}
 use Rattle.std.specs.Prelude.{All, ◌⊎◌, ◌&&◌, ◌||◌, map as each, if◌then◌else◌}
 use Rattle.std.specs.List.{sum_by, list_any}
 use Rattle.std.proofs.lemmas.Bool.Decides.{nat_tests}
@@ -83,3 +83,8 @@ pub has_moved : (work moved : Bool) → answer_of work moved ≡ Moved → moved
 has_moved true true is = refl
 has_moved true false is = absurd (again_moved is)
 has_moved false moved is = absurd (finished_moved is)
+
+pub not_moved : (work moved : Bool) → answer_of work moved ≢ Moved → (work ≡ false) ⊎ (moved ≡ false)
+not_moved true true is = absurd (is refl)
+not_moved true false is = inr refl
+not_moved false moved is = inl refl

@@ -8,10 +8,11 @@ pub mod Finding
 pub mod Gains
 pub mod HeldLists
 pub mod Items
-pub mod KeptEnds
+pub mod KeptFrames
 pub mod ListsOn
 pub mod LiveAgents
 pub mod LiveChannels
+pub mod NotedAgents
 pub mod OneCall
 pub mod OneDirection
 pub mod Pieces

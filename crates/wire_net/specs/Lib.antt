@@ -4,6 +4,7 @@ pub mod CutRooms
 pub mod Directions
 pub mod DrainedNets
 pub mod Ends
+pub mod Frames
 pub mod Laws
 pub mod Listeners
 pub mod Networks

@@ -4,6 +4,7 @@
 --     answer_of work moved   what a step answers: whether work is left for the agent, and whether it moved bytes
 --     dirs_of, Apart         the directions that are noted;  each of a list is another one
 --     has_notes d notes      there are notes on the direction
+--     named_agents notes     the directions that are noted, each with those who act for its ends
 --     IsFlowing direction    its sender may send and its receiver reads: so it is for both directions of a live channel
 --     CanMove m notes        bytes of a noted direction can be moved on
 use Rattle.std.specs.Prelude.{◌≡◌, ◌≢◌, ◌==◌, ◌<◌, Bool, true, false, ◌&&◌, List, [], ◌∷◌, length, map as each, Option, Some, None, All, if◌then◌else◌}
@@ -39,6 +40,17 @@ Apart (d ∷ ds) = All (λ e. e ≢ d) ds × Apart ds
 
 abbrev pub has_notes : Dir → Notes → Bool
 has_notes d notes = list_any (λ x. eq_by_cmp dir_cmp x.dir d) notes
+
+pub record NamedAgents : Type 0 where
+  pub dir : Dir
+  pub sender : Option RealPid
+  pub reader : Option RealPid
+
+abbrev pub agents_in : DirNotes → NamedAgents
+agents_in x = record { dir = x.dir; sender = x.sender; reader = x.reader }
+
+abbrev pub named_agents : Notes → List NamedAgents
+named_agents notes = each agents_in notes
 
 pub record IsFlowing (direction : Direction) : Type 0 where
   pub goes_on : direction.is_ended ≡ false

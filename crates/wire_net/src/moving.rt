@@ -2,6 +2,7 @@
 ghost use Rattle.std.specs.Prelude.{◌≡◌, ◌≤◌, min, take, length, IfOk, OnErr};
 ghost use Rattle.wire_net.specs.Directions as lanes;
 ghost use Rattle.wire_net.specs.Channels as words;
+ghost use Rattle.wire_net.specs.Frames.{SameFrames};
 ghost use Rattle.wire_net.specs.Networks as answers;
 
 use crate::channel::Channel;
@@ -59,6 +60,8 @@ pub(crate) fn stop_reading_on(channels: &mut ByConn<Channel>, d: Dir)
 pub(crate) fn move_on(channels: &mut ByConn<Channel>, d: Dir, from: Place, n: u32) -> u32
     ensures moved { result ≡ min n (length (answers.bytes_on from (words.direction_at channels.old d))) }
     ensures after { channels.new ≡ words.at_direction channels.old d (lanes.after_move from n) }
+    ensures frame { SameFrames channels.old channels.new }
+    ensures still { result ≡ 0 → channels.new ≡ channels.old }
 {
     let Some(channel) = channels.get_mut(d.conn) else {
         return 0;

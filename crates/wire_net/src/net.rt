@@ -4,6 +4,7 @@ ghost use Rattle.wire_net.specs.declared.limits.TheConstants.{ACCEPTING_SIDE, CH
 ghost use Rattle.real_maps.specs.Changes.{at_key};
 ghost use Rattle.wire_net.specs.Channels as channels;
 ghost use Rattle.wire_net.specs.Directions as directions;
+ghost use Rattle.wire_net.specs.Frames.{SameFrames};
 ghost use Rattle.wire_net.specs.Listeners as listeners;
 ghost use Rattle.wire_net.specs.Networks as words;
 
@@ -224,6 +225,11 @@ impl Net {
         requires { d.side < 2 }
         ensures moved { result ≡ min n (length (words.bytes_on from (channels.direction_at self.old.channels d))) }
         ensures after { self.new ≡ record self.old { channels = channels.at_direction self.old.channels d (directions.after_move from n) } }
+
+        // The same channels are there, with the same directions ended or unread and the same ends open. Where no byte
+        // moves nothing changes.
+        ensures frame { SameFrames self.old.channels self.new.channels }
+        ensures still { result ≡ 0 → self.new ≡ self.old }
     {
         move_on(&mut self.channels, d, from, n)
     }

@@ -27,7 +27,6 @@ fn step(net: &mut Net, drain: &mut Drain, agent: RealPid) -> Stepped
     requires { IsDraining net.old.channels ENDS drain.old }
     ensures { IsDraining net.new.channels ENDS drain.new }
 {
-    drain_laws();
     drain.step(net, agent)
 }
 

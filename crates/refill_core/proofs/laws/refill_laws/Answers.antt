@@ -1,8 +1,7 @@
 use Rattle.refill_core.proofs.Moving.{moved_fits, moved_work}
 use Rattle.refill_core.proofs.Bytes.{whereabouts_is}
 use Rattle.refill_core.proofs.Starting.{begins_fit}
-use Rattle.refill_core.proofs.TurnLaws.{steps_at_ends}
-use Rattle.refill_core.proofs.EndsKept.{ends_stay}
+use Rattle.refill_core.proofs.StepLaws.{steps_at_ends}
 use Rattle.refill_core.proofs.RunLaws.{gives_back, ends_in_time}
 use Rattle.refill_core.proofs.laws.refill_laws.Goals as goal
 
@@ -20,9 +19,6 @@ returns-clause-begins c = begins_fit
 
 pub returns-clause-holds : goal.returns-clause-holds
 returns-clause-holds c = whereabouts_is
-
-pub returns-clause-stay : goal.returns-clause-stay
-returns-clause-stay c = ends_stay
 
 pub returns-clause-whole : goal.returns-clause-whole
 returns-clause-whole c = gives_back

@@ -4,6 +4,4 @@ use Rattle.worked_nets.proofs.Rounds.{drain_tick}
 use Rattle.worked_nets.proofs.drains.round.Goals as goal
 
 pub returns : goal.returns
-returns c =
-    let law = c.drain_laws.ensures in
-    drain_tick law.fits law.stay law.there ENDS c.step-2.new.drain FIRST SECOND (omega arith) (omega arith) c.step-2.new.net c.tick.new.net c.tick.ensures c.step-2.ensures
+returns c = drain_tick c.drain_laws.ensures.fits ENDS c.step-2.new.drain FIRST SECOND (omega arith) (omega arith) c.step-2.new.net c.tick.new.net c.tick.ensures c.step-2.ensures

@@ -4,5 +4,4 @@ use Rattle.worked_nets.proofs.drains.step.Goals as goal
 
 pub returns : goal.returns
 returns c =
-    let law = c.drain_laws.ensures in
-    drain_step law.fits law.stay law.there ENDS c.args.agent c.args.net.now c.step.new.net c.args.drain.now c.step.new.self c.step.ensures.net c.step.ensures.notes c.step.ensures.fits c.step.ensures.named c.requires
+    drain_step ENDS c.args.net.now.channels c.step.new.net.channels c.args.drain.now c.step.new.self c.step.ensures.fits c.step.ensures.agents c.step.ensures.frame c.requires

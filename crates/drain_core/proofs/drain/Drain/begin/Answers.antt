@@ -5,10 +5,10 @@ use Rattle.wire_net.specs.declared.cut_room.RoomParts.{RoomParts}
 use Rattle.wire_net.specs.declared.limits.TheConstants.{QUEUE_LIMIT}
 use Rattle.wire_net.specs.CutRooms.{all_notes}
 use Rattle.wire_net.specs.Whereabouts.{whereabouts}
-use Rattle.drain_core.specs.Drains.{Notes, Fits, has_notes}
+use Rattle.drain_core.specs.Drains.{Notes, Fits, dirs_of, has_notes}
 use Rattle.drain_core.specs.Holding.{agents_of}
 use Rattle.drain_core.specs.Openings.{opened, begun}
-use Rattle.drain_core.proofs.Beginning.{fits_begun, kept_begun, noted_begun, new_sides}
+use Rattle.drain_core.proofs.Beginning.{dirs_begun, fits_begun, kept_begun, noted_begun, new_sides}
 use Rattle.wire_net.proofs.EachItem.{written_back}
 use Rattle.drain_core.proofs.drain.Drain.begin.Goals as goal
 
@@ -36,7 +36,10 @@ returns-clause-fits c =
     (fits_begun c.args.net.now.channels c.args.ends.now c.args.room.lengths c.requires.ends c.requires.naming (few c))
 
 pub returns-clause-named : goal.returns-clause-named
-returns-clause-named c = λ d side there.
+returns-clause-named c = ap dirs_of (returns-clause-begun c) ∙ dirs_begun c.args.net.now.channels c.args.ends.now c.args.room.lengths
+
+pub returns-clause-there : goal.returns-clause-there
+returns-clause-there c = λ d side there.
     ap (has_notes d) (returns-clause-begun c) ∙ noted_begun c.args.net.now.channels c.args.ends.now c.args.room.lengths d ∙ c.requires.naming.whole d side there
 
 pub returns-clause-kept : goal.returns-clause-kept

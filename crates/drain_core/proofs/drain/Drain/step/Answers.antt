@@ -3,18 +3,20 @@ use Rattle.wire_net.specs.declared.agents.Stepped.{Stepped}
 use Rattle.wire_net.specs.declared.agents.Stepped.TheVariants.{Again}
 use Rattle.wire_net.specs.Channels.{Channels, direction_at}
 use Rattle.wire_net.specs.CutRooms.{names_of}
+use Rattle.wire_net.specs.Frames.{SameFrames}
 use Rattle.wire_net.specs.Networks.{Network}
 use Rattle.wire_net.specs.Whereabouts.{whereabouts}
 use Rattle.drain_core.specs.Tasks.{note_after}
-use Rattle.drain_core.specs.Drains.{Notes, Fits, has_notes, has_work, moves_any, answer_of, IsHeldUp, notes_after, channels_after}
+use Rattle.drain_core.specs.Drains.{Notes, Fits, named_agents, has_work, moves_any, answer_of, IsHeldUp, notes_after, channels_after}
 use Rattle.drain_core.specs.Holding.{agents_of}
 use Rattle.drain_core.specs.Work.{work_left}
 use Rattle.drain_core.proofs.AgentSteps.{same_rooms}
-use Rattle.drain_core.proofs.AllDirections.{fits_after, named_after}
+use Rattle.drain_core.proofs.AllDirections.{fits_after}
 use Rattle.drain_core.proofs.Bytes.{kept_bytes}
 use Rattle.drain_core.proofs.HeldUp.{held_up}
-use Rattle.drain_core.proofs.Idle.{idle_notes, idle_net}
+use Rattle.drain_core.proofs.Idle.{unmoved, still_notes, still_net}
 use Rattle.drain_core.proofs.OneStep.{with_channels}
+use Rattle.drain_core.proofs.Staying.{frames_after, agents_after}
 use Rattle.wire_net.proofs.EachItem.{written_back}
 use Rattle.drain_core.proofs.WorkLaws.{moved_lowers}
 use Rattle.drain_core.proofs.drain.Drain.step.Goals as goal
@@ -41,8 +43,12 @@ returns-clause-fits c =
     (subst (λ (m : Channels). Fits m (notes_after c.args.agent c.args.net.now.channels c.args.self.now)) (sym (ap (λ (t : Network). t.channels) (returns-clause-net c)))
     (fits_after c.args.agent c.args.net.now.channels c.args.self.now c.requires))
 
-pub returns-clause-named : goal.returns-clause-named
-returns-clause-named c = λ d. ap (has_notes d) (returns-clause-notes c) ∙ named_after c.args.agent c.args.net.now.channels c.args.self.now d
+pub returns-clause-agents : goal.returns-clause-agents
+returns-clause-agents c = ap named_agents (returns-clause-notes c) ∙ agents_after c.args.agent c.args.net.now.channels c.args.self.now
+
+pub returns-clause-frame : goal.returns-clause-frame
+returns-clause-frame c =
+    subst (λ (t : Network). SameFrames c.args.net.now.channels t.channels) (sym (returns-clause-net c)) (frames_after c.args.agent c.args.self.now c.args.net.now.channels)
 
 pub returns-clause-rooms : goal.returns-clause-rooms
 returns-clause-rooms c = ap names_of (returns-clause-notes c) ∙ same_rooms c.args.agent c.args.net.now.channels c.args.self.now
@@ -59,11 +65,12 @@ returns-clause-less c = λ moved.
     (subst (λ (t : Network). work_left t.channels (notes_after c.args.agent c.args.net.now.channels c.args.self.now) < work_left c.args.net.now.channels c.args.self.now) (sym (returns-clause-net c))
     (moved_lowers c.args.agent c.args.net.now.channels c.args.self.now (has_work c.args.agent c.args.self.now) c.requires (sym (returns-clause-answer c) ∙ moved)))
 
-pub returns-clause-idle : goal.returns-clause-idle
-returns-clause-idle c = λ none. (
-  returns-clause-notes c ∙ idle_notes c.args.agent c.args.net.now.channels c.args.self.now c.requires.noted none,
-  returns-clause-net c ∙ ap (with_channels c.args.net.now) (idle_net c.args.agent c.args.net.now.channels c.args.self.now c.requires.noted none),
-)
+pub returns-clause-still : goal.returns-clause-still
+returns-clause-still c = λ other.
+    let none = unmoved c.args.agent c.args.net.now.channels c.args.self.now c.requires.noted (λ is. other (returns-clause-answer c ∙ is)) in (
+      returns-clause-notes c ∙ still_notes c.args.agent c.args.net.now.channels c.args.self.now none,
+      returns-clause-net c ∙ ap (with_channels c.args.net.now) (still_net c.args.agent c.args.net.now.channels c.args.self.now none),
+    )
 
 pub returns-clause-again : goal.returns-clause-again
 returns-clause-again c =

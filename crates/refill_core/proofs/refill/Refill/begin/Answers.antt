@@ -5,8 +5,8 @@ use Rattle.wire_net.specs.CutRooms.{names_of}
 use Rattle.wire_net.specs.Whereabouts.{whereabouts}
 use Rattle.refill_core.specs.Beginnings.{begun}
 use Rattle.refill_core.specs.Holding.{agents_of}
-use Rattle.refill_core.specs.Refills.{Notes, Apart, Fits, dirs_of}
-use Rattle.refill_core.proofs.Begun.{begun_dirs, fits_begun, held_begun, kept_begun}
+use Rattle.refill_core.specs.Refills.{Notes, Apart, Fits, dirs_of, has_notes}
+use Rattle.refill_core.proofs.Begun.{begun_dirs, noted_begun, fits_begun, held_begun, kept_begun}
 use Rattle.refill_core.proofs.Steps.{written_back}
 use Rattle.refill_core.proofs.Turns.{dirs_named}
 use Rattle.refill_core.proofs.refill.Refill.begin.Goals as goal
@@ -27,6 +27,10 @@ returns-clause-begun c =
 
 pub returns-clause-named : goal.returns-clause-named
 returns-clause-named c = ap dirs_of (returns-clause-begun c) ∙ begun_dirs c.args.drained.lists c.args.ends.now c.args.room.lengths
+
+pub returns-clause-there : goal.returns-clause-there
+returns-clause-there c = λ m has d side there.
+    ap (has_notes d) (returns-clause-begun c) ∙ noted_begun c.args.drained.lists c.args.ends.now c.args.room.lengths d ∙ c.requires.naming.whole d (has d side there)
 
 pub returns-clause-fits : goal.returns-clause-fits
 returns-clause-fits c = λ m for drained has.

@@ -5,7 +5,8 @@ use Rattle.refill_core.specs.Refills.{Notes, dirs_of}
 use Rattle.refill_core.specs.Work.{moved_any, answer_of, IsHeldUp}
 use Rattle.refill_core.specs.Stepping.{state}
 use Rattle.refill_core.proofs.HeldUp.{held_up}
-use Rattle.refill_core.proofs.Steps.{step_after, step_fits, step_dirs, step_kept, step_less, step_idle}
+use Rattle.refill_core.proofs.Staying.{step_frames, step_agents}
+use Rattle.refill_core.proofs.Steps.{step_after, step_fits, step_kept, step_less, step_still}
 use Rattle.refill_core.proofs.refill.Refill.step.Goals as goal
 
 seen : (c : goal.After-of) → c.deref_mut.result.now ≡ c.args.self.now
@@ -28,8 +29,11 @@ returns-clause-again c =
 pub returns-clause-fits : goal.returns-clause-fits
 returns-clause-fits c = step_fits c.args.agent _ c.args.self.now c.args.net.now c.step_all-moved.new.net c.requires (returns-clause-after c)
 
-pub returns-clause-named : goal.returns-clause-named
-returns-clause-named c = step_dirs c.args.agent _ c.args.self.now c.args.net.now c.step_all-moved.new.net c.requires (returns-clause-after c)
+pub returns-clause-agents : goal.returns-clause-agents
+returns-clause-agents c = step_agents c.args.agent _ c.args.self.now c.args.net.now c.step_all-moved.new.net c.requires (returns-clause-after c)
+
+pub returns-clause-frame : goal.returns-clause-frame
+returns-clause-frame c = step_frames c.args.agent _ c.args.self.now c.args.net.now c.step_all-moved.new.net (returns-clause-after c)
 
 pub returns-clause-kept : goal.returns-clause-kept
 returns-clause-kept c = λ d side. step_kept c.args.agent _ c.args.self.now c.args.net.now c.step_all-moved.new.net d side c.requires (returns-clause-after c)
@@ -37,5 +41,6 @@ returns-clause-kept c = λ d side. step_kept c.args.agent _ c.args.self.now c.ar
 pub returns-clause-less : goal.returns-clause-less
 returns-clause-less c = λ moved. step_less c.args.agent _ c.args.self.now c.args.net.now c.step_all-moved.new.net c.requires (returns-clause-after c) (sym (returns-clause-answer c) ∙ moved)
 
-pub returns-clause-idle : goal.returns-clause-idle
-returns-clause-idle c = λ none. step_idle c.args.agent _ c.args.self.now c.args.net.now c.step_all-moved.new.net c.requires (returns-clause-after c) c.step_all-moved.ensures.net none
+pub returns-clause-still : goal.returns-clause-still
+returns-clause-still c = λ other.
+    step_still c.args.agent _ c.args.self.now c.args.net.now c.step_all-moved.new.net c.requires (returns-clause-after c) c.step_all-moved.ensures.net (λ is. other (returns-clause-answer c ∙ is))
