@@ -15,7 +15,8 @@ use id_maps::{ByConn, ByDesc, ByPid};
 use std::alloc::{AllocError, Global};
 use sys_abi::{ConnId, DescId, Fd, Kind, VPid, VirtAddr};
 
-/// The channels, the addresses of bound sockets and listeners, and the makers of all processes.
+/// The channels, the addresses of sockets and listeners, and the makers of all processes. A socket that is not bound has
+/// the address of its host with the port 0.
 #[derive(Drop)]
 pub struct ConnTable {
     conns: ByConn<Conn>,
@@ -75,7 +76,8 @@ impl ConnTable {
         }
     }
 
-    /// Whether an end of a channel, or a bound socket or listener, has the address.
+    /// Whether an end of a channel, a socket or a listener has the address, to which nobody else can be bound then. The
+    /// port 0, which sockets have that are not bound, is not asked for.
     pub fn port_used(&self, a: VirtAddr) -> bool
         ensures { result ≡ conns.is_used a self.now.conns self.now.names }
     {
@@ -90,7 +92,7 @@ impl ConnTable {
         least_unsupported(rows)
     }
 
-    /// Gives a bound socket or listener its address, in place of the one that it has.
+    /// Gives a socket or listener its address, in place of the one that it has.
     pub fn set_name(&mut self, d: DescId, a: VirtAddr) -> Result<(), AllocError>
         ensures ok { OnOk result (self.new ≡ record self.old { names = map.insert self.old.names d a }) }
         ensures err { OnErr result (self.new ≡ self.old) }
@@ -166,7 +168,7 @@ fn is_address_of_end(channels: &ByConn<Conn>, a: VirtAddr) -> bool
     channels.values().any(|conn| conn.has_address(a))
 }
 
-/// Whether a bound socket or listener has the address.
+/// Whether a socket or listener has the address.
 fn is_address_of_name(names: &ByDesc<VirtAddr>, a: VirtAddr) -> bool
     ensures { result ≡ list_any (eq_by_cmp address_cmp a) (map.values names.now) }
 {

@@ -340,3 +340,8 @@ mapped_some (Some o) = refl
 
 pub described_there : (opens : Opens) (id : DescId) → is_some (map.get (descs opens) id) ≡ is_some (map.get opens id)
 described_there opens id = ap is_some (get-descs opens id) ∙ mapped_some (map.get opens id)
+
+-- what is described is held
+pub described_held : (m : Slots) (opens : Opens) (id : DescId) (d : Desc) (found : Option Open) → IsCounted m opens → map.get opens id ≡ found → map.get (descs opens) id ≡ Some d → is_held m id ≡ true
+described_held m opens id d None good is there = true_false (ap is_some (sym there ∙ described_none opens id is))
+described_held m opens id d (Some o) good is there = there_held m opens id o good is

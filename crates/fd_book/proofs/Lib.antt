@@ -11,3 +11,4 @@ pub mod BookLaws
 pub mod BookViews
 pub mod ForkLaws
 pub mod Holders
+pub mod UseLaws

@@ -8,10 +8,13 @@
 --     with_object, with_flags, with_owner      a description with another part
 --     with_cloexec                a descriptor with another flag
 --     with_new, with_changed      a description where there is none of that name;  one description changed
+--     is_of_file number d         the description is of the file of that number
+--     disowned p d                the description, of which the process is not the owner any more
 --     IsHolder                    the process has a descriptor of the description
 --     is_after above id           a description that comes after this one; each does after none
 --     bound_above above           the start of the range of these names
-use Rattle.std.specs.Prelude.{◌≡◌, ℕ, Bool, true, cond, Option, Some, None, refl}
+--     IsWhole b                   what is always true of a book
+use Rattle.std.specs.Prelude.{◌≡◌, ◌==◌, ℕ, Bool, true, false, cond, Option, Some, None, IsSome, IsTrue, refl}
 use Rattle.std.specs.List.{list_any}
 use Rattle.std.specs.Ordering.{eq_by_cmp, is_lt}
 use Rattle.std.specs.declared.ops.Bound.{Bound}
@@ -21,9 +24,10 @@ use Rattle.std.specs.FinMap.{FinMap}
 use Rattle.std.specs.Coded.{Coded, code_by, coded×}
 use Rattle.sys_abi.specs.declared.identity.DescId.{DescId}
 use Rattle.sys_abi.specs.declared.identity.RealPid.{RealPid}
-use Rattle.sys_abi.specs.Orders.{desc_cmp, coded_desc}
+use Rattle.sys_abi.specs.Orders.{desc_cmp, real_pid_cmp, coded_desc}
 use Rattle.fd_book.specs.declared.real_slot.RealSlot.{RealSlot}
 use Rattle.fd_book.specs.declared.description.Object.{Object}
+use Rattle.fd_book.specs.declared.description.Object.TheVariants.{Console, File, Stream, Socket, Listener, Datagram, Counter}
 use Rattle.fd_book.specs.declared.description.Desc.{Desc}
 use Rattle.fd_book.specs.declared.description.Descriptor.{Descriptor}
 use Rattle.fd_book.specs.contracts.description.Desc as desc
@@ -107,6 +111,25 @@ with_flags flags d = record { object = d.object; flags = flags; owner = d.owner 
 abbrev pub with_owner : Option RealPid → Desc → Desc
 with_owner owner d = record { object = d.object; flags = d.flags; owner = owner }
 
+abbrev pub is_file : ℕ → Object → Bool
+is_file number Console = false
+is_file number (File own offset) = own == number
+is_file number (Stream conn side) = false
+is_file number Socket = false
+is_file number (Listener at) = false
+is_file number (Datagram queue side) = false
+is_file number (Counter value) = false
+
+abbrev pub is_of_file : ℕ → Desc → Bool
+is_of_file number d = is_file number d.object
+
+abbrev pub without_owner : RealPid → Option RealPid → Option RealPid
+without_owner p None = None
+without_owner p (Some owner) = cond (eq_by_cmp real_pid_cmp p owner) None (Some owner)
+
+abbrev pub disowned : RealPid → Desc → Desc
+disowned p d = with_owner (without_owner p d.owner) d
+
 abbrev pub same_with_cloexec : Books → RealSlot → Bool → Option Descriptor → Books
 same_with_cloexec b at on None = b
 same_with_cloexec b at on (Some d) = with_descriptor b at d.desc on
@@ -127,3 +150,8 @@ is_after (Some above) id = is_lt (desc_cmp above id)
 abbrev pub bound_above : Option DescId → Bound DescId
 bound_above None = Unbounded
 bound_above (Some above) = Excluded above
+
+-- each descriptor refers to a description that is there, and each description has a descriptor
+pub record IsWhole (b : Books) : Type 0 where
+  pub described : (at : RealSlot) (d : Descriptor) → map.get b.descriptors at ≡ Some d → IsSome (map.get b.descriptions d.desc)
+  pub held : (id : DescId) (d : Desc) → map.get b.descriptions id ≡ Some d → IsTrue (is_held b.descriptors id)

@@ -8,12 +8,13 @@ use Rattle.std.specs.Prelude.{◌≡◌, ℕ, ◌+◌, ◌-◌, ◌<◌, ◌==�
 use Rattle.std.specs.FinMap as map
 use Rattle.std.specs.FinMap.{FinMap}
 use Rattle.sys_abi.specs.declared.identity.DescId.{DescId}
+use Rattle.sys_abi.specs.declared.identity.RealPid.{RealPid}
 use Rattle.sys_abi.specs.Orders.{desc_cmp}
 use Rattle.fd_book.specs.declared.description.Descriptor.{Descriptor}
 use Rattle.fd_book.specs.declared.description.Desc.{Desc}
 use Rattle.fd_book.specs.declared.open.Open.{Open}
 use Rattle.fd_book.specs.Orders.{real_slot_cmp}
-use Rattle.fd_book.specs.Books.{refers_to}
+use Rattle.fd_book.specs.Books.{refers_to, disowned}
 
 abbrev pub holders_of : Option Open → ℕ
 holders_of None = 0
@@ -61,3 +62,7 @@ pub record IsBook (descriptors : FinMap real_slot_cmp Descriptor) (descriptions 
 
 abbrev pub desc_of : Open → Desc
 desc_of o = o.desc
+
+-- with the description disowned
+unfoldable pub disowned_open : RealPid → Open → Open
+disowned_open p o = record { desc = disowned p o.desc; holders = o.holders }

@@ -1,6 +1,7 @@
 ghost use Rattle.std.specs.Prelude.{◌≡◌};
 ghost use Rattle.std.specs.FinMap as map;
-ghost use Rattle.fd_book.specs.Books.{with_changed, with_object, with_flags, with_owner, with_cloexec, slot};
+ghost use Rattle.views.specs.Maps.{map_values};
+ghost use Rattle.fd_book.specs.Books.{with_changed, with_object, with_flags, with_owner, disowned, with_cloexec, slot};
 
 use crate::description::{Desc, Descriptor, Object};
 use crate::descriptions::Descriptions;
@@ -94,6 +95,13 @@ impl Book {
             let holders = open.holders;
             self.descriptions.set(id, Open { desc, holders });
         }
+    }
+
+    /// Takes the process away as an owner wherever it is one. Takes no memory.
+    pub fn disown(&mut self, p: RealPid)
+        ensures { self.new ≡ record self.old { descriptions = map_values (disowned p) self.old.descriptions } }
+    {
+        self.descriptions.disown(p);
     }
 
     /// Sets the close-on-exec flag of the descriptor. Where it is not open, nothing changes. Takes no memory.

@@ -1,3 +1,6 @@
+ghost use Rattle.std.specs.Prelude.{◌≡◌};
+ghost use Rattle.fd_book.specs.Books as books;
+
 use sys_abi::{ConnId, DescId, RealAddr, RealPid};
 
 /// What an open description stands for.
@@ -16,6 +19,19 @@ pub enum Object {
     Datagram { queue: u32, side: u8 },
     /// An event counter (`man 2 eventfd`).
     Counter { value: u64 },
+}
+
+impl Object {
+    /// Whether it is the file of that number.
+    pub fn is_file(&self, number: u32) -> bool
+        ensures { result ≡ books.is_file number self.now }
+    {
+        match *self {
+            Object::File { number: own, .. } => own == number,
+            Object::Console | Object::Stream { .. } | Object::Socket => false,
+            Object::Listener { .. } | Object::Datagram { .. } | Object::Counter { .. } => false,
+        }
+    }
 }
 
 /// An open description (`man 2 open`): its object, access mode and status flags, and the process that F_SETOWN set as

@@ -1,21 +1,26 @@
-ghost use Rattle.std.specs.Prelude.{◌≡◌, ◌+◌, ◌^◌, ◌<◌, cond, None, Some, length, find, is_some, count_by, IsSome, OnOk, OnErr};
-ghost use Rattle.std.specs.Option.{option_copied};
+ghost use Rattle.std.specs.Prelude.{◌≡◌, ◌+◌, ◌^◌, ◌<◌, true, map as mapped, cond, None, Some, length, find, is_some, count_by, IsSome, OnOk, OnErr};
+ghost use Rattle.std.specs.Option.{option_copied, option_map};
+ghost use Rattle.std.specs.List.{list_any};
 ghost use Rattle.std.specs.FinMap as map;
+ghost use Rattle.views.specs.Maps.{map_values};
+ghost use Rattle.sys_abi.specs.Orders.{desc_cmp};
 ghost use Rattle.sys_abi.specs.declared.identity.DescId.{DescId};
 ghost use Rattle.fd_book.specs.declared.description.Descriptor.{Descriptor};
 ghost use Rattle.fd_book.specs.declared.open.Open.{Open};
 ghost use Rattle.slab.specs.Slab.{get, Updates};
-ghost use Rattle.fd_book.specs.Books.{is_after, bound_above};
-ghost use Rattle.fd_book.specs.Counts.{after_retain, after_release, lost_by_release, after_place, after_retains};
+ghost use Rattle.fd_book.specs.Books.{is_after, bound_above, is_of_file};
+ghost use Rattle.fd_book.specs.Descriptions.{kept_at};
+ghost use Rattle.fd_book.specs.Counts.{disowned_open, after_retain, after_release, lost_by_release, after_place, after_retains};
 
 use crate::description::Descriptor;
 use crate::open::Open;
 use slab::Slab;
 use std::alloc::{AllocError, Global};
 use std::collections::BTreeMap;
+use std::collections::btree_map::Values;
 use std::marker::Model;
 use std::ops::Bound;
-use sys_abi::DescId;
+use sys_abi::{DescId, RealPid};
 
 /// The open descriptions by their names.
 #[derive(Drop)]
@@ -73,6 +78,20 @@ impl Descriptions {
             Some((id, _)) => Some(*id),
             None => None,
         }
+    }
+
+    /// Whether some description is of the file of that number.
+    pub fn has_file(&self, number: u32) -> bool
+        ensures { result ≡ list_any (λ o. is_of_file number o.desc) (map.values self.now) }
+    {
+        has_file_among(&self.index, &self.slab, number)
+    }
+
+    /// Takes the process away as an owner wherever it is one. Takes no memory.
+    pub fn disown(&mut self, p: RealPid)
+        ensures { self.new ≡ map_values (disowned_open p) self.old }
+    {
+        disown_all(&mut self.slab, p);
     }
 
     /// Adds a description. After a failed allocation all is as before.
@@ -172,6 +191,49 @@ impl Descriptions {
             None => 0,
         }
     }
+}
+
+fn has_file_among(index: &BTreeMap<DescId, usize>, slab: &Slab<Open>, number: u32) -> bool
+    ensures { result ≡ list_any (λ key. is_of_file number (kept_at slab.now key).desc)
+        (map.values (map.from_entries {R = desc_cmp} index.now.entries)) }
+{
+    slab_keys(index).any(|key| is_of_file_at(slab, *key, number))
+}
+
+/// The keys in the slab, in the order of the descriptions.
+fn slab_keys(index: &BTreeMap<DescId, usize>) -> Values<'_, DescId, usize>
+    ensures { result ≡ map.values (map.from_entries {R = desc_cmp} index.now.entries) }
+{
+    index.values()
+}
+
+fn is_of_file_at(slab: &Slab<Open>, key: usize, number: u32) -> bool
+    ensures { result ≡ is_of_file number (kept_at slab.now key).desc }
+{
+    match slab.get(key) {
+        Some(open) => open.desc.object.is_file(number),
+        None => false,
+    }
+}
+
+fn disown_all(slab: &mut Slab<Open>, p: RealPid)
+    ensures { slab.new.slots ≡ mapped (option_map (disowned_open p)) slab.old.slots }
+{
+    slab.retain(|_, open| disown_one(open, p));
+}
+
+/// Takes the process away as an owner, if it is the description's. Always answers true.
+#[tactic(auto, unfolding(crate::specs::Counts::disowned_open))]
+fn disown_one(open: &mut Open, p: RealPid) -> bool
+    ensures yes { result ≡ true }
+    ensures disowned { open.new ≡ disowned_open p open.old }
+{
+    if let Some(owner) = open.desc.owner {
+        if p.cmp(&owner).is_eq() {
+            open.desc.owner = None;
+        }
+    }
+    true
 }
 
 fn start_above(above: Option<DescId>) -> Bound<DescId>

@@ -1,10 +1,11 @@
 ghost use Rattle.std.specs.Prelude.{◌≡◌, ◌↔◌, ◌-◌, ◌^◌, ◌<◌, min, find, IfOk, IfSome, OnSome, Contains, MatchOption, IsSome, IsTrue, option_map, option_and_then};
 ghost use Rattle.std.specs.Option.{option_copied};
+ghost use Rattle.std.specs.List.{list_any};
 ghost use Rattle.std.specs.List.Sorted.{IsStrictlySortedBy};
 ghost use Rattle.std.specs.FinMap as map;
 ghost use Rattle.sys_abi.specs.declared.identity.RealPid.{RealPid};
 ghost use Rattle.sys_abi.specs.Orders.{real_pid_cmp};
-ghost use Rattle.fd_book.specs.Books.{slot, is_after, is_held, IsHolder};
+ghost use Rattle.fd_book.specs.Books.{slot, is_after, is_held, is_of_file, IsHolder, IsWhole};
 ghost use Rattle.fd_book.specs.Numbers.{NoneOpen, IsLowestOpen, free_below, first_above};
 
 use crate::book::Book;
@@ -13,6 +14,13 @@ use std::alloc::{AllocError, Global};
 use sys_abi::{DescId, Fd, RealPid};
 
 impl Book {
+    /// What is always true of a book. It does nothing.
+    pub fn whole(&self)
+        ensures { IsWhole self.now }
+    {
+        let _ = &self.count;
+    }
+
     /// The description to which the descriptor refers, which is there.
     pub fn get(&self, p: RealPid, fd: Fd) -> Option<DescId>
         ensures at { result ≡ option_map (λ d. d.desc) (map.get self.now.descriptors (slot p fd.0)) }
@@ -54,6 +62,13 @@ impl Book {
             Some(open) => open.desc.owner,
             None => None,
         }
+    }
+
+    /// Whether some description is of the file of that number.
+    pub fn has_file(&self, number: u32) -> bool
+        ensures { result ≡ list_any (is_of_file number) (map.values self.now.descriptions) }
+    {
+        self.descriptions.has_file(number)
     }
 
     /// The processes that have a descriptor of the description, each once, in the order of their numbers.

@@ -1,2 +1,3 @@
 pub mod HandedOut
 pub mod Waits
+pub mod Leasts

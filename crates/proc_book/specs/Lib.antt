@@ -1,3 +1,4 @@
 pub mod Ends
 pub mod Processes
 pub mod Procs
+pub mod Waits

@@ -3,6 +3,7 @@
 --     next_of t node                    the number that the node hands out next
 --     has_number t node                 the node is there and has a number left
 --     after_start, after_add_thread     a process more, or a thread more, with that number
+--     is_full t, threads_at m p         as many processes stand as may;  how many threads a process has
 --     can_raise, after_raise            the process lives, with the thread if one is named; the signal is pending for it then
 --     is_taken, after_take              the signal is pending for the thread or the process; it is no more
 --     pending, pending_of               the signals pending for the thread or the process; for one of them alone
@@ -12,7 +13,7 @@
 --     wait_for m p child                what a wait finds: no such child, none that has ended, or the least one with its status
 --     waited, after_wait                its answer;  the processes then
 --     IsUnused processes node number    no process and no thread of the node has the number or a greater one
-use Rattle.std.specs.Prelude.{◌≡◌, ℕ, ◌+◌, ◌<◌, ◌^◌, nat_lt, length, Bool, true, false, ◌&&◌, List, [], ◌∷◌, slice_index, slice_set, bit_or, find, Option, Some, None, Result, Ok, Err, refl, is_some, if◌then◌else◌}
+use Rattle.std.specs.Prelude.{◌≡◌, ℕ, ◌+◌, ◌<◌, ◌^◌, nat_lt, nat_le, length, Bool, true, false, ◌&&◌, List, [], ◌∷◌, slice_index, slice_set, bit_or, find, Option, Some, None, Result, Ok, Err, refl, is_some, if◌then◌else◌}
 use Rattle.std.specs.Option.{option_map_or}
 use Rattle.std.specs.Ordering.{is_lt}
 use Rattle.std.specs.Coded.{Coded, code_by, coded×, coded_ℕ, coded_list}
@@ -24,6 +25,7 @@ use Rattle.proc_book.specs.declared.process.Process.{Process}
 use Rattle.proc_book.specs.contracts.process.Process as process
 use Rattle.sys_abi.specs.declared.life.Life.{Life}
 use Rattle.sys_abi.specs.declared.life.Life.TheVariants.{Live, Zombie}
+use Rattle.proc_book.specs.declared.limits.TheConstants.{PROCESS_LIMIT}
 use Rattle.proc_book.specs.declared.waiting.Waiting.{Waiting}
 use Rattle.proc_book.specs.declared.waiting.Waiting.TheVariants.{NoChild, NotReady, Ended}
 use Rattle.proc_book.specs.declared.proc_fault.ProcFault.{ProcFault}
@@ -44,6 +46,10 @@ next_of t node = slice_index t.next node
 
 abbrev pub has_number : ProcTable → ℕ → Bool
 has_number t node = nat_lt node (length t.next) && nat_lt (next_of t node) (2 ^ 32)
+
+-- as many processes stand as may
+abbrev pub is_full : ProcTable → Bool
+is_full t = nat_le PROCESS_LIMIT (map.len t.processes)
 
 abbrev pub after_start : ProcTable → ℕ → Option RealPid → ProcTable
 after_start t node parent = record {

@@ -2,12 +2,14 @@
 //! have ended and were not waited for.
 //!
 //! To a caller a [`Procs`] is a map from real numbers to processes, and for each node the number that it hands out
-//! next. A node's numbers rise, and none is handed out twice: not to processes, and not to threads.
+//! next. A node's numbers rise, and none is handed out twice: not to processes, and not to threads. What a wait would
+//! find is asked for without waiting by `look`.
 //!
 //! Proved: each call does to the map what its clause says and leaves the rest as it was; `NoProcess`, `NoChild`,
 //! `NotReady` and `Full` come exactly where their clauses say; want of memory changes nothing, and every number in the
-//! map is below its node's next one. Not proved: how long a call takes. The rules of an end and of waiting are those of
-//! `man 2 exit`, `man 2 wait4` and `man 7 signal`, as far as this project has them; the limits are its own.
+//! map is below its node's next one, as `whole` tells. A wait for any child finds the least one that has ended. Not
+//! proved: how long a call takes. The rules of an end and of waiting are those of `man 2 exit`, `man 2 wait4` and
+//! `man 7 signal`, as far as this project has them; the limits are its own.
 #![tactic(auto)]
 
 mod ends;
@@ -15,9 +17,10 @@ pub mod limits;
 mod proc_fault;
 mod process;
 mod procs;
-mod waiting;
+pub mod waiting;
 
 pub use proc_fault::ProcFault;
 pub use process::Process;
 pub use procs::Procs;
 pub use sys_abi::Life;
+pub use waiting::Waiting;

@@ -1,9 +1,10 @@
-ghost use Rattle.std.specs.Prelude.{◌≡◌, ◌+◌, ◌≤◌, ◌<◌, ◌^◌, true, false, Ok, Err, find, length, replicate, IfOk, OnOk, OnErr, IsOkUnless, option_and_then, is_some, if◌then◌else◌};
+ghost use Rattle.std.specs.Prelude.{◌≡◌, ◌+◌, ◌≤◌, ◌<◌, ◌^◌, true, false, None, Ok, Err, find, length, replicate, IfOk, OnOk, OnErr, IsOkUnless, option_and_then, is_some, if◌then◌else◌};
 ghost use Rattle.std.specs.FinMap as map;
 ghost use Rattle.proc_book.specs.declared.limits.TheConstants.{PROCESS_LIMIT, THREAD_LIMIT};
 ghost use Rattle.real_maps.specs.Changes.{at_key};
 ghost use Rattle.proc_book.specs.Ends.{is_live_at, after_end};
 ghost use Rattle.proc_book.specs.Procs as words;
+ghost use Rattle.proc_book.specs.Waits.{Finds};
 
 use crate::ends::{end, raise_at};
 use crate::limits::{PROCESS_LIMIT, THREAD_LIMIT};
@@ -48,6 +49,13 @@ impl Procs {
         })
     }
 
+    /// Each number in the map is below the one that its node hands out next. It does nothing.
+    pub fn whole(&self)
+        ensures { words.AllHandedOut self.now.processes self.now.next }
+    {
+        let _ = &self.next;
+    }
+
     /// The number that the node hands out next, to a process or a thread.
     pub fn next_real(&self, node: u32) -> u32
         requires node { node < length self.now.next }
@@ -63,6 +71,23 @@ impl Procs {
         ensures { result ≡ words.has_number self.now node }
     {
         (node as usize) < self.next.len() && self.next[node as usize] <= u64::from(u32::MAX)
+    }
+
+    /// Whether as many processes stand as may.
+    pub fn is_full(&self) -> bool
+        ensures { result ≡ words.is_full self.now }
+    {
+        self.processes.len() >= PROCESS_LIMIT
+    }
+
+    /// How many threads the process has, none where it is not there.
+    pub fn thread_count(&self, p: RealPid) -> usize
+        ensures { result ≡ words.threads_at self.now.processes p }
+    {
+        match self.processes.get(p) {
+            None => 0,
+            Some(process) => process.threads.len(),
+        }
     }
 
     /// Whether the process is there and has not ended.
@@ -207,6 +232,14 @@ impl Procs {
                 Life::Zombie(status) => Some(status),
             },
         }
+    }
+
+    /// What a wait for this child, or for any, would find.
+    pub fn look(&self, p: RealPid, child: Option<RealPid>) -> Waiting
+        ensures found { result ≡ words.wait_for self.now.processes p child }
+        ensures least { child ≡ None → Finds self.now.processes p result }
+    {
+        wait_for(&self.processes, p, child)
     }
 
     /// Waits for this child, or for any: the least one that has ended is gone then. Answers it with its status.

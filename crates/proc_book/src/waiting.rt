@@ -8,7 +8,7 @@ use sys_abi::{Life, RealPid};
 
 /// What a wait finds.
 #[derive(Clone, Copy, Debug, PartialEq, Eq)]
-pub(crate) enum Waiting {
+pub enum Waiting {
     NoChild,
     /// No child of those asked for has ended.
     NotReady,

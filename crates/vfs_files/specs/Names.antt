@@ -3,6 +3,7 @@
 --     Names                       the number of the file of each name
 --     IsNameOf names file name    the name of the file, or the empty one where it has none
 --     without_file names file     the names of the other files
+--     IsNamedOnce names           no file has two names
 --     AreInverse files names      each name's file has that name, and each file's name has that file
 use Rattle.std.specs.Prelude.{◌≡◌, ◌⊎◌, ◌==◌, ℕ, not, List, [], Some}
 use Rattle.std.specs.Ordering.{nat_cmp}
@@ -17,6 +18,9 @@ Names = map.FinMap name_cmp ℕ
 pub record IsNameOf (names : Names) (file : ℕ) (name : List ℕ) : Type 0 where
   pub only : (other : List ℕ) → map.get names other ≡ Some file → other ≡ name
   pub own : (map.get names name ≡ Some file) ⊎ (name ≡ [])
+
+abbrev pub IsNamedOnce : Names → Type 0
+IsNamedOnce names = (name other : List ℕ) (file : ℕ) → map.get names name ≡ Some file → map.get names other ≡ Some file → name ≡ other
 
 abbrev pub without_file : Names → ℕ → Names
 without_file names file = retain (λ name number. not (number == file)) names

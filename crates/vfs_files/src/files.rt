@@ -5,6 +5,7 @@ ghost use Rattle.views.specs.NumberMap.{is_above};
 ghost use Rattle.vfs_files.specs.declared.limits.TheConstants.{FILE_LIMIT, TOTAL_LIMIT};
 ghost use Rattle.vfs_files.specs.Names.{IsNameOf};
 ghost use Rattle.vfs_files.specs.FileTable as table;
+ghost use Rattle.vfs_files.specs.Keeping.{IsWhole};
 ghost use Rattle.views.specs.Bytes.{read_from};
 
 use crate::file_bytes::FileBytes;
@@ -54,6 +55,13 @@ impl Files {
             next_file: 1,
             total: 0,
         }
+    }
+
+    /// What is always true of the files. It does nothing.
+    pub fn whole(&self)
+        ensures { IsWhole self.now }
+    {
+        self.names.whole();
     }
 
     /// The number of the file of that name. With O_CREAT an empty file is made where there is none, with O_EXCL beside

@@ -6,8 +6,9 @@
 //! [`Files::restore`].
 //!
 //! Proved: each call does to the maps what its clause says and leaves the rest as it was; each refusal comes exactly
-//! where its clause says, in the order of [`FileFault`]; want of memory changes nothing. All files together have at
-//! most 67,108,864 bytes and there are at most 1,024 of them. Not proved: how long a call takes; a write needs no walk
+//! where its clause says, in the order of [`FileFault`]; want of memory changes nothing. A name's file is there, no file
+//! has two names, all files together have at most 67,108,864 bytes and there are at most 1,024 of them; `whole` tells
+//! these. Not proved: how long a call takes; a write needs no walk
 //! over the other files to know their bytes. The calls are modelled on POSIX (`man 2 open`, `pread`, `pwrite`,
 //! `ftruncate`, `unlink`); the limits are this project's own.
 #![tactic(auto)]

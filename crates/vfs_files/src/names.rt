@@ -1,7 +1,7 @@
 ghost use Rattle.std.specs.Prelude.{◌≡◌, ◌≢◌, ℕ, List, None, Some, OnOk, OnErr};
 ghost use Rattle.std.specs.Option.{option_map_or};
 ghost use Rattle.std.specs.FinMap as map;
-ghost use Rattle.vfs_files.specs.Names.{IsNameOf, without_file};
+ghost use Rattle.vfs_files.specs.Names.{IsNameOf, IsNamedOnce, without_file};
 
 use id_maps::ByName;
 use std::alloc::{AllocError, Global};
@@ -39,6 +39,13 @@ impl NameTable {
             files: ByName::new(alloc),
             names: NumberMap::new(alloc),
         }
+    }
+
+    /// No file has two names. It does nothing.
+    pub fn whole(&self)
+        ensures { IsNamedOnce self.now }
+    {
+        let _ = &self.files;
     }
 
     /// The number of the file of a name.

@@ -6,7 +6,7 @@ use Rattle.std.specs.Cmp.{IsTotalOrder}
 use Rattle.std.specs.FinMap as map
 use Rattle.std.specs.FinMap.{FinMap, IsAntisymmetric}
 use Rattle.views.proofs.MapLaws.{true_false, remove_insert_new, remove_absent, same_or_other, get_insert_same, get_insert_other, get_remove_same, get_remove_other}
-use Rattle.virt_ids.specs.Pairs.{AreInverse, IsOneToOne, IsTaken}
+use Rattle.virt_ids.specs.Pairs.{AreInverse}
 
 abbrev is_there : {A : Type 0} → Option A → Type 0
 is_there None = ⊥
@@ -33,22 +33,6 @@ module _ {V R : Type 0} {C : V → V → Ordering} {D : R → R → Ordering} wh
   pub new_pairs : (there : FinMap C R) (back : FinMap D V) → there ≡ map.empty → back ≡ map.empty → AreInverse there back
   new_pairs there back there_is back_is =
       subst (λ (m : FinMap D V). AreInverse there m) (sym back_is) (subst (λ (m : FinMap C R). AreInverse {D = D} m map.empty) (sym there_is) AreInverse-empty)
-
-  pub AreInverse-one_to_one : (there : FinMap C R) (back : FinMap D V) → AreInverse there back → IsOneToOne there
-  AreInverse-one_to_one there back pairs v w r at_v at_w = the_value v w (sym (pairs.leads_back v r at_v) ∙ pairs.leads_back w r at_w)
-
-  -- of the map that a contract sees
-  pub one_to_one_seen : (there now : FinMap C R) (back : FinMap D V) → AreInverse there back → there ≡ now → IsOneToOne now
-  one_to_one_seen there now back pairs seen = subst (λ (m : FinMap C R). IsOneToOne m) seen (AreInverse-one_to_one there back pairs)
-
-  paired_back : (there : FinMap C R) (back : FinMap D V) (v : V) (r : R) (found : Option V) → AreInverse there back → map.get back r ≡ found → is_some found ≡ true → IsTaken there v r
-  paired_back there back v r None pairs is there_is = true_false (sym there_is)
-  paired_back there back v r (Some w) pairs is there_is = inr (w, pairs.leads_there w r is)
-
-  -- the way back finds the real side
-  pub taken_back : (there now : FinMap C R) (back : FinMap D V) (v : V) (r : R) (known : Bool) → AreInverse there back → there ≡ now → known ≡ is_some (map.get back r) → known ≡ true → IsTaken now v r
-  taken_back there now back v r known pairs seen is found =
-      subst (λ (m : FinMap C R). IsTaken m v r) seen (paired_back there back v r _ pairs refl (sym is ∙ found))
 
 module _ {V R : Type 0} {C : V → V → Ordering} {D : R → R → Ordering} (c_total : IsTotalOrder C) (c_exact : IsAntisymmetric C) (d_total : IsTotalOrder D) (d_exact : IsAntisymmetric D) where
   pub AreInverse-insert : (there : FinMap C R) (back : FinMap D V) (v : V) (r : R) → AreInverse there back → map.get there v ≡ None → map.get back r ≡ None

@@ -1,8 +1,7 @@
-ghost use Rattle.std.specs.Prelude.{◌≡◌, ◌≢◌, ◌↔◌, ℕ, Some, Err, IfOk, IfErr, OnOk, OnErr};
+ghost use Rattle.std.specs.Prelude.{◌≡◌, ◌≢◌, ◌↔◌, Err, OnOk, OnErr};
 ghost use Rattle.std.specs.Option.{ok_or};
 ghost use Rattle.std.specs.FinMap as map;
-ghost use Rattle.sys_abi.specs.declared.identity.VirtAddr.{VirtAddr};
-ghost use Rattle.virt_ids.specs.Pairs.{IsTaken, IsOneToOne};
+ghost use Rattle.virt_ids.specs.Pairs.{IsTaken, AreWhole, without_back};
 
 use crate::id_fault::IdFault;
 use id_maps::ByAddress;
@@ -29,7 +28,12 @@ impl Model for Ids {
 
     ghost coded = { coded_pairs };
 
-    ghost view = { λ ids. record { pids = ids.real_pids; addresses = ids.real_addresses } };
+    ghost view = { λ ids. record {
+      pids = ids.real_pids;
+      virts = ids.virt_pids;
+      addresses = ids.real_addresses;
+      ports = ids.virt_addresses;
+    } };
 
     ghost invariant = { λ ids. AreInverse ids.real_pids ids.virt_pids × AreInverse ids.real_addresses ids.virt_addresses };
 }
@@ -37,7 +41,7 @@ impl Model for Ids {
 impl Ids {
     /// No pairs, and no memory yet.
     pub fn new(alloc: Global) -> Ids
-        ensures { result ≡ record { pids = map.empty; addresses = map.empty } }
+        ensures { result ≡ record { pids = map.empty; virts = map.empty; addresses = map.empty; ports = map.empty } }
     {
         Ids {
             real_pids: NumberMap::new(alloc),
@@ -47,16 +51,25 @@ impl Ids {
         }
     }
 
+    /// Of every table each way leads back. It does nothing.
+    pub fn whole(&self)
+        ensures { AreWhole self.now }
+    {
+        let _ = &self.real_pids;
+    }
+
     /// Pairs the virtual number with the real one.
     ///
     /// # Errors
     /// `Taken` where either is in a pair. After an error all is as before.
     pub fn add_pid(&mut self, v: u32, r: RealPid) -> Result<(), IdFault>
-        ensures taken { (result ≡ Err IdFault.Taken) ↔ IsTaken self.old.pids v r }
+        ensures taken { (result ≡ Err IdFault.Taken) ↔ IsTaken self.old.pids self.old.virts v r }
         ensures never_unknown { result ≢ Err IdFault.Unknown }
-        ensures ok { OnOk result (self.new ≡ record self.old { pids = map.insert self.old.pids v r }) }
+        ensures ok { OnOk result (self.new ≡ record self.old {
+          pids = map.insert self.old.pids v r;
+          virts = map.insert self.old.virts r v;
+        }) }
         ensures err { OnErr result (self.new ≡ self.old) }
-        ensures one_to_one { IsOneToOne self.new.pids }
     {
         if self.real_pids.contains_key(v) {
             return Err(IdFault::Taken);
@@ -77,11 +90,13 @@ impl Ids {
     /// # Errors
     /// `Taken` where either is in a pair. After an error all is as before.
     pub fn add_addr(&mut self, v: VirtAddr, r: RealAddr) -> Result<(), IdFault>
-        ensures taken { (result ≡ Err IdFault.Taken) ↔ IsTaken self.old.addresses v r }
+        ensures taken { (result ≡ Err IdFault.Taken) ↔ IsTaken self.old.addresses self.old.ports v r }
         ensures never_unknown { result ≢ Err IdFault.Unknown }
-        ensures ok { OnOk result (self.new ≡ record self.old { addresses = map.insert self.old.addresses v r }) }
+        ensures ok { OnOk result (self.new ≡ record self.old {
+          addresses = map.insert self.old.addresses v r;
+          ports = map.insert self.old.ports r v;
+        }) }
         ensures err { OnErr result (self.new ≡ self.old) }
-        ensures one_to_one { IsOneToOne self.new.addresses }
     {
         if self.real_addresses.contains_key(v) {
             return Err(IdFault::Taken);
@@ -102,8 +117,7 @@ impl Ids {
     /// # Errors
     /// `Unknown` where none is.
     pub fn real_pid(&self, v: u32) -> Result<RealPid, IdFault>
-        ensures real { result ≡ ok_or (map.get self.now.pids v) IdFault.Unknown }
-        ensures one_to_one { IsOneToOne self.now.pids }
+        ensures { result ≡ ok_or (map.get self.now.pids v) IdFault.Unknown }
     {
         self.real_pids.get(v).copied().ok_or(IdFault::Unknown)
     }
@@ -113,10 +127,7 @@ impl Ids {
     /// # Errors
     /// `Unknown` where none is.
     pub fn virt_pid(&self, r: RealPid) -> Result<u32, IdFault>
-        ensures found { IfOk result (λ v. map.get self.now.pids v ≡ Some r) }
-        ensures unknown { IfErr result (λ fault.
-            (fault ≡ IdFault.Unknown) × ((v : ℕ) → map.get self.now.pids v ≢ Some r)) }
-        ensures one_to_one { IsOneToOne self.now.pids }
+        ensures { result ≡ ok_or (map.get self.now.virts r) IdFault.Unknown }
     {
         self.virt_pids.get(r).copied().ok_or(IdFault::Unknown)
     }
@@ -126,8 +137,7 @@ impl Ids {
     /// # Errors
     /// `Unknown` where none is.
     pub fn real_addr(&self, v: VirtAddr) -> Result<RealAddr, IdFault>
-        ensures real { result ≡ ok_or (map.get self.now.addresses v) IdFault.Unknown }
-        ensures one_to_one { IsOneToOne self.now.addresses }
+        ensures { result ≡ ok_or (map.get self.now.addresses v) IdFault.Unknown }
     {
         self.real_addresses.get(v).copied().ok_or(IdFault::Unknown)
     }
@@ -137,18 +147,17 @@ impl Ids {
     /// # Errors
     /// `Unknown` where none is.
     pub fn virt_addr(&self, r: RealAddr) -> Result<VirtAddr, IdFault>
-        ensures found { IfOk result (λ v. map.get self.now.addresses v ≡ Some r) }
-        ensures unknown { IfErr result (λ fault.
-            (fault ≡ IdFault.Unknown) × ((v : VirtAddr) → map.get self.now.addresses v ≢ Some r)) }
-        ensures one_to_one { IsOneToOne self.now.addresses }
+        ensures { result ≡ ok_or (map.get self.now.ports r) IdFault.Unknown }
     {
         self.virt_addresses.get(r).copied().ok_or(IdFault::Unknown)
     }
 
     /// Takes out the pair of the virtual number, if there is one. Takes no memory.
     pub fn drop_pid(&mut self, v: u32)
-        ensures dropped { self.new ≡ record self.old { pids = map.remove self.old.pids v } }
-        ensures one_to_one { IsOneToOne self.new.pids }
+        ensures dropped { self.new ≡ record self.old {
+          pids = map.remove self.old.pids v;
+          virts = without_back self.old.virts (map.get self.old.pids v);
+        } }
     {
         if let Some(r) = self.real_pids.remove(v) {
             self.virt_pids.remove(r);
@@ -157,8 +166,10 @@ impl Ids {
 
     /// Takes out the pair of the virtual address, if there is one. Takes no memory.
     pub fn drop_addr(&mut self, v: VirtAddr)
-        ensures dropped { self.new ≡ record self.old { addresses = map.remove self.old.addresses v } }
-        ensures one_to_one { IsOneToOne self.new.addresses }
+        ensures dropped { self.new ≡ record self.old {
+          addresses = map.remove self.old.addresses v;
+          ports = without_back self.old.ports (map.get self.old.addresses v);
+        } }
     {
         if let Some(r) = self.real_addresses.remove(v) {
             self.virt_addresses.remove(r);

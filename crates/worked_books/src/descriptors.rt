@@ -161,3 +161,24 @@ fn descriptions_and_flags_are_changed(rt: HostRuntime) {
     same(&rt, book.owner(name(5)), Some(CHILD));
     same(&rt, book.cloexec(PARENT, Fd(0)), Some(true));
 }
+
+const FILE: Object = Object::File {
+    number: 4,
+    offset: 9,
+};
+
+#[test]
+fn a_file_and_the_owners_of_descriptions(rt: HostRuntime) {
+    let mut book = Book::new(rt.alloc());
+    same(&rt, place(&mut book, 5, false), Ok(Fd(0)));
+    same(&rt, place(&mut book, 6, false), Ok(Fd(1)));
+    book.set_owner(name(5), Some(CHILD));
+    book.set_owner(name(6), Some(PARENT));
+    book.set_object(name(6), FILE);
+    same(&rt, book.has_file(4), true);
+    same(&rt, book.has_file(9), false);
+    book.disown(CHILD);
+    book.whole();
+    same(&rt, book.owner(name(5)), None);
+    same(&rt, book.owner(name(6)), Some(PARENT));
+}

@@ -1,5 +1,5 @@
 use crate::asserting::same;
-use proc_book::{ProcFault, Procs};
+use proc_book::{ProcFault, Procs, Waiting};
 use std::alloc::AllocError;
 use std::process::Abort;
 use std::test::Fail;
@@ -48,6 +48,8 @@ fn numbers_rise_on_each_node(rt: HostRuntime) -> Result<(), Fail> {
     same(&rt, procs.next_process(Some(FIRST)), Some(CHILD));
     same(&rt, procs.next_process(Some(CHILD)), None);
     same(&rt, procs.next_real_thread(FIRST, 100), Some(101));
+    same(&rt, procs.thread_count(FIRST), 2);
+    procs.whole();
     same(&rt, procs.parent(CHILD), Some(FIRST));
     same(&rt, procs.parent(FIRST), None);
     same(&rt, next_real(&procs, 1), Some(103));
@@ -103,6 +105,8 @@ fn family(rt: &(impl Abort + AllocGlobal)) -> Result<Procs, AllocError> {
     Ok(procs)
 }
 
+const LEAST_ENDED: Waiting = Waiting::Ended(RealPid { node: 0, pid: 2 }, 512);
+
 #[test]
 fn ends_leave_zombies(rt: HostRuntime) -> Result<(), Fail> {
     let mut procs = family(&rt)?;
@@ -116,6 +120,7 @@ fn ends_leave_zombies(rt: HostRuntime) -> Result<(), Fail> {
     same(&rt, procs.status(member(4)), Some(9));
     procs.end_process(member(3), 256);
     procs.end_process(member(2), 512);
+    same(&rt, procs.look(member(1), None), LEAST_ENDED);
     same(&rt, procs.status(member(4)), None);
     same(&rt, procs.pending_of(member(1), None), 0x1_0000);
     same(
@@ -156,7 +161,9 @@ fn fill(rt: &impl Abort, procs: &mut Procs) {
 #[test]
 fn there_are_128_processes_at_most(rt: HostRuntime) -> Result<(), Fail> {
     let mut procs = Procs::new(rt.alloc(), 1, 1)?;
+    same(&rt, procs.is_full(), false);
     fill(&rt, &mut procs);
+    same(&rt, procs.is_full(), true);
     same(&rt, procs.has_real(0), true);
     same(&rt, start(&mut procs, 0, None), Err(ProcFault::Full));
     Ok(())

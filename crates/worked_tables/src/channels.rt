@@ -6,6 +6,8 @@ const FIRST: VPid = VPid(40000);
 
 const SERVER: VirtAddr = VirtAddr { host: 1, port: 80 };
 
+const UNBOUND: VirtAddr = VirtAddr { host: 1, port: 0 };
+
 const OTHER_HOST: VirtAddr = VirtAddr { host: 0, port: 80 };
 
 const CLIENT: VirtAddr = VirtAddr {
@@ -72,6 +74,18 @@ fn a_port_is_used_by_ends_and_names(rt: HostRuntime) {
     table.drop_end(SECOND_CHANNEL, 1);
     same(&rt, table.port_used(SERVER), true);
     same(&rt, table.port_used(OTHER_HOST), false);
+}
+
+#[test]
+fn a_socket_has_port_0_until_it_is_bound(rt: HostRuntime) {
+    let mut table = ConnTable::new(rt.alloc());
+    let description = DescId { pid: FIRST, num: 0 };
+    holds(&rt, table.set_name(description, UNBOUND).is_ok());
+    same(&rt, table.name(description), Some(UNBOUND));
+    same(&rt, table.port_used(SERVER), false);
+    holds(&rt, table.set_name(description, SERVER).is_ok());
+    same(&rt, table.name(description), Some(SERVER));
+    same(&rt, table.port_used(UNBOUND), false);
 }
 
 #[test]

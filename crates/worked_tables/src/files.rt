@@ -108,6 +108,7 @@ fn a_name_goes_while_its_file_is_open(rt: HostRuntime) {
     holds(&rt, is_called(&files, 1, b""));
     same(&rt, files.open_file(b"a", O_CREAT), Ok(2));
     files.forget(1);
+    files.whole();
     holds(&rt, files.bytes(1).is_none());
     same(&rt, files.len(2), Some(0));
 }

@@ -30,6 +30,7 @@ fn numbers_are_paired_both_ways(rt: HostRuntime) {
     same(&rt, ids.real_pid(40000), Err(IdFault::Unknown));
     same(&rt, ids.virt_pid(FIRST), Err(IdFault::Unknown));
     same(&rt, ids.add_pid(40002, FIRST), Ok(()));
+    ids.whole();
     same(&rt, ids.virt_pid(FIRST), Ok(40002));
 }
 

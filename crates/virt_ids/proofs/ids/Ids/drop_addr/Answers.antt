@@ -1,6 +1,6 @@
 use Rattle.std.proofs.Common.{refl}
 use Rattle.sys_abi.proofs.OrderLaws.{address_total, address_exact, real_address_total, real_address_exact}
-use Rattle.virt_ids.proofs.PairLaws.{one_to_one_seen, unpaired, unpaired_none}
+use Rattle.virt_ids.proofs.PairLaws.{unpaired, unpaired_none}
 use Rattle.virt_ids.proofs.ids.Ids.drop_addr.Goals as goal
 
 pub invariant_of-self : goal.invariant_of-self
@@ -8,9 +8,3 @@ invariant_of-self c = (c.self.invariant.0, unpaired address_total address_exact 
 
 pub invariant_of-self-in_default : goal.invariant_of-self-in_default
 invariant_of-self-in_default c = (c.self.invariant.0, unpaired_none address_total address_exact real_address_total real_address_exact c.self.inside.real_addresses c.remove.new.self c.self.inside.virt_addresses c.args.v c.remove.result c.self.invariant.1 c.remove.ensures.before c.in_default.is c.remove.ensures.removed)
-
-pub returns-in-Some-clause-one_to_one : goal.returns-in-Some-clause-one_to_one
-returns-in-Some-clause-one_to_one c = one_to_one_seen c.remove.new.self _ c.remove-in-Some.new.self (unpaired address_total address_exact real_address_total real_address_exact c.self.inside.real_addresses c.remove.new.self c.self.inside.virt_addresses c.remove-in-Some.new.self c.args.v _ c.remove.result c.self.invariant.1 c.remove.ensures.before c.in-Some.is c.remove.ensures.removed c.remove-in-Some.ensures.removed) refl
-
-pub returns-in_default-clause-one_to_one : goal.returns-in_default-clause-one_to_one
-returns-in_default-clause-one_to_one c = one_to_one_seen c.remove.new.self _ c.self.inside.virt_addresses (unpaired_none address_total address_exact real_address_total real_address_exact c.self.inside.real_addresses c.remove.new.self c.self.inside.virt_addresses c.args.v c.remove.result c.self.invariant.1 c.remove.ensures.before c.in_default.is c.remove.ensures.removed) refl
