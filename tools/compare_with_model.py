@@ -2,11 +2,11 @@
 """Runs random guests by the built program and by the model of it that was written from the manual alone (model/): both
 must leave the same.
 
-Each seed makes one of these: a guest that runs to its end; one that makes checkpoints, is cut off, and goes on by
-restarts; restarts from a set that the model made; a launch beside sets that are there already; restarts from damaged
-sets; program files with odd headers; odd words. Status, console, log, trace and each file of the folder of sets are
-compared byte for byte. What a guest tells on its console of the answers of its calls, of its handlers and of how it is
-to end is counted.
+Each seed makes one of these, of one guest or of a job of several: a run to its end; one that makes checkpoints, is cut
+off, and goes on by restarts; restarts from a set that the model made; a launch beside sets that are there already;
+restarts from damaged sets; program files with odd headers; odd words. Status, console, log, trace and each file of the
+folder of sets are compared byte for byte. What a guest tells on its console of the answers of its calls, of its
+handlers and of how it is to end is counted.
 
     tools/compare_with_model.py [SEEDS [DMTCP [FIRST_SEED]]]
 
@@ -31,7 +31,7 @@ REPORTED = 50  # seeds after which the counts so far are told
 def summary(trial: Trial, seeds: int) -> str:
     counts = trial.counts
     done = ", ".join(f"{counts.done[name]} {name}" for name in
-                     ("guests", "restarts", "damaged sets", "bad files", "command lines"))
+                     ("guests", "jobs", "restarts", "damaged sets", "bad files", "command lines"))
     return f"{seeds} seeds: {done}, {counts.records:,} records, {counts.sets:,} sets, {counts.differ} differences"
 
 

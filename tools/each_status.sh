@@ -40,21 +40,26 @@ ends() {
     judge "$*" "$wanted" "$console" "$last"
 }
 
-usage='dmtcp launch [--every K] [--records M] 0:NAME
+usage='dmtcp launch [--every K] [--records M] [--file NAME].. HOST:NAME[,ARGUMENT]..
 dmtcp restart [--every K] [--records M]'
 ends 0 "$usage" '' --help
 ends 0 'dmtcp 0.1.0' '' --version
 ends 0 hello 'done' launch 0:hello.elf
+ends 0 $'hello\nhello' 'done' launch --nodes 16 --file hello.elf 0:hello.elf 15:hello.elf,argument
 
 ends 10 '' usage
 ends 10 '' usage --help --version
 ends 10 '' usage launch --every 0 0:hello.elf
 ends 10 '' usage launch $'0:\xff'
+ends 10 '' usage launch 16:hello.elf
+ends 10 '' usage launch --file hello.elf --file hello.elf 0:hello.elf
 
 mkdir folder
 ends 11 '' 'input fault: folder' launch 0:folder
+ends 11 '' 'input fault: folder' launch --file folder 0:none.elf
 
 ends 12 '' 'missing: none.elf' launch 0:none.elf
+ends 12 '' 'missing: none.elf' launch --file hello.elf 0:hello.elf 1:none.elf
 
 printf 'no program' > text.elf
 ends 13 '' 'bad program: text.elf: * at *' launch 0:text.elf
@@ -95,5 +100,9 @@ cp hello.elf wait.elf
 } | dd of=wait.elf bs=1 seek=84 conv=notrunc status=none
 ends 19 '' stuck launch 0:wait.elf
 
-echo "$runs runs, each status from 0 to 19 that there is, $failures failures"
+truncate -s 33554433 half other
+ends 21 '' 'files too large' launch --file half --file other 0:hello.elf
+ends 13 '' 'bad program: text.elf: * at *' launch --file half --file other 0:hello.elf 0:text.elf
+
+echo "$runs runs, each status from 0 to 21 that there is but 20, $failures failures"
 [ "$failures" -eq 0 ]

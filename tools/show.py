@@ -2,15 +2,18 @@
 """Shows what a folder of sets or a trace holds.
 
     tools/show.py FOLDER [--registers]
-    tools/show.py TRACE [--program FILE[,ARGUMENT].. | --set FOLDER] [--svg FILE]
+    tools/show.py TRACE [--svg FILE] [--program [HOST:]FILE[,ARGUMENT]..].. [--file FILE]..
+    tools/show.py TRACE [--svg FILE] --set FOLDER
+    tools/show.py TRACE [--svg FILE] --launch WORD..
 
 Of a folder of sets (`dmtcp_set`): each slot's files, generation and standing, and the state that its set spells,
 or the first damage in it. `--registers` also has the registers of each thread and each saved context.
 
-Of a trace (`dmtcp.trace`): a line for each record, and a summary. With the file of the program that was launched,
-and its arguments if it had any, or a copy of the folder of sets as it was before the restart, the records are replayed by the model of the manual
-(tools/model): a line then has the call with its arguments and its answer, and the last one how the guest ended.
-`--svg` also draws the run: a row for each thread and one for the store.
+Of a trace (`dmtcp.trace`): a line for each record, and a summary. With the programs that were launched, each with its
+host and its arguments, and the files that they had; with the words of the launch, all behind `launch`, in the folder in
+which it was made; or with a copy of the folder of sets as it was before the restart, the records are replayed by the
+model of the manual (tools/model): a line then has the call with its arguments and its answer, and the last ones how
+each process ended. `--svg` also draws the run: a row for each thread, one for channels and one for the store.
 
 Status 1 where the set that counts is damaged, where a trace has bytes that spell no record, or where a record is
 no step.
@@ -22,7 +25,7 @@ from pathlib import Path
 
 from model.trace import Record
 from showing.picture import draw
-from showing.replay import NoStart, NoStep, Replay, launched, restarted
+from showing.replay import NoStart, NoStep, Replay, launched, launched_by, restarted
 from showing.sets import read_folder, set_lines, spelled
 from showing.traces import read_trace, record_lines, record_text, summary_lines
 
@@ -40,7 +43,9 @@ def show_sets(folder: Path, registers: bool) -> int:
 def _start_of(words: argparse.Namespace) -> Replay | None:
     """What a trace is replayed from, if that is given."""
     if words.program:
-        return Replay(launched(words.program))
+        return Replay(launched(words.program, words.file))
+    if words.launch:
+        return Replay(launched_by(words.launch))
     return Replay(restarted(words.set)) if words.set else None
 
 
@@ -87,10 +92,18 @@ def _words() -> argparse.Namespace:
     parser.add_argument("path", type=Path, help="a folder of sets, or a trace")
     parser.add_argument("--registers", action="store_true", help="of a folder: the registers of each thread")
     start = parser.add_mutually_exclusive_group()
-    start.add_argument("--program", metavar="FILE[,ARGUMENT]..", help="of a trace: the launched program")
+    program = {"action": "append", "metavar": "[HOST:]FILE[,ARGUMENT].."}
+    start.add_argument("--program", help="of a trace: a launched program, once for each", **program)
     start.add_argument("--set", type=Path, metavar="FOLDER", help="of a trace: the sets before the restart")
+    launch = {"nargs": argparse.REMAINDER, "metavar": "WORD"}
+    start.add_argument("--launch", help="of a trace: the words of the launch, all that follow", **launch)
+    file = {"action": "append", "type": Path, "default": [], "metavar": "FILE"}
+    parser.add_argument("--file", help="with --program: a file that was there, once for each", **file)
     parser.add_argument("--svg", type=Path, metavar="FILE", help="of a trace: draws the run into this file")
-    return parser.parse_args()
+    words = parser.parse_args()
+    if words.file and not words.program:
+        parser.error("--file wants --program")
+    return words
 
 
 def main() -> int:

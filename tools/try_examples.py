@@ -47,7 +47,7 @@ def try_section(section: str, program: str) -> tuple[int, int]:
     commands, failures = COMMAND.findall(section), 0
     with tempfile.TemporaryDirectory() as name:
         folder = Path(name)
-        for guest in EXAMPLES.glob("*.elf"):
+        for guest in [*EXAMPLES.glob("*.elf"), EXAMPLES / "script"]:
             shutil.copy(guest, folder)
         for command, wanted in commands:
             printed = run(command, program, folder)

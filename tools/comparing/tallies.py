@@ -3,7 +3,6 @@
 from collections import Counter
 
 from model import Outcome
-from model.built import BUILT
 from comparing.traces import Record, records_of
 from guests.events import Death, Futex, Mark, Tag, Told, told_on
 from guests.numbers import TRAPS, Call, Errno
@@ -11,31 +10,36 @@ from model.trace import WORK, Kind
 
 ANSWERED, WHOLE_QUANTUM = "answered", "a whole quantum"
 QUANTUM = 4096
-DONE, BUDGET, STUCK = 0, 18, 19
+DONE, BUDGET, STUCK, FILES_TOO_LARGE = 0, 18, 19, 21
 BAD_PROGRAM, NO_SET, DAMAGED = 13, 16, 17
 
-WITH_BUFFERS = [Call.UNLINKAT, Call.OPENAT, Call.PIPE2, Call.READ, Call.SOCKETPAIR, Call.BIND, Call.ACCEPT,
-                Call.CONNECT, Call.GETSOCKNAME, Call.GETPEERNAME, Call.WAIT4]
-WITHOUT_BUFFERS = [Call.EVENTFD2, Call.DUP, Call.DUP3, Call.FCNTL, Call.CLOSE, Call.LSEEK, Call.SOCKET, Call.LISTEN,
-                   Call.SETSOCKOPT, Call.SHUTDOWN]
-
-
-def unbuilt(call: Call) -> list[str]:
-    """What a call answers that the program doesn't have yet."""
-    return [] if call in BUILT else ["ENOSYS"]
-
-
 ANSWERS: dict[str, list[str]] = {
-    "write": [ANSWERED, "EFAULT", "EBADF"], "set_tid_address": [ANSWERED],
+    "set_tid_address": [ANSWERED],
     "futex wait": [ANSWERED, "EFAULT", "EINVAL", "EAGAIN", "EINTR"], "futex wake": [ANSWERED, "woken", "EINVAL"],
-    "futex other": ["ENOSYS"], "sched_yield": [ANSWERED], "tgkill": [ANSWERED, "EINVAL", "ESRCH"],
+    "futex other": ["ENOSYS"], "sched_yield": [ANSWERED],
     "rt_sigaction": [ANSWERED, "EFAULT", "EINVAL"], "rt_sigprocmask": [ANSWERED, "EFAULT", "EINVAL"],
-    "rt_sigreturn": ["EINVAL"], "kill": [ANSWERED, "EINVAL", "ESRCH"], "getpid": [ANSWERED], "getppid": [ANSWERED],
-    "gettid": [ANSWERED], "brk": ["moved", "kept"], "munmap": [ANSWERED, "EINVAL"],
-    "clone": [ANSWERED, "EFAULT", "EINVAL", "ENOSYS", "EAGAIN"], "mmap": [ANSWERED, "EINVAL", "ENOMEM"],
-    "call of no number": ["ENOSYS"],
-    **{call.name.lower(): ["EFAULT", *unbuilt(call)] for call in WITH_BUFFERS},
-    **{call.name.lower(): unbuilt(call) for call in WITHOUT_BUFFERS},
+    "rt_sigreturn": ["EINVAL"], "gettid": [ANSWERED], "brk": ["moved", "kept"], "munmap": [ANSWERED, "EINVAL"],
+    "mmap": [ANSWERED, "EINVAL", "ENOMEM"], "call of no number": ["ENOSYS"],
+    "eventfd2": [ANSWERED, "EINVAL"], "dup": [ANSWERED, "EBADF"], "dup3": [ANSWERED, "EBADF", "EINVAL"],
+    "fcntl": [ANSWERED, "EBADF", "EINVAL", "EMFILE", "ESRCH"], "close": [ANSWERED, "EBADF"],
+    "unlinkat": [ANSWERED, "EFAULT", "EBADF", "EINVAL", "ENOENT"],
+    "openat": [ANSWERED, "EFAULT", "EBADF", "EINVAL", "ENOENT", "EEXIST", "EMFILE", "ENFILE", "ENOSPC"],
+    "lseek": [ANSWERED, "EBADF", "ESPIPE", "EINVAL"],
+    "read": [ANSWERED, "EFAULT", "EBADF", "EINVAL", "ENOTCONN", "EAGAIN", "EINTR"],
+    "write": [ANSWERED, "EFAULT", "EBADF", "EINVAL", "EFBIG", "ENOSPC", "EPIPE", "EAGAIN", "EMSGSIZE", "ECONNREFUSED"],
+    "pipe2": [ANSWERED, "EFAULT", "EINVAL", "EMFILE", "ENFILE"],
+    "socketpair": [ANSWERED, "EFAULT", "EOPNOTSUPP", "EAFNOSUPPORT", "EINVAL", "EMFILE", "ENFILE"],
+    "socket": [ANSWERED, "EAFNOSUPPORT", "EINVAL", "EMFILE", "ENFILE"],
+    "bind": [ANSWERED, "EFAULT", "EBADF", "ENOTSOCK", "EINVAL", "EAFNOSUPPORT", "EADDRNOTAVAIL", "EADDRINUSE"],
+    "listen": [ANSWERED, "EBADF", "ENOTSOCK", "EOPNOTSUPP", "EINVAL"],
+    "accept": [ANSWERED, "EFAULT", "EBADF", "ENOTSOCK", "EINVAL", "EAGAIN", "EMFILE"],
+    "connect": [ANSWERED, "EFAULT", "EBADF", "ENOTSOCK", "EISCONN", "ECONNREFUSED"],
+    "getsockname": [ANSWERED, "EFAULT", "EBADF", "ENOTSOCK"],
+    "getpeername": [ANSWERED, "EFAULT", "EBADF", "ENOTSOCK", "ENOTCONN"], "setsockopt": [ANSWERED, "EBADF", "ENOTSOCK"],
+    "shutdown": [ANSWERED, "EBADF", "ENOTSOCK", "EOPNOTSUPP", "EINVAL", "ENOTCONN"],
+    "kill": [ANSWERED, "EINVAL", "ESRCH"], "tgkill": [ANSWERED, "EINVAL", "ESRCH"], "getpid": [ANSWERED],
+    "getppid": [ANSWERED], "clone": [ANSWERED, "EFAULT", "EINVAL", "EAGAIN"],
+    "wait4": [ANSWERED, "EFAULT", "EINVAL", "ECHILD"],
 }
 REASONS = ["short", "magic", "class", "machine", "filetype", "flags", "segment", "dynamic", "overlap", "toolarge"]
 MARKS_EXPECTED = [mark for mark in Mark if mark not in (Mark.ASKED_BREAK, Mark.DEADLY)]
@@ -48,7 +52,8 @@ def expected() -> list[str]:
     names += [f"signal {signal} delivered" for signal in range(1, 32) if not 18 <= signal <= 22]
     names += [f"handler of trap {signal}" for signal in TRAPS]
     names += [f"ended by a signal: {death.name.lower()}" for death in Death]
-    names += ["end: done", "end: budget", "end: stuck", "end: no set", "a restart that runs", WHOLE_QUANTUM]
+    names += ["end: done", "end: budget", "end: stuck", "end: no set", "end: files too large", "a restart that runs"]
+    names += [WHOLE_QUANTUM, "bytes drained", "refused: a datagram pair", "refused: an event counter"]
     names += [f"bad program: {reason}" for reason in REASONS]
     return names + [f"damage in file {index}" for index in range(3)]
 
@@ -87,7 +92,7 @@ class Tallies:
                 self.counts[f"handler of trap {one.value & 31}"] += 1
 
     def _add_end(self, outcome: Outcome, work: list[Record], told: list[Told]) -> None:
-        names = {DONE: "done", BUDGET: "budget", STUCK: "stuck", NO_SET: "no set"}
+        names = {DONE: "done", BUDGET: "budget", STUCK: "stuck", NO_SET: "no set", FILES_TOO_LARGE: "files too large"}
         if outcome.status in names:
             self.counts[f"end: {names[outcome.status]}"] += 1
         if outcome.status == DONE and work and work[-1].kind == Kind.DELIVER:
@@ -95,12 +100,21 @@ class Tallies:
             is_told = bool(marks) and marks[-1].number == Mark.DEADLY and marks[-1].value in list(Death)
             death = Death(marks[-1].value).name.lower() if is_told else "not told"
             self.counts[f"ended by a signal: {death}"] += 1
-        last = outcome.log.decode("utf-8", "replace").splitlines()[-1:]
-        words = last[0].split(" ") if last else []
+        lines = outcome.log.decode("utf-8", "replace").splitlines()
+        self._add_checkpoints(lines)
+        words = lines[-1].split(" ") if lines else []
         if outcome.status == BAD_PROGRAM:
             self.counts[f"bad program: {words[-3]}"] += 1
         elif outcome.status == DAMAGED:
             self.counts[f"damage in file {words[4]}"] += 1
+
+    def _add_checkpoints(self, lines: list[str]) -> None:
+        for line in lines:
+            if " complete: generation " in line and not line.endswith("drained 0"):
+                self.counts["bytes drained"] += 1
+            for what in ("a datagram pair", "an event counter"):
+                if line.startswith("checkpoint ") and line.endswith(f" is {what}"):
+                    self.counts[f"refused: {what}"] += 1
 
 
 def answer_of(before: Told | None, one: Told) -> str:

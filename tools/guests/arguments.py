@@ -2,7 +2,7 @@
 
 from collections.abc import Callable
 
-from guests.builder import FIRST_THREAD, SCRATCH_BYTES, Area, Guest, Operand, Own, OwnPlace, Word
+from guests.builder import SCRATCH_BYTES, Area, Guest, Operand, Own, OwnPlace, Word
 from guests.layout import PAGE, STACK, STACK_END
 from guests.numbers import NEVER_SENT, NEW_PROCESS, NEW_THREAD, SIGNALS, THREAD_OPTIONS, Clone
 
@@ -73,14 +73,14 @@ def how(guest: Guest) -> Operand:
 
 
 def process(guest: Guest) -> Operand:
-    first = FIRST_THREAD
+    first = guest.place.process
     return guest.rng.choice([first] * 4 + [first - 1, first + 1, first + 1, 0, 1, 0x80000000, 0xFFFFFFFF])
 
 
 def thread(guest: Guest) -> Operand:
     rng = guest.rng
-    return rng.choice([Own(Area.TID), FIRST_THREAD + rng.randrange(6), Word(rng.choice(guest.areas) + Area.TID), 0, 1,
-                       0xFFFFFFFF])
+    return rng.choice([Own(Area.TID), guest.place.process + rng.randrange(6), Word(rng.choice(guest.areas) + Area.TID),
+                       0, 1, 0xFFFFFFFF])
 
 
 def unsent(guest: Guest) -> Operand:
@@ -89,15 +89,14 @@ def unsent(guest: Guest) -> Operand:
 
 
 def refused_flags(guest: Guest) -> Operand:
-    """Flags of a clone that are those of no thread: some missing, some too many, or those of a process."""
+    """Flags of a clone that have no form: some missing, some too many."""
     rng = guest.rng
     some = sum(rng.sample(THREAD_OPTIONS, rng.randrange(4)))
     missing = rng.choice([Clone.VM, Clone.FS, Clone.FILES, Clone.SIGHAND, Clone.THREAD])
     more = rng.choice([0x1, 0x11, 0x1000, 0x2000, 0x4000, 0x20000, 0x400000, 0x80000000, 0x2000000])
-    numbers = sum(rng.sample([Clone.PARENT_SETTID, Clone.CHILD_CLEARTID, Clone.CHILD_SETTID], rng.randrange(3)))
     return rng.choice([
-        (NEW_THREAD | some) & ~missing, NEW_THREAD | some | more, NEW_PROCESS, NEW_PROCESS | numbers,
-        NEW_PROCESS | Clone.SETTLS, NEW_PROCESS | Clone.SYSVSEM, 0, some,
+        (NEW_THREAD | some) & ~missing, NEW_THREAD | some | more, NEW_PROCESS | Clone.SETTLS,
+        NEW_PROCESS | Clone.SYSVSEM, NEW_PROCESS | Clone.VM, 0, some,
     ])
 
 

@@ -13,7 +13,7 @@ RA, SP, TP, A0, A7 = 1, 2, 4, 10, 17
 AREA, TAG, VALUE, T1, T2 = 27, 28, 29, 30, 31
 FREE = [r for r in range(1, AREA) if r != LINK]  # the registers that random instructions write
 ARGUMENTS = range(A0, A0 + 6)
-FIRST_THREAD = 40000
+FIRST_PROCESS = 40000
 AREAS, AREA_BYTES, SCRATCH_BYTES, FUTEX_WORDS = 12, 1024, 256, 6
 
 
@@ -25,6 +25,15 @@ class Area:
     BLOCK = 128
     RECORDS = BLOCK + 16
     END = AREA_BYTES - 8
+
+
+@dataclass(frozen=True)
+class Place:
+    """Where a program of a job runs: its process and its host, and where programs of the job may listen."""
+
+    process: int = FIRST_PROCESS
+    host: int = 0
+    servers: tuple[tuple[int, int], ...] = ((0, 80),)
 
 
 @dataclass
@@ -78,9 +87,10 @@ class Later:
 class Guest:
     """The guest that is being made."""
 
-    def __init__(self, rng: random.Random, layout: Layout) -> None:
+    def __init__(self, rng: random.Random, layout: Layout, place: Place) -> None:
         self.rng = rng
         self.layout = layout
+        self.place = place
         self.text = Assembler(layout.text)
         self.data = Pool(layout.data, DATA_BYTES)
         self.areas = [self._place_area(i) for i in range(AREAS)]
@@ -89,6 +99,8 @@ class Guest:
         self.heap = self.data.word()  # the break when the guest began
         self.order = self.data.word()  # how many threads were woken
         self.later: list[Later] = []
+        self.descriptors: list[int] = []  # words that hold descriptors, or -1
+        self.forks_left = 6
         self.areas_used = 1
         self.instructions_left = 60_000  # that loops may still run
         self.console_left = 3  # calls that may still write much

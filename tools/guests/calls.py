@@ -4,19 +4,25 @@ from guests.arguments import (
     Argument, aligned_word, buffer, descriptor, eight, how, length, no_timeout, operation, or_none, process,
     protection, ready_word, refused_flags, signal, thread, unsent, wild, writing,
 )
-from guests.builder import A0, Area, Guest, OwnPlace, Register
+from guests.builder import A0, Area, Guest, Operand, OwnPlace, Register
 from guests.events import Futex, Tag, tag_of
-from guests.numbers import ANONYMOUS, NEW_PROCESS, PRIVATE, Call, How
+from guests.numbers import ANONYMOUS, PRIVATE, Call, How
 from guests.routines import mix_memory, mix_own, mix_registers
 
 ODD_NUMBERS = [0, 1, 18, 63 + 65536, 92, 97, 99, 125, 133, 136, 140, 179, 216, 221, 223, 259, 261, 435, 0x7FFFFFFF,
                0x80000040, 0xFFFFFFFF, 0xFFFF0000]
 
-# the calls that are not built, with the buffers that they have all the same
-UNBUILT: dict[Call, list[Argument]] = {
-    Call.EVENTFD2: [wild, wild], Call.DUP: [descriptor], Call.DUP3: [descriptor, descriptor, wild],
+
+def not_console(guest: Guest) -> Operand:
+    """A number that no descriptor has, mostly, and never one of the console's."""
+    return guest.rng.choice([3, 4, 9, 255, 256, 0x7FFFFFFF, 0xFFFFFFFF])
+
+
+# calls of the kernel, with any arguments: most are refused
+WILD: dict[Call, list[Argument]] = {
+    Call.EVENTFD2: [wild, wild], Call.DUP: [not_console], Call.DUP3: [descriptor, not_console, wild],
     Call.FCNTL: [descriptor, wild, wild], Call.UNLINKAT: [wild, buffer(32, 4), wild],
-    Call.OPENAT: [wild, buffer(32, 4), wild, wild], Call.CLOSE: [descriptor], Call.PIPE2: [buffer(8, 6), wild],
+    Call.OPENAT: [wild, buffer(32, 4), wild, wild], Call.CLOSE: [not_console], Call.PIPE2: [buffer(8, 6), wild],
     Call.LSEEK: [descriptor, wild, wild], Call.KILL: [process, unsent], Call.GETPID: [], Call.GETPPID: [],
     Call.SOCKET: [wild, wild, wild], Call.SOCKETPAIR: [wild, wild, wild, buffer(8, 6)],
     Call.BIND: [descriptor, buffer(16, 4), lambda guest: 16], Call.LISTEN: [descriptor, wild],
@@ -42,19 +48,19 @@ def of_table(guest: Guest, call: Call, kinds: list[Argument]) -> None:
     guest.call(call, *[kind(guest) for kind in kinds])
 
 
-def unbuilt(guest: Guest) -> None:
-    for call in guest.rng.sample(list(UNBUILT), 3):
-        of_table(guest, call, UNBUILT[call])
+def wild_calls(guest: Guest) -> None:
+    for call in guest.rng.sample(list(WILD), 3):
+        of_table(guest, call, WILD[call])
 
 
 def bad_place(guest: Guest) -> None:
-    """A call that is not built, with a buffer that is not there."""
+    """A call with a buffer that is not there."""
     place = guest.layout.page_without(guest.rng, 4).address
     guest.call(guest.rng.choice(FAULTING), place, place, 16, place)
 
 
 def read(guest: Guest) -> None:
-    """Reads are not built, but have their buffer."""
+    """A read of the console, which gives nothing, into any buffer."""
     count = guest.rng.choice([0, 1, 8, 255, 65536, 65537, 0xFFFFFFFF])
     guest.call(Call.READ, descriptor(guest), buffer(min(count, 200), 6)(guest), count)
 
@@ -106,11 +112,8 @@ def futex(guest: Guest) -> None:
 
 
 def clone(guest: Guest) -> None:
-    """A clone that makes no thread."""
-    flags = refused_flags(guest)
-    if guest.rng.random() < 0.2:
-        flags = NEW_PROCESS
-    guest.call(Call.CLONE, flags, wild(guest), buffer(4, 6)(guest), wild(guest), buffer(4, 6)(guest))
+    """A clone that is refused."""
+    guest.call(Call.CLONE, refused_flags(guest), wild(guest), buffer(4, 6)(guest), wild(guest), buffer(4, 6)(guest))
     mix_own(guest)
 
 
@@ -176,5 +179,5 @@ def mix_scratch(guest: Guest) -> None:
     mix_memory(guest, guest.scratch, 64)
 
 
-SNIPPETS = [unbuilt, unbuilt, unbuilt, bad_place, read, named_length, path, local, local, asks, unknown, write, write,
-            futex, futex, clone, old_action, bad_action, mask, bad_mask, same_buffers, mapping, mix_scratch]
+SNIPPETS = [wild_calls, wild_calls, wild_calls, bad_place, read, named_length, path, local, local, asks, unknown, write,
+            write, futex, futex, clone, old_action, bad_action, mask, bad_mask, same_buffers, mapping, mix_scratch]

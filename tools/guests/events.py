@@ -49,6 +49,7 @@ class Mark(enum.IntEnum):
     ODD_HANDLER = 24  # goes on behind a handler whose address is no multiple of 4
     RETURN_PAGE = 25  # goes on behind a jump to the page to which handlers return
     CLONED = 26  # a thread that a handler made begins
+    FORKED = 27  # a child begins
 
 
 class Death(enum.IntEnum):

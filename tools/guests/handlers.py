@@ -4,7 +4,7 @@ import enum
 from collections.abc import Callable
 
 from guests.builder import (
-    A0, AREA, FIRST_THREAD, RA, SP, T1, T2, VALUE, Area, Guest, Label, Operand, Own, OwnPlace, Register, Word,
+    A0, AREA, RA, SP, T1, T2, VALUE, Area, Guest, Label, Operand, Own, OwnPlace, Register, Word,
 )
 from guests.events import Futex, Mark, Tag, tag_of
 from guests.numbers import NEW_THREAD, Call, How
@@ -75,7 +75,7 @@ def put_unblocks(guest: Guest) -> None:
 
 def put_nests(guest: Guest) -> None:
     """Sends its own thread another signal."""
-    guest.call(Call.TGKILL, FIRST_THREAD, Own(Area.TID), guest.nested_signal)
+    guest.call(Call.TGKILL, guest.place.process, Own(Area.TID), guest.nested_signal)
     guest.text.put(BACK)
 
 
@@ -85,7 +85,7 @@ def put_deepens(guest: Guest) -> None:
     guest.text.put(load_word("lw", T1, Area.DEPTH, AREA), immediate_word("addi", T1, T1, -1))
     guest.text.put(store_word("sw", T1, Area.DEPTH, AREA))
     guest.text.branch("bge", 0, T1, done)
-    guest.ask(Call.TGKILL, FIRST_THREAD, Own(Area.TID), Register(A0 + 2))
+    guest.ask(Call.TGKILL, guest.place.process, Own(Area.TID), Register(A0 + 2))
     guest.text.label(done)
     guest.text.put(BACK)
 

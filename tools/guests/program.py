@@ -5,8 +5,8 @@ import random
 from collections.abc import Callable
 from dataclasses import dataclass
 
-from guests import calls, compute, memory, signals, threads, traps
-from guests.builder import A0, AREA, SP, T1, TAG, VALUE, Area, Guest
+from guests import calls, compute, families, memory, nets, sharing, signals, threads, traps
+from guests.builder import A0, AREA, SP, T1, TAG, VALUE, Area, Guest, Place
 from guests.events import Death, Mark
 from guests.handlers import Handler, install, put_handlers
 from guests.layout import LINK, layout_of, strip_segments
@@ -30,6 +30,9 @@ class Theme(enum.Enum):
     DEEP = enum.auto()
     CROWD = enum.auto()
     FULL = enum.auto()
+    SHARING = enum.auto()
+    FAMILIES = enum.auto()
+    NETS = enum.auto()
 
 
 class Ending(enum.Enum):
@@ -45,6 +48,7 @@ class Ending(enum.Enum):
 
 THEMES = [Theme.ALL] * 4 + [Theme.CALLS, Theme.MEMORY, Theme.SIGNALS, Theme.SIGNALS, Theme.TRAPS, Theme.TRAPS] + [
     Theme.THREADS] * 3 + [Theme.DEEP, Theme.CROWD, Theme.FULL]
+THEMES_OF_JOBS = [Theme.SHARING] * 2 + [Theme.FAMILIES] * 4 + [Theme.NETS] * 3 + [Theme.ALL]
 ENDINGS = [Ending.ENDS_ALL] * 3 + [Ending.LEAVES] * 4 + [Ending.LEAVES_FIRST] * 2 + [Ending.DIES] * 5 + [
     Ending.WAITS_FOR_EVER, Ending.RUNS_OFF]
 
@@ -59,8 +63,12 @@ SNIPPETS: dict[Theme, list[Snippet]] = {
     Theme.DEEP: [compute.compute, calls.local],
     Theme.CROWD: [compute.compute],
     Theme.FULL: [*memory.SNIPPETS],
+    Theme.SHARING: [*sharing.SNIPPETS, *sharing.REFUSING, calls.mix_scratch, threads.hand_over],
+    Theme.FAMILIES: [*families.SNIPPETS, *families.SNIPPETS, *sharing.SNIPPETS],
+    Theme.NETS: [*nets.SNIPPETS, *nets.SNIPPETS, families.serves_itself, families.chats, sharing.mess],
 }
-SIZES: dict[Theme, tuple[int, int]] = {Theme.DEEP: (1, 4), Theme.CROWD: (1, 3), Theme.FULL: (2, 5)}
+SIZES: dict[Theme, tuple[int, int]] = {
+    Theme.DEEP: (1, 4), Theme.CROWD: (1, 3), Theme.FULL: (2, 5), Theme.FAMILIES: (2, 8), Theme.NETS: (2, 6)}
 USUAL_SIZE = (6, 16)
 
 
@@ -176,10 +184,10 @@ def put_ending(guest: Guest, ending: Ending) -> None:
             guest.text.jump("end")
 
 
-def make_guest(rng: random.Random) -> Made:
-    """The guest that this source of numbers makes."""
-    theme, ending = rng.choice(THEMES), rng.choice(ENDINGS)
-    guest = Guest(rng, layout_of(rng))
+def make_guest(rng: random.Random, place: Place = Place(), themes: list[Theme] = THEMES) -> Made:
+    """The guest that this source of numbers makes, for a place in a job."""
+    theme, ending = rng.choice(themes), rng.choice(ENDINGS)
+    guest = Guest(rng, layout_of(rng), place)
     put_start(guest)
     put_theme(guest, theme)
     put_ending(guest, ending)

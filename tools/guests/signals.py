@@ -1,7 +1,7 @@
 """Snippets that send signals to the thread itself, and set what is done on them."""
 
 from guests.arguments import thread
-from guests.builder import FIRST_THREAD, SP, T1, T2, Area, Guest, Operand, Own, OwnPlace
+from guests.builder import SP, T1, T2, Area, Guest, Operand, Own, OwnPlace
 from guests.compute import number
 from guests.events import Mark
 from guests.handlers import BACK, DEFAULT, IGNORE, RETURNING, Handler, install
@@ -31,7 +31,7 @@ def ignored_or_handled(guest: Guest) -> Operand:
 
 def send(guest: Guest, signal: int) -> None:
     """Sends the thread itself a signal."""
-    guest.call(Call.TGKILL, FIRST_THREAD, Own(Area.TID), signal)
+    guest.call(Call.TGKILL, guest.place.process, Own(Area.TID), signal)
 
 
 def change_mask(guest: Guest, how: How, mask: int) -> None:
@@ -118,7 +118,7 @@ def signal_others(guest: Guest) -> None:
     signal = rng.choice([s for s in CATCHABLE if s not in IGNORED_BY_DEFAULT])
     install(guest, signal, ignored_or_handled(guest), rng.choice(FLAGS), some_mask(guest))
     for _ in range(rng.randint(1, 3)):
-        guest.call(Call.TGKILL, FIRST_THREAD, thread(guest), signal)
+        guest.call(Call.TGKILL, guest.place.process, thread(guest), signal)
 
 
 def odd_handler(guest: Guest) -> None:

@@ -4,7 +4,7 @@ from collections.abc import Callable
 from dataclasses import dataclass
 
 from guests.arguments import buffer, wild
-from guests.builder import A0, AREA, FIRST_THREAD, T1, T2, Area, Guest, Operand, Register, Word
+from guests.builder import A0, AREA, T1, T2, Area, Guest, Operand, Register, Word
 from guests.events import Futex, Mark, Tag, tag_of
 from guests.handlers import IGNORE, Handler, install
 from guests.layout import STACK
@@ -156,14 +156,14 @@ def interrupt(guest: Guest) -> None:
     install(guest, signal, IGNORE if is_ignored else handler.place(), flags, some_mask(guest))
     spawned = spawn(guest, waiter)
     yields(guest, rng.randint(1, 3))
-    guest.call(Call.TGKILL, FIRST_THREAD, Word(spawned.number), signal)
+    guest.call(Call.TGKILL, guest.place.process, Word(spawned.number), signal)
     guest.mark(Mark.WAKES, signal)
     yields(guest, rng.randint(0, 2))
     if rng.random() < 0.4:
         guest.store(word, rng.getrandbits(32))
     wake(guest, word, ALL)
     if handler is Handler.WAITS:
-        guest.call(Call.TGKILL, FIRST_THREAD, Word(spawned.number), rng.choice([0, signal]))
+        guest.call(Call.TGKILL, guest.place.process, Word(spawned.number), rng.choice([0, signal]))
         yields(guest, 2)
         wake(guest, guest.futexes[1], ALL)
 

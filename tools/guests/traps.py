@@ -4,7 +4,7 @@ signal."""
 from collections.abc import Callable
 
 from guests import threads
-from guests.builder import A0, FIRST_THREAD, FREE, T1, Area, Guest, Label, Own, OwnPlace, Word
+from guests.builder import A0, FREE, T1, Area, Guest, Label, Own, OwnPlace, Word
 from guests.events import Death, Mark
 from guests.handlers import DEFAULT, IGNORE, Handler, install
 from guests.layout import LINK, PAGE, RETURN_PAGE_END, STACK_END, Code
@@ -172,7 +172,7 @@ def trap_due(guest: Guest) -> None:
     def put() -> None:
         fault = guest.text.fresh("due")
         guest.store(OwnPlace(Area.FAULT), Label(fault))
-        guest.ask(Call.TGKILL, FIRST_THREAD, Own(Area.TID), signal)
+        guest.ask(Call.TGKILL, guest.place.process, Own(Area.TID), signal)
         guest.text.label(fault)
         {ILLEGAL: put_illegal, BREAK: put_break, FAULT: put_bad_load}[signal](guest)
 
@@ -243,7 +243,7 @@ def die_by_other(guest: Guest) -> None:
     word = guest.data.word()
     spawned = threads.spawn(guest, lambda: threads.wait(guest, word, 0))
     threads.yields(guest, 2)
-    guest.call(Call.TGKILL, FIRST_THREAD, Word(spawned.number), signal)
+    guest.call(Call.TGKILL, guest.place.process, Word(spawned.number), signal)
     threads.yields(guest, 1)
 
 

@@ -1,7 +1,6 @@
 """A reference model of `dmtcp`, written from its manual alone (docs/, README.md): what a call leaves, byte for byte.
 
-It knows ample memory, and a disk, inputs and sinks that never fail. It also has the calls that the manual describes and
-the program does not have yet: `built` says which of them answer ENOSYS. `validity` says what holds of every state.
+It knows ample memory, and a disk, inputs and sinks that never fail. `validity` says what holds of every state.
 """
 
 from .session import Outcome, Status, run

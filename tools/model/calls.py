@@ -33,7 +33,7 @@ def _effect_of(machine: Machine, process: Process, thread: Thread) -> Effect:
         raise Failed(Errno.EFAULT)
     if number in LOCAL_CALLS:
         return partial(LOCAL_CALLS[number], process, thread)
-    if number not in KERNEL_ROWS or number not in machine.built:
+    if number not in KERNEL_ROWS:
         raise Failed(Errno.ENOSYS)
     return KERNEL_ROWS[number](Caller(machine, process, thread))
 

@@ -1,10 +1,10 @@
 """The row of `clone`: new threads and processes (docs/CALLS.md, "Processes and signals"; docs/MACHINE.md, "Calls")."""
 
 from dataclasses import replace
+from enum import Enum
 
-from .built import CloneForm
 from .numbers import CloneFlag, Errno, Number
-from .rows import Caller, Effect, Failed, Row, test
+from .rows import Caller, Effect, Row, test
 from .state import NUMBER_END, SP, TP, Action, Context, Descriptor, Process, Thread
 
 THREADS_LIMIT = 64
@@ -13,6 +13,13 @@ PROCESS_FLAGS = 17
 THREAD_FLAGS = CloneFlag.VM | CloneFlag.FS | CloneFlag.FILES | CloneFlag.SIGHAND | CloneFlag.THREAD
 PLACES = CloneFlag.PARENT_SETTID | CloneFlag.CHILD_SETTID | CloneFlag.CHILD_CLEARTID
 THREAD_OPTIONS = PLACES | CloneFlag.SETTLS | CloneFlag.SYSVSEM
+
+
+class CloneForm(Enum):
+    """What `clone` can make."""
+
+    THREAD = "a thread"
+    PROCESS = "a process"
 
 
 def _form_of(flags: int) -> CloneForm:
@@ -94,8 +101,6 @@ def _make_process(caller: Caller) -> int:
 def _clone(caller: Caller) -> Effect:
     """Call 220."""
     machine, form = caller.machine, _form_of(caller.argument(0))
-    if form not in machine.built:
-        raise Failed(Errno.ENOSYS)
     if form is CloneForm.THREAD:
         has_room = len(caller.process.threads) < THREADS_LIMIT
     else:

@@ -1,15 +1,16 @@
 """A run with its checkpoints (docs/ARCHITECTURE.md, "The way of a run" and "The way of a checkpoint"; docs/FORMATS.md,
 "Where the marks stand")."""
 
+from collections.abc import Iterator
 from dataclasses import dataclass, field
 from enum import Enum
 
-from .images import has_image, process_image, shared_image
-from .objects import Counter, DatagramEnd
+from .images import images
+from .objects import Counter, DatagramEnd, DirectionName
 from .rounds import arrivals, rounds
 from .state import Machine
 from .store import Store
-from .trace import DATAGRAM_PAIR, EVENT_COUNTER, UNSUPPORTED, WORK, Kind, Record, Trace, mark
+from .trace import DATAGRAM_PAIR, EVENT_COUNTER, UNSUPPORTED, WORK, Kind, Record, Trace, mark, moved
 
 LAST_ASKED = 2**64 - 2
 """A request is made where the greatest generation so far is below this."""
@@ -36,6 +37,16 @@ def _unsupported(machine: Machine) -> Record | None:
             if kind is not None:
                 return Record(Kind.REFUSED, x=UNSUPPORTED, fd=fd, a=pid, b=kind)
     return None
+
+
+def _unread(machine: Machine) -> list[tuple[DirectionName, int]]:
+    """The directions with bytes left, in rising order, with their number."""
+    named = [
+        (DirectionName(name, side), len(direction.data))
+        for name in sorted(machine.channels)
+        for side, direction in enumerate(machine.channels[name].directions)
+    ]
+    return [(name, count) for name, count in named if count]
 
 
 @dataclass
@@ -74,9 +85,8 @@ class Keeper:
             place = f"process {unsupported.a} descriptor {unsupported.fd}"
             self.lines.append(f"checkpoint {self.requests} refused: {place} is {what}")
 
-    def _let_arrive(self, machine: Machine) -> bool:
-        """All bytes that are on their way arrive; false where the trace is full before."""
-        records = arrivals(machine)
+    def _append_all(self, records: Iterator[Record]) -> bool:
+        """Appends records, each made where there is room for it; false where the trace is full then."""
         while not self.trace.is_full():
             record = next(records, None)
             if record is None:
@@ -85,17 +95,20 @@ class Keeper:
         return False
 
     def _checkpoint(self, machine: Machine) -> None:
-        """What is on its way arrives; a cut, the set, and the mark and line of its end as far as the trace has room."""
-        if not self._let_arrive(machine) or not self.trace.append(mark(Kind.CUT, self.generation + 1)):
+        """What is on its way arrives; a cut, what is drained, the set, and the mark and line of its end, as far as the
+        trace has room."""
+        if not self._append_all(arrivals(machine)):
             return
+        self.trace.append(mark(Kind.CUT, self.generation + 1))
         self.generation += 1
-        if self.trace.is_full():
+        unread = _unread(machine)
+        marks = [moved(kind, *one) for kind in (Kind.DRAINED, Kind.REFILLED) for one in unread]
+        if not self._append_all(iter(marks)):
             return
-        if not has_image(machine):
-            raise NotImplementedError("the manual describes no image of this state yet")
-        self.store.put_set([shared_image(machine, machine.process), process_image(machine.process)])
-        if self.trace.append(mark(Kind.COMPLETE, self.generation)):
-            self.lines.append(f"checkpoint {self.requests} complete: generation {self.generation}, drained 0")
+        self.store.put_set(images(machine))
+        self.trace.append(mark(Kind.COMPLETE, self.generation))
+        drained = sum(count for _, count in unread)
+        self.lines.append(f"checkpoint {self.requests} complete: generation {self.generation}, drained {drained}")
 
 
 def drive(machine: Machine, keeper: Keeper) -> RunEnd:

@@ -51,11 +51,17 @@ class Reader:
         """A number of one byte."""
         return self.number(1, allowed)
 
-    def magic(self, text: bytes) -> None:
-        """Bytes that must be these; damaged at the first of them."""
+    def text(self, size: int, allowed: Callable[[bytes], bool]) -> bytes:
+        """So many bytes; damaged at the first of them where they are not allowed."""
         first = self.place
-        if self.field(len(text)) != text:
+        found = self.field(size)
+        if not allowed(found):
             raise Damage(first)
+        return found
+
+    def magic(self, text: bytes) -> None:
+        """Bytes that must be these."""
+        self.text(len(text), lambda found: found == text)
 
     def end(self) -> None:
         """Nothing may follow."""

@@ -7,7 +7,7 @@ from .cpu import StandsAt, look, run_quantum
 from .objects import DirectionName
 from .signals import Cause, deliver, due_signal, waits_at_call
 from .state import Machine, Process, Thread
-from .trace import Record, arrival, call, delivery, user
+from .trace import Kind, Record, call, delivery, moved, user
 
 
 def arrivals(machine: Machine) -> Iterator[Record]:
@@ -17,7 +17,7 @@ def arrivals(machine: Machine) -> Iterator[Record]:
             count = direction.on_their_way()
             if count:
                 direction.arrived = len(direction.data)
-                yield arrival(DirectionName(name, side), count)
+                yield moved(Kind.ARRIVE, DirectionName(name, side), count)
 
 
 def has_turn(machine: Machine, process: Process, thread: Thread) -> bool:

@@ -1,20 +1,28 @@
 """One call of the program: words, start, run, status and last line (docs/CLI.md)."""
 
+from collections.abc import Callable
 from dataclasses import dataclass
 from enum import IntEnum
 
 from .driver import Keeper, RunEnd, drive
 from .elf import BadProgram, read_elf
-from .start import start
+from .objects import File
+from .start import Word, start_job
 from .state import Machine
 from .store import SetDamaged, Store
 from .trace import Trace
-from .words import Command, Usage, Verb, read_words
+from .words import Command, Program, Usage, Verb, read_words
 
 FILE_LIMIT = 67_108_864
-HELP = "dmtcp launch [--every K] [--records M] 0:NAME\ndmtcp restart [--every K] [--records M]\n"
+"""The bytes that a file may have, and so many may those that the words name have together."""
+HELP = """\
+dmtcp launch [--every K] [--records M] [--file NAME].. HOST:NAME[,ARGUMENT]..
+dmtcp restart [--every K] [--records M]
+"""
 VERSION = "dmtcp 0.1.0\n"
 GREETINGS = {"--help": HELP, "--version": VERSION}
+Read = Callable[[str], bytes | None]
+"""Gives the bytes of a file of the current folder, None where there is none."""
 
 
 class Status(IntEnum):
@@ -29,6 +37,7 @@ class Status(IntEnum):
     DAMAGED = 17
     SPENT = 18
     STUCK = 19
+    FILES_TOO_LARGE = 21
 
 
 @dataclass
@@ -51,19 +60,33 @@ class Ended(Exception):
         self.line = line
 
 
-def _launched(command: Command, files: dict[str, bytes]) -> Machine:
-    """The start of the program that the words name."""
-    # A name that is a path is looked up as the name of a file of the current folder: there are no other folders here.
-    data = files.get(command.name)
+def _content(name: str, read: Read) -> bytes:
+    """The bytes of a file that the words name."""
+    data = read(name)
     if data is None:
-        raise Ended(Status.MISSING, f"missing: {command.name}")
+        raise Ended(Status.MISSING, f"missing: {name}")
     if len(data) > FILE_LIMIT:
-        raise Ended(Status.INPUT_FAULT, f"input fault: {command.name}")
+        raise Ended(Status.INPUT_FAULT, f"input fault: {name}")
+    return data
+
+
+def _loaded(program: Program, read: Read) -> Word:
+    """A program that the words name, with its strings."""
+    data = _content(program.name, read)
     try:
-        program = read_elf(data)
+        loaded = read_elf(data)
     except BadProgram as bad:
-        raise Ended(Status.BAD_PROGRAM, f"bad program: {command.name}: {bad.reason} at {bad.place}") from bad
-    return start(program, command.name.encode(), *(it.encode() for it in command.arguments))
+        raise Ended(Status.BAD_PROGRAM, f"bad program: {program.name}: {bad.reason} at {bad.place}") from bad
+    return Word(loaded, tuple(one.encode() for one in (program.name, *program.arguments)), program.host)
+
+
+def launched(command: Command, read: Read) -> Machine:
+    """The start of the files and programs that the words name."""
+    named = tuple(File(name.encode(), bytearray(_content(name, read))) for name in command.files)
+    programs = [_loaded(program, read) for program in command.programs]
+    if sum(len(file.data) for file in named) > FILE_LIMIT:
+        raise Ended(Status.FILES_TOO_LARGE, "files too large")
+    return start_job(programs, named)
 
 
 def _restarted(store: Store) -> Machine:
@@ -102,7 +125,8 @@ def run(words: list[str], files: dict[str, bytes], sets: dict[str, bytes]) -> Ou
     store = Store(dict(sets))
     try:
         command = read_words(words)
-        machine = _launched(command, files) if command.verb is Verb.LAUNCH else _restarted(store)
+        # A name that is a path is looked up as that of a file of the current folder: there are no other folders here.
+        machine = launched(command, files.get) if command.verb is Verb.LAUNCH else _restarted(store)
     except Usage:
         return Outcome(Status.USAGE, b"", b"usage\n", None, store.files)
     except Ended as ended:

@@ -5,7 +5,7 @@ from dataclasses import dataclass
 from .bits import words_bytes
 from .elf import Program
 from .memory import EXECUTE, PAGE_SHIFT, PAGE_SIZE, READ, WRITE, Memory, blank_page, page_up
-from .objects import READ_AND_WRITE, Description, DescriptionName
+from .objects import READ_AND_WRITE, Description, DescriptionName, File
 from .state import FIRST_NUMBER, SP, Descriptor, Machine, Process, Thread
 
 STACK_START = 0x7FFC0000
@@ -15,6 +15,7 @@ RETURN_ADDRESS = STACK_END
 RETURN_CODE = words_bytes([0x08B00893, 0x00000073])
 """`li a7, 139; ecall`, to which a signal handler returns."""
 STANDARD_DESCRIPTORS = (0, 1, 2)
+FIRST_FILE = 1
 
 
 def _load(program: Program) -> Memory:
@@ -67,16 +68,12 @@ def _process(word: Word, number: int) -> Process:
     return Process(number, memory, host=word.host, threads={number: thread}, descriptors=descriptors)
 
 
-def start_job(words: list[Word]) -> Machine:
-    """A process for each word, in their order, each with a console description of its own."""
+def start_job(words: list[Word], files: tuple[File, ...] = ()) -> Machine:
+    """A process for each word, in their order, each with a console description of its own, and files from 1 on."""
     processes = {number: _process(word, number) for number, word in enumerate(words, start=FIRST_NUMBER)}
     consoles = {DescriptionName(number, 0): Description(READ_AND_WRITE) for number in processes}
-    return Machine(FIRST_NUMBER + len(words), 1, processes, consoles)
-
-
-def start(program: Program, *arguments: bytes) -> Machine:
-    """The start of one program on host 0, with its argument strings, the name first."""
-    return start_job([Word(program, arguments)])
+    numbered = dict(enumerate(files, start=FIRST_FILE))
+    return Machine(FIRST_NUMBER + len(words), FIRST_FILE + len(files), processes, consoles, numbered)
 
 
 def whole_page(content: bytes) -> bytes:

@@ -3,7 +3,6 @@
 from dataclasses import dataclass, field
 
 from .bits import WORD_MASK, signed
-from .built import BUILT, Built
 from .decode import DISCARD
 from .memory import Memory
 from .objects import Channel, ChannelName, Description, DescriptionName, File
@@ -128,7 +127,7 @@ class Zombie:
 
 @dataclass
 class Machine:
-    """A plain state, what the console was given since the call began, and which calls are built.
+    """A plain state, and what the console was given since the call began.
 
     `processes` are those that live."""
 
@@ -140,7 +139,6 @@ class Machine:
     channels: dict[ChannelName, Channel] = field(default_factory=dict)
     zombies: dict[int, Zombie] = field(default_factory=dict)
     console: bytearray = field(default_factory=bytearray)
-    built: Built = BUILT
 
     @property
     def process(self) -> Process | None:

@@ -1,6 +1,7 @@
 """The folder of sets: slots, manifests, which set counts (docs/STORE.md; docs/FORMATS.md, "Manifest", "Whole sets")."""
 
 from dataclasses import dataclass
+from functools import partial
 from typing import Callable, TypeVar
 
 from .read_process import read_process
@@ -13,6 +14,8 @@ OPEN_GATE = 1
 MAGIC = b"DMTSET1"
 COUNT_LIMIT = 129
 HEAD_SIZE = 16
+SHARED = 1
+"""The file of a set that holds what all processes share; those behind it are the processes' own."""
 Value = TypeVar("Value")
 
 
@@ -96,10 +99,11 @@ class Store:
             found = len(self.content(slot, index))
             if found != length or file_name(slot, index) not in self.files:  # missing, also where it should have no byte
                 raise SetDamaged(slot, index, min(found, length))
-        machine = self._read(slot, 1, read_shared)
-        if len(lengths) != 2:
-            raise SetDamaged(slot, 1, len(self.content(slot, 1)))
-        self._read(slot, 2, lambda data: read_process(data, machine.process))
+        machine = self._read(slot, SHARED, read_shared)
+        if len(lengths) != 1 + len(machine.processes):
+            raise SetDamaged(slot, SHARED, len(self.content(slot, SHARED)))
+        for index, number in enumerate(sorted(machine.processes), start=SHARED + 1):
+            self._read(slot, index, partial(read_process, process=machine.processes[number]))
         return machine
 
     def _read(self, slot: int, index: int, read: Callable[[bytes], Value]) -> Value:

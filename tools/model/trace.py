@@ -109,10 +109,10 @@ def delivery(process: int, thread: int, signal: int) -> Record:
     return Record(Kind.DELIVER, x=signal, a=process, b=thread)
 
 
-def arrival(direction: DirectionName, count: int) -> Record:
-    """So many bytes of a direction that have arrived."""
+def moved(kind: Kind, direction: DirectionName, count: int) -> Record:
+    """So many bytes of a direction that have arrived, or that were drained or refilled."""
     channel = direction.channel
-    return Record(Kind.ARRIVE, x=direction.side, a=channel.pid, b=channel.num, n=count)
+    return Record(kind, x=direction.side, a=channel.pid, b=channel.num, n=count)
 
 
 def mark(kind: Kind, generation: int = 0) -> Record:

@@ -7,8 +7,10 @@ NUMBER_LIMIT = 4_000_000
 DEFAULT_RECORDS = 1_000_000
 NAME_LIMIT = 255
 ARGUMENTS_LIMIT = 4_096
-HOST = "0:"
-EVERY, RECORDS = "--every", "--records"
+PROGRAMS_LIMIT = 128
+FILES_LIMIT = 64
+HOSTS = {str(host): host for host in range(16)}
+EVERY, RECORDS, FILE, NODES = "--every", "--records", "--file", "--nodes"
 DIGITS = set("0123456789")
 
 
@@ -23,11 +25,22 @@ class Verb(Enum):
     RESTART = "restart"
 
 
-FIXED = {
-    Verb.LAUNCH: {"--nodes": "1", "--workers": "0"},
-    Verb.RESTART: {"--nodes": "16", "--workers": "0", "--shift": "0", "--pid-base": "2000", "--port-base": "30000"},
+OPTIONS = {
+    Verb.LAUNCH: {EVERY, RECORDS, FILE, NODES, "--workers"},
+    Verb.RESTART: {EVERY, RECORDS, NODES, "--workers", "--shift", "--pid-base", "--port-base"},
 }
-"""Of the options of what is not built yet the only value that is, which each has where it is not given."""
+FIXED = {"--workers": "0", "--shift": "0", "--pid-base": "2000", "--port-base": "30000"}
+"""Of the options of what is not built yet the only value that is; that of `--nodes` hangs on the command."""
+NODES_OF_RESTART = 16
+
+
+@dataclass(frozen=True)
+class Program:
+    """A program that is launched: its host, its name and its arguments."""
+
+    host: int
+    name: str
+    arguments: tuple[str, ...]
 
 
 @dataclass(frozen=True)
@@ -37,8 +50,8 @@ class Command:
     verb: Verb
     every: int | None
     records: int
-    name: str = ""
-    arguments: tuple[str, ...] = ()
+    files: tuple[str, ...] = ()
+    programs: tuple[Program, ...] = ()
 
 
 def _number(word: str) -> int:
@@ -49,45 +62,78 @@ def _number(word: str) -> int:
     return int(word)
 
 
-def _options(verb: Verb, words: list[str]) -> dict[str, str]:
-    """The options at the beginning, each at most once."""
-    found: dict[str, str] = {}
+def _options(verb: Verb, words: list[str]) -> dict[str, list[str]]:
+    """The values of the options at the beginning; each but `--file` stands there at most once."""
+    found: dict[str, list[str]] = {}
     place = 0
-    while place < len(words) and words[place] in (EVERY, RECORDS, *FIXED[verb]):
-        if words[place] in found or place + 1 == len(words):
+    while place < len(words) and words[place] in OPTIONS[verb]:
+        if place + 1 == len(words) or (words[place] in found and words[place] != FILE):
             raise Usage
-        found[words[place]] = words[place + 1]
+        found.setdefault(words[place], []).append(words[place + 1])
         place += 2
     return found
 
 
-def _program(word: str) -> list[str]:
-    """A program's name, behind its host, and its arguments."""
-    if not word.startswith(HOST) or "\0" in word:
+def _named(name: str) -> str:
+    """A name of 1 to 255 bytes."""
+    if not 1 <= len(name.encode()) <= NAME_LIMIT:
         raise Usage
-    strings = word.removeprefix(HOST).split(",")
-    fits = 1 <= len(strings[0].encode()) <= NAME_LIMIT
-    if not fits or sum(len(it.encode()) + 1 for it in strings) > ARGUMENTS_LIMIT:
+    return name
+
+
+def _files(names: list[str]) -> tuple[str, ...]:
+    """At most 64 distinct names of files."""
+    if len(names) > FILES_LIMIT or len(set(names)) < len(names):
         raise Usage
-    return strings
+    return tuple(_named(name) for name in names)
+
+
+def _program(word: str) -> Program:
+    """A host, and behind a colon a program's name and its arguments."""
+    host, colon, rest = word.partition(":")
+    if not colon or host not in HOSTS:
+        raise Usage
+    name, *arguments = rest.split(",")
+    if sum(len(one.encode()) + 1 for one in (name, *arguments)) > ARGUMENTS_LIMIT:
+        raise Usage
+    return Program(HOSTS[host], _named(name), tuple(arguments))
+
+
+def _programs(verb: Verb, words: list[str]) -> tuple[Program, ...]:
+    """1 to 128 programs of a launch, none of a restart."""
+    counts = range(1, PROGRAMS_LIMIT + 1) if verb is Verb.LAUNCH else range(1)
+    if len(words) not in counts:
+        raise Usage
+    return tuple(_program(word) for word in words)
+
+
+def _test_fixed(verb: Verb, options: dict[str, list[str]], programs: tuple[Program, ...]) -> None:
+    """An option of what is not built yet says what the call does without it."""
+    nodes = NODES_OF_RESTART if verb is Verb.RESTART else 1 + max(one.host for one in programs)
+    for name, value in {**FIXED, NODES: str(nodes)}.items():
+        if options.get(name, [value]) != [value]:
+            raise Usage
+
+
+def _test_text(words: list[str]) -> None:
+    """Each word is in UTF-8 and has no zero byte."""
+    try:
+        if b"\0" in "".join(words).encode():
+            raise Usage
+    except UnicodeEncodeError:
+        raise Usage from None
 
 
 def read_words(words: list[str]) -> Command:
     """The command that the words spell."""
-    try:
-        "".join(words).encode()
-    except UnicodeEncodeError:
-        raise Usage from None
+    _test_text(words)
     if not words or words[0] not in (Verb.LAUNCH.value, Verb.RESTART.value):
         raise Usage
     verb = Verb(words[0])
     options = _options(verb, words[1:])
-    rest = words[1 + 2 * len(options) :]
-    if len(rest) != (1 if verb is Verb.LAUNCH else 0):
-        raise Usage
-    if any(options.get(name, value) != value for name, value in FIXED[verb].items()):
-        raise Usage
-    every = _number(options[EVERY]) if EVERY in options else None
-    records = _number(options[RECORDS]) if RECORDS in options else DEFAULT_RECORDS
-    name, *arguments = _program(rest[0]) if verb is Verb.LAUNCH else [""]
-    return Command(verb, every, records, name, tuple(arguments))
+    taken = 2 * sum(len(values) for values in options.values())
+    programs = _programs(verb, words[1 + taken :])
+    _test_fixed(verb, options, programs)
+    every = _number(options[EVERY][0]) if EVERY in options else None
+    records = _number(options[RECORDS][0]) if RECORDS in options else DEFAULT_RECORDS
+    return Command(verb, every, records, _files(options.get(FILE, [])), programs)

@@ -1,11 +1,11 @@
-"""A shared image read by its layout alone, whatever its fields hold: also what no state has, or has yet
-(docs/FORMATS.md, "Shared image")."""
+"""A shared image read by its layout alone, whatever its fields hold: also what no state has (docs/FORMATS.md, "Shared
+image")."""
 
 from collections import deque
 from dataclasses import dataclass, field
 
 from comparing.set_fields import Field
-from model.images import STATE_LIVES
+from model.images import READ_NO_MORE, SENDS_NO_MORE, STATE_LIVES, ObjectKind
 from model.memory import Memory
 from model.objects import (
     Address,
@@ -29,8 +29,6 @@ from showing.naming import count_text
 from showing.objects import channel_lines, description_line, file_line, zombie_line
 
 MAGIC_BYTES = 8
-SENDS_NO_MORE, READ_NO_MORE = 1, 2
-KIND_FILE, KIND_STREAM, KIND_SOCKET, KIND_LISTENER = 1, 2, 3, 4
 
 
 @dataclass
@@ -107,20 +105,20 @@ def _read_waiting(reader: NamedReader) -> ChannelName:
 
 def _read_object(reader: NamedReader, kind: int) -> Object:
     """What a description of this kind is open on."""
-    if kind == KIND_FILE:
+    if kind == ObjectKind.FILE:
         return OpenFile(reader.take("description.file"), reader.take("description.offset"))
-    if kind == KIND_STREAM:
+    if kind == ObjectKind.STREAM:
         channel = ChannelName(reader.take("description.channel pid"), reader.take("description.channel num"))
         return ChannelEnd(channel, reader.take("description.side", 1))
-    if kind == KIND_SOCKET:
+    if kind == ObjectKind.SOCKET:
         address = _read_address(reader)
         return Socket(address.host, address.port or None)
-    return _read_listener(reader) if kind == KIND_LISTENER else Console()
+    return _read_listener(reader) if kind == ObjectKind.LISTENER else Console()
 
 
 def _read_description(reader: NamedReader) -> list[str]:
     name = DescriptionName(reader.take("description.pid"), reader.take("description.num"))
-    kind = reader.take_kind("description.kind", KIND_LISTENER + 1)
+    kind = reader.take_kind("description.kind", len(ObjectKind))
     flags, owner = reader.take("description.flags"), reader.take("description.owner")
     return [description_line(name, Description(flags, owner, _read_object(reader, kind)))]
 

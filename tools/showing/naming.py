@@ -13,6 +13,7 @@ LAST_ERROR = 4095
 TEXT_SHOWN = 40
 PATH_LIMIT = 256
 ESCAPES = {0: "\\0", 9: "\\t", 10: "\\n", 13: "\\r", 34: '\\"', 92: "\\\\"}
+SHOWN = [ESCAPES.get(code, chr(code) if 32 <= code < 127 else f"\\x{code:02x}") for code in range(256)]
 
 # Of each call that there is, its arguments: d decimal, i decimal with a sign, x hexadecimal, s a signal, o what a
 # futex is to do, t a text whose length is the next argument, p a path with a zero byte behind it.
@@ -100,7 +101,7 @@ def call_name(number: int) -> str:
 
 def quoted(content: bytes) -> str:
     """The first bytes in quotes, with two dots behind them where there are more."""
-    text = content[:TEXT_SHOWN].decode("ascii", "backslashreplace").translate(ESCAPES)
+    text = "".join(SHOWN[byte] for byte in content[:TEXT_SHOWN])
     return f'"{text}"' + (".." if len(content) > TEXT_SHOWN else "")
 
 

@@ -1,5 +1,7 @@
-"""A trace as a picture (SVG): a row for each thread, one for channels where it has any, one for the store."""
+"""A trace as a picture (SVG): a row for each thread, in a band for each process, one for channels where it has any, one
+for the store."""
 
+import re
 from collections import Counter
 from dataclasses import dataclass, field
 from html import escape
@@ -37,6 +39,9 @@ LEGEND = {
     Kind.LAPSED: "lapsed",
 }
 WAITS = ": waits"
+BAND = "#f3f6f9"
+MADE = re.compile(r"^\S+ clone\(.*\) = (\d+)$")
+"""What is told of a call that makes a thread or a process, whose number it answers."""
 
 
 @dataclass
@@ -85,6 +90,27 @@ class Picture:
 def closing(shape: str) -> str:
     """The tag that ends a shape."""
     return f"</{shape[1:].split(' ', 1)[0]}>"
+
+
+def _draw_bands(picture: Picture) -> None:
+    """A band behind the threads of each second process."""
+    processes = sorted({process for process, _ in picture.threads})
+    for process in processes[1::2]:
+        rows = [picture.middle(f"{process}/{thread}") for owner, thread in picture.threads if owner == process]
+        place = f'x="0" y="{rows[0] - ROW / 2}" width="{picture.right():.1f}" height="{ROW * len(rows)}"'
+        picture.put(f'<rect {place} fill="{BAND}"/>', f"process {process}")
+
+
+def _draw_births(picture: Picture) -> None:
+    """A line from each call that makes a thread or a process to the row of what it made."""
+    rows = {thread: f"{process}/{thread}" for process, thread in picture.threads}
+    for place, (record, told) in enumerate(zip(picture.records, picture.told)):
+        found = MADE.match(told) if record.kind is Kind.CALL else None
+        made = rows.get(int(found[1])) if found else None
+        if made:
+            x, y, end = LEFT + picture.step * place, picture.middle(picture.row_of(record)), picture.middle(made)
+            ends = f'x1="{x:.1f}" y1="{y}" x2="{x:.1f}" y2="{end}"'
+            picture.put(f'<line {ends} stroke="{COLOURS[Kind.CALL]}"/>', f"{made} begins")
 
 
 def _draw_rows(picture: Picture) -> None:
@@ -163,8 +189,10 @@ def draw(records: list[Record], told: list[str], title: str) -> str:
     """The picture of a trace; of a longer one its first 3,000 records."""
     shown = len(told[:MOST_RECORDS])
     picture = Picture(records[:shown], told[:shown])
+    _draw_bands(picture)
     _draw_rows(picture)
     _draw_waits(picture)
+    _draw_births(picture)
     for place in range(shown):
         _draw_record(picture, place)
     legend = _draw_legend(picture)

@@ -1,17 +1,19 @@
-"""A trace told with the state that it began at: calls with arguments and answers, and how the guest ended."""
+"""A trace told with the state that it began at: calls with arguments and answers, and how each process ended."""
 
 from dataclasses import dataclass, field
 from pathlib import Path
 
+from model import session
 from model.calls import make_call
 from model.cpu import Stand, StandsAt, look, run_quantum
 from model.elf import BadProgram, read_elf
 from model.numbers import Number
-from model.objects import ChannelName
+from model.objects import ChannelName, File
 from model.signals import Cause, deliver
-from model.start import start
+from model.start import Word, start_job
 from model.state import A0, A7, Machine, Process, Thread
 from model.trace import Kind, Record
+from model.words import HOSTS, Usage, read_words
 from showing.naming import answer_text, call_text, count_text, signal_name
 from showing.sets import read_folder, spelled
 from showing.traces import record_text
@@ -25,14 +27,33 @@ class NoStep(Exception):
     """A record that is no step of the state before it."""
 
 
-def launched(word: str) -> Machine:
-    """The start of a program's file, with the arguments that stand behind it, a comma before each."""
-    path, *arguments = word.split(",")
+def _word(word: str) -> Word:
+    """A program's file, perhaps behind its host and a colon, with its arguments behind it, a comma before each."""
+    host, colon, rest = word.partition(":")
+    number = HOSTS.get(host) if colon else None
+    path, *arguments = (word if number is None else rest).split(",")
     program = Path(path)
     try:
-        return start(read_elf(program.read_bytes()), program.name.encode(), *(it.encode() for it in arguments))
+        loaded = read_elf(program.read_bytes())
     except BadProgram as bad:
         raise NoStart(f"{program} is no program: {bad.reason} at {bad.place}") from bad
+    return Word(loaded, tuple(one.encode() for one in (program.name, *arguments)), number or 0)
+
+
+def launched(programs: list[str], files: list[Path]) -> Machine:
+    """The start of programs, with files that are there for them."""
+    named = tuple(File(path.name.encode(), bytearray(path.read_bytes())) for path in files)
+    return start_job([_word(word) for word in programs], named)
+
+
+def launched_by(words: list[str]) -> Machine:
+    """The start of a launch by its words, of which the files lie in the current folder."""
+    try:
+        return session.launched(read_words(["launch", *words]), lambda name: Path(name).read_bytes())
+    except Usage as bad:
+        raise NoStart("these are no words of a launch") from bad
+    except session.Ended as ended:
+        raise NoStart(ended.line) from ended
 
 
 def restarted(folder: Path) -> Machine:

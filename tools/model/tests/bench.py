@@ -1,4 +1,4 @@
-"""Small states with every call built, and calls that are made on them one by one."""
+"""Small states, and calls that are made on them one by one."""
 
 import unittest
 from dataclasses import dataclass, field
@@ -6,7 +6,6 @@ from enum import Enum
 
 from ..addresses import address_bytes
 from ..bits import signed, words_bytes
-from ..built import ALL_CALLS
 from ..calls import is_ready, make_call
 from ..memory import EXECUTE, PAGE_SIZE, READ, WRITE, Memory, Page, blank_page
 from ..numbers import Number
@@ -56,7 +55,7 @@ def small_machine(hosts: tuple[int, ...]) -> Machine:
     """A process for each host, numbered from 40000 on."""
     processes = {number: small_process(number, host) for number, host in enumerate(hosts, start=FIRST)}
     consoles = {DescriptionName(number, 0): Description(READ_AND_WRITE) for number in processes}
-    return Machine(FIRST + len(hosts), 1, processes, consoles, built=ALL_CALLS)
+    return Machine(FIRST + len(hosts), 1, processes, consoles)
 
 
 @dataclass

@@ -2,7 +2,7 @@
 
 import unittest
 
-from ..images import process_image, shared_image
+from ..images import images
 from ..session import Outcome, run
 from ..store import Store
 from .guests import example, header
@@ -109,18 +109,23 @@ class Words(unittest.TestCase):
     """docs/CLI.md."""
 
     def test_usage(self) -> None:
-        wrong = ["", "launch", "restart 0:hello.elf", "launch --every 0 0:a", "launch --every 01 0:a", "launch 1:a"]
+        wrong = ["", "launch", "restart 0:hello.elf", "launch --every 0 0:a", "launch --every 01 0:a", "launch 16:a"]
         wrong += ["launch --every +1 0:a", "launch --every 4000001 0:a", "launch --every 1 --every 1 0:a", "launch 0:"]
         wrong += ["launch 0:a --every 1", "launch 0:,b", "--help --version", "launch 0:\udcff", "launch --every ٣ 0:a"]
-        wrong += ["launch --nodes 2 0:a", "launch --workers 1 0:a", "launch --file a 0:a", "launch 0:a 0:a", "ring 2", "help"]
+        wrong += ["launch --nodes 2 0:a", "launch --nodes 1 0:a 1:b", "launch --workers 1 0:a", "ring 2", "help"]
+        wrong += ["launch --file a", "launch --file a --file a 0:a", "launch 0:a --file b", "restart --file a"]
+        wrong += ["launch 00:a", "launch a", "launch 0", "launch :a", "launch 01:a", "launch -1:a", "launch 0:a b"]
+        wrong += [f"launch --file {256 * 'n'} 0:a", "launch --file a\0 0:a", "launch --file \udcff 0:a"]
         wrong += ["restart --nodes 15", "restart --shift 1", "restart --pid-base 2001", "restart --port-base 30001"]
         wrong += ["launch --nodes 01 0:a", "launch --workers 0 --workers 0 0:a", "launch --shift 0 0:a"]
-        wrong += [f"launch 0:a,{4094 * 'b'}"]
+        wrong += [f"launch 0:a,{4094 * 'b'}", f"launch 0:{256 * 'n'}", "launch" + 129 * " 0:a"]
+        wrong += ["launch" + "".join(f" --file {number}" for number in range(65)) + " 0:a"]
         for words in wrong:
             self.assertEqual((said(words).status, said(words).log), (10, b"usage\n"), words)
 
     def test_defaults_of_what_is_not_built(self) -> None:
         self.assertEqual(said("launch --workers 0 --nodes 1 0:a,b").log, b"missing: a\n")
+        self.assertEqual(said("launch --nodes 14 3:a 13:b 0:c").log, b"missing: a\n")
         self.assertEqual(said(f"launch 0:a,{4093 * 'b'}").log, b"missing: a\n")
         words = "restart --port-base 30000 --pid-base 2000 --shift 0 --workers 0 --nodes 16"
         self.assertEqual(said(words).log, b"no set\n")
@@ -129,6 +134,30 @@ class Words(unittest.TestCase):
         self.assertEqual(said("launch --records 4000000 --every 9 0:a:b").log, b"missing: a:b\n")
         self.assertEqual(said("restart").log, b"no set\n")
         self.assertEqual(run(["launch", "0:x"], {"x": bytes(67_108_865)}, {}).log, b"input fault: x\n")
+        self.assertEqual(said("launch" + 128 * " 15:a").log, b"missing: a\n")
+        self.assertEqual(run(["launch", "--file", "", "0:a"], {}, {}).log, b"usage\n")
+        self.assertEqual(run(["launch", "--file", "--every", "0:a"], {}, {}).log, b"missing: --every\n")
+        files = "".join(f" --file {number}" for number in range(64))
+        self.assertEqual(said(f"launch{files} 0:a").log, b"missing: 0\n")
+
+    def test_help(self) -> None:
+        launch = b"dmtcp launch [--every K] [--records M] [--file NAME].. HOST:NAME[,ARGUMENT]..\n"
+        self.assertEqual(said("--help").console, launch + b"dmtcp restart [--every K] [--records M]\n")
+        self.assertEqual((said("--version").console, said("--version").log), (b"dmtcp 0.1.0\n", b""))
+
+    def test_order(self) -> None:
+        """The files, the programs in their order, each with its format, and then the sum of the files."""
+        half, large = bytes(33_554_433), bytes(67_108_865)
+        more = {"half": half, "other": half, "large": large, "bad": b"x"}
+        self.assertEqual(said("launch --file none --file large 0:bad", **more).log, b"missing: none\n")
+        self.assertEqual(said("launch --file large --file none 0:bad", **more).log, b"input fault: large\n")
+        self.assertEqual(said("launch --file none 0:bad", **more).log, b"missing: none\n")
+        two = "launch --file half --file other"
+        self.assertEqual(said(f"{two} 0:bad 0:none", **more).log, b"bad program: bad: short at 1\n")
+        self.assertEqual(said(f"{two} 0:hello.elf 0:none 0:bad", **more).log, b"missing: none\n")
+        outcome = said(f"{two} 0:hello.elf", **more)
+        self.assertEqual((outcome.status, outcome.log, outcome.trace), (21, b"files too large\n", None))
+        self.assertEqual(said("launch --file half --every 1 --records 1 0:hello.elf", **more).status, 18)
 
 
 class Sets(unittest.TestCase):
@@ -171,7 +200,8 @@ class Sets(unittest.TestCase):
 
     def test_fields(self) -> None:
         """A byte of each field of the shared image, and where its damage is (129: at the end)."""
-        wrong = {7: 0, 9: 8, 12: 12, 16: 16, 20: 20, 29: 28, 32: 65, 36: 36, 37: 37, 41: 129, 45: 45, 50: 49, 53: 53}
+        wrong = {7: 0, 9: 8, 12: 12, 16: 20, 17: 16, 20: 34, 21: 20, 29: 28, 32: 65, 36: 36, 37: 37, 41: 129, 45: 45}
+        wrong |= {50: 49, 53: 53}
         wrong |= {57: 57, 61: 65, 65: 65, 66: 66, 73: 70, 74: 74, 79: 78, 85: 82, 87: 86, 91: 90, 94: 98, 98: 98}
         wrong |= {102: 102, 125: 124, 128: 128}
         for place, damage in wrong.items():
@@ -181,8 +211,7 @@ class Sets(unittest.TestCase):
 
     def test_written_again(self) -> None:
         machine = Store(self.sets).get_machine(0)
-        self.assertEqual(shared_image(machine, machine.process), self.sets["s0_1.img"])
-        self.assertEqual(process_image(machine.process), self.sets["s0_2.img"])
+        self.assertEqual(images(machine), [self.sets["s0_1.img"], self.sets["s0_2.img"]])
 
     def test_old_files_stay(self) -> None:
         outcome = said("launch --every 1 --records 3 0:hello.elf", {"s0_7.img": b"x", "other": b"y"})

@@ -1,6 +1,5 @@
 """The rows of processes and signals, and the end of a process (docs/CALLS.md, "Processes and signals")."""
 
-from ..built import BUILT, CloneForm
 from ..numbers import Errno, Number
 from ..signals import Cause, deliver
 from ..state import A0, SP, TP, Action, Context, Waiter, Zombie
@@ -54,12 +53,6 @@ class Clones(BenchCase):
         flags = [0, 17 | SETTLS, 17 | 0x40000, 17 | 0x100, THREAD & ~0x100, THREAD | 17, THREAD | 0x2000, 0x7E000000]
         self.assertEqual({self.bench.call(Number.CLONE, one) for one in flags}, {-Errno.EINVAL})
         self.assertEqual(self.bench.call(Number.CLONE, CHILD_SETTID, 0, 0, 0, NOWHERE), -Errno.EFAULT)
-
-    def test_not_built(self) -> None:
-        self.bench.machine.built = BUILT
-        self.assertEqual([self.bench.fork(), self.bench.new_thread()], [-Errno.ENOSYS, SECOND])
-        self.bench.machine.built |= {CloneForm.PROCESS}
-        self.assertEqual(self.bench.fork(), THIRD)
 
     def test_limits(self) -> None:
         self.bench.machine.next_id = LAST_NUMBER

@@ -5,7 +5,6 @@ from collections.abc import Iterator
 from itertools import islice
 
 from ..addresses import address_bytes
-from ..built import ALL_CALLS
 from ..driver import Keeper, RunEnd, drive
 from ..elf import read_elf
 from ..numbers import Number
@@ -49,9 +48,7 @@ def ended(code: int = 0) -> list[int]:
 def started(*guests: tuple[list[int], int], data: bytes = b"") -> Machine:
     """The start of a job of guests, each on its host."""
     words = [Word(read_elf(elf(guest, data)), (b"g",), host) for guest, host in guests]
-    machine = start_job(words)
-    machine.built = ALL_CALLS
-    return machine
+    return start_job(words)
 
 
 def run(machine: Machine, room: int = ROOM, every: int | None = None) -> tuple[RunEnd, list[Record], list[str]]:
@@ -225,16 +222,12 @@ class Interrupted(unittest.TestCase):
 
 
 class Checkpoints(unittest.TestCase):
-    """What of a request is known for states that have no image yet."""
+    """What comes of a request."""
 
     def test_all_bytes_arrive_before_a_cut(self) -> None:
         words = [*PIPE, *asked(Number.WRITE, WRITING, DATA, 5), *ended()]
         records = run(started((words, 0)), room=6, every=4)[1]
         self.assertEqual([record.kind for record in records[4:]], [Kind.ARRIVE, Kind.CUT])
-
-    def test_no_image_is_made_up(self) -> None:
-        with self.assertRaises(NotImplementedError):
-            run(started(([*PIPE, *ended()], 0)), every=2)
 
     def test_refused(self) -> None:
         words = [*asked(Number.EVENTFD2, 0, 0), *asked(Number.DUP3, 3, 9), *asked(Number.CLOSE, 3), *ended()]

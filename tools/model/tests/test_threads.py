@@ -48,13 +48,13 @@ class Calls(unittest.TestCase):
     def test_errors(self) -> None:
         bad = 0x30000
         self.assertEqual(answers(call(64, 1, bad, 1), call(64, 9, bad, 1), call(64, 9, DATA, 1)), [-14, -14, -9])
-        self.assertEqual(answers(call(63, 0, bad, 1), call(63, 0, DATA, 1), call(999)), [-14, -38, -38])
+        self.assertEqual(answers(call(63, 0, bad, 1), call(63, 0, DATA, 1), call(999)), [-14, 0, -38])
         self.assertEqual(answers(call(98, bad, 0), call(98, DATA + 2, 0), call(98, DATA, 2)), [-14, -22, -38])
         self.assertEqual(answers(call(98, DATA, 0, 1), call(98, DATA, 0, 0, 1), call(98, bad, 129, 1)), [-11, -22, 0])
         found = answers(call(134, 9, DATA, 0, 8), call(134, 9, 0, 0, 8), call(134, 32, 0, 0, 8))
         self.assertEqual(found, [-22, 0, -22])
         self.assertEqual(answers(call(131, MAIN, 7, 0), call(131, MAIN, MAIN, 19), call(131, 0, 0, 0)), [-3, -22, -22])
-        self.assertEqual(answers(call(220, 17), call(220, 0x100), call(220, 0x100000 | 17, 0, bad)), [-38, -22, -14])
+        self.assertEqual(answers(call(220, 18), call(220, 0x100), call(220, 0x100000 | 17, 0, bad)), [-22, -22, -14])
         self.assertEqual(answers(call(135, 3, 0, 0, 8), call(139), call(178), call(96, 0)), [-22, -22, MAIN, MAIN])
 
     def test_memory(self) -> None:

@@ -26,7 +26,7 @@ class Place:
 
     def run(self, words: str) -> None:
         """Runs words that are parted by blanks; the guests are those of examples/."""
-        guests = {file.name: file.read_bytes() for file in EXAMPLES.glob("*.elf")}
+        guests = {file.name: file.read_bytes() for file in [*EXAMPLES.glob("*.elf"), EXAMPLES / "script"]}
         sets = {file.name: file.read_bytes() for file in self.path.glob("dmtcp_set/*")}
         outcome = run(words.split(), guests, sets)
         (self.path / "dmtcp_set").mkdir(exist_ok=True)

@@ -6,7 +6,7 @@ from model.memory import READ, WRITE, Memory, Page
 from model.numbers import Number
 from model.objects import Channel, ChannelKind, ChannelName, Direction, DirectionName
 from model.state import A0, A7, Machine, Process, Thread
-from model.trace import arrival
+from model.trace import Kind, moved
 from show import end_lines
 from showing.naming import call_text
 from showing.replay import NoStep, Replay
@@ -21,6 +21,7 @@ TOLD = {
     (Number.KILL, -1, 15): "kill(-1, signal 15 (SIGTERM))",
     (Number.WAIT4, -1, BUFFER, 1, 0): "wait4(-1, 0x10000, 1, 0x0)",
     (Number.LISTEN, 4, 5): "listen(4, 5)",
+    (Number.WRITE, 1, BUFFER + 6, 3): 'write(1, "\\x01\\xff\\0", 3)',
     (7, 1, 2): "call 7(0x1, 0x2, 0x0, 0x0, 0x0, 0x0)",
 }
 
@@ -28,7 +29,7 @@ TOLD = {
 def memory() -> Memory:
     """A page that begins with a path."""
     pages = Memory(0, 0)
-    pages.pages[BUFFER >> 12] = Page(bytearray(b"notes".ljust(4096, b"\0")), READ | WRITE)
+    pages.pages[BUFFER >> 12] = Page(bytearray(b"notes\0\x01\xff".ljust(4096, b"\0")), READ | WRITE)
     return pages
 
 
@@ -58,14 +59,14 @@ class Replays(unittest.TestCase):
     """What is more than a process and its threads."""
 
     def test_bytes_arrive(self) -> None:
-        replay, some = Replay(machine(5)), arrival(DirectionName(CHANNEL, 0), 3)
+        replay, some = Replay(machine(5)), moved(Kind.ARRIVE, DirectionName(CHANNEL, 0), 3)
         self.assertEqual(replay.step(some), "channel 40000/3 side 0: 3 bytes arrived")
         with self.assertRaisesRegex(NoStep, "2 bytes are on their way there"):
             replay.step(some)
 
     def test_no_such_direction(self) -> None:
         with self.assertRaisesRegex(NoStep, "there is no such direction"):
-            Replay(machine(5)).step(arrival(DirectionName(CHANNEL, 2), 1))
+            Replay(machine(5)).step(moved(Kind.ARRIVE, DirectionName(CHANNEL, 2), 1))
 
     def test_how_each_process_ended(self) -> None:
         replay = Replay(machine(0))
