@@ -106,7 +106,7 @@ pub fn put_u8(bytes: &mut Vec<u8>, number: u8) -> Result<(), AllocError>
     Ok(())
 }
 
-/// Puts a number of 16 bits at the end, as the length of a file's name is, of which no image has one yet.
+/// Puts a number of 16 bits at the end, as the length of a file's name is.
 #[tactic(auto, unfolding(crate::specs::Format::number_text))]
 pub fn put_u16(bytes: &mut Vec<u8>, number: u16) -> Result<(), AllocError>
     ensures { OnOk result (bytes.new.items ≡ bytes.old.items ++ number_text n16 number) }
