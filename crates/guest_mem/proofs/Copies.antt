@@ -9,7 +9,7 @@ use Rattle.std.proofs.lemmas.List.{length-take-le}
 use Rattle.std.specs.Prelude.{Option, Some, None, ◌⊎◌, option_map}
 use Rattle.plain_process.specs.declared.memory.Right.{Right}
 use Rattle.plain_process.specs.Memory.{Memory, byte_at, followed_by, bytes_at, with_bytes, little_endian, low_bytes}
-use Rattle.guest_mem.proofs.Ranges.{joined, bytes_at-split, with_bytes-split}
+use Rattle.guest_pages.proofs.Ranges.{joined, bytes_at-split, with_bytes-split}
 
 one_longer : (n : ℕ) (front : Option (List ℕ)) (byte : Option ℕ) (xs : List ℕ) → ((ys : List ℕ) → front ≡ Some ys → length ys ≡ n) → followed_by front byte ≡ Some xs → length xs ≡ suc n
 one_longer n None byte xs sizes is = cc

@@ -6,7 +6,7 @@ use Rattle.std.specs.FinMap as map
 use Rattle.std.proofs.lemmas.Bool.{cases_eq, cases_lt}
 use Rattle.plain_process.specs.Memory.{Memory}
 use Rattle.plain_process.specs.Pages.{IsFree, is_free, free_run}
-use Rattle.guest_mem.specs.Pages.{IsTaken}
+use Rattle.guest_mem.specs.Runs.{IsTaken}
 use Rattle.plain_process.proofs.PageByPage.{and_false, find_place, find_nowhere}
 
 both : (a b : Bool) → a ≡ true → b ≡ true → a && b ≡ true

@@ -1,10 +1,4 @@
-pub mod InPage
-pub mod Ranges
-pub mod Writes
-pub mod Checks
 pub mod Copies
-pub mod FrameTables
-pub mod OpenTables
 pub mod PageRuns
 pub mod NextPages
 pub mod FreeRuns

@@ -12,8 +12,9 @@ use Rattle.views.specs.NumberMap.{is_above}
 use Rattle.views.proofs.MapLaws.{key_tied, other_key}
 use Rattle.plain_process.specs.declared.memory.Frame.{Frame}
 use Rattle.plain_process.specs.Memory.{Memory}
-use Rattle.guest_mem.specs.FrameTable.{IsNextPage, start_of}
-use Rattle.guest_mem.proofs.Ranges.{false_true}
+use Rattle.guest_mem.specs.Runs.{start_of}
+use Rattle.guest_pages.specs.FrameTable.{IsNextPage}
+use Rattle.guest_pages.proofs.Ranges.{false_true}
 
 first : (a b : Bool) → T (a && b) → T a
 first true b both = tt

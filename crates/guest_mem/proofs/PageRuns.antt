@@ -12,7 +12,7 @@ use Rattle.views.proofs.MapLaws.{get_insert_other}
 use Rattle.plain_process.specs.declared.memory.Frame.{Frame}
 use Rattle.plain_process.specs.Memory.{Memory}
 use Rattle.plain_process.specs.Start.{with_pages}
-use Rattle.guest_mem.specs.Pages.{IsFree, without_pages}
+use Rattle.guest_mem.specs.Runs.{IsFree, without_pages}
 use Rattle.plain_process.proofs.PageByPage.{get_inside, get_outside, place, without_more}
 
 pub get-with_pages_other : (m : Memory) (page n rights : ℕ) (content : List ℕ) (q : ℕ) → (q < page) ⊎ (page + n ≤ q) → map.get (with_pages m page n rights content) q ≡ map.get m q

@@ -3,10 +3,10 @@ ghost use Rattle.std.specs.Prelude.{◌≡◌, ◌+◌, ◌≤◌, ◌<◌, ◌^
 ghost use Rattle.std.specs.FinMap as map;
 ghost use Rattle.plain_process.specs.Pages.{free_run};
 ghost use Rattle.plain_process.specs.Start.{with_pages};
-ghost use Rattle.guest_mem.specs.Pages.{IsFree, IsFirstTaken};
+ghost use Rattle.guest_mem.specs.Runs.{IsFree, IsFirstTaken};
 
-use crate::mem_fault::MemFault;
 use crate::space::{PAGE_LIMIT, Space};
+use guest_pages::MemFault;
 use std::alloc::{AllocError, Global};
 
 /// Mappings lie from this page on.

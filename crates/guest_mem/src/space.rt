@@ -7,14 +7,12 @@ ghost use Rattle.plain_process.specs.declared.memory.Right.TheVariants as right;
 ghost use Rattle.plain_process.specs.Start.{with_pages};
 ghost use Rattle.sys_abi.specs.declared.transfer.TheConstants.{TRANSFER_LIMIT};
 ghost use Rattle.views.specs.NumberMap.{is_above};
-ghost use Rattle.guest_mem.specs.Refusals.{granted, refusal, stored, IsRoomFault};
-ghost use Rattle.guest_mem.specs.FrameTable.{start_of, IsNextPage};
-ghost use Rattle.guest_mem.specs.Pages.{IsFree, without_pages};
+ghost use Rattle.guest_pages.specs.Refusals.{granted, refusal, stored};
+ghost use Rattle.guest_pages.specs.FrameTable.{IsNextPage};
+ghost use Rattle.guest_mem.specs.Runs.{IsFree, IsRoomFault, start_of, without_pages};
 
-use crate::access::{allows, number_at, room_in_page};
-use crate::frame_table::FrameTable;
-use crate::mem_fault::MemFault;
-use crate::open_space::OpenSpace;
+use guest_pages::access::{allows, number_at, room_in_page};
+use guest_pages::{FrameTable, MemFault, OpenSpace};
 use plain_process::{Frame, Right};
 use std::alloc::{AllocError, Global};
 use std::marker::Model;
@@ -35,7 +33,7 @@ impl Model for Space {
     ghost use Rattle.std.specs.FinMap as map;
     ghost use Rattle.plain_process.specs.contracts.memory.Frame as frame;
     ghost use Rattle.plain_process.specs.Memory.{Memory};
-    ghost use Rattle.guest_mem.specs.Pages.{IsSpace};
+    ghost use Rattle.guest_pages.specs.Pages.{IsSpace};
 
     ghost Value = { Memory };
 

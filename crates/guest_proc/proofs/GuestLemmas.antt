@@ -19,7 +19,7 @@ use Rattle.guest_proc.specs.declared.ran.Ran.{Ran}
 use Rattle.guest_proc.specs.Guests.{Tells, with_parts}
 use Rattle.guest_proc.specs.Running.{ran_told}
 use Rattle.guest_run.specs.Running.{running, HasRun, IsStop}
-use Rattle.guest_proc.specs.Threads.{changed_by}
+use Rattle.guest_threads.specs.Threads.{changed_by}
 use Rattle.guest_proc.proofs.Lift.{lift, run_to, step_at}
 
 abbrev threads_with_regs : map.FinMap nat_cmp ThreadPart → ℕ → Regs → Option ThreadPart → map.FinMap nat_cmp ThreadPart

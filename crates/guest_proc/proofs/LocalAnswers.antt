@@ -15,10 +15,10 @@ use Rattle.plain_process.specs.Attempts.{Gives}
 use Rattle.plain_process.specs.Buffers.{lent}
 use Rattle.plain_process.specs.Put.{added_thread, put, put_fault}
 use Rattle.plain_process.specs.Local.{local_settled, local_lent, local_row}
-use Rattle.guest_proc.specs.declared.local_answer.LocalAnswer.{LocalAnswer}
-use Rattle.guest_proc.specs.declared.local_answer.LocalFault.TheVariants.{Refused, Memory}
+use Rattle.thread_group.specs.declared.local_answer.LocalAnswer.{LocalAnswer}
+use Rattle.process_memory.specs.declared.local_fault.LocalFault.TheVariants.{Refused, Memory}
 use Rattle.guest_proc.specs.Guests.{GuestPart, with_user}
-use Rattle.guest_proc.specs.Local.{MakesCall, answer_told}
+use Rattle.thread_group.specs.Local.{MakesCall, answer_told}
 
 pub error_adds_nothing : (q : Request) (e : Errno) → added_thread q (Error e) ≡ None
 unfolding added_thread
@@ -42,37 +42,38 @@ local_fault user t q there missing = by_found (map.get user.threads t) (lent use
     by_found (Some thread) None there missing = refl
     by_found (Some thread) (Some bytes) there missing = cc
 
-module _ (before after : GuestPart) (t : ℕ) (q : Request) (there : is_some (map.get before.user.threads t) ≡ true) (lendable : is_some (lent before.user.memory q) ≡ true) where
-  pub local_answered : (answer : LocalAnswer) → MakesCall before after t q (Ok answer)
-      → with_user after (local_settled before.user t q (Gives (answer_told after.user answer))) ≡ with_user before (local_row before.user t q)
-  unfolding local_row
-  local_answered answer made = by_found (map.get before.user.threads t) (lent before.user.memory q) refl refl there lendable
-    where
-      by_found : (found : Option ThreadPart) (given : Option (List ℕ)) → map.get before.user.threads t ≡ found → lent before.user.memory q ≡ given → is_some found ≡ true → is_some given ≡ true
-          → with_user after (local_settled before.user t q (Gives (answer_told after.user answer))) ≡ with_user before (local_lent before.user t q found given)
-      by_found None given found_is given_is there lendable = cc
-      by_found (Some thread) None found_is given_is there lendable = cc
-      by_found (Some thread) (Some given) found_is given_is there lendable =
-          let row = made.row thread given (record { there = found_is; read = given_is }) in
-          ap (λ (g : GuestPart). with_user g (local_settled before.user t q (Gives (answer_told after.user answer)))) row.1
-          ∙ ap (λ attempt. with_user before (local_settled before.user t q attempt)) (sym row.0)
+-- two guests that differ in their user parts alone
+pub same_rest : (old new : GuestPart) (user : UserPart) → new.pid ≡ old.pid → new.spare ≡ old.spare → with_user new user ≡ with_user old user
+same_rest old new user pid spare = λ k. record { pid = pid k; user = user; spare = spare k }
 
-  pub local_refused : (e : Errno) → MakesCall before after t q (Err (Refused e)) → with_user after (put after.user t q (Error e) []) ≡ with_user before (local_row before.user t q)
+module _ (before after : UserPart) (t : ℕ) (q : Request) (there : is_some (map.get before.threads t) ≡ true) (lendable : is_some (lent before.memory q) ≡ true) where
+  pub local_answered : (answer : LocalAnswer) → MakesCall before after t q (Ok answer) → local_settled before t q (Gives (answer_told after answer)) ≡ local_row before t q
   unfolding local_row
-  local_refused e made = by_found (map.get before.user.threads t) (lent before.user.memory q) refl refl there lendable
+  local_answered answer made = by_found (map.get before.threads t) (lent before.memory q) refl refl there lendable
     where
-      by_found : (found : Option ThreadPart) (given : Option (List ℕ)) → map.get before.user.threads t ≡ found → lent before.user.memory q ≡ given → is_some found ≡ true → is_some given ≡ true
-          → with_user after (put after.user t q (Error e) []) ≡ with_user before (local_lent before.user t q found given)
+      by_found : (found : Option ThreadPart) (given : Option (List ℕ)) → map.get before.threads t ≡ found → lent before.memory q ≡ given → is_some found ≡ true → is_some given ≡ true
+          → local_settled before t q (Gives (answer_told after answer)) ≡ local_lent before t q found given
+      by_found None given found_is given_is there lendable = cc
+      by_found (Some thread) None found_is given_is there lendable = cc
+      by_found (Some thread) (Some given) found_is given_is there lendable =
+          ap (λ attempt. local_settled before t q attempt) (sym (made.row thread given (record { there = found_is; read = given_is })))
+
+  pub local_refused : (e : Errno) → MakesCall before after t q (Err (Refused e)) → put after t q (Error e) [] ≡ local_row before t q
+  unfolding local_row
+  local_refused e made = by_found (map.get before.threads t) (lent before.memory q) refl refl there lendable
+    where
+      by_found : (found : Option ThreadPart) (given : Option (List ℕ)) → map.get before.threads t ≡ found → lent before.memory q ≡ given → is_some found ≡ true → is_some given ≡ true
+          → put after t q (Error e) [] ≡ local_lent before t q found given
       by_found None given found_is given_is there lendable = cc
       by_found (Some thread) None found_is given_is there lendable = cc
       by_found (Some thread) (Some given) found_is given_is there lendable =
           let row = made.row thread given (record { there = found_is; read = given_is }) in
-          ap (λ (g : GuestPart). with_user g (put g.user t q (Error e) [])) row.1 ∙ ap (λ attempt. with_user before (local_settled before.user t q attempt)) (sym row.0)
+          ap (λ (u : UserPart). put u t q (Error e) []) row.1 ∙ ap (λ attempt. local_settled before t q attempt) (sym row.0)
 
   pub local_wanted : MakesCall before after t q (Err Memory) → after ≡ before
-  local_wanted made = by_found (map.get before.user.threads t) (lent before.user.memory q) refl refl there lendable
+  local_wanted made = by_found (map.get before.threads t) (lent before.memory q) refl refl there lendable
     where
-      by_found : (found : Option ThreadPart) (given : Option (List ℕ)) → map.get before.user.threads t ≡ found → lent before.user.memory q ≡ given → is_some found ≡ true → is_some given ≡ true
+      by_found : (found : Option ThreadPart) (given : Option (List ℕ)) → map.get before.threads t ≡ found → lent before.memory q ≡ given → is_some found ≡ true → is_some given ≡ true
           → after ≡ before
       by_found None given found_is given_is there lendable = cc
       by_found (Some thread) None found_is given_is there lendable = cc

@@ -1,11 +1,11 @@
 -- The part of a process at a call's answer, before the threads change.
 --     answered user t q word bytes      the bytes stand where the call asked for them, and the thread's call answers the word
-use Rattle.std.proofs.Common.{◌≡◌, ◌≢◌, ℕ, ◌<◌, List, true, false, refl, sym, ap, subst, ◌∙◌, ⊎_elim}
+use Rattle.std.proofs.Common.{◌≡◌, ◌≢◌, ℕ, List, true, false, refl, sym, ap, subst, ◌∙◌}
 use Rattle.std.specs.Prelude.{Option, Some, None, is_some, IfSome}
 use Rattle.std.specs.Cmp.{nat_cmp_total}
 use Rattle.std.specs.Ordering.{nat_cmp}
 use Rattle.std.specs.FinMap as map
-use Rattle.views.proofs.MapLaws.{get_insert_same, get_insert_other, same_or_other}
+use Rattle.views.proofs.MapLaws.{get_insert_same, get_insert_other}
 use Rattle.sys_abi.specs.declared.request.Request.{Request}
 use Rattle.sys_abi.specs.declared.reply.Reply.{Reply}
 use Rattle.plain_process.specs.declared.user_part.UserPart.{UserPart}
@@ -14,7 +14,7 @@ use Rattle.plain_process.specs.Buffers.{filled_spans}
 use Rattle.plain_process.specs.Put.{after_call, added_thread, after_threads, put, put_by, with_spans, word_of}
 use Rattle.plain_process.specs.Valid.{CanAdd, CanAddAs}
 use Rattle.guest_proc.specs.Guests.{GuestPart, HasThread, with_user, with_threads}
-use Rattle.guest_proc.specs.Threads.{changed, changed_by}
+use Rattle.guest_threads.specs.Threads.{changed, changed_by}
 use Rattle.plain_process.specs.Rows.Mappings.{with_memory}
 
 -- look-ups after a change of a thread that is there

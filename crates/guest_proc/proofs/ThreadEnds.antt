@@ -1,5 +1,5 @@
 -- The end of a thread, by the word that it is to clear.
-use Rattle.std.proofs.Common.{◌≡◌, ℕ, ap, sym, ◌∙◌}
+use Rattle.std.proofs.Common.{◌≡◌, ℕ, ap}
 use Rattle.std.specs.Prelude.{Option, Some, None, option_map}
 use Rattle.std.specs.FinMap as map
 use Rattle.plain_process.specs.declared.user_part.UserPart.{UserPart}

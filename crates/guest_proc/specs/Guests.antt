@@ -1,9 +1,8 @@
 -- A guest as its callers see it: its virtual number, its user part and its room for threads; and what a run tells of where a thread stands.
-use Rattle.std.specs.Prelude.{◌≡◌, ℕ, Bool, true, Option, Some, None, is_some, refl}
+use Rattle.std.specs.Prelude.{◌≡◌, ℕ, true, is_some, refl}
 use Rattle.std.specs.Coded.{Coded, code_by, coded×, coded_ℕ}
 use Rattle.std.specs.Ordering.{nat_cmp}
 use Rattle.std.specs.FinMap as map
-use Rattle.sys_abi.specs.declared.request.Request.{Request}
 use Rattle.plain_process.specs.declared.user_part.ThreadPart.{ThreadPart}
 use Rattle.plain_process.specs.Memory.{Memory}
 use Rattle.sys_abi.specs.declared.identity.VPid.{VPid}
@@ -11,12 +10,11 @@ use Rattle.sys_abi.specs.Orders.{coded_vpid}
 use Rattle.plain_process.specs.declared.user_part.UserPart.{UserPart}
 use Rattle.plain_process.specs.contracts.user_part.UserPart as user_part
 use Rattle.plain_process.specs.Steps.{UserStep, Stepped, Asks, Trapped, Waits, NoThread}
-use Rattle.plain_process.specs.declared.user_part.SignalAction.{SignalAction}
-use Rattle.plain_process.specs.Deliveries.{Delivery, Enters, Ignores, Kills, with_entered}
-use Rattle.plain_process.specs.Threads.{with_waiters, without_waiter}
+use Rattle.plain_process.specs.Deliveries.{Delivery, Enters, Ignores, Kills}
 use Rattle.guest_proc.specs.declared.ran.Ran.{Ran}
 use Rattle.guest_proc.specs.declared.ran.Ran.TheVariants.{Whole as RanWhole, Asks as RanAsks, Trapped as RanTrapped, Waits as RanWaits, Memory as RanMemory}
 pub use Rattle.plain_process.specs.Deliveries.{delivered_told as delivered_by}
+pub use Rattle.thread_group.specs.Groups.{with_threads}
 
 pub record GuestPart : Type 0 where
   pub pid : VPid
@@ -31,9 +29,6 @@ guest_code =
 
 abbrev pub with_user : GuestPart → UserPart → GuestPart
 with_user guest user = record { pid = guest.pid; user = user; spare = guest.spare }
-
-abbrev pub with_threads : UserPart → map.FinMap nat_cmp ThreadPart → UserPart
-with_threads user threads = record user { threads = threads }
 
 -- the process has a thread of this number
 abbrev pub HasThread : UserPart → ℕ → Type 0
@@ -60,11 +55,6 @@ abbrev pub part_after : UserPart → Delivery → UserPart
 part_after user (Enters after) = after
 part_after user Ignores = user
 part_after user (Kills status) = user
-
--- the part after a thread has entered a handler, if it is there
-abbrev pub entered_in : UserPart → ℕ → SignalAction → ℕ → Bool → Option ThreadPart → UserPart
-entered_in user t action s is_unready None = with_waiters user (without_waiter t user.waiters)
-entered_in user t action s is_unready (Some thread) = with_entered user t thread action s is_unready
 
 -- the part with other memory and threads
 abbrev pub with_parts : UserPart → Memory → map.FinMap nat_cmp ThreadPart → UserPart

@@ -1,13 +1,13 @@
 ghost use Rattle.std.specs.Prelude.{◌≡◌, ◌-◌, ◌≤◌, None, is_some, IfSome, IfNone};
 ghost use Rattle.std.specs.FinMap as map;
 ghost use Rattle.plain_process.specs.Buffers.{filled_spans};
-ghost use Rattle.plain_process.specs.Put.{added_thread, after_threads, put, with_spans};
+ghost use Rattle.plain_process.specs.Put.{CanTake, added_thread, after_threads, put, with_spans, word_of};
+ghost use Rattle.plain_process.specs.Threads as words;
 ghost use Rattle.plain_process.specs.Valid.{CanAdd};
-ghost use Rattle.guest_proc.specs.Guests.{HasThread, with_user};
-ghost use Rattle.guest_proc.specs.Lending.{CanTake};
+ghost use Rattle.guest_proc.specs.Guests.{HasThread, with_threads, with_user};
+ghost use Rattle.guest_threads.specs.Threads.{changed};
 ghost use Rattle.plain_process.specs.Rows.Mappings.{with_memory};
 
-use crate::buffers::{filled_spans, put_answer, word_of};
 use crate::guest::Guest;
 use plain_process::threads::added_thread;
 use sys_abi::{Reply, Request, Tid, Transfer};
@@ -41,7 +41,7 @@ impl Guest {
             return;
         }
         self.put_bytes(request, bytes);
-        self.finish_call(t.0, word_of(reply));
+        self.finish_call(t, word_of(reply));
         self.change_threads(t, request, reply);
     }
 
@@ -49,7 +49,7 @@ impl Guest {
     pub fn has_thread(&self, t: Tid) -> bool
         ensures { result ≡ is_some (map.get self.now.user.threads t.0) }
     {
-        self.threads.contains(t.0)
+        self.group.contains(t)
     }
 
     /// Puts the bytes where the call asked for them.
@@ -57,8 +57,14 @@ impl Guest {
         requires { CanTake self.old.user.memory (filled_spans self.old.user.memory request.now) bytes.now }
         ensures { self.new ≡ with_user self.old (with_memory self.old.user (with_spans self.old.user.memory (filled_spans self.old.user.memory request.now) bytes.now)) }
     {
-        let spans = filled_spans(&self.ram.space, request);
-        put_answer(&mut self.ram.space, spans, bytes);
+        self.memory.fill(request, bytes);
+    }
+
+    /// A thread's call answers this word, if the thread is there.
+    fn finish_call(&mut self, t: Tid, word: u32)
+        ensures { self.new ≡ with_user self.old (with_threads self.old.user (changed self.old.user.threads t.0 (λ thread. words.after_call thread word))) }
+    {
+        self.group.finish_call(t, word);
     }
 
     /// What an answer does to the threads.
@@ -73,7 +79,7 @@ impl Guest {
         ensures taken { IfSome (added_thread request.now reply) (λ _. self.new.spare ≡ self.old.spare - 1) }
     {
         match *request {
-            Request::Exit { .. } => self.remove_thread(t.0),
+            Request::Exit { .. } => self.remove_thread(t),
             Request::Clone {
                 flags,
                 stack,
@@ -87,5 +93,15 @@ impl Guest {
             }
             _ => {}
         }
+    }
+}
+
+/// The word that an answer puts into a0.
+fn word_of(reply: Reply) -> u32
+    ensures { result ≡ word_of reply }
+{
+    match reply {
+        Reply::Value(value) => value,
+        Reply::Error(e) => u32::from(e.0).wrapping_neg(),
     }
 }

@@ -3,12 +3,9 @@ ghost use Rattle.std.specs.FinMap as map;
 ghost use Rattle.sys_abi.specs.declared.reply.Reply.TheVariants.{Value};
 ghost use Rattle.plain_process.specs.Put.{added_thread};
 ghost use Rattle.plain_process.specs.Threads.{with_called_thread, with_called_thread_by, with_new_thread};
-ghost use Rattle.guest_proc.specs.Guests.{HasThread, with_threads};
-ghost use Rattle.guest_proc.specs.Threads.{fresh};
+ghost use Rattle.guest_proc.specs.Guests.{HasThread};
 
 use crate::guest::Guest;
-use plain_process::Regs;
-use plain_process::threads::{after_call, new_clear_tid, new_regs};
 use std::alloc::{AllocError, Global};
 use sys_abi::{Request, Tid};
 
@@ -18,7 +15,7 @@ impl Guest {
         ensures ok { OnOk result (self.new ≡ record self.old { spare = max 1 self.old.spare }) }
         ensures err { OnErr result (self.new ≡ self.old) }
     {
-        self.threads.reserve(alloc)
+        self.group.reserve(alloc)
     }
 
     /// Adds the thread that a clone makes of its caller, which still stands at the call, into room that is there. The new
@@ -56,12 +53,7 @@ impl Guest {
           spare = self.old.spare - 1;
         } }
     {
-        let caller = self.regs_of(t);
-        let called = after_call(caller, 0);
-        let regs = new_regs(called, flags, stack, tls);
-        let mask = self.mask(t);
-        let clear_tid = new_clear_tid(flags, child_tid);
-        self.insert_thread(new, regs, mask, clear_tid);
+        self.group.add_called(t, new, flags, stack, tls, child_tid);
     }
 
     /// Adds the thread that a clone with these arguments makes of its caller, whose call has its answer.
@@ -83,21 +75,6 @@ impl Guest {
           spare = self.old.spare - 1;
         } }
     {
-        let regs = new_regs(self.regs_of(t), flags, stack, tls);
-        let mask = self.mask(t);
-        self.insert_thread(new, regs, mask, new_clear_tid(flags, child_tid));
-    }
-
-    /// Puts a thread that no handler has interrupted into room that is there.
-    fn insert_thread(&mut self, t: u32, regs: Regs, mask: u32, clear_tid: u32)
-        requires free { map.get self.old.user.threads t ≡ None }
-        requires spare { 1 ≤ self.old.spare }
-        ensures { self.new ≡ record {
-          pid = self.old.pid;
-          user = with_threads self.old.user (map.insert self.old.user.threads t (fresh regs mask clear_tid));
-          spare = self.old.spare - 1;
-        } }
-    {
-        self.threads.insert(t, regs, mask, clear_tid);
+        self.group.add_clone(t, new, flags, stack, tls, child_tid);
     }
 }

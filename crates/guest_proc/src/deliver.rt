@@ -3,14 +3,13 @@ ghost use Rattle.std.specs.FinMap as map;
 ghost use Rattle.plain_process.specs.Deliveries as words;
 ghost use Rattle.plain_process.specs.Steps.{user_step};
 ghost use Rattle.plain_process.specs.Deliveries.{CONTEXT_LIMIT};
-ghost use Rattle.guest_proc.specs.Guests.{HasThread, with_user, delivered_by, part_after, entered_in};
-ghost use Rattle.guest_proc.specs.Threads.{at_thread};
+ghost use Rattle.thread_group.specs.Groups.{entered_in};
+ghost use Rattle.guest_proc.specs.Guests.{HasThread, with_user, delivered_by, part_after};
 
 use crate::guest::Guest;
 use crate::ran::Ran;
-use crate::threads::Threads;
-use plain_process::deliveries::{action_on, decided, handler_mask, handler_regs, interrupted};
-use plain_process::{Context, SignalAction};
+use plain_process::SignalAction;
+use plain_process::deliveries::decided;
 use sys_abi::{Delivered, Signal, Tid};
 
 impl Guest {
@@ -45,16 +44,14 @@ impl Guest {
         requires { IfSome (map.get self.old.user.threads t.0) (λ thread. length thread.contexts < CONTEXT_LIMIT) }
         ensures { self.new ≡ with_user self.old (entered_in self.old.user t.0 (words.action_on self.old.user s.0) s.0 is_unready (map.get self.old.user.threads t.0)) }
     {
-        let action = self.action_on(s);
-        enter_handler(&mut self.threads, t.0, action, s, is_unready);
-        self.waiters.remove(t.0);
+        self.group.enter(t, s, is_unready);
     }
 
     /// What the process does on a signal.
-    pub(crate) fn action_on(&self, s: Signal) -> SignalAction
+    fn action_on(&self, s: Signal) -> SignalAction
         ensures { result ≡ words.action_on self.now.user s.0 }
     {
-        action_on(self.actions.as_slice(), s)
+        self.group.action_on(s)
     }
 
     /// How many contexts a thread that is there has saved.
@@ -62,10 +59,7 @@ impl Guest {
         requires { HasThread self.now.user t.0 }
         ensures { option_map (λ thread. length thread.contexts) (map.get self.now.user.threads t.0) ≡ Some result }
     {
-        match self.threads.context_count(t.0) {
-            Some(count) => count,
-            None => unreachable!(),
-        }
+        self.group.context_count(t)
     }
 
     /// Whether the thread's next instruction traps with the signal.
@@ -78,24 +72,4 @@ impl Guest {
             _ => false,
         }
     }
-}
-
-/// Saves what the handler of a signal interrupts, and has the thread go on in the handler.
-fn enter_handler(threads: &mut Threads, t: u32, action: SignalAction, s: Signal, is_unready: bool)
-    requires { IfSome (map.get threads.old.threads t) (λ thread. length thread.contexts < CONTEXT_LIMIT) }
-    ensures { threads.new ≡ at_thread threads.old t (λ thread. words.entered thread action s.0 is_unready) }
-{
-    let Some(regs) = threads.regs(t) else {
-        return;
-    };
-    let Some(mask) = threads.mask(t) else {
-        return;
-    };
-    let saved = Context {
-        regs: interrupted(is_unready, action.flags, regs),
-        mask,
-    };
-    threads.push_context(t, saved);
-    threads.set_mask(t, handler_mask(mask, action, s));
-    threads.set_regs(t, handler_regs(regs, s, action.handler));
 }

@@ -3,22 +3,16 @@ ghost use Rattle.sys_abi.specs.declared.flags.TheConstants.{CLONE_CHILD_SETTID};
 ghost use Rattle.sys_abi.specs.declared.reply.Reply.TheVariants.{Value};
 ghost use Rattle.sys_abi.specs.Flags.{has_flag};
 ghost use Rattle.plain_process.specs.Buffers.{lent, span, can_write};
-ghost use Rattle.plain_process.specs.declared.user_part.ThreadPart.{ThreadPart};
 ghost use Rattle.plain_process.specs.declared.user_part.UserPart.{UserPart};
 ghost use Rattle.plain_process.specs.Put.{made_by};
-ghost use Rattle.plain_process.specs.Threads.{child_memory, child_of, child_thread};
-ghost use Rattle.plain_process.specs.Twins.{alone, twin_of};
+ghost use Rattle.plain_process.specs.Threads.{child_memory, child_of};
+ghost use Rattle.plain_process.specs.Twins.{twin_of};
 ghost use Rattle.plain_process.specs.Rows.Mappings.{with_memory};
 ghost use Rattle.guest_proc.specs.Guests.{HasThread, with_user};
 
-use crate::buffers::put_bytes;
 use crate::guest::Guest;
-use crate::waiters::Waiters;
-use guest_run::Ram;
 use std::alloc::{AllocError, Global};
-use sys_abi::flags::CLONE_CHILD_SETTID;
 use sys_abi::{Request, Tid, VPid};
-use views::duplicate::Duplicate;
 
 impl Guest {
     /// The child that this thread's fork makes, while its number isn't known: its memory, break and actions are its
@@ -28,14 +22,8 @@ impl Guest {
     {
         Ok(Guest {
             pid: self.pid,
-            ram: Ram {
-                space: self.ram.space.try_clone(alloc)?,
-            },
-            break_start: self.break_start,
-            break_end: self.break_end,
-            threads: self.threads.twin(alloc, t.0)?,
-            actions: self.actions.duplicate(alloc)?,
-            waiters: Waiters::new(alloc),
+            memory: self.memory.try_clone(alloc)?,
+            group: self.group.twin(alloc, t)?,
         })
     }
 
@@ -59,7 +47,7 @@ impl Guest {
                 ..
             } => {
                 self.put_number(child.0, flags, child_tid);
-                self.threads.settle(child.0, flags, stack, tls, child_tid);
+                self.group.settle(child.0, flags, stack, tls, child_tid);
                 self.pid = child;
             }
             _ => unreachable!(),
@@ -73,8 +61,6 @@ impl Guest {
         ensures { self.new ≡
             with_user self.old (with_memory self.old.user (child_memory self.old.user.memory flags child_tid number)) }
     {
-        if flags / CLONE_CHILD_SETTID % 2 == 1 {
-            put_bytes(&mut self.ram.space, child_tid, &number.to_le_bytes());
-        }
+        self.memory.put_child_number(number, flags, child_tid);
     }
 }

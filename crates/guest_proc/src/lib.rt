@@ -17,33 +17,16 @@
 #![tactic(auto)]
 
 mod answer;
-pub mod buffers;
 mod clones;
-mod contexts;
 mod deliver;
 mod forks;
-mod front;
 pub mod guest;
-mod image;
-mod load;
 mod local;
-mod local_answer;
-mod local_handlers;
-mod local_memory;
-mod local_reads;
-mod local_threads;
-mod local_waits;
 mod look;
 pub mod ran;
-mod rows;
-mod stack;
-mod start;
+mod runs;
 mod thread_end;
-mod threads;
-mod twins;
-mod waiters;
-mod waiting;
 
-pub use buffers::LendFault;
 pub use guest::Guest;
+pub use process_memory::LendFault;
 pub use ran::Ran;

@@ -13,12 +13,12 @@ impl Guest {
         ensures part { self.new ≡ with_user self.old (words.after_thread_end self.old.user t.0) }
         ensures last { IsTrue result ↔ (map.len self.new.user.threads ≡ 0) }
     {
-        self.remove_thread(t.0);
-        self.threads.is_empty()
+        self.remove_thread(t);
+        self.group.is_empty()
     }
 
-    pub(crate) fn remove_thread(&mut self, t: u32)
-        ensures { self.new ≡ with_user self.old (words.after_thread_end self.old.user t) }
+    pub(crate) fn remove_thread(&mut self, t: Tid)
+        ensures { self.new ≡ with_user self.old (words.after_thread_end self.old.user t.0) }
     {
         let Some(address) = self.clear_tid(t) else {
             return;
@@ -27,18 +27,17 @@ impl Guest {
         self.clear_word(address);
     }
 
-    fn clear_tid(&self, t: u32) -> Option<u32>
-        ensures { result ≡ option_map (λ thread. thread.clear_tid) (map.get self.now.user.threads t) }
+    fn clear_tid(&self, t: Tid) -> Option<u32>
+        ensures { result ≡ option_map (λ thread. thread.clear_tid) (map.get self.now.user.threads t.0) }
     {
-        self.threads.clear_tid(t)
+        self.group.clear_tid(t)
     }
 
     /// The thread is gone, and waits no more.
-    fn forget_thread(&mut self, t: u32)
-        ensures { self.new ≡ with_user self.old (words.without_thread self.old.user t) }
+    fn forget_thread(&mut self, t: Tid)
+        ensures { self.new ≡ with_user self.old (words.without_thread self.old.user t.0) }
     {
-        self.threads.remove(t);
-        self.waiters.remove(t);
+        self.group.remove(t);
     }
 
     /// Clears the word at an address that is not 0, and wakes the first that waits there.
@@ -52,10 +51,19 @@ impl Guest {
         self.wake(1, address);
     }
 
+    /// Wakes those that wait on a word, in waking order, at most so many. Tells how many.
+    fn wake(&mut self, limit: u32, address: u32) -> u32
+        ensures user { words.wake limit address self.old.user ≡ record { user = self.new.user; count = result } }
+        ensures pid { self.new.pid ≡ self.old.pid }
+        ensures spare { self.new.spare ≡ self.old.spare }
+    {
+        self.group.wake(limit, address)
+    }
+
     /// Clears the word at an address, if it can be written.
     fn store_zero(&mut self, address: u32)
         ensures { self.new ≡ with_user self.old (words.with_cleared self.old.user address) }
     {
-        let _ = self.ram.space.store(address, 4, 0);
+        self.memory.clear_word(address);
     }
 }

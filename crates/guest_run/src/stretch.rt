@@ -1,10 +1,10 @@
 ghost use Rattle.std.specs.Prelude.{◌≡◌, ◌≤◌};
-ghost use Rattle.rv_isa.specs.Steps.{IsZeroHeld};
+ghost use Rattle.rv_step.specs.Steps.{IsZeroHeld};
 ghost use Rattle.guest_run.specs.Running.{HasRun};
 
 use crate::ram::{OpenRam, Ram};
 use plain_process::Regs;
-use rv_isa::step;
+use rv_step::step;
 
 /// Instructions in a row, at most `room` of them, whose words lie in the page that stands apart: how many. None of them
 /// stores into that page.

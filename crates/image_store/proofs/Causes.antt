@@ -4,8 +4,8 @@
 --     counts_then, counts_none      two stretches, and no call at all
 use Rattle.std.proofs.Common.{ℕ, ◌^◌, ◌<◌, ◌≤◌, arith}
 use Rattle.std.specs.Prelude.{Result}
-use Rattle.set_disk.specs.Faults.{HasCause as FolderCause}
-use Rattle.set_disk.specs.declared.disk_fault.DiskFault.{DiskFault as FolderFault}
+use Rattle.disk_folder.specs.Faults.{HasCause as FolderCause}
+use Rattle.disk_folder.specs.declared.disk_fault.DiskFault.{DiskFault as FolderFault}
 use Rattle.image_store.specs.StoreCauses.{HasCause}
 
 -- a stretch of calls that succeeded

@@ -6,10 +6,10 @@
 use Rattle.std.proofs.Common.{◌≡◌, ◌⊎◌, ℕ, inl, inr, List, sym, ap, subst, ◌∙◌}
 use Rattle.std.specs.Prelude.{Bool, true, false, if◌then◌else◌, nat_lt, Option, Some, None, IfSome, option_map}
 use Rattle.std.proofs.lemmas.Option.{same_Some}
-use Rattle.set_disk.specs.Files.{FolderFiles}
-use Rattle.set_disk.specs.Crash.{Same}
-use Rattle.set_disk.specs.Moments.{Passes}
-use Rattle.set_disk.specs.SeenFolder.{SeenFolder}
+use Rattle.disk_folder.specs.Files.{FolderFiles}
+use Rattle.disk_folder.specs.Crash.{Same}
+use Rattle.disk_folder.specs.Moments.{Passes}
+use Rattle.disk_folder.specs.SeenFolder.{SeenFolder}
 use Rattle.image_store.specs.Slots.{manifest_of, generation_of, info_of, later, last}
 use Rattle.image_store.specs.FoundSets.{set_of, last_set, IsSet, HasSet}
 use Rattle.image_format.specs.declared.damage.Damage.{Damage as Place}

@@ -8,7 +8,7 @@ use Rattle.std.specs.Prelude.{length, map, [], unwrap_or, Bool, true, false, ifâ
 use Rattle.std.proofs.lemmas.Bool.{cases_eq}
 use Rattle.std.proofs.lemmas.List.{length-map}
 use Rattle.std.proofs.lemmas.Bool.Decides.{nat_tests}
-use Rattle.set_disk.specs.Files.{FolderFiles}
+use Rattle.disk_folder.specs.Files.{FolderFiles}
 use Rattle.image_store.specs.Slots.{manifest_of, file_count, info_of, later, last, slot_to_write}
 use Rattle.image_store.specs.SlotImages.{KeepsOthers, NoneOrKept, IsBeforePut, IsPut, IsInPut}
 use Rattle.image_store.specs.FoundSets.{FoundSet, file_at, files_from, set_of, last_set, IsSet, HasSet}

@@ -4,7 +4,7 @@
 use Rattle.std.proofs.Common.{◌≡◌, ℕ, ◌<◌, ◌≤◌, refl, sym, ap, ◌∙◌, subst, arith}
 use Rattle.std.specs.Prelude.{Bool, true, false, ◌&&◌, if◌then◌else◌, nat_lt, Option, Some, None, IfSome, option_map}
 use Rattle.std.proofs.lemmas.Bool.Decides.{nat_tests}
-use Rattle.set_disk.specs.Files.{FolderFiles}
+use Rattle.disk_folder.specs.Files.{FolderFiles}
 use Rattle.image_store.specs.Slots.{info_of, manifest_of, later, last}
 use Rattle.image_store.specs.FoundSets.{last_set, set_of}
 use Rattle.image_store.specs.StoreStates.{NoneAbove, within_floor}

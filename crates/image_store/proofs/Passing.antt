@@ -7,13 +7,13 @@
 --     settled_at, settled_same                    a settled folder
 use Rattle.std.proofs.Common.{◌≡◌, ℕ, inl, inr, refl, sym, ap, subst, ◌∙◌, arith}
 use Rattle.std.specs.Prelude.{Option, Some, None, option_map, is_some, IfSome, Result, Ok, Err, OnOk, OnErr}
-use Rattle.set_disk.specs.Files.{FolderFiles}
-use Rattle.set_disk.specs.Crash.{AfterStep, IsSettled, Only, Same}
-use Rattle.set_disk.specs.Moments.{Passes, LeavesOnly}
-use Rattle.set_disk.specs.declared.disk_fault.DiskFault.{DiskFault}
-use Rattle.set_disk.specs.SeenFolder.{SeenFolder}
+use Rattle.disk_folder.specs.Files.{FolderFiles}
+use Rattle.disk_folder.specs.Crash.{AfterStep, IsSettled, Only, Same}
+use Rattle.disk_folder.specs.Moments.{Passes, LeavesOnly}
+use Rattle.disk_folder.specs.declared.disk_fault.DiskFault.{DiskFault}
+use Rattle.disk_folder.specs.SeenFolder.{SeenFolder}
 use Rattle.image_store.specs.StoreCrashes.{SameTold, ChangesNothing}
-use Rattle.set_disk.proofs.Stretches.{either}
+use Rattle.disk_folder.proofs.Stretches.{either}
 
 both_steps : {a b : SeenFolder} {R S T : FolderFiles → FolderFiles → Type 0} → Passes R a b → ((old mid new : FolderFiles) → R old mid → S mid new → T old new) → (image : FolderFiles) → AfterStep S b.may_leave image → AfterStep T a.may_leave image
 both_steps first both image (mid, left, second) =

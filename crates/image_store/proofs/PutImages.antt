@@ -9,13 +9,13 @@ use Rattle.std.proofs.lemmas.Bool.{cases_eq}
 use Rattle.std.proofs.lemmas.Bool.Decides.{nat_tests}
 use Rattle.std.proofs.lemmas.List.{drop_more, drop_at, get_or-take}
 use Rattle.std.proofs.lemmas.Option.{get_or_from_slice_get}
-use Rattle.set_disk.specs.Files.{FolderFiles, with_write}
-use Rattle.set_disk.specs.Crash.{Torn, TornBytes}
-use Rattle.set_disk.specs.declared.file_name.FileName.{FileName}
-use Rattle.set_disk.proofs.FilesAfter.{contents-write, get-write_other}
-use Rattle.set_disk.proofs.TornFiles.{write_torn}
+use Rattle.disk_folder.specs.Files.{FolderFiles, with_write}
+use Rattle.disk_folder.specs.Crash.{Torn, TornBytes}
+use Rattle.disk_folder.specs.declared.file_name.FileName.{FileName}
+use Rattle.disk_folder.proofs.FilesAfter.{contents-write, get-write_other}
+use Rattle.disk_folder.proofs.TornFiles.{write_torn}
 use Rattle.views.proofs.MapLaws.{get_insert_same, get_insert_other}
-use Rattle.set_disk.proofs.NameOrder.{name_total, name_exact}
+use Rattle.disk_folder.proofs.NameOrder.{name_total, name_exact}
 use Rattle.image_store.specs.Slots.{manifest_name, manifest_of, gate_of, info_of}
 use Rattle.image_store.specs.FoundSets.{file_at, files_from}
 use Rattle.image_store.specs.SlotWrites.{with_closed, closing_step, with_images, with_manifest, KeepsGate}

@@ -2,14 +2,14 @@
 --     closing_leaves, filling_leaves, opening_leaves      what a crash leaves in each stage
 use Rattle.std.proofs.Common.{◌≡◌, ℕ, ◌<◌, List, length, inl, inr, refl}
 use Rattle.std.specs.Prelude.{Option, Some, slice_index}
-use Rattle.set_disk.specs.Files.{FolderFiles}
-use Rattle.set_disk.specs.Crash.{IsSettled, Torn}
-use Rattle.set_disk.specs.Moments.{Passes, LeavesOnly}
-use Rattle.set_disk.specs.SeenFolder.{SeenFolder}
+use Rattle.disk_folder.specs.Files.{FolderFiles}
+use Rattle.disk_folder.specs.Crash.{IsSettled, Torn}
+use Rattle.disk_folder.specs.Moments.{Passes, LeavesOnly}
+use Rattle.disk_folder.specs.SeenFolder.{SeenFolder}
 use Rattle.image_store.specs.Slots.{manifest_name, manifest_of, gate_of}
 use Rattle.image_store.specs.SlotWrites.{closing_step, KeepsGate}
 use Rattle.image_store.specs.SlotImages.{IsBeforePut, IsInPut}
-use Rattle.set_disk.proofs.TornFiles.{same_torn}
+use Rattle.disk_folder.proofs.TornFiles.{same_torn}
 use Rattle.image_store.proofs.SlotSteps.{gate_same}
 use Rattle.image_store.proofs.Passing.{leaves_only, settled_at}
 use Rattle.image_store.proofs.PutImages.{IsClosed, IsFilled, closing_image, filling_image, opening_image, others_same}

@@ -8,8 +8,8 @@ use Rattle.std.proofs.Common.{◌≡◌, ◌≢◌, ◌⊎◌, ℕ, zero, suc, �
 use Rattle.std.specs.Prelude.{Option, Some, None, IfSome, map}
 use Rattle.std.specs.Option.{option_map_or}
 use Rattle.std.proofs.lemmas.Option.{slice_get-get_or}
-use Rattle.set_disk.specs.Files.{FolderFiles}
-use Rattle.set_disk.specs.Crash.{Only}
+use Rattle.disk_folder.specs.Files.{FolderFiles}
+use Rattle.disk_folder.specs.Crash.{Only}
 use Rattle.image_format.specs.Manifests.{SpellsManifest}
 use Rattle.image_store.specs.Slots.{gate_of, manifest_of, last, slot_to_write}
 use Rattle.image_store.specs.FoundSets.{FoundSet, last_set, HasSet}

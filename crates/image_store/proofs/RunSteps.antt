@@ -6,7 +6,7 @@
 use Rattle.std.proofs.Common.{◌≡◌, ◌⊎◌, ℕ, suc, ◌+◌, ◌<◌, ◌≤◌, max, inl, inr, List, sym, subst, arith}
 use Rattle.std.specs.Prelude.{Option, Some, None, IfSome, option_map, slice_get, Result, Ok, Err, IfOk}
 use Rattle.std.specs.Option.{option_map_or}
-use Rattle.set_disk.specs.Files.{FolderFiles}
+use Rattle.disk_folder.specs.Files.{FolderFiles}
 use Rattle.image_format.specs.declared.set_bytes.SetBytes.{SetBytes}
 use Rattle.image_store.specs.Slots.{last}
 use Rattle.image_store.specs.FoundSets.{FoundSet, HasSet, last_set, set_of}

@@ -5,7 +5,7 @@
 use Rattle.std.proofs.Common.{◌≡◌, ℕ, inl, inr, List, length, refl, sym, ap, subst, ◌∙◌}
 use Rattle.std.specs.Prelude.{Option, Some, None, map, option_map, Result, Ok, Err, IfOk, IfErr}
 use Rattle.std.proofs.lemmas.Option.{same_Some}
-use Rattle.set_disk.specs.Files.{FolderFiles}
+use Rattle.disk_folder.specs.Files.{FolderFiles}
 use Rattle.image_format.specs.declared.damage.Damage.{Damage as Place}
 use Rattle.image_format.specs.declared.manifest.Manifest.{Manifest}
 use Rattle.image_format.specs.declared.set_bytes.SetBytes.{SetBytes}

@@ -6,7 +6,7 @@ use Rattle.std.proofs.Common.{◌≡◌, ℕ, suc, inl, inr, List, [], ◌∷◌
 use Rattle.std.specs.Prelude.{Bool, true, false, if◌then◌else◌, ◌==◌, Option, Some, None, map, Result, Err}
 use Rattle.std.proofs.lemmas.Bool.Decides.{nat_tests}
 use Rattle.std.specs.Option.{option_or}
-use Rattle.set_disk.specs.Files.{FolderFiles}
+use Rattle.disk_folder.specs.Files.{FolderFiles}
 use Rattle.image_format.specs.declared.damage.Damage.{Damage as Place}
 use Rattle.image_format.specs.declared.manifest.Manifest.{Manifest}
 use Rattle.image_format.specs.declared.set_bytes.SetBytes.{SetBytes}

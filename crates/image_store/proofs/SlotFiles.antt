@@ -7,10 +7,10 @@ use Rattle.std.specs.Prelude.{Option, Some, None, unwrap_or, option_map, map}
 use Rattle.std.specs.FinMap as files_by_name
 use Rattle.std.proofs.lemmas.List.{take_at, drop_all, drop_more}
 use Rattle.views.proofs.MapLaws.{get_insert_same, get_insert_other, insert_insert, same_or_other}
-use Rattle.set_disk.specs.Files.{FolderFiles, contents, overwritten, with_write, with_cut}
-use Rattle.set_disk.specs.declared.file_name.FileName.{FileName}
-use Rattle.set_disk.proofs.NameOrder.{name_total, name_exact}
-use Rattle.set_disk.proofs.FilesAfter.{same_files, contents-cut, contents-write, get-cut_other, cut_there, get-write_same}
+use Rattle.disk_folder.specs.Files.{FolderFiles, contents, overwritten, with_write, with_cut}
+use Rattle.disk_folder.specs.declared.file_name.FileName.{FileName}
+use Rattle.disk_folder.proofs.NameOrder.{name_total, name_exact}
+use Rattle.disk_folder.proofs.FilesAfter.{same_files, contents-cut, contents-write, get-cut_other, cut_there, get-write_same}
 use Rattle.image_store.specs.Slots.{manifest_name, manifest_of}
 use Rattle.image_store.specs.FoundSets.{file_at, files_from}
 use Rattle.image_store.specs.SlotWrites.{with_images, with_manifest}

@@ -6,11 +6,11 @@ use Rattle.std.proofs.Common.{◌≡◌, ◌≢◌, ◌⊎◌, ℕ, ◌<◌, inl
 use Rattle.std.specs.Prelude.{unwrap_or}
 use Rattle.std.specs.FinMap as files_by_name
 use Rattle.std.proofs.lemmas.List.{take-take}
-use Rattle.set_disk.specs.Files.{FolderFiles}
-use Rattle.set_disk.specs.Crash.{CutOrNot, Torn}
-use Rattle.set_disk.specs.declared.file_name.FileName.{FileName}
-use Rattle.set_disk.proofs.FilesAfter.{contents-cut, get-cut_other}
-use Rattle.set_disk.proofs.TornFiles.{front_stays}
+use Rattle.disk_folder.specs.Files.{FolderFiles}
+use Rattle.disk_folder.specs.Crash.{CutOrNot, Torn}
+use Rattle.disk_folder.specs.declared.file_name.FileName.{FileName}
+use Rattle.disk_folder.proofs.FilesAfter.{contents-cut, get-cut_other}
+use Rattle.disk_folder.proofs.TornFiles.{front_stays}
 use Rattle.image_store.specs.Slots.{manifest_name, manifest_of}
 use Rattle.image_store.specs.SlotWrites.{OnlyFile, KeepsManifest, KeepsGate}
 

@@ -1,6 +1,6 @@
 -- The refusal of a store that a refusal below it becomes.
-use Rattle.set_disk.specs.declared.disk_fault.DiskFault.{DiskFault as FolderFault}
-use Rattle.set_disk.specs.declared.disk_fault.DiskFault.TheVariants as of_disk
+use Rattle.disk_folder.specs.declared.disk_fault.DiskFault.{DiskFault as FolderFault}
+use Rattle.disk_folder.specs.declared.disk_fault.DiskFault.TheVariants as of_disk
 use Rattle.image_format.specs.declared.damage.ReadFault.{ReadFault}
 use Rattle.image_format.specs.declared.damage.ReadFault.TheVariants as of_reader
 use Rattle.image_store.specs.declared.store_fault.StoreFault.{StoreFault}

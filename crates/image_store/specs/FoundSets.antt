@@ -7,7 +7,7 @@
 --     HasSet found generation files   there is one, and it is that
 use Rattle.std.specs.Prelude.{◌≡◌, ℕ, zero, suc, List, [], ◌∷◌, length, map, Option, Some, option_map}
 use Rattle.std.specs.FinMap as files_by_name
-use Rattle.set_disk.specs.Files.{FolderFiles}
+use Rattle.disk_folder.specs.Files.{FolderFiles}
 use Rattle.image_format.specs.Manifests.{SpellsManifest}
 use Rattle.image_store.specs.Slots.{manifest_of, file_count, last}
 use Rattle.image_store.specs.declared.set_info.SetInfo.{SetInfo}

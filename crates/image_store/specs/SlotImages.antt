@@ -5,8 +5,8 @@
 --     IsInPut                             one or the other
 use Rattle.std.specs.Prelude.{◌≡◌, ◌≢◌, ◌⊎◌, ℕ, List, length, map, Some, None}
 use Rattle.std.specs.FinMap as files_by_name
-use Rattle.set_disk.specs.Files.{FolderFiles}
-use Rattle.set_disk.specs.declared.file_name.FileName.{FileName}
+use Rattle.disk_folder.specs.Files.{FolderFiles}
+use Rattle.disk_folder.specs.declared.file_name.FileName.{FileName}
 use Rattle.image_store.specs.Slots.{manifest_of, info_of}
 use Rattle.image_store.specs.FoundSets.{file_at, files_from}
 

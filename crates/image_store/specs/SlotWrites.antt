@@ -9,9 +9,9 @@
 use Rattle.std.specs.Prelude.{◌≡◌, ◌≢◌, ◌⊎◌, ℕ, suc, ◌<◌, if◌then◌else◌, ◌==◌, List, [], ◌∷◌, ◌++◌, length}
 use Rattle.std.specs.Prelude.{take, drop, Option, Some, None}
 use Rattle.std.specs.FinMap as files_by_name
-use Rattle.set_disk.specs.Files.{FolderFiles, with_write}
-use Rattle.set_disk.specs.Crash.{Torn}
-use Rattle.set_disk.specs.declared.file_name.FileName.{FileName}
+use Rattle.disk_folder.specs.Files.{FolderFiles, with_write}
+use Rattle.disk_folder.specs.Crash.{Torn}
+use Rattle.disk_folder.specs.declared.file_name.FileName.{FileName}
 use Rattle.image_store.specs.Slots.{manifest_name, manifest_of}
 
 abbrev pub with_closed : ℕ → Option ℕ → FolderFiles → FolderFiles

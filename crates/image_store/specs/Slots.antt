@@ -13,8 +13,8 @@
 use Rattle.std.specs.Prelude.{ℕ, Bool, ◌&&◌, if◌then◌else◌, ◌==◌, nat_lt, nat_le, List, length, take, drop}
 use Rattle.std.specs.Prelude.{slice_get, slice_index, Option, Some, None}
 use Rattle.std.specs.Int.{w32, w64, from_le_bytes}
-use Rattle.set_disk.specs.Files.{FolderFiles, contents}
-use Rattle.set_disk.specs.declared.file_name.FileName.{FileName}
+use Rattle.disk_folder.specs.Files.{FolderFiles, contents}
+use Rattle.disk_folder.specs.declared.file_name.FileName.{FileName}
 use Rattle.image_store.specs.declared.set_info.SetInfo.{SetInfo}
 
 abbrev pub manifest_name : ℕ → FileName

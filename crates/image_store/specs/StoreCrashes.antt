@@ -5,10 +5,10 @@
 --                                               they gave, and a crash leaves what it could leave before
 --     SameTold old new                          the folder goes on to tell its content, or to tell none
 use Rattle.std.specs.Prelude.{◌≡◌, ◌⊎◌, ℕ, List, Option, is_some}
-use Rattle.set_disk.specs.Files.{FolderFiles}
-use Rattle.set_disk.specs.Crash.{Same}
-use Rattle.set_disk.specs.Moments.{Passes}
-use Rattle.set_disk.specs.SeenFolder.{SeenFolder}
+use Rattle.disk_folder.specs.Files.{FolderFiles}
+use Rattle.disk_folder.specs.Crash.{Same}
+use Rattle.disk_folder.specs.Moments.{Passes}
+use Rattle.disk_folder.specs.SeenFolder.{SeenFolder}
 use Rattle.image_store.specs.FoundSets.{FoundSet, last_set, HasSet}
 
 abbrev pub OldOrNew : Option FoundSet → ℕ → List (List ℕ) → FolderFiles → Type 0

@@ -13,9 +13,9 @@
 use Rattle.std.specs.Prelude.{◌≡◌, ℕ, suc, ◌<◌, ◌≤◌, max, ◌&&◌, if◌then◌else◌, ◌==◌, nat_lt, Option, Some}
 use Rattle.std.specs.Prelude.{None, IfSome}
 use Rattle.std.specs.Option.{option_map_or, ForSome}
-use Rattle.set_disk.specs.Files.{FolderFiles}
-use Rattle.set_disk.specs.Crash.{Only}
-use Rattle.set_disk.specs.SeenFolder.{SeenFolder}
+use Rattle.disk_folder.specs.Files.{FolderFiles}
+use Rattle.disk_folder.specs.Crash.{Only}
+use Rattle.disk_folder.specs.SeenFolder.{SeenFolder}
 use Rattle.image_store.specs.Slots.{gate_of, manifest_of, last}
 use Rattle.image_store.specs.FoundSets.{last_set}
 use Rattle.image_store.specs.declared.set_info.SetInfo.{SetInfo}

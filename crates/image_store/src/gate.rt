@@ -1,13 +1,13 @@
 ghost use Rattle.std.specs.Prelude.{◌≡◌, [], ◌∷◌, OnOk, option_map};
-ghost use Rattle.set_disk.specs.Files.{with_write};
-ghost use Rattle.set_disk.specs.Crash.{IsSettled, Torn};
-ghost use Rattle.set_disk.specs.Moments.{Passes};
+ghost use Rattle.disk_folder.specs.Files.{with_write};
+ghost use Rattle.disk_folder.specs.Crash.{IsSettled, Torn};
+ghost use Rattle.disk_folder.specs.Moments.{Passes};
 ghost use Rattle.image_store.specs.Slots.{manifest_name};
 ghost use Rattle.image_store.specs.SlotWrites.{closing_step, with_closed};
 ghost use Rattle.image_store.specs.StoreCrashes.{SameTold};
 ghost use Rattle.image_store.specs.StoreCauses.{HasCause};
 
-use set_disk::{DiskFault, FileName, Folder};
+use disk_folder::{DiskFault, FileName, Folder};
 
 pub const OPEN: u8 = 1;
 

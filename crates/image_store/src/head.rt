@@ -1,12 +1,12 @@
 ghost use Rattle.std.specs.Prelude.{◌≡◌, ◌≤◌, length, IfOk};
 ghost use Rattle.std.specs.Option.{ForSome};
-ghost use Rattle.set_disk.specs.Crash.{Same};
-ghost use Rattle.set_disk.specs.Moments.{Passes};
+ghost use Rattle.disk_folder.specs.Crash.{Same};
+ghost use Rattle.disk_folder.specs.Moments.{Passes};
 ghost use Rattle.image_store.specs.Slots.{gate_of, info_of, manifest_of, generation_of};
 ghost use Rattle.image_store.specs.StoreCauses.{HasCause};
 
 use crate::set_info::SetInfo;
-use set_disk::{DiskFault, FileName, Folder};
+use disk_folder::{DiskFault, FileName, Folder};
 
 /// How many bytes of a manifest tell whether its set counts.
 const HEAD_LEN: usize = 16;

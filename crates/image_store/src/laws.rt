@@ -1,5 +1,5 @@
 ghost use Rattle.std.specs.Prelude.{◌≡◌, Option, option_map};
-ghost use Rattle.set_disk.specs.Files.{FolderFiles};
+ghost use Rattle.disk_folder.specs.Files.{FolderFiles};
 ghost use Rattle.image_store.specs.Slots.{last};
 ghost use Rattle.image_store.specs.FoundSets.{FoundSet, last_set};
 ghost use Rattle.image_store.specs.StoreLaws.{info_in, IsOneSet, IsApart, IsOnePlace};

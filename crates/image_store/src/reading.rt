@@ -1,7 +1,7 @@
 ghost use Rattle.std.specs.Prelude.{◌≡◌, ◌≤◌, Err, Some, None, Option, List, ℕ, length as list_length, map, take, option_map, IfOk, IfErr};
 ghost use Rattle.std.specs.Option.{ForSome};
 ghost use Rattle.std.specs.FinMap as files_by_name;
-ghost use Rattle.set_disk.specs.Files.{contents};
+ghost use Rattle.disk_folder.specs.Files.{contents};
 ghost use Rattle.image_format.specs.declared.damage.Damage.{Damage as Place};
 ghost use Rattle.image_format.specs.declared.manifest.Manifest.{Manifest};
 ghost use Rattle.image_format.specs.Manifests.{SpellsManifest, DamagedManifest};
@@ -13,8 +13,8 @@ ghost use Rattle.image_store.specs.StoreCauses.{HasCause, IsOutside, IsOfReading
 
 use crate::set_info::SetInfo;
 use crate::store_fault::StoreFault;
+use disk_folder::{FileName, Folder};
 use image_format::{Damage, Manifest, SetBytes, read_manifest};
-use set_disk::{FileName, Folder};
 use std::alloc::Global;
 use views::list_of::ListOf;
 

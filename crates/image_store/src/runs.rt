@@ -1,6 +1,6 @@
 ghost use Rattle.std.specs.Prelude.{◌≡◌, ◌+◌, suc, ◌-◌, ◌^◌, ◌<◌, ◌≤◌, All, length, IfOk, IfErr, OnOk};
 ghost use Rattle.std.specs.Option.{ForSome};
-ghost use Rattle.set_disk.specs.Moments.{LeavesOnly};
+ghost use Rattle.disk_folder.specs.Moments.{LeavesOnly};
 ghost use Rattle.image_store.specs.FoundSets.{last_set};
 ghost use Rattle.image_store.specs.StoreRuns.{IsOneOf, IsSmall};
 ghost use Rattle.image_store.specs.StoreStates.{FitsFolder, next_generation};
@@ -9,8 +9,8 @@ ghost use Rattle.image_store.specs.StoreCauses.{HasCause, IsOutside};
 
 use crate::store::Store;
 use crate::store_fault::StoreFault;
+use disk_folder::Folder;
 use image_format::SetBytes;
-use set_disk::Folder;
 use std::alloc::Global;
 
 /// Puts a set. Where it is refused the folder is opened again, and the set may be there or not.

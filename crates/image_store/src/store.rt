@@ -1,7 +1,7 @@
 ghost use Rattle.std.specs.Prelude.{◌≡◌, ◌↔◌, ℕ, suc, ◌-◌, ◌^◌, ◌<◌, ◌≤◌, List, Some, None, Err, length, IfOk, IfErr, IfSome, OnOk, OnErr, IsErrOf, IsSomeAnd};
 ghost use Rattle.std.specs.Option.{ForSome};
-ghost use Rattle.set_disk.specs.Files.{FolderFiles};
-ghost use Rattle.set_disk.specs.Moments.{LeavesOnly};
+ghost use Rattle.disk_folder.specs.Files.{FolderFiles};
+ghost use Rattle.disk_folder.specs.Moments.{LeavesOnly};
 ghost use Rattle.image_format.specs.declared.damage.Damage.{Damage as Place};
 ghost use Rattle.image_store.specs.Slots.{later, slot_to_write};
 ghost use Rattle.image_store.specs.FoundSets.{last_set, HasSet};
@@ -16,8 +16,8 @@ use crate::reading::read_set;
 use crate::set_info::SetInfo;
 use crate::store_fault::StoreFault;
 use crate::writing::{manifest_bytes, write_set};
+use disk_folder::Folder;
 use image_format::SetBytes;
-use set_disk::Folder;
 use std::alloc::Global;
 use std::marker::Model;
 

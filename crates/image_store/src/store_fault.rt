@@ -1,5 +1,5 @@
+use disk_folder::DiskFault as FolderFault;
 use image_format::{Damage, ReadFault};
-use set_disk::DiskFault as FolderFault;
 use std::alloc::{AllocError, AllocFailed};
 use thiserror::Error;
 

@@ -1,8 +1,8 @@
 ghost use Rattle.std.specs.Prelude.{◌≡◌, ◌+◌, ◌*◌, ◌<◌, ◌≤◌, ◌^◌, length, map, slice_index, OnOk, option_map, IfOk};
 ghost use Rattle.std.specs.Option.{ForSome};
 ghost use Rattle.std.specs.FinMap as files_by_name;
-ghost use Rattle.set_disk.specs.Crash.{IsSettled};
-ghost use Rattle.set_disk.specs.Moments.{LeavesOnly, Passes};
+ghost use Rattle.disk_folder.specs.Crash.{IsSettled};
+ghost use Rattle.disk_folder.specs.Moments.{LeavesOnly, Passes};
 ghost use Rattle.image_store.specs.Slots.{gate_of, manifest_of};
 ghost use Rattle.image_store.specs.SlotWrites.{with_images, with_manifest, OnlyFile, KeepsManifest, KeepsGate};
 ghost use Rattle.image_store.specs.SlotImages.{IsInPut, IsPut};
@@ -11,8 +11,8 @@ ghost use Rattle.image_store.specs.StoreCrashes.{SameTold};
 ghost use Rattle.image_store.specs.StoreCauses.{HasCause};
 
 use crate::gate::{OPEN, close_gate, write_gate};
+use disk_folder::{DiskFault, FileName, Folder};
 use image_format::{Manifest, write_manifest};
-use set_disk::{DiskFault, FileName, Folder};
 use std::alloc::{AllocError, Global};
 use views::list_of::ListOf;
 

@@ -1,6 +1,2 @@
-pub mod Accesses
-pub mod Fields
+pub mod Computing
 pub mod Outcomes
-pub mod Steps
-pub mod Validity
-pub mod Words

@@ -1,43 +1,18 @@
-ghost use Rattle.std.specs.Prelude.{◌≡◌, ℕ, ◌<◌};
+ghost use Rattle.std.specs.Prelude.{◌≡◌};
 ghost use Rattle.plain_process.specs.Instructions.{loads, stores, sign_extended, same};
 ghost use Rattle.plain_process.specs.Memory.{load, store};
-ghost use Rattle.rv_isa.specs.Accesses.{IsAccessSize};
+ghost use Rattle.rv_words.specs.Accesses.{IsAccessSize};
 ghost use Rattle.rv_isa.specs.Outcomes.{IsOutcome, KeepsUnlessNext};
 
-use crate::guest_memory::{AccessFault, GuestMemory};
 use crate::outcome::Outcome;
 use crate::registers::{pass, set};
 use plain_process::Regs;
+use rv_words::extension::{sign_extended_byte, sign_extended_half};
+use rv_words::{AccessFault, GuestMemory};
 use sys_abi::Signal;
 
 /// The signal of an access to a page that is missing or lacks the right: SIGSEGV (`man 7 signal`).
 pub const FAULT: Signal = Signal(11);
-
-/// A byte extended to a word by its highest bit.
-#[inline]
-pub fn sign_extended_byte(value: u32) -> u32
-    requires { value < 256 }
-    ensures { result ≡ sign_extended 8 value }
-{
-    if value < 0x80 {
-        value
-    } else {
-        value + 0xFFFF_FF00
-    }
-}
-
-/// A half-word extended to a word by its highest bit.
-#[inline]
-pub fn sign_extended_half(value: u32) -> u32
-    requires { value < 65536 }
-    ensures { result ≡ sign_extended 16 value }
-{
-    if value < 0x8000 {
-        value
-    } else {
-        value + 0xFFFF_0000
-    }
-}
 
 /// LBU, LHU, LW: loads a number of `size` bytes into register `rd`.
 #[inline]

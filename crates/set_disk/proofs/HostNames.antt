@@ -11,7 +11,7 @@ use Rattle.std.specs.Str.Parse.{ParsesUnsigned, digits_value}
 use Rattle.std.proofs.lemmas.Str.Parse.{IsNumeralModel, numerals_by_value, tells_all_ascii_digits, digit_at}
 use Rattle.std.proofs.lemmas.Fmt.{parse-decimal, digits_decimal}
 use Rattle.std.proofs.lemmas.Str.Pattern.{IsSplitOnceResult, split_after}
-use Rattle.set_disk.specs.declared.file_name.FileName.{FileName}
+use Rattle.disk_folder.specs.declared.file_name.FileName.{FileName}
 use Rattle.set_disk.specs.HostNames.{IsSmall, host_name}
 
 numerals : IsNumeralModel (λ ds. all_ascii_digits ds ≡ true) (digits_value 10)

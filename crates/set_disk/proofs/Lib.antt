@@ -1,8 +1,2 @@
-pub mod NameOrder
-pub mod FilesAfter
-pub mod TornFiles
-pub mod Stretches
-pub mod Histories
-pub mod MemoryFolders
 pub mod UntoldPasses
 pub mod HostNames

@@ -1,7 +1,7 @@
 -- A folder that tells no content, and may leave anything, meets what a call says of crashes.
 use Rattle.std.proofs.Common.{ℕ, inl, arith}
-use Rattle.set_disk.specs.Files.{FolderFiles}
-use Rattle.set_disk.specs.Moments.{Passes}
+use Rattle.disk_folder.specs.Files.{FolderFiles}
+use Rattle.disk_folder.specs.Moments.{Passes}
 use Rattle.set_disk.specs.Untold.{without_content}
 
 pub untold_passes : (step : FolderFiles → FolderFiles → Type 0) → ((files : FolderFiles) → step files files) → (old new : ℕ)

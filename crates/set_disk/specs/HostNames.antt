@@ -4,7 +4,7 @@
 --     IsHostName text          the text is the name of a file of a folder
 use Rattle.std.specs.Prelude.{◌≡◌, ℕ, ◌<◌, ◌^◌, List, ◌++◌, codes}
 use Rattle.std.specs.Fmt.{decimal}
-use Rattle.set_disk.specs.declared.file_name.FileName.{FileName}
+use Rattle.disk_folder.specs.declared.file_name.FileName.{FileName}
 
 abbrev pub host_name : FileName → List ℕ
 host_name name = codes "s" ++ (decimal name.slot ++ (codes "_" ++ (decimal name.index ++ codes ".img")))

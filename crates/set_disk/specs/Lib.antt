@@ -1,13 +1,3 @@
-pub mod Files
-pub mod SeenFolder
-pub mod Crash
-pub mod Moments
-pub mod Faults
-pub mod History
-pub mod InMemory
-pub mod FileTable
-pub mod FilesCode
-pub mod HistoryCode
-pub mod Untold
-pub mod Owed
 pub mod HostNames
+pub mod Owed
+pub mod Untold

@@ -4,7 +4,7 @@
 --     with_file name       these files and that one, which stands among them once
 use Rattle.std.specs.Prelude.{Bool, true, ◌&&◌, if◌then◌else◌, ◌==◌, List, [], ◌∷◌, ◌++◌, Option, Some, None}
 use Rattle.std.specs.List.{list_any}
-use Rattle.set_disk.specs.declared.file_name.FileName.{FileName}
+use Rattle.disk_folder.specs.declared.file_name.FileName.{FileName}
 use Rattle.set_disk.specs.declared.owed.Owed.{Owed}
 use Rattle.set_disk.specs.declared.owed.Owed.TheVariants.{All, Changes}
 

@@ -1,6 +1,6 @@
 -- What is seen of a folder that tells no content: anything may be left, at every moment, of which it has one.
 use Rattle.std.specs.Prelude.{ℕ, None, ⊤}
-use Rattle.set_disk.specs.SeenFolder.{SeenFolder}
+use Rattle.disk_folder.specs.SeenFolder.{SeenFolder}
 
 -- with so many faults
 abbrev pub without_content : ℕ → SeenFolder

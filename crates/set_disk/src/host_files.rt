@@ -2,7 +2,7 @@
 ghost use Rattle.std.specs.Prelude.{◌≡◌, ◌≢◌, ◌≤◌, length, IfOk};
 ghost use Rattle.std.specs.IoError.{error_kind};
 
-use crate::disk_fault::DiskFault;
+use disk_folder::DiskFault;
 use std::fs::{File, OpenFile, OpenOptions};
 use std::io::{Error, ErrorKind, Read, Seek, SeekFrom, Write};
 use std::os::unix::fs::OpenOptionsExt;

@@ -1,17 +1,15 @@
 ghost use Rattle.std.specs.Prelude.{◌≡◌, ◌≤◌, [], Some, None, false, length, option_map, IfOk, OnOk, string_bytes};
-ghost use Rattle.set_disk.specs.Faults.{HasCause};
+ghost use Rattle.disk_folder.specs.Faults.{HasCause};
 ghost use Rattle.set_disk.specs.HostNames.{host_path};
 ghost use Rattle.set_disk.specs.Owed.{files_owed, owes_folder, with_file};
 ghost use Rattle.set_disk.specs.Untold.{without_content};
 ghost use Rattle.set_disk.specs.declared.owed.Owed.TheVariants.{All};
 
-use crate::disk_fault::DiskFault;
-use crate::file_name::FileName;
-use crate::folder::Folder;
 use crate::host_files::{cut_file, length_of, overwrite_file, read_file, write_file};
 use crate::host_names::path_of;
 use crate::host_syncs::{sync_folder, take_folder};
 use crate::owed::Owed;
+use disk_folder::{DiskFault, FileName, Folder};
 use std::alloc::{AllocError, Global};
 use std::fs::File;
 use std::mem;

@@ -2,7 +2,7 @@
 ghost use Rattle.std.specs.Prelude.{◌≡◌, true, Some, IfOk, string_bytes};
 ghost use Rattle.set_disk.specs.HostNames.{IsHostName, IsSmall, host_name, host_path};
 
-use crate::file_name::FileName;
+use disk_folder::FileName;
 use std::alloc::{AllocError, Global};
 
 /// The name of a file in its folder.

@@ -1,9 +1,8 @@
 //! Taking a folder of the host for one run alone, and making durable what is in it.
-use crate::disk_fault::DiskFault;
-use crate::file_name::FileName;
 use crate::host_files::{fault_of, open_file};
 use crate::host_names::{is_used, path_of};
 use crate::owed::Owed;
+use disk_folder::{DiskFault, FileName};
 use std::fs::{DirBuilder, File, OpenFile};
 use std::io::{Error, ErrorKind};
 use std::os::unix::fs::DirBuilderExt;

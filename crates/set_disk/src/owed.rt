@@ -2,7 +2,7 @@
 ghost use Rattle.std.specs.Prelude.{◌≡◌, [], Some, true, false, option_map, OnOk, OnErr};
 ghost use Rattle.set_disk.specs.Owed.{files_owed, owes_folder, with_file};
 
-use crate::file_name::FileName;
+use disk_folder::FileName;
 use std::alloc::{AllocError, Global};
 
 /// What is not known to be durable.

@@ -1,6 +1,6 @@
 use Rattle.std.proofs.Common.{refl}
 use Rattle.plain_process.specs.Instructions.{Next}
-use Rattle.rv_isa.specs.Steps.{regs_at}
+use Rattle.rv_step.specs.Steps.{regs_at}
 use Rattle.guest_run.proofs.Runs.{none_yet, one_more, at_word}
 use Rattle.guest_run.proofs.stretch.stretch_in.Goals as goal
 

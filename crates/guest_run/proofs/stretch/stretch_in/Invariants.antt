@@ -1,5 +1,5 @@
 use Rattle.guest_run.specs.Running.{HasRun}
-use Rattle.rv_isa.specs.Steps.{IsZeroHeld, regs_at}
+use Rattle.rv_step.specs.Steps.{IsZeroHeld, regs_at}
 use Rattle.guest_run.proofs.stretch.stretch_in.Given as goal
 
 abbrev pub invariant-loop-count : goal.invariant-loop-count

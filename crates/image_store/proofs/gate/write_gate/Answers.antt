@@ -1,5 +1,5 @@
 use Rattle.std.proofs.Common.{sym, subst}
-use Rattle.set_disk.specs.Crash.{Torn}
+use Rattle.disk_folder.specs.Crash.{Torn}
 use Rattle.image_store.specs.Slots.{manifest_name}
 use Rattle.image_store.proofs.Passing.{passes_then}
 use Rattle.image_store.proofs.gate.write_gate.Goals as goal

@@ -1,8 +1,8 @@
 use Rattle.std.proofs.Common.{inl, refl, sym, ap, ◌∙◌, arith}
 use Rattle.std.proofs.lemmas.Option.{same_Some, slice_get_read}
-use Rattle.set_disk.specs.Files.{FolderFiles}
-use Rattle.set_disk.specs.Crash.{Same}
-use Rattle.set_disk.proofs.Stretches.{joins, weakens}
+use Rattle.disk_folder.specs.Files.{FolderFiles}
+use Rattle.disk_folder.specs.Crash.{Same}
+use Rattle.disk_folder.proofs.Stretches.{joins, weakens}
 use Rattle.image_store.specs.FoundSets.{last_set}
 use Rattle.image_store.specs.StoreRuns.{IsOneOf}
 use Rattle.image_store.specs.StoreStates.{next_generation}

@@ -1,6 +1,6 @@
 use Rattle.std.proofs.Common.{◌≡◌, ◌+◌}
 use Rattle.std.specs.Option.{ForSome}
-use Rattle.set_disk.specs.Moments.{LeavesOnly}
+use Rattle.disk_folder.specs.Moments.{LeavesOnly}
 use Rattle.image_store.specs.FoundSets.{last_set}
 use Rattle.image_store.specs.StoreRuns.{IsOneOf}
 use Rattle.image_store.specs.StoreStates.{FitsFolder, next_generation}

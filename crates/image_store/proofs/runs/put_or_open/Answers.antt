@@ -1,5 +1,5 @@
 use Rattle.std.proofs.Common.{◌<◌, ◌∙◌, ap, subst, sym, suc}
-use Rattle.set_disk.proofs.Stretches.{joins, weakens}
+use Rattle.disk_folder.proofs.Stretches.{joins, weakens}
 use Rattle.image_store.specs.FoundSets.{last_set}
 use Rattle.image_store.specs.StoreStates.{next_generation}
 use Rattle.image_store.specs.StoreCrashes.{OldOrNew}

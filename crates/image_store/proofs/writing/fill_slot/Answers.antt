@@ -1,6 +1,6 @@
 use Rattle.std.proofs.Common.{◌<◌, length, sym, subst}
-use Rattle.set_disk.specs.Files.{FolderFiles}
-use Rattle.set_disk.proofs.Stretches.{some_of}
+use Rattle.disk_folder.specs.Files.{FolderFiles}
+use Rattle.disk_folder.proofs.Stretches.{some_of}
 use Rattle.image_store.specs.Slots.{manifest_of}
 use Rattle.image_store.specs.SlotWrites.{KeepsGate, with_images}
 use Rattle.image_store.proofs.Passing.{passes_then, passes_widen}

@@ -1,8 +1,8 @@
 use Rattle.std.proofs.Common.{◌≡◌, ◌-◌, ◌≤◌, List, ℕ, ap, subst, take, drop, length, ◌∙◌}
 use Rattle.std.specs.Prelude.{Option, option_map}
 use Rattle.std.proofs.lemmas.List.{take_rest}
-use Rattle.set_disk.specs.Files.{FolderFiles, contents, with_cut, with_write}
-use Rattle.set_disk.proofs.Stretches.{some_of}
+use Rattle.disk_folder.specs.Files.{FolderFiles, contents, with_cut, with_write}
+use Rattle.disk_folder.proofs.Stretches.{some_of}
 use Rattle.image_store.specs.Slots.{manifest_name}
 use Rattle.image_store.specs.SlotWrites.{KeepsGate, with_manifest}
 use Rattle.image_store.proofs.Passing.{passes_then, passes_widen, reads_ok}

@@ -1,5 +1,5 @@
 use Rattle.std.specs.FinMap as files_by_name
-use Rattle.set_disk.specs.Files.{with_cut, with_write}
+use Rattle.disk_folder.specs.Files.{with_cut, with_write}
 use Rattle.image_store.specs.SlotWrites.{OnlyFile}
 use Rattle.image_store.proofs.Passing.{passes_then, passes_widen, reads_ok}
 use Rattle.image_store.proofs.SlotSteps.{only_cut, only_torn, only_then}

@@ -1,7 +1,7 @@
 use Rattle.std.proofs.Common.{◌≡◌, ℕ, List, ◌+◌, ◌∙◌, ap, arith, refl}
 use Rattle.std.specs.Prelude.{option_map}
 use Rattle.std.specs.FinMap as files_by_name
-use Rattle.set_disk.specs.Files.{FolderFiles}
+use Rattle.disk_folder.specs.Files.{FolderFiles}
 use Rattle.image_store.specs.SlotWrites.{KeepsManifest, OnlyFile}
 use Rattle.image_store.proofs.Causes.{counts, counts_none, counts_then}
 use Rattle.image_store.proofs.Passing.{passes_then, passes_none, told_then}

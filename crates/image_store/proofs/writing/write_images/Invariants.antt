@@ -1,6 +1,6 @@
 use Rattle.std.proofs.Common.{◌≡◌, ◌+◌, drop}
 use Rattle.std.specs.Prelude.{option_map}
-use Rattle.set_disk.specs.Moments.{Passes}
+use Rattle.disk_folder.specs.Moments.{Passes}
 use Rattle.image_store.specs.SlotWrites.{with_images, KeepsManifest}
 use Rattle.image_store.specs.StoreCrashes.{SameTold}
 use Rattle.image_store.proofs.Causes.{Counts}

@@ -1,9 +1,9 @@
 use Rattle.std.proofs.Common.{◌≡◌, ◌<◌, [], ◌∷◌, ap, ◌∙◌, sym, subst, length}
 use Rattle.std.specs.Prelude.{option_map}
 use Rattle.std.proofs.lemmas.Option.{same_Some}
-use Rattle.set_disk.specs.Files.{FolderFiles, with_write}
-use Rattle.set_disk.proofs.FilesAfter.{on_ok_then}
-use Rattle.set_disk.proofs.Stretches.{joins, some_of}
+use Rattle.disk_folder.specs.Files.{FolderFiles, with_write}
+use Rattle.disk_folder.proofs.FilesAfter.{on_ok_then}
+use Rattle.disk_folder.proofs.Stretches.{joins, some_of}
 use Rattle.image_store.specs.Slots.{manifest_name, manifest_of}
 use Rattle.image_store.specs.SlotWrites.{with_closed, with_images, with_manifest}
 use Rattle.image_store.specs.SlotImages.{IsInPut, IsPut}

@@ -1,7 +1,7 @@
 use Rattle.std.proofs.Common.{◌%◌, sym, ap, ◌∙◌, subst}
 use Rattle.std.specs.Prelude.{IsSome, Some}
-use Rattle.guest_mem.proofs.InPage.{byte_at-granted, byte_of}
-use Rattle.guest_mem.proofs.Ranges.{false_true}
+use Rattle.guest_pages.proofs.InPage.{byte_at-granted, byte_of}
+use Rattle.guest_pages.proofs.Ranges.{false_true}
 use Rattle.guest_mem.proofs.space.Space.byte.Goals as goal
 
 pub unreachable-requires : goal.unreachable-requires

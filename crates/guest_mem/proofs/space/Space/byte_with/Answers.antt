@@ -1,6 +1,6 @@
 use Rattle.std.proofs.Common.{◌%◌, sym, ap, ◌∙◌}
 use Rattle.std.specs.Prelude.{Some}
-use Rattle.guest_mem.proofs.InPage.{byte_at-granted, byte_of}
+use Rattle.guest_pages.proofs.InPage.{byte_at-granted, byte_of}
 use Rattle.guest_mem.proofs.space.Space.byte_with.Goals as goal
 
 pub returns-in-Ok : goal.returns-in-Ok

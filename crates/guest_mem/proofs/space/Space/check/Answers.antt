@@ -1,9 +1,9 @@
 use Rattle.std.proofs.Common.{◌≡◌, ◌+◌, ◌%◌, ◌≤◌, ◌<◌, refl, sym, ap, ◌∙◌, arith, cond, ◌&&◌}
 use Rattle.std.specs.Prelude.{Some, None}
 use Rattle.plain_process.specs.Memory.{Memory, bytes_at}
-use Rattle.guest_mem.specs.declared.mem_fault.MemFault.TheVariants.{Rights}
-use Rattle.guest_mem.specs.Refusals.{is_mapped, refusal}
-use Rattle.guest_mem.proofs.Checks.{checked_more, refusal-missing, refusal-past, refusal-mapped}
+use Rattle.guest_pages.specs.declared.mem_fault.MemFault.TheVariants.{Rights}
+use Rattle.guest_pages.specs.Refusals.{is_mapped, refusal}
+use Rattle.guest_pages.proofs.Checks.{checked_more, refusal-missing, refusal-past, refusal-mapped}
 use Rattle.guest_mem.proofs.space.Space.check.Goals as goal
 
 pub returns-then-count-address-clause-refused : goal.returns-then-count-address-clause-refused

@@ -1,7 +1,7 @@
 use Rattle.std.proofs.Common.{◌≡◌, ◌-◌, ◌≤◌, true}
 use Rattle.std.specs.Prelude.{is_some}
 use Rattle.plain_process.specs.Memory.{bytes_at}
-use Rattle.guest_mem.specs.Refusals.{is_mapped}
+use Rattle.guest_pages.specs.Refusals.{is_mapped}
 use Rattle.guest_mem.proofs.space.Space.check.Given as goal
 
 -- the bytes so far have their pages, and the flag says whether each page has the right

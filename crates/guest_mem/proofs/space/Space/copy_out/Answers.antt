@@ -3,7 +3,7 @@ use Rattle.std.proofs.lemmas.List.{append-nil}
 use Rattle.std.specs.Prelude.{Some}
 use Rattle.plain_process.specs.declared.memory.Right.TheVariants.{Read}
 use Rattle.plain_process.specs.Memory.{bytes_at}
-use Rattle.guest_mem.proofs.Checks.{refusal-none, readable-part}
+use Rattle.guest_pages.proofs.Checks.{refusal-none, readable-part}
 use Rattle.guest_mem.proofs.Copies.{length-bytes_at, length-copied, copied_more}
 use Rattle.guest_mem.proofs.space.Space.copy_out.Goals as goal
 

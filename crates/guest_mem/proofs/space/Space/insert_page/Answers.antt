@@ -1,6 +1,6 @@
 use Rattle.std.proofs.Common.{sym, subst, arith}
-use Rattle.guest_mem.specs.Pages.{IsSpace}
-use Rattle.guest_mem.proofs.Writes.{IsSpace-insert, IsSpace-new_page}
+use Rattle.guest_pages.specs.Pages.{IsSpace}
+use Rattle.guest_pages.proofs.Writes.{IsSpace-insert, IsSpace-new_page}
 use Rattle.guest_mem.proofs.space.Space.insert_page.Goals.{else-not-contains-via-then-not-contains+else-len-ge-PAGE_LIMIT, else-not-contains-via-else-not-contains}
 use Rattle.guest_mem.proofs.space.Space.insert_page.Goals as goal
 

@@ -2,8 +2,8 @@ use Rattle.std.proofs.Common.{◌<◌, List, ℕ, sym, subst, ◌∙◌}
 use Rattle.std.specs.FinMap as map
 use Rattle.plain_process.specs.declared.memory.Frame.{Frame}
 use Rattle.plain_process.specs.Memory.{Memory}
-use Rattle.guest_mem.specs.Pages.{IsSpace}
-use Rattle.guest_mem.proofs.Writes.{IsSpace-new_page}
+use Rattle.guest_pages.specs.Pages.{IsSpace}
+use Rattle.guest_pages.proofs.Writes.{IsSpace-new_page}
 use Rattle.guest_mem.proofs.space.Space.insert_zeroed.Goals as goal
 
 pub invariant_of-self-2 : goal.invariant_of-self-2

@@ -1,6 +1,6 @@
 use Rattle.std.proofs.Common.{◌∙◌}
 use Rattle.plain_process.specs.declared.memory.Right.TheVariants.{Write}
-use Rattle.guest_mem.proofs.Checks.{is_ok-checked}
+use Rattle.guest_pages.proofs.Checks.{is_ok-checked}
 use Rattle.guest_mem.proofs.space.Space.is_writable.Goals as goal
 
 pub returns-clause-writable : goal.returns-clause-writable

@@ -3,7 +3,7 @@ use Rattle.std.specs.Prelude.{replicate}
 use Rattle.std.specs.FinMap as map
 use Rattle.plain_process.specs.Memory.{Memory}
 use Rattle.plain_process.specs.Start.{with_pages}
-use Rattle.guest_mem.specs.Pages.{IsFree, without_pages}
+use Rattle.guest_mem.specs.Runs.{IsFree, without_pages}
 use Rattle.guest_mem.proofs.PageRuns.{len-with_pages, without-with}
 use Rattle.guest_mem.proofs.space.Space.map.Goals as goal
 use Rattle.plain_process.proofs.PageByPage.{with_more}

@@ -1,8 +1,8 @@
 use Rattle.std.proofs.Common.{◌≡◌, ◌+◌, ◌-◌, ◌%◌, ◌≤◌, length, take, drop, sym, ap, ◌∙◌, subst, arith}
 use Rattle.std.specs.Prelude.{IsSome, Some}
 use Rattle.plain_process.specs.declared.memory.Right.TheVariants.{Read}
-use Rattle.guest_mem.proofs.InPage.{bytes_at-in_page, bytes_of, bytes_from-take}
-use Rattle.guest_mem.proofs.Ranges.{false_true}
+use Rattle.guest_pages.proofs.InPage.{bytes_at-in_page, bytes_of, bytes_from-take}
+use Rattle.guest_pages.proofs.Ranges.{false_true}
 use Rattle.guest_mem.proofs.space.Space.piece.Goals as goal
 
 pub unreachable-requires : goal.unreachable-requires

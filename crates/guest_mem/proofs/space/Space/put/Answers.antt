@@ -2,10 +2,10 @@ use Rattle.std.proofs.Common.{◌+◌, ◌≤◌, ◌%◌, ◌/◌, ℕ, length,
 use Rattle.plain_process.specs.declared.memory.Frame.{Frame}
 use Rattle.plain_process.specs.Memory.{Memory, with_bytes}
 use Rattle.plain_process.specs.Memory.{low_bytes}
-use Rattle.guest_mem.proofs.InPage.{length-low_bytes}
-use Rattle.guest_mem.specs.Bytes.{with_piece}
-use Rattle.guest_mem.specs.Pages.{IsSpace}
-use Rattle.guest_mem.proofs.Writes.{with_bytes-changed, IsSpace-changed}
+use Rattle.guest_pages.proofs.InPage.{length-low_bytes}
+use Rattle.guest_pages.specs.Bytes.{with_piece}
+use Rattle.guest_pages.specs.Pages.{IsSpace}
+use Rattle.guest_pages.proofs.Writes.{with_bytes-changed, IsSpace-changed}
 use Rattle.guest_mem.proofs.space.Space.put.Goals as goal
 
 within : (a size value : ℕ) → a % 4096 + size ≤ 4096 → a % 4096 + length (low_bytes size value) ≤ 4096

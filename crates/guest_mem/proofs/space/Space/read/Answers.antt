@@ -3,7 +3,7 @@ use Rattle.std.specs.Prelude.{Some, option_map}
 use Rattle.std.specs.Result.{result_err}
 use Rattle.std.proofs.lemmas.Result.{err_from_is_err_and}
 use Rattle.plain_process.specs.Memory.{little_endian}
-use Rattle.guest_mem.proofs.InPage.{bytes_at-in_page, refusal-in_page, bytes_of}
+use Rattle.guest_pages.proofs.InPage.{bytes_at-in_page, refusal-in_page, bytes_of}
 use Rattle.guest_mem.proofs.space.Space.read.Goals as goal
 
 pub returns-in_err-frame-clause-value : goal.returns-in_err-frame-clause-value

@@ -2,7 +2,7 @@ use Rattle.std.proofs.Common.{◌^◌, ◌≡◌, ◌<◌, sym, ap, subst, arith
 use Rattle.std.specs.Prelude.{IsSome, option_map}
 use Rattle.std.proofs.lemmas.Result.{err_from_is_err_and}
 use Rattle.plain_process.specs.Memory.{byte_at, little_endian}
-use Rattle.guest_mem.proofs.Checks.{refusal-none, refusal-some, readable-byte}
+use Rattle.guest_pages.proofs.Checks.{refusal-none, refusal-some, readable-byte}
 use Rattle.guest_mem.proofs.Copies.{spelt-2, spelt-4}
 use Rattle.guest_mem.proofs.space.Space.read_across.Goals as goal
 

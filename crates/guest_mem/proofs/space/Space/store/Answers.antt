@@ -4,10 +4,10 @@ use Rattle.std.specs.Result.{result_err}
 use Rattle.std.proofs.lemmas.Result.{err_from_is_err_and}
 use Rattle.plain_process.specs.declared.memory.Right.TheVariants.{Write}
 use Rattle.plain_process.specs.Memory.{Memory, with_bytes, store_bytes, low_bytes}
-use Rattle.guest_mem.specs.declared.mem_fault.MemFault.{MemFault}
-use Rattle.guest_mem.specs.Refusals.{refusal, stored}
-use Rattle.guest_mem.proofs.InPage.{refusal-in_page, length-low_bytes}
-use Rattle.guest_mem.proofs.Checks.{store_told}
+use Rattle.guest_pages.specs.declared.mem_fault.MemFault.{MemFault}
+use Rattle.guest_pages.specs.Refusals.{refusal, stored}
+use Rattle.guest_pages.proofs.InPage.{refusal-in_page, length-low_bytes}
+use Rattle.guest_pages.proofs.Checks.{store_told}
 use Rattle.guest_mem.proofs.Copies.{low_bytes-word}
 use Rattle.guest_mem.proofs.space.Space.store.Goals as goal
 

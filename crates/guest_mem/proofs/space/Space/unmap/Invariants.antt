@@ -1,5 +1,5 @@
 use Rattle.std.proofs.Common.{◌≡◌, ◌-◌, ◌≤◌}
-use Rattle.guest_mem.specs.Pages.{without_pages}
+use Rattle.guest_mem.specs.Runs.{without_pages}
 use Rattle.guest_mem.proofs.space.Space.unmap.Given as goal
 
 -- the pages so far are gone

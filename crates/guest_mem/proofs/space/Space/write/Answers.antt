@@ -1,9 +1,9 @@
 use Rattle.std.proofs.Common.{◌%◌, ◌/◌, sym, ap, subst, ◌∙◌}
 use Rattle.plain_process.specs.declared.memory.Frame.{Frame}
 use Rattle.plain_process.specs.Memory.{Memory, with_bytes}
-use Rattle.guest_mem.specs.Bytes.{with_piece}
-use Rattle.guest_mem.specs.Pages.{IsSpace}
-use Rattle.guest_mem.proofs.Writes.{with_bytes-changed, IsSpace-changed}
+use Rattle.guest_pages.specs.Bytes.{with_piece}
+use Rattle.guest_pages.specs.Pages.{IsSpace}
+use Rattle.guest_pages.proofs.Writes.{with_bytes-changed, IsSpace-changed}
 use Rattle.guest_mem.proofs.space.Space.write.Goals as goal
 
 pub returns : goal.returns

@@ -1,6 +1,6 @@
 use Rattle.std.proofs.Common.{sym, ap, ◌∙◌}
 use Rattle.guest_proc.specs.Guests.{with_user}
-use Rattle.guest_proc.proofs.Entering.{has_room, enters}
+use Rattle.guest_proc.proofs.Delivering.{has_room, enters}
 use Rattle.guest_proc.proofs.guest.Guest.deliver.Goals as goal
 
 pub enter-requires : goal.enter-requires

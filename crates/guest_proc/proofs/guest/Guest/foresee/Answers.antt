@@ -1,5 +1,5 @@
 use Rattle.std.proofs.Common.{sym}
-use Rattle.guest_proc.proofs.Entering.{foreseen}
+use Rattle.guest_proc.proofs.Delivering.{foreseen}
 use Rattle.guest_proc.proofs.guest.Guest.foresee.Goals as goal
 
 pub returns : goal.returns

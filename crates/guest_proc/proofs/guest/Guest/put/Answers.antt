@@ -1,7 +1,7 @@
-use Rattle.std.proofs.Common.{◌≡◌, ap, sym, ◌∙◌}
+use Rattle.std.proofs.Common.{ap, sym, ◌∙◌}
 use Rattle.plain_process.specs.declared.user_part.UserPart.{UserPart}
 use Rattle.plain_process.specs.Put.{after_threads, word_of}
-use Rattle.guest_proc.proofs.Putting.{answered, answered_by, has_still, can_still, put_missing, put_there}
+use Rattle.guest_proc.proofs.Putting.{answered_by, has_still, can_still, put_missing, put_there}
 use Rattle.guest_proc.proofs.guest.Guest.put.Goals as goal
 
 pub returns-then-not-has_thread-clause-user : goal.returns-then-not-has_thread-clause-user

@@ -1,8 +1,8 @@
 use Rattle.std.proofs.Common.{length, inl, refl, ap, sym, subst, ◌∙◌, arith}
 use Rattle.std.specs.Prelude.{slice_index}
-use Rattle.set_disk.specs.Files.{FolderFiles}
-use Rattle.set_disk.specs.Crash.{Same}
-use Rattle.set_disk.proofs.Stretches.{told_then as where_told, weakens}
+use Rattle.disk_folder.specs.Files.{FolderFiles}
+use Rattle.disk_folder.specs.Crash.{Same}
+use Rattle.disk_folder.proofs.Stretches.{told_then as where_told, weakens}
 use Rattle.image_store.specs.FoundSets.{last_set, HasSet}
 use Rattle.image_store.specs.StoreStates.{FitsFiles, Known, next_generation}
 use Rattle.image_store.specs.StoreCrashes.{OldOrNew}

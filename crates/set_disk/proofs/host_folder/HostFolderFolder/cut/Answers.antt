@@ -1,5 +1,5 @@
 use Rattle.std.proofs.Common.{refl, inl}
-use Rattle.set_disk.specs.Crash.{Same, CutOrNot}
+use Rattle.disk_folder.specs.Crash.{Same, CutOrNot}
 use Rattle.set_disk.proofs.UntoldPasses.{untold_passes}
 use Rattle.set_disk.proofs.host_folder.HostFolderFolder.cut.Goals as goal
 

@@ -1,5 +1,5 @@
 use Rattle.std.proofs.Common.{refl}
-use Rattle.set_disk.specs.Crash.{Same}
+use Rattle.disk_folder.specs.Crash.{Same}
 use Rattle.set_disk.proofs.UntoldPasses.{untold_passes}
 use Rattle.set_disk.proofs.host_folder.HostFolderFolder.read_at.Goals as goal
 

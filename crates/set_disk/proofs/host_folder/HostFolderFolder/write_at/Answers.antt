@@ -1,6 +1,6 @@
 use Rattle.std.proofs.Common.{refl, length}
-use Rattle.set_disk.specs.Crash.{Same, Torn}
-use Rattle.set_disk.proofs.TornFiles.{same_torn}
+use Rattle.disk_folder.specs.Crash.{Same, Torn}
+use Rattle.disk_folder.proofs.TornFiles.{same_torn}
 use Rattle.set_disk.proofs.UntoldPasses.{untold_passes}
 use Rattle.set_disk.proofs.host_folder.HostFolderFolder.write_at.Goals as goal
 

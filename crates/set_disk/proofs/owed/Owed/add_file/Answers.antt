@@ -2,7 +2,7 @@ use Rattle.std.proofs.Common.{◌≡◌, true, List, [], ◌∷◌, ◌++◌, So
 use Rattle.std.specs.Prelude.{if◌then◌else◌, option_map}
 use Rattle.std.specs.List.{list_any}
 use Rattle.set_disk.specs.Owed.{files_owed, is_name, with_file}
-use Rattle.set_disk.specs.declared.file_name.FileName.{FileName}
+use Rattle.disk_folder.specs.declared.file_name.FileName.{FileName}
 use Rattle.set_disk.specs.declared.owed.Owed.{Owed}
 use Rattle.set_disk.proofs.owed.Owed.add_file.Goals as goal
 

@@ -1,0 +1,4 @@
+pub mod NameOrder
+pub mod FilesAfter
+pub mod TornFiles
+pub mod Stretches

@@ -1,7 +1,0 @@
-use Rattle.std.proofs.Common.{◌≡◌, take, map as each}
-use Rattle.image_process.specs.UserParts.{thread_entry}
-use Rattle.guest_proc.specs.Rows.{entries_of}
-use Rattle.guest_proc.proofs.image.thread_images.Given as goal
-
-abbrev pub invariant-loop-row : goal.invariant-loop-row
-invariant-loop-row l = each thread_entry l.images.items ≡ entries_of (take l.row-index l.rows)

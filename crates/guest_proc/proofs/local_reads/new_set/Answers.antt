@@ -1,6 +1,0 @@
-use Rattle.std.proofs.Common.{rules}
-use Rattle.guest_proc.proofs.LocalReads.{set_read}
-use Rattle.guest_proc.proofs.local_reads.new_set.Goals as goal
-
-pub returns-else-address-eq0 : goal.returns-else-address-eq0
-returns-else-address-eq0 c given read = set_read c.args.space.now c.args.address given c.word_at.result (search rules) c.word_at.ensures read

@@ -1,0 +1,3 @@
+pub mod Breaks
+pub mod Loading
+pub mod StackLemmas

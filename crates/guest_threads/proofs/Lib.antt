@@ -1,0 +1,3 @@
+pub mod HandlerEntries
+pub mod OnlyThreads
+pub mod RowLaws

@@ -1,0 +1,5 @@
+pub mod FilesCode
+pub mod FileTable
+pub mod History
+pub mod HistoryCode
+pub mod InMemory

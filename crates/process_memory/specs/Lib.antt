@@ -1,0 +1,3 @@
+pub mod MemoryParts
+pub mod Lending
+pub mod Local

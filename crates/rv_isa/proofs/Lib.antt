@@ -1,6 +1,0 @@
-pub mod Exclusive
-pub mod Fields
-pub mod InsnEquality
-pub mod Rows
-pub mod StepLaws
-pub mod WordLaws

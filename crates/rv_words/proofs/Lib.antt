@@ -1,0 +1,5 @@
+pub mod Exclusive
+pub mod Fields
+pub mod InsnEquality
+pub mod Rows
+pub mod WordLaws

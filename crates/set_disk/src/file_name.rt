@@ -1,6 +1,0 @@
-/// The name of a file in a folder: a slot, and an index in that slot.
-#[derive(Clone, Copy, Debug, PartialEq, Eq, PartialOrd, Ord)]
-pub struct FileName {
-    pub slot: u32,
-    pub index: u32,
-}

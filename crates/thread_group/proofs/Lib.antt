@@ -1,0 +1,5 @@
+pub mod CloneLaws
+pub mod LocalCalls
+pub mod LocalThreads
+pub mod OtherCalls
+pub mod Waking
