@@ -123,7 +123,7 @@ module _ (k : PlainKernel) (is : IsKernel k) where
     unfolding is_side_named
     side_unnamed conn side named = side_free k is d x xs split conn side named
 
-    port_unused : (address : VirtAddr) → bound_at x.object ≡ Some address → (address.port == 0) ≡ false → field.is_port_used front address.host address.port ≡ false
+    port_unused : (address : VirtAddr) → bound_at x.object ≡ Some address → (address.port == 0) ≡ false → field.is_listed_port front address.host address.port ≡ false
     port_unused address at bound =
         none_before desc_total desc_exact (description_image k.listeners) (λ (it : DescriptionImage). field.has_port address.host address.port it.object) (IsBefore desc_total desc_exact k.descriptions d) xs split.before (λ e y before.
         not_true (field.has_port address.host address.port (object_image k.listeners y.object)) (λ used.
@@ -164,8 +164,8 @@ module _ (k : PlainKernel) (is : IsKernel k) where
           port = (omega (arith, port), both_true (field.is_port address.port) _ (is_at_most address.port 65535 most) (by_port (address.port == 0) refl));
         }
       where
-        by_port : (b : Bool) → (address.port == 0) ≡ b → ((address.port == 0) || not (field.is_port_used front address.host address.port)) ≡ true
-        by_port true none = ap (λ c. c || not (field.is_port_used front address.host address.port)) none
+        by_port : (b : Bool) → (address.port == 0) ≡ b → ((address.port == 0) || not (field.is_listed_port front address.host address.port)) ≡ true
+        by_port true none = ap (λ c. c || not (field.is_listed_port front address.host address.port)) none
         by_port false bound =
             let unused = port_unused address (ap bound_at what ∙ ap (λ b. if b then None else Some address) bound) bound in
             or_later (address.port == 0) _ (λ i. not (unused i))

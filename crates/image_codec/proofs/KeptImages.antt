@@ -21,7 +21,7 @@ use Rattle.plain_tables.specs.declared.channel.Direction.{Direction}
 use Rattle.plain_tables.specs.Objects.{dir, end_of, is_file, has_name, has_open}
 use Rattle.image_shared.specs.declared.shared.DescriptionImage.{DescriptionImage}
 use Rattle.image_shared.specs.Sides.{is_side_named}
-use Rattle.image_shared.specs.WholeShared.{opens, is_opened, is_kept, is_named_or_closed, is_rightly_named}
+use Rattle.image_shared.specs.WholeShared.{opens, is_opened, is_kept_file, is_named_or_closed, is_rightly_named}
 use Rattle.image_codec.specs.KernelImages.{file_image, names_by_number, channel_image, side_image, description_image, object_image}
 use Rattle.image_codec.proofs.ChannelsBack.{has_side, named_image}
 use Rattle.image_codec.proofs.FilesBack.{name_back}
@@ -65,14 +65,14 @@ module _ (k : PlainKernel) (is : IsKernel k) where
       let long : (length name == 0) ≡ false = other_number (length name) 0 (λ none. omega (arith, some, none)) in
       ap (λ (f : Option (List ℕ)). not (length (unwrap_or f []) == 0)) (name_back k is name number leads) ∙ (λ i. not (long i))
 
-  kept : (number : ℕ) (bytes : List ℕ) → map.get k.files number ≡ Some bytes → is_kept descriptions (file_image (names_by_number k.names) (number, bytes)) ≡ true
+  kept : (number : ℕ) (bytes : List ℕ) → map.get k.files number ≡ Some bytes → is_kept_file descriptions (file_image (names_by_number k.names) (number, bytes)) ≡ true
   kept number bytes there = ⊎_elim
       (λ has. ap (λ b. b || is_opened descriptions number) (named number has))
       (λ open_there. or_later (not (length (unwrap_or (map.get (names_by_number k.names) number) []) == 0)) _ (opened number open_there))
       (or_either (has_name k.names number) (has_open k.descriptions number) (is.open_files.kept number bytes there))
 
-  pub all_kept : list_all (is_kept descriptions) (each (file_image (names_by_number k.names)) (map.entries k.files)) ≡ true
-  all_kept = all_images nat_cmp_total nat_cmp-IsAntisymmetric (file_image (names_by_number k.names)) (is_kept descriptions) k.files kept
+  pub all_kept : list_all (is_kept_file descriptions) (each (file_image (names_by_number k.names)) (map.entries k.files)) ≡ true
+  all_kept = all_images nat_cmp_total nat_cmp-IsAntisymmetric (file_image (names_by_number k.names)) (is_kept_file descriptions) k.files kept
 
   -- channels: a side is named where it is open
   module _ (conn : ConnId) (channel : Channel) (there : map.get k.channels conn ≡ Some channel) where

@@ -15,9 +15,9 @@ use Rattle.sys_abi.specs.declared.identity.Dir.{Dir}
 use Rattle.sys_abi.specs.declared.identity.VirtAddr.{VirtAddr}
 use Rattle.sys_abi.proofs.OrderLaws.{vpid_total, vpid_exact, slot_total, slot_exact, desc_total, desc_exact, conn_total, conn_exact, dir_total, dir_exact, address_total, address_exact, name_total, name_exact}
 use Rattle.plain_tables.specs.declared.process.Process.{Process}
-use Rattle.plain_tables.specs.declared.process.Maker.{Maker}
+use Rattle.sys_abi.specs.declared.maker.Maker.{Maker}
 use Rattle.plain_tables.specs.declared.description.Description.{Description}
-use Rattle.plain_tables.specs.declared.description.Descriptor.{Descriptor}
+use Rattle.sys_abi.specs.declared.descriptor.Descriptor.{Descriptor}
 use Rattle.plain_tables.specs.declared.channel.Channel.{Channel}
 use Rattle.plain_tables.specs.declared.channel.Direction.{Direction}
 use Rattle.plain_tables.specs.declared.channel.Listening.{Listening}

@@ -176,7 +176,7 @@ module _ (s : Shared) (is : IsShared s) where
       let (it, by, opens) = which_item (λ (d : DescriptionImage). whole.opens f.number d.object) s.descriptions open_somewhere in
       or_later (has_name k.names f.number) _
       (some_among-values desc_total desc_exact (λ (x : Description). is_file f.number x.object) k.descriptions it.id (description_entry it).1 (item_description s order it by) (opened_file f.number it.object opens)))
-      (or_either (not (length f.name == 0)) (whole.is_opened s.descriptions f.number) (item_passes (whole.is_kept s.descriptions) s.files f (ends_of s is).kept at))
+      (or_either (not (length f.name == 0)) (whole.is_opened s.descriptions f.number) (item_passes (whole.is_kept_file s.descriptions) s.files f (ends_of s is).kept at))
 
   pub open_files_are : AreOpenFiles k.names k.files k.descriptions
   open_files_are = record {

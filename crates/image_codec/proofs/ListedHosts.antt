@@ -13,7 +13,7 @@ use Rattle.sys_abi.specs.declared.identity.VirtAddr.{VirtAddr}
 use Rattle.sys_abi.specs.Orders.{conn_cmp}
 use Rattle.sys_abi.proofs.OrderLaws.{conn_total, conn_exact}
 use Rattle.plain_machine.specs.declared.kernel.PlainKernel.{PlainKernel}
-use Rattle.plain_tables.specs.declared.description.Descriptor.{Descriptor}
+use Rattle.sys_abi.specs.declared.descriptor.Descriptor.{Descriptor}
 use Rattle.plain_tables.specs.declared.description.Description.{Description}
 use Rattle.plain_tables.specs.declared.channel.Channel.{Channel}
 use Rattle.plain_tables.specs.declared.channel.Listening.{Listening}
@@ -47,7 +47,7 @@ addressed s front flags (Socket address) fits =
     let port = at_most address.port 65535 (and_true (field.is_port address.port) _ fits.port.1).0 in
     (below address.host 16 fits.host.1, omega (arith, port))
 addressed s front flags (Listener address backlog pending) fits =
-    let within = (and_true (is_within 1 65535 address.port) (not (field.is_port_used front address.host address.port)) fits.port.1).0 in
+    let within = (and_true (is_within 1 65535 address.port) (not (field.is_listed_port front address.host address.port)) fits.port.1).0 in
     let (least, most) = and_true (nat_le 1 address.port) (nat_le address.port 65535) within in
     let low = at_most 1 address.port least in
     let high = at_most address.port 65535 most in
@@ -71,7 +71,7 @@ has_address (Listener other backlog pending) address is =
 
 -- an address that no socket or listener in front has
 free_address : (s : Shared) (front : List DescriptionImage) (flags : ℕ) (o : ObjectImage) (address : VirtAddr) → ObjectFits s.files s.channels front flags o → bound_at (object_of o) ≡ Some address
-    → field.is_port_used front address.host address.port ≡ true → ⊥
+    → field.is_listed_port front address.host address.port ≡ true → ⊥
 free_address s front flags Console address fits is used = cc
 free_address s front flags (File number offset) address fits is used = cc
 free_address s front flags (Stream conn side) address fits is used = cc
@@ -79,12 +79,12 @@ free_address s front flags (Socket other) address fits is used =
     let (bound, same) = bound_socket (other.port == 0) other address is in
     ⊎_elim
     (λ unbound. true_false (sym unbound ∙ bound))
-    (λ free. refused (field.is_port_used front other.host other.port) free (ap (λ (a : VirtAddr). field.is_port_used front a.host a.port) same ∙ used))
-    (or_either (other.port == 0) (not (field.is_port_used front other.host other.port)) (and_true (field.is_port other.port) _ fits.port.1).1)
+    (λ free. refused (field.is_listed_port front other.host other.port) free (ap (λ (a : VirtAddr). field.is_listed_port front a.host a.port) same ∙ used))
+    (or_either (other.port == 0) (not (field.is_listed_port front other.host other.port)) (and_true (field.is_port other.port) _ fits.port.1).1)
 free_address s front flags (Listener other backlog pending) address fits is used =
     let same = same_some other address is in
-    refused (field.is_port_used front other.host other.port) (and_true (is_within 1 65535 other.port) (not (field.is_port_used front other.host other.port)) fits.port.1).1
-    (ap (λ (a : VirtAddr). field.is_port_used front a.host a.port) same ∙ used)
+    refused (field.is_listed_port front other.host other.port) (and_true (is_within 1 65535 other.port) (not (field.is_listed_port front other.host other.port)) fits.port.1).1
+    (ap (λ (a : VirtAddr). field.is_listed_port front a.host a.port) same ∙ used)
 
 record HaveOneAddress (d e : DescriptionImage) : Type 0 where
   address : VirtAddr

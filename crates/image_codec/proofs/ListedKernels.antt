@@ -22,8 +22,8 @@ use Rattle.sys_abi.proofs.OrderLaws.{vpid_total, vpid_exact, slot_total, slot_ex
 use Rattle.plain_machine.specs.declared.kernel.PlainKernel.{PlainKernel}
 use Rattle.plain_process.specs.Valid.{Each}
 use Rattle.plain_tables.specs.declared.process.Process.{Process}
-use Rattle.plain_tables.specs.declared.process.Maker.{Maker}
-use Rattle.plain_tables.specs.declared.description.Descriptor.{Descriptor}
+use Rattle.sys_abi.specs.declared.maker.Maker.{Maker}
+use Rattle.sys_abi.specs.declared.descriptor.Descriptor.{Descriptor}
 use Rattle.plain_tables.specs.declared.description.Description.{Description}
 use Rattle.plain_tables.specs.Tables.{lives_in, same_host, pid, is_held, refers_to}
 use Rattle.plain_tables.specs.Valid.Descriptions.{AreDescriptors, AreDescriptions, AreFlags, AreHolders, IsMade, IsOwner}

@@ -21,7 +21,7 @@ use Rattle.sys_abi.specs.declared.life.Life.TheVariants.{Live, Zombie}
 use Rattle.sys_abi.proofs.OrderLaws.{vpid_total, vpid_exact}
 use Rattle.plain_machine.specs.declared.kernel.PlainKernel.{PlainKernel}
 use Rattle.plain_tables.specs.declared.process.Process.{Process}
-use Rattle.plain_tables.specs.declared.process.Maker.{Maker}
+use Rattle.sys_abi.specs.declared.maker.Maker.{Maker}
 use Rattle.plain_tables.specs.Tables.{is_live_process, lives_in, has_thread_in, same_host, pid}
 use Rattle.plain_tables.specs.Valid.Processes.{AreProcesses, AreMakers, AreParents, FitsLife, HasParent, IsGivenOut, IsParent, IsProcess}
 use Rattle.plain_tables.proofs.Entries.{found_at}
@@ -41,7 +41,7 @@ use Rattle.image_codec.proofs.TestFacts.{and_true, or_either, or_later, follows,
 
 -- what is tested at the end of the file
 pub record HasEnds (s : Shared) : Type 0 where
-  pub kept : list_all (whole.is_kept s.descriptions) s.files ≡ true
+  pub kept : list_all (whole.is_kept_file s.descriptions) s.files ≡ true
   pub named : list_all (whole.is_rightly_named s.descriptions) s.channels ≡ true
   pub held : list_all (whole.is_rightly_held s.channels s.processes) s.descriptions ≡ true
   pub near : list_all (whole.is_near_parent s.processes) s.processes ≡ true
@@ -49,7 +49,7 @@ pub record HasEnds (s : Shared) : Type 0 where
 pub ends_of : (s : Shared) → IsShared s → HasEnds s
 unfolding whole.is_whole_shared
 ends_of s is =
-    let files = list_all (whole.is_kept s.descriptions) s.files in
+    let files = list_all (whole.is_kept_file s.descriptions) s.files in
     let channels = list_all (whole.is_rightly_named s.descriptions) s.channels in
     let descriptions = list_all (whole.is_rightly_held s.channels s.processes) s.descriptions in
     let processes = list_all (whole.is_near_parent s.processes) s.processes in

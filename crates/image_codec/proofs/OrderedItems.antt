@@ -134,7 +134,7 @@ never_both : (s : Shared) (front : List DescriptionImage) (d e : DescriptionImag
 never_both s front d e fits at one =
     let a = one.address in
     let mine : ListenerFits s.channels front one.address one.y.backlog one.y.queue = subst (ObjectFits s.files s.channels front d.flags) (is_listener d.object one.address one.y one.second) fits.what in
-    refused (field.is_port_used front a.host a.port) (and_true (is_within 1 65535 a.port) (not (field.is_port_used front a.host a.port)) mine.port.1).1
+    refused (field.is_listed_port front a.host a.port) (and_true (is_within 1 65535 a.port) (not (field.is_listed_port front a.host a.port)) mine.port.1).1
     (some_item (λ (it : DescriptionImage). field.has_port a.host a.port it.object) front e at
     (ap (field.has_port a.host a.port) (is_listener e.object one.address one.x one.first) ∙ (λ i. same_number a.host i && same_number a.port i)))
 

@@ -16,7 +16,7 @@ use Rattle.sys_abi.proofs.OrderLaws.{vpid_total, vpid_exact, slot_total, slot_ex
 use Rattle.plain_machine.specs.declared.kernel.PlainKernel.{PlainKernel}
 use Rattle.plain_machine.specs.Kernels.{IsKernel}
 use Rattle.plain_tables.specs.declared.process.Process.{Process}
-use Rattle.plain_tables.specs.declared.description.Descriptor.{Descriptor}
+use Rattle.sys_abi.specs.declared.descriptor.Descriptor.{Descriptor}
 use Rattle.plain_tables.specs.Tables.{is_live_process}
 use Rattle.plain_tables.proofs.Entries.{found_at}
 use Rattle.image_codec.specs.KernelParts.{process_entry, maker_entry, descriptor_entries, descriptor_entry, signals_entry}

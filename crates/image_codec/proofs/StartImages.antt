@@ -7,7 +7,7 @@ use Rattle.views.proofs.MapLaws.{insert_apart}
 use Rattle.sys_abi.specs.declared.identity.Slot.{Slot}
 use Rattle.sys_abi.specs.Orders.{slot_cmp}
 use Rattle.sys_abi.proofs.OrderLaws.{slot_total, slot_exact}
-use Rattle.plain_tables.specs.declared.description.Descriptor.{Descriptor}
+use Rattle.sys_abi.specs.declared.descriptor.Descriptor.{Descriptor}
 use Rattle.plain_tables.specs.Tables.{pid, slot}
 use Rattle.plain_process.specs.Start.{Launched}
 use Rattle.plain_machine.specs.Start.{FIRST_PID, console_descriptor, start_kernel, with_processes, with_process, with_files, empty_kernel}

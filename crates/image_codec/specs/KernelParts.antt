@@ -13,9 +13,9 @@ use Rattle.sys_abi.specs.declared.identity.ConnId.{ConnId}
 use Rattle.sys_abi.specs.declared.identity.Dir.{Dir}
 use Rattle.sys_abi.specs.declared.identity.VirtAddr.{VirtAddr}
 use Rattle.plain_tables.specs.declared.process.Process.{Process}
-use Rattle.plain_tables.specs.declared.process.Maker.{Maker}
+use Rattle.sys_abi.specs.declared.maker.Maker.{Maker}
 use Rattle.plain_tables.specs.declared.description.Description.{Description}
-use Rattle.plain_tables.specs.declared.description.Descriptor.{Descriptor}
+use Rattle.sys_abi.specs.declared.descriptor.Descriptor.{Descriptor}
 use Rattle.plain_tables.specs.declared.description.Object.{Object}
 use Rattle.plain_tables.specs.declared.description.Object.TheVariants as object
 use Rattle.plain_tables.specs.declared.channel.Channel.{Channel}

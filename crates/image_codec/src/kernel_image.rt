@@ -12,9 +12,9 @@ use image_shared::{
     DescriptionImage, DescriptorEntry, ObjectImage, ProcessEntry, Shared, ThreadEntry,
 };
 use plain_machine::PlainKernel;
-use plain_tables::{Description, Descriptor, Listening, Maker, Object, Process};
+use plain_tables::{Description, Listening, Object, Process};
 use std::alloc::{AllocError, Global};
-use sys_abi::{VPid, VirtAddr};
+use sys_abi::{Descriptor, Maker, VPid, VirtAddr};
 use views::duplicate::Duplicate;
 use views::list_of::ListOf;
 use views::number_map::NumberMap;

@@ -16,9 +16,9 @@ use crate::restored_objects::{
 use id_maps::{ByPid, BySlot};
 use image_shared::{DescriptorEntry, ProcessEntry, Shared, ThreadEntry};
 use plain_machine::PlainKernel;
-use plain_tables::{Descriptor, Maker, Process};
+use plain_tables::Process;
 use std::alloc::{AllocError, Global};
-use sys_abi::{Slot, VPid};
+use sys_abi::{Descriptor, Maker, Slot, VPid};
 use views::list_of::ListOf;
 use views::number_map::NumberMap;
 

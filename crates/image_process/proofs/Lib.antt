@@ -1,4 +1,5 @@
 pub mod DistinctWaiters
+pub mod EntryLists
 pub mod FittingParts
 pub mod HeapWalk
 pub mod LiveProcesses

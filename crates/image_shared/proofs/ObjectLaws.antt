@@ -92,7 +92,7 @@ module _ (files : List FileImage) (channels : List ChannelImage) (front : List D
       in_words _ _ _ _ _ (λ o is. sym (ap object_text is)) (λ o is. subst (Fits files channels front flags 0) (sym is) (refl, tt)) console_back (give_law Console)
 
   file_back : (o : ObjectImage) → Fits files channels front flags 1 o
-      → FitsNumber (field.is_file files) (number_in o) × (FitsNumber any (offset_in o) × (o ≡ File (number_in o) (offset_in o)))
+      → FitsNumber (field.is_listed_file files) (number_in o) × (FitsNumber any (offset_in o) × (o ≡ File (number_in o) (offset_in o)))
   file_back Console h = cc
   file_back (File number offset) h = (h.1.0, (h.1.1, refl))
   file_back (Stream conn side) h = cc

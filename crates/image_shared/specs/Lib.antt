@@ -1,3 +1,4 @@
+pub mod RisingLists
 pub mod SharedFits
 pub mod SharedFormat
 pub mod SharedTests

@@ -102,7 +102,7 @@ pub record SocketFits (front : List DescriptionImage) (address : VirtAddr) : Typ
 pub record ConnectionFits (channels : List ChannelImage) (front : List DescriptionImage)
     (earlier : List ConnId) (it : ConnId) : Type 0 where
   pub maker : FitsNumber any it.pid.0
-  pub number : FitsNumber (field.is_pending channels front earlier it.pid.0) it.num
+  pub number : FitsNumber (field.is_pending_name channels front earlier it.pid.0) it.num
 
 pub record ListenerFits (channels : List ChannelImage) (front : List DescriptionImage) (address : VirtAddr)
     (backlog : ℕ) (pending : List ConnId) : Type 0 where
@@ -116,7 +116,7 @@ abbrev pub ObjectFits : List FileImage → List ChannelImage → List Descriptio
     → Type 0
 ObjectFits files channels front flags Console = Unit {0}
 ObjectFits files channels front flags (File number offset) =
-    FitsNumber (field.is_file files) number × FitsNumber any offset
+    FitsNumber (field.is_listed_file files) number × FitsNumber any offset
 ObjectFits files channels front flags (Stream conn side) = StreamFits channels front flags conn side
 ObjectFits files channels front flags (Socket address) = SocketFits front address
 ObjectFits files channels front flags (Listener address backlog pending) =

@@ -2,7 +2,7 @@
 -- of a file, and four lists, of files, channels, open descriptions and processes. Each list is a count in 32
 -- bits and its items.
 --     SpellsShared text s      the bytes are the file of this value
---     DamagedShared text n      the bytes are the file of no value: n is the place where they break the format
+--     DamagedShared text n      the bytes are the file of no value: at place n they break the format
 -- An item's format takes what it may look at: the version of the file, the lists before its own, the fields
 -- before, and the items of its own list before it.
 -- Source: docs/FORMATS.md, "Shared image".
@@ -90,7 +90,7 @@ channel next_id front = do
 -- what follows in a description of a kind, after its owner: of the console, nothing
 unfoldable pub open_file : List FileImage → FormatOf ObjectImage
 open_file files = do
-  number ← unsigned n32 (field.is_file files)
+  number ← unsigned n32 (field.is_listed_file files)
   offset ← unsigned n32 any
   give (File number offset)
 
@@ -111,7 +111,7 @@ socket front = do
 unfoldable pub connection : List ChannelImage → List DescriptionImage → List ConnId → FormatOf ConnId
 connection channels front earlier = do
   maker ← unsigned n32 any
-  number ← unsigned n32 (field.is_pending channels front earlier maker)
+  number ← unsigned n32 (field.is_pending_name channels front earlier maker)
   give (conn maker number)
 
 unfoldable pub listener : List ChannelImage → List DescriptionImage → FormatOf ObjectImage

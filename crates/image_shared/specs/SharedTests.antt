@@ -121,8 +121,8 @@ abbrev pub is_status_flags : ℕ → Bool
 is_status_flags flags = (bit_and flags 0xC03 == flags) && not (bit_and flags 3 == 3)
 
 -- the file and the channel that a description names are there
-abbrev pub is_file : List FileImage → ℕ → Bool
-is_file files n = list_any (λ file. file.number == n) files
+abbrev pub is_listed_file : List FileImage → ℕ → Bool
+is_listed_file files n = list_any (λ file. file.number == n) files
 
 abbrev pub conn : ℕ → ℕ → ConnId
 conn maker n = record { pid = pid maker; num = n }
@@ -149,14 +149,14 @@ has_port host port (Socket address) = (address.host == host) && (address.port ==
 has_port host port (Listener address backlog pending) = (address.host == host) && (address.port == port)
 has_port host port _ = false
 
-abbrev pub is_port_used : List DescriptionImage → ℕ → ℕ → Bool
-is_port_used front host port = list_any (λ it. has_port host port it.object) front
+abbrev pub is_listed_port : List DescriptionImage → ℕ → ℕ → Bool
+is_listed_port front host port = list_any (λ it. has_port host port it.object) front
 
 abbrev pub is_socket_port : List DescriptionImage → ℕ → ℕ → Bool
-is_socket_port front host port = is_port port && ((port == 0) || not (is_port_used front host port))
+is_socket_port front host port = is_port port && ((port == 0) || not (is_listed_port front host port))
 
 abbrev pub is_listener_port : List DescriptionImage → ℕ → ℕ → Bool
-is_listener_port front host port = is_within 1 65535 port && not (is_port_used front host port)
+is_listener_port front host port = is_within 1 65535 port && not (is_listed_port front host port)
 
 abbrev pub is_queue_count : ℕ → ℕ → Bool
 is_queue_count backlog n = nat_le n backlog
@@ -175,8 +175,8 @@ may_wait channels front earlier name =
     && not (is_side_named front name 1)
     && not (list_any (same_channel name) earlier)
 
-abbrev pub is_pending : List ChannelImage → List DescriptionImage → List ConnId → ℕ → ℕ → Bool
-is_pending channels front earlier maker n = may_wait channels front earlier (conn maker n)
+abbrev pub is_pending_name : List ChannelImage → List DescriptionImage → List ConnId → ℕ → ℕ → Bool
+is_pending_name channels front earlier maker n = may_wait channels front earlier (conn maker n)
 
 -- processes
 abbrev pub lists_thread : ℕ → ProcessEntry → Bool

@@ -1,6 +1,6 @@
 -- What is tested at the end of the shared image, over the whole value.
---     is_whole_shared s      each file is kept, each channel rightly named, each description rightly held, and each
---                            parent near its child
+--     is_whole_shared s      each file is kept, each channel rightly named, each description rightly held, and
+--                            each parent near its child
 -- Source: docs/FORMATS.md, "Shared image".
 use Rattle.std.specs.Prelude.{ℕ, ◌==◌, ◌&&◌, ◌||◌, Bool, true, false, not, List, length, Option, Some, None}
 use Rattle.std.specs.Prelude.{if◌then◌else◌}
@@ -28,8 +28,8 @@ opens number _ = false
 abbrev pub is_opened : List DescriptionImage → ℕ → Bool
 is_opened descriptions number = list_any (λ it. opens number it.object) descriptions
 
-abbrev pub is_kept : List DescriptionImage → FileImage → Bool
-is_kept descriptions file = not (length file.name == 0) || is_opened descriptions file.number
+abbrev pub is_kept_file : List DescriptionImage → FileImage → Bool
+is_kept_file descriptions file = not (length file.name == 0) || is_opened descriptions file.number
 
 -- a channel has a side that is named; one that isn't sends no more, and what it is sent is read no more
 abbrev pub is_named_or_closed : List DescriptionImage → ConnId → ℕ → SideImage → SideImage → Bool
@@ -42,8 +42,8 @@ is_rightly_named descriptions channel =
     && is_named_or_closed descriptions channel.id 0 channel.first channel.second
     && is_named_or_closed descriptions channel.id 1 channel.second channel.first
 
--- what is held has its holders' host: a socket, a listener with the connections that wait at it, and an end of
--- an internet connection, as its address says
+-- what is held has its holders' host: a socket, a listener with the connections that wait at it, and an end
+-- of an internet connection, as its address says
 abbrev pub is_of_host : ℕ → Option VirtAddr → Bool
 is_of_host host None = true
 is_of_host host (Some address) = address.host == host
@@ -109,7 +109,7 @@ is_near_parent processes child = list_all (is_of_parents_host child) processes
 
 unfoldable pub is_whole_shared : Shared → Bool
 is_whole_shared s =
-    list_all (is_kept s.descriptions) s.files
+    list_all (is_kept_file s.descriptions) s.files
     && list_all (is_rightly_named s.descriptions) s.channels
     && list_all (is_rightly_held s.channels s.processes) s.descriptions
     && list_all (is_near_parent s.processes) s.processes

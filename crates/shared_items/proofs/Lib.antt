@@ -1,1 +1,4 @@
 mod ByteItems
+pub mod Keys
+mod Names
+pub mod Searched

@@ -5,9 +5,11 @@ ghost use Rattle.image_format.specs.Format.{counted};
 ghost use Rattle.image_format.specs.Reading.{Gives, read};
 ghost use Rattle.image_shared.specs.SharedFormat as format;
 ghost use Rattle.image_shared.specs.SharedTests as field;
+ghost use Rattle.shared_items.specs.KnownNames.{KnowsNames};
 
 use crate::contents::{content_at, list_of};
 use crate::item_tests::{is_file_count, is_file_name, is_file_number, is_file_size};
+use id_maps::ByName;
 use image_format::fields::{Fault, bytes_at, u16_at, u32_at};
 use image_shared::FileImage;
 use std::alloc::Global;
@@ -21,9 +23,11 @@ fn file_at<'a>(
     alloc: Global,
     next_file: u32,
     front: &[FileImage],
+    names: &ByName<()>,
     total: u64,
     text: &'a [u8],
 ) -> Result<(FileImage, &'a [u8]), Fault>
+    requires names { KnowsNames names.now front.now }
     requires total { total ≡ sum_by (λ file. length file.bytes) front.now }
     requires limit { total ≤ 67108864 }
     ensures read { Gives (λ x. (x.0, x.1.now)) result (read (format.file next_file front.now) text.now) }
@@ -38,7 +42,7 @@ fn file_at<'a>(
         return Err(Fault::Left(after_number.len()));
     }
     let (name, after_name) = bytes_at(after_size, name_size as usize)?;
-    if !is_file_name(front, name) {
+    if !is_file_name(front, names, name) {
         return Err(Fault::Left(after_size.len()));
     }
     let (size, after_count) = u32_at(after_name)?;
@@ -68,11 +72,13 @@ pub fn files_at<'a>(
         return Err(Fault::Left(text.len()));
     }
     let mut files = ListOf::new(alloc);
+    let mut names = ByName::new(alloc);
     let mut total = 0;
     let mut rest = items;
     for _item in 0..count {
-        let (file, more) = file_at(alloc, next_file, files.as_slice(), total, rest)?;
+        let (file, more) = file_at(alloc, next_file, files.as_slice(), &names, total, rest)?;
         total += file.bytes.len() as u64;
+        names.insert(list_of(alloc, file.name.as_slice())?, ())?;
         files.push(file)?;
         rest = more;
     }

@@ -1,12 +1,12 @@
 // The tests of fields of files and channels, each after the fields before it.
 ghost use Rattle.std.specs.Prelude.{◌≡◌, ◌≤◌, ◌+◌, nat_le};
-ghost use Rattle.std.specs.List.{list_any, list_all};
+ghost use Rattle.std.specs.List.{list_all};
 ghost use Rattle.image_format.specs.Fields.{is_within};
-ghost use Rattle.image_shared.specs.Sides.{same_channel};
 ghost use Rattle.image_shared.specs.SharedTests as field;
+ghost use Rattle.shared_items.specs.KnownNames.{KnowsNames};
 
+use id_maps::ByName;
 use image_shared::{ChannelImage, FileImage};
-use sys_abi::ConnId;
 
 const FILE_LIMIT: u32 = 1024;
 
@@ -62,28 +62,19 @@ pub fn is_file_number(next_file: u32, front: &[FileImage], n: u32) -> bool
     is_above && 1 <= n && n < next_file
 }
 
-fn has_name(file: &FileImage, name: &[u8]) -> bool
-    ensures { result ≡ field.file_has_name name.now file.now }
-{
-    file.name.as_slice() == name
-}
-
-fn is_named(front: &[FileImage], name: &[u8]) -> bool
-    ensures { result ≡ list_any (field.file_has_name name.now) front.now }
-{
-    front.iter().any(|file| has_name(file, name))
-}
-
 fn has_no_zero(name: &[u8]) -> bool
     ensures { result ≡ list_all (is_within 1 255) name.now }
 {
     name.iter().all(|byte| *byte != 0)
 }
 
-pub fn is_file_name(front: &[FileImage], name: &[u8]) -> bool
+/// Whether a file may have the name, behind files of these names.
+pub fn is_file_name(front: &[FileImage], names: &ByName<()>, name: &[u8]) -> bool
+    requires { KnowsNames names.now front.now }
     ensures { result ≡ field.is_file_name front.now name.now }
 {
-    has_no_zero(name) && (name.is_empty() || !is_named(front, name))
+    let _ = front;
+    has_no_zero(name) && (name.is_empty() || !names.contains_key(name))
 }
 
 /// Whether a file of this size may follow files of so many bytes together.
@@ -133,11 +124,4 @@ pub fn is_side_port(kind: u8, n: u32) -> bool
     ensures { result ≡ field.is_side_port kind n }
 {
     if kind == INTERNET { is_port(n) } else { n == 0 }
-}
-
-/// Whether the names are of one channel.
-pub fn is_same_channel(name: ConnId, other: ConnId) -> bool
-    ensures { result ≡ same_channel name other }
-{
-    name == other
 }

@@ -1,12 +1,14 @@
-//! The files and the channels of the shared image, read.
+//! The files and the channels of the shared image, read, and found by their numbers and names.
 //!
 //! Proved: each reader gives what the format says of the bytes (`image_shared/specs/SharedFormat.antt`), for all bytes. Not
-//! proved, but so written: a reader takes no more memory than the bytes that are there account for.
+//! proved, but so written: a reader takes no more memory than the bytes that are there account for, and a list that rises
+//! is searched by halves.
 #![tactic(auto)]
 
 pub mod channels;
 mod contents;
 pub mod files;
+pub mod found;
 pub mod item_tests;
 
 pub use channels::channels_at;

@@ -5,7 +5,8 @@ ghost use Rattle.image_format.specs.Format.{any, counted};
 ghost use Rattle.image_format.specs.Reading.{Gives, read};
 ghost use Rattle.image_shared.specs.SharedFormat as format;
 ghost use Rattle.image_shared.specs.SharedTests as field;
-ghost use Rattle.shared_objects.specs.Known.{KnowsFiles, KnowsSides, KnowsPorts};
+ghost use Rattle.image_shared.specs.RisingLists.{FilesRise, ChannelsRise};
+ghost use Rattle.shared_objects.specs.Known.{KnowsSides, KnowsPorts};
 
 use crate::known::{note_port, note_sides};
 use crate::object_tests::{is_description_maker, is_description_number, is_status_flags};
@@ -16,16 +17,14 @@ use image_shared::{ChannelImage, DescriptionImage, FileImage, ObjectImage};
 use std::alloc::Global;
 use sys_abi::{DescId, VPid};
 use views::list_of::ListOf;
-use views::number_map::NumberMap;
 
 const LAST_KIND: u8 = 4;
 
-/// What the tests of a description look up: the files by their numbers, and of the descriptions before it the sides of
+/// What the tests of a description look up: the files, the channels, and of the descriptions before it the sides of
 /// channels that they name and the addresses that they have.
 #[derive(Clone, Copy)]
 struct Known<'a> {
     files: &'a [FileImage],
-    numbers: &'a NumberMap<()>,
     channels: &'a [ChannelImage],
     sides: &'a ByDir<()>,
     ports: &'a ByAddress<()>,
@@ -42,7 +41,8 @@ fn object_at<'a>(
     flags: u32,
     text: &'a [u8],
 ) -> Result<(ObjectImage, &'a [u8]), Fault>
-    requires files { KnowsFiles known.now.numbers.now known.now.files.now }
+    requires files { FilesRise known.now.files.now }
+    requires channels { ChannelsRise known.now.channels.now }
     requires sides { KnowsSides known.now.sides.now front.now }
     requires ports { KnowsPorts known.now.ports.now front.now }
     requires kind { IsTrue (field.is_object_kind version kind) }
@@ -52,7 +52,7 @@ fn object_at<'a>(
     let _ = version;
     match kind {
         0 => Ok((ObjectImage::Console, text)),
-        1 => file_object_at(known.files, known.numbers, text),
+        1 => file_object_at(known.files, text),
         2 => stream_at(known.channels, front, known.sides, flags, text),
         3 => socket_at(front, known.ports, text),
         _ => listener_at(alloc, known.channels, front, known.sides, known.ports, text),
@@ -68,7 +68,8 @@ fn description_at<'a>(
     front: &[DescriptionImage],
     text: &'a [u8],
 ) -> Result<(DescriptionImage, &'a [u8]), Fault>
-    requires files { KnowsFiles known.now.numbers.now known.now.files.now }
+    requires files { FilesRise known.now.files.now }
+    requires channels { ChannelsRise known.now.channels.now }
     requires sides { KnowsSides known.now.sides.now front.now }
     requires ports { KnowsPorts known.now.ports.now front.now }
     ensures { Gives (λ x. (x.0, x.1.now)) result
@@ -112,11 +113,11 @@ pub fn descriptions_at<'a>(
     version: u32,
     next_id: u32,
     files: &[FileImage],
-    numbers: &NumberMap<()>,
     channels: &[ChannelImage],
     text: &'a [u8],
 ) -> Result<(ListOf<DescriptionImage>, &'a [u8]), Fault>
-    requires { KnowsFiles numbers.now files.now }
+    requires files { FilesRise files.now }
+    requires channels { ChannelsRise channels.now }
     ensures { Gives (λ x. (x.0, x.1.now)) result
         (read (counted any (format.description version next_id files.now channels.now)) text.now) }
 {
@@ -128,7 +129,6 @@ pub fn descriptions_at<'a>(
     for _item in 0..count {
         let known = Known {
             files,
-            numbers,
             channels,
             sides: &sides,
             ports: &ports,

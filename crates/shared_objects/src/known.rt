@@ -1,4 +1,4 @@
-//! Maps of what the lists of the shared image have so far, in which a reader looks up what a field names.
+//! Maps of what open descriptions name, in which a reader looks up what a later field names.
 
 ghost use Rattle.std.specs.Prelude.{◌≡◌, ◌==◌, ◌&&◌, ◌||◌, IfOk, OnOk, is_some};
 ghost use Rattle.std.specs.List.{list_any};
@@ -6,24 +6,14 @@ ghost use Rattle.std.specs.FinMap as map;
 ghost use Rattle.image_shared.specs.SharedTests as field;
 ghost use Rattle.image_shared.specs.WholeShared.{opens};
 ghost use Rattle.image_shared.specs.Sides.{names_side, same_channel};
-ghost use Rattle.shared_objects.specs.Known.{HasKeys, KnowsDescriptions, KnowsFiles, KnowsOpened, KnowsSides};
+ghost use Rattle.shared_objects.specs.Known.{KnowsOpened, KnowsSides};
+ghost use Rattle.shared_items.specs.Keys.{HasKeys};
 
-use id_maps::{ByAddress, ByDesc, ByDir};
-use image_shared::{DescriptionImage, FileImage, ObjectImage};
+use id_maps::{ByAddress, ByDir};
+use image_shared::{DescriptionImage, ObjectImage};
 use std::alloc::{AllocError, Global};
 use sys_abi::{ConnId, Dir};
 use views::number_map::NumberMap;
-
-/// The numbers of the files.
-pub fn numbers_of(alloc: Global, files: &[FileImage]) -> Result<NumberMap<()>, AllocError>
-    ensures { IfOk result (λ numbers. KnowsFiles numbers files.now) }
-{
-    let mut numbers = NumberMap::new(alloc);
-    for file in files {
-        numbers.insert(file.number, ())?;
-    }
-    Ok(numbers)
-}
 
 /// Notes the connections that wait at a listener.
 fn note_queue(sides: &mut ByDir<()>, pending: &[ConnId]) -> Result<(), AllocError>
@@ -85,17 +75,6 @@ pub fn sides_of(alloc: Global, descriptions: &[DescriptionImage]) -> Result<ByDi
         note_sides(&mut sides, &description.object)?;
     }
     Ok(sides)
-}
-
-/// The names of the descriptions.
-pub fn ids_of(alloc: Global, descriptions: &[DescriptionImage]) -> Result<ByDesc<()>, AllocError>
-    ensures { IfOk result (λ ids. KnowsDescriptions ids descriptions.now) }
-{
-    let mut ids = ByDesc::new(alloc);
-    for description in descriptions {
-        ids.insert(description.id, ())?;
-    }
-    Ok(ids)
 }
 
 fn note_file(numbers: &mut NumberMap<()>, object: &ObjectImage) -> Result<(), AllocError>

@@ -1,5 +1,5 @@
-//! The open descriptions of the shared image, read. What a field names is looked up in maps, of the files and of what the
-//! descriptions before it name.
+//! The open descriptions of the shared image, read. What a field names is found by a search of the files and channels, which
+//! rise, or looked up in maps of what the descriptions before it name.
 //!
 //! Proved: each reader gives what the format says of the bytes (`image_shared/specs/SharedFormat.antt`), for all bytes. Not
 //! proved, but so written: a reader takes no more memory than the bytes that are there account for.
@@ -11,4 +11,4 @@ mod object_tests;
 mod objects;
 
 pub use descriptions::descriptions_at;
-pub use known::{ids_of, numbers_of, opened_of, sides_of};
+pub use known::{opened_of, sides_of};

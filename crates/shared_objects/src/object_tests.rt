@@ -3,12 +3,14 @@ ghost use Rattle.std.specs.Prelude.{◌≡◌};
 ghost use Rattle.std.specs.List.{list_any};
 ghost use Rattle.image_shared.specs.Sides.{same_channel};
 ghost use Rattle.image_shared.specs.SharedTests as field;
-ghost use Rattle.shared_objects.specs.Known.{KnowsSides, KnowsPorts};
+ghost use Rattle.image_shared.specs.RisingLists.{ChannelsRise};
+ghost use Rattle.shared_objects.specs.Known.{KnowsSides, KnowsPorts, KnowsQueue};
 
-use id_maps::{ByAddress, ByDir};
+use id_maps::{ByAddress, ByConn, ByDir};
 use image_shared::{ChannelImage, DescriptionImage};
 use plain_tables::ChannelKind;
-use shared_items::item_tests::{is_port, is_same_channel};
+use shared_items::found::channel_of;
+use shared_items::item_tests::is_port;
 use sys_abi::flags::{O_APPEND, O_NONBLOCK};
 use sys_abi::{ConnId, Dir, VirtAddr};
 
@@ -39,11 +41,13 @@ pub fn is_status_flags(flags: u32) -> bool
 }
 
 pub fn is_channel(channels: &[ChannelImage], name: ConnId) -> bool
+    requires { ChannelsRise channels.now }
     ensures { result ≡ field.is_channel channels.now name.pid.0 name.num }
 {
-    channels
-        .iter()
-        .any(|channel| is_same_channel(name, channel.id))
+    match channel_of(channels, name) {
+        None => false,
+        Some(_) => true,
+    }
 }
 
 /// A pipe is written at side 0 and read at side 1.
@@ -57,10 +61,13 @@ fn fits_mode(kind: ChannelKind, flags: u32, side: u8) -> bool
 }
 
 fn has_end(channels: &[ChannelImage], name: ConnId, flags: u32, side: u8) -> bool
+    requires { ChannelsRise channels.now }
     ensures { result ≡ list_any (field.has_end name flags side) channels.now }
 {
-    channels.iter().any(|channel| is_same_channel(name, channel.id)
-        && fits_mode(channel.kind, flags, side))
+    match channel_of(channels, name) {
+        None => false,
+        Some(channel) => fits_mode(channel.kind, flags, side),
+    }
 }
 
 /// Whether a stream may be this side of the channel, which none of the descriptions so far names.
@@ -72,7 +79,8 @@ pub fn is_stream_side(
     name: ConnId,
     side: u8,
 ) -> bool
-    requires { KnowsSides sides.now front.now }
+    requires channels { ChannelsRise channels.now }
+    requires sides { KnowsSides sides.now front.now }
     ensures { result ≡ field.is_stream_side channels.now front.now flags name side }
 {
     let _ = front;
@@ -124,32 +132,44 @@ fn is_internet(kind: ChannelKind) -> bool
 }
 
 fn is_connection(channels: &[ChannelImage], name: ConnId) -> bool
+    requires { ChannelsRise channels.now }
     ensures { result ≡ list_any (field.is_connection name) channels.now }
 {
-    channels.iter().any(|channel| is_same_channel(name, channel.id) && is_internet(channel.kind))
+    match channel_of(channels, name) {
+        None => false,
+        Some(channel) => is_internet(channel.kind),
+    }
 }
 
-fn is_queued(earlier: &[ConnId], name: ConnId) -> bool
+/// Whether the channel waits already.
+fn is_queued(earlier: &[ConnId], queued: &ByConn<()>, name: ConnId) -> bool
+    requires { KnowsQueue queued.now earlier.now }
     ensures { result ≡ list_any (same_channel name) earlier.now }
 {
-    earlier.iter().any(|other| is_same_channel(name, *other))
+    let _ = earlier;
+    queued.contains_key(name)
 }
 
 /// Whether the channel may wait at a listener behind the earlier ones.
-pub fn is_pending(
+pub fn is_pending_name(
     channels: &[ChannelImage],
     front: &[DescriptionImage],
     sides: &ByDir<()>,
     earlier: &[ConnId],
+    queued: &ByConn<()>,
     name: ConnId,
 ) -> bool
-    requires { KnowsSides sides.now front.now }
-    ensures { result ≡ field.is_pending channels.now front.now earlier.now name.pid.0 name.num }
+    requires channels { ChannelsRise channels.now }
+    requires sides { KnowsSides sides.now front.now }
+    requires queue { KnowsQueue queued.now earlier.now }
+    ensures { result ≡ field.is_pending_name channels.now front.now earlier.now name.pid.0 name.num }
 {
     let _ = front;
     let accepting = Dir {
         conn: name,
         side: 1,
     };
-    is_connection(channels, name) && !sides.contains_key(accepting) && !is_queued(earlier, name)
+    is_connection(channels, name)
+        && !sides.contains_key(accepting)
+        && !is_queued(earlier, queued, name)
 }

@@ -5,32 +5,31 @@ ghost use Rattle.image_format.specs.Format.{counted};
 ghost use Rattle.image_format.specs.Reading.{Gives, read};
 ghost use Rattle.image_shared.specs.SharedFormat as format;
 ghost use Rattle.image_shared.specs.SharedTests as field;
-ghost use Rattle.shared_objects.specs.Known.{KnowsFiles, KnowsSides, KnowsPorts};
+ghost use Rattle.image_shared.specs.RisingLists.{FilesRise, ChannelsRise};
+ghost use Rattle.shared_objects.specs.Known.{KnowsSides, KnowsPorts, KnowsQueue};
 
 use crate::object_tests::{
-    is_channel, is_listener_port, is_pending, is_queue_count, is_socket_port, is_stream_side,
+    is_channel, is_listener_port, is_pending_name, is_queue_count, is_socket_port, is_stream_side,
 };
-use id_maps::{ByAddress, ByDir};
+use id_maps::{ByAddress, ByConn, ByDir};
 use image_format::fields::{Fault, u8_at, u32_at};
 use image_shared::{ChannelImage, DescriptionImage, FileImage, ObjectImage};
+use shared_items::found::has_file;
 use shared_items::item_tests::is_host;
 use std::alloc::Global;
 use sys_abi::{ConnId, VPid, VirtAddr};
 use views::list_of::ListOf;
-use views::number_map::NumberMap;
 
 #[tactic(auto, unfolding(image_shared::specs::SharedFormat::open_file, image_format::specs::Reading::read, image_format::specs::Reading::read_next, image_format::specs::Reading::read_if))]
 pub fn file_object_at<'a>(
     files: &[FileImage],
-    numbers: &NumberMap<()>,
     text: &'a [u8],
 ) -> Result<(ObjectImage, &'a [u8]), Fault>
-    requires { KnowsFiles numbers.now files.now }
+    requires { FilesRise files.now }
     ensures { Gives (λ x. (x.0, x.1.now)) result (read (format.open_file files.now) text.now) }
 {
-    let _ = files;
     let (number, after_number) = u32_at(text)?;
-    if !numbers.contains_key(number) {
+    if !has_file(files, number) {
         return Err(Fault::Left(text.len()));
     }
     let (offset, rest) = u32_at(after_number)?;
@@ -45,7 +44,8 @@ pub fn stream_at<'a>(
     flags: u32,
     text: &'a [u8],
 ) -> Result<(ObjectImage, &'a [u8]), Fault>
-    requires { KnowsSides sides.now front.now }
+    requires channels { ChannelsRise channels.now }
+    requires sides { KnowsSides sides.now front.now }
     ensures { Gives (λ x. (x.0, x.1.now)) result
         (read (format.stream channels.now front.now flags) text.now) }
 {
@@ -93,9 +93,12 @@ fn connection_at<'a>(
     front: &[DescriptionImage],
     sides: &ByDir<()>,
     earlier: &[ConnId],
+    queued: &ByConn<()>,
     text: &'a [u8],
 ) -> Result<(ConnId, &'a [u8]), Fault>
-    requires { KnowsSides sides.now front.now }
+    requires channels { ChannelsRise channels.now }
+    requires sides { KnowsSides sides.now front.now }
+    requires queue { KnowsQueue queued.now earlier.now }
     ensures { Gives (λ x. (x.0, x.1.now)) result
         (read (format.connection channels.now front.now earlier.now) text.now) }
 {
@@ -105,7 +108,7 @@ fn connection_at<'a>(
         pid: VPid(maker),
         num,
     };
-    if !is_pending(channels, front, sides, earlier, conn) {
+    if !is_pending_name(channels, front, sides, earlier, queued, conn) {
         return Err(Fault::Left(after_maker.len()));
     }
     Ok((conn, rest))
@@ -120,7 +123,8 @@ fn queue_at<'a>(
     backlog: u32,
     text: &'a [u8],
 ) -> Result<(ListOf<ConnId>, &'a [u8]), Fault>
-    requires { KnowsSides sides.now front.now }
+    requires channels { ChannelsRise channels.now }
+    requires sides { KnowsSides sides.now front.now }
     ensures { Gives (λ x. (x.0, x.1.now)) result
         (read (counted (field.is_queue_count backlog) (format.connection channels.now front.now))
         text.now) }
@@ -129,10 +133,13 @@ fn queue_at<'a>(
     if !is_queue_count(backlog, count) {
         return Err(Fault::Left(text.len()));
     }
+    let mut queued = ByConn::new(alloc);
     let mut pending = ListOf::new(alloc);
     let mut rest = items;
     for _item in 0..count {
-        let (conn, more) = connection_at(channels, front, sides, pending.as_slice(), rest)?;
+        let earlier = pending.as_slice();
+        let (conn, more) = connection_at(channels, front, sides, earlier, &queued, rest)?;
+        queued.insert(conn, ())?;
         pending.push(conn)?;
         rest = more;
     }
@@ -148,6 +155,7 @@ pub fn listener_at<'a>(
     ports: &ByAddress<()>,
     text: &'a [u8],
 ) -> Result<(ObjectImage, &'a [u8]), Fault>
+    requires channels { ChannelsRise channels.now }
     requires sides { KnowsSides sides.now front.now }
     requires ports { KnowsPorts ports.now front.now }
     ensures { Gives (λ x. (x.0, x.1.now)) result

@@ -10,7 +10,7 @@ use Rattle.image_shared.specs.declared.shared.DescriptorEntry.{DescriptorEntry}
 use Rattle.image_shared.specs.declared.shared.DescriptionImage.{DescriptionImage}
 use Rattle.image_shared.specs.declared.shared.ProcessEntry.{ProcessEntry}
 use Rattle.image_shared.specs.WholeShared.{names_description, holds, may_hold, is_rightly_held_by, is_rightly_held, is_owner, is_object_of_host}
-use Rattle.shared_objects.proofs.KnownKeys.{turned}
+use Rattle.shared_items.proofs.Keys.{turned}
 use Rattle.shared_reader.specs.declared.holders.Holders.{Holders}
 use Rattle.shared_reader.specs.declared.holders.Holders.TheVariants.{OfHost, Apart}
 use Rattle.shared_reader.specs.HoldersOf.{with_holder, after_descriptor, after_process, holders_of, may_be_of, verdict}
@@ -42,7 +42,7 @@ alike : (b : Bool) → cond b (Some Apart) (Some Apart) ≡ Some Apart
 alike true = refl
 alike false = refl
 
-and_assoc : (a b c : Bool) → ((a && b) && c) ≡ (a && (b && c))
+pub and_assoc : (a b c : Bool) → ((a && b) && c) ≡ (a && (b && c))
 and_assoc true b c = refl
 and_assoc false b c = refl
 

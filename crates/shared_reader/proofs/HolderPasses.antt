@@ -11,7 +11,7 @@ use Rattle.sys_abi.specs.Orders.{desc_cmp}
 use Rattle.sys_abi.proofs.OrderLaws.{desc_total, desc_exact}
 use Rattle.image_shared.specs.declared.shared.DescriptorEntry.{DescriptorEntry}
 use Rattle.image_shared.specs.declared.shared.ProcessEntry.{ProcessEntry}
-use Rattle.shared_objects.proofs.KnownKeys.{same_desc}
+use Rattle.shared_reader.proofs.Names.{key_desc}
 use Rattle.shared_reader.specs.declared.holders.Holders.{Holders}
 use Rattle.shared_reader.specs.HoldersOf.{with_holder, after_descriptor, after_process, KnowsHolders}
 
@@ -37,7 +37,7 @@ pub descriptor_more : (start m new : map.FinMap desc_cmp Holders) (host : ℕ) (
     → (key : DescId) → map.get new key ≡ fold (after_descriptor key host) (map.get start key) (take (i + 1) descriptors)
 descriptor_more start m new host descriptors i d inside step before key =
     step key
-    ∙ ap (λ b. cond b (with_holder (map.get m key) host) (map.get m key)) (same_desc key (get_or descriptors i d).desc)
+    ∙ ap (λ b. cond b (with_holder (map.get m key) host) (map.get m key)) (key_desc key (get_or descriptors i d).desc)
     ∙ ap (λ found. after_descriptor key host found (get_or descriptors i d)) (before key)
     ∙ sym (fold_more (after_descriptor key host) (map.get start key) descriptors i d inside)
 

@@ -10,8 +10,8 @@ use Rattle.std.specs.FinMap.{get-empty}
 use Rattle.image_shared.specs.declared.shared.ThreadEntry.{ThreadEntry}
 use Rattle.image_shared.specs.declared.shared.ProcessEntry.{ProcessEntry}
 use Rattle.image_shared.specs.SharedTests.{lists_thread, is_number_of}
-use Rattle.shared_objects.specs.Known.{HasKeys}
-use Rattle.shared_objects.proofs.KnownKeys.{inserted, pushed, any_pushed, same_number, turned}
+use Rattle.shared_items.specs.Keys.{HasKeys}
+use Rattle.shared_items.proofs.Keys.{inserted, pushed, any_pushed, same_number, turned}
 use Rattle.shared_reader.specs.KnownThreads.{KnowsThreads}
 
 or_assoc : (a b c : Bool) → ((a || b) || c) ≡ (a || (b || c))

@@ -1,3 +1,6 @@
 mod HolderLaws
 mod HolderPasses
 mod KnownThreads
+mod MadeNumbers
+mod Names
+mod ReadLists

@@ -6,7 +6,7 @@ use Rattle.std.specs.Ordering.{nat_cmp}
 use Rattle.std.specs.FinMap as map
 use Rattle.image_shared.specs.declared.shared.ProcessEntry.{ProcessEntry}
 use Rattle.image_shared.specs.SharedTests.{lists_thread}
-use Rattle.shared_objects.specs.Known.{HasKeys}
+use Rattle.shared_items.specs.Keys.{HasKeys}
 
 abbrev pub KnowsThreads : {X : Type 0} → map.FinMap nat_cmp X → List ProcessEntry → Type 0
 KnowsThreads tids processes = HasKeys tids (λ n. list_any (lists_thread n) processes)

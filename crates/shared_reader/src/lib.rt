@@ -4,10 +4,12 @@
 //! after the fields before it; where the file ends too early, or lacks something as a whole, that is its length.
 //!
 //! Proved: all of that, for all bytes. Not proved, but so written: a reader takes no more memory than the bytes that are
-//! there account for.
+//! there account for, and what an item names is found by halving a list that rises, or looked up in a map.
 #![tactic(auto)]
 
+mod found;
 mod holders;
+mod made;
 mod process_tests;
 mod processes;
 pub mod reader;

@@ -3,13 +3,15 @@ ghost use Rattle.std.specs.Prelude.{◌≡◌, ◌==◌, ◌||◌, OnOk, is_some
 ghost use Rattle.std.specs.FinMap as map;
 ghost use Rattle.std.specs.List.{list_any};
 ghost use Rattle.image_shared.specs.SharedTests as field;
-ghost use Rattle.shared_objects.specs.Known.{HasKeys, KnowsDescriptions};
+ghost use Rattle.image_shared.specs.RisingLists.{ChannelsRise, DescriptionsRise, ProcessesRise};
+ghost use Rattle.shared_items.specs.Keys.{HasKeys};
 ghost use Rattle.shared_reader.specs.KnownThreads.{KnowsThreads};
 
-use id_maps::ByDesc;
+use crate::found::process_of;
+use crate::made::is_made;
 use image_shared::{ChannelImage, DescriptionImage, DescriptorEntry, ProcessEntry, ThreadEntry};
 use std::alloc::AllocError;
-use sys_abi::{DescId, Life};
+use sys_abi::Life;
 use views::number_map::NumberMap;
 
 /// The least number of a process or a thread.
@@ -65,47 +67,21 @@ pub fn is_descriptor_count(life: Life, n: u32) -> bool
     n <= 256 && (life.is_live() || n == 0)
 }
 
-pub fn is_live_entry(process: &ProcessEntry, n: u32) -> bool
-    ensures { result ≡ field.is_live_entry n process.now }
-{
-    process.pid.0 == n && process.life.is_live()
-}
-
 fn is_alive(processes: &[ProcessEntry], n: u32) -> bool
+    requires { ProcessesRise processes.now }
     ensures { result ≡ list_any (field.is_live_entry n) processes.now }
 {
-    processes.iter().any(|process| is_live_entry(process, n))
+    match process_of(processes, n) {
+        None => false,
+        Some(process) => process.life.is_live(),
+    }
 }
 
 pub fn is_parent(front: &[ProcessEntry], n: u32) -> bool
+    requires { ProcessesRise front.now }
     ensures { result ≡ field.is_parent front.now n }
 {
     n == NOBODY || is_alive(front, n)
-}
-
-fn is_above_channels(channels: &[ChannelImage], pid: u32, made: u32) -> bool
-    ensures { result ≡ field.is_above_channels pid made channels.now }
-{
-    channels
-        .iter()
-        .all(|channel| channel.id.pid.0 != pid || channel.id.num < made)
-}
-
-fn is_above_descriptions(descriptions: &[DescriptionImage], pid: u32, made: u32) -> bool
-    ensures { result ≡ field.is_above_descriptions pid made descriptions.now }
-{
-    descriptions.iter().all(|description| description.id.pid.0 != pid || description.id.num < made)
-}
-
-fn is_made(
-    channels: &[ChannelImage],
-    descriptions: &[DescriptionImage],
-    pid: u32,
-    made: u32,
-) -> bool
-    ensures { result ≡ field.is_made channels.now descriptions.now pid made }
-{
-    is_above_channels(channels, pid, made) && is_above_descriptions(descriptions, pid, made)
 }
 
 /// Whether the state may be that of a process of this number: one that lives has given out no greater number, and a
@@ -118,6 +94,8 @@ pub fn is_state(
     made: u32,
     state: u8,
 ) -> bool
+    requires channels { ChannelsRise channels.now }
+    requires descriptions { DescriptionsRise descriptions.now }
     ensures { result ≡ field.is_state channels.now descriptions.now pid parent made state }
 {
     if state > LAST_STATE {
@@ -141,14 +119,19 @@ pub fn is_descriptor_number(front: &[DescriptorEntry], n: u32) -> bool
 
 /// Whether a process of this number stands before.
 fn has_process(earlier: &[ProcessEntry], n: u32) -> bool
+    requires { ProcessesRise earlier.now }
     ensures { result ≡ list_any (λ process. process.pid.0 == n) earlier.now }
 {
-    earlier.iter().any(|process| process.pid.0 == n)
+    match process_of(earlier, n) {
+        None => false,
+        Some(_) => true,
+    }
 }
 
 /// Whether the number is that of an earlier process or of one of its threads.
 fn is_number_of_some(earlier: &[ProcessEntry], tids: &NumberMap<()>, n: u32) -> bool
-    requires { KnowsThreads tids.now earlier.now }
+    requires processes { ProcessesRise earlier.now }
+    requires threads { KnowsThreads tids.now earlier.now }
     ensures { result ≡ list_any (field.is_number_of n) earlier.now }
 {
     has_process(earlier, n) || tids.contains_key(n)
@@ -172,7 +155,8 @@ pub fn is_thread_number(
     front: &[ThreadEntry],
     n: u32,
 ) -> bool
-    requires { KnowsThreads tids.now earlier.now }
+    requires processes { ProcessesRise earlier.now }
+    requires threads { KnowsThreads tids.now earlier.now }
     ensures { result ≡ field.is_thread_number next_id earlier.now front.now n }
 {
     let is_above = match front.last() {
@@ -180,15 +164,6 @@ pub fn is_thread_number(
         Some(before) => before.tid < n,
     };
     is_above && is_given_out(next_id, n) && !is_number_of_some(earlier, tids, n)
-}
-
-/// Whether the description is there.
-pub fn is_description(descriptions: &[DescriptionImage], ids: &ByDesc<()>, id: DescId) -> bool
-    requires { KnowsDescriptions ids.now descriptions.now }
-    ensures { result ≡ field.is_description descriptions.now id.pid.0 id.num }
-{
-    let _ = descriptions;
-    ids.contains_key(id)
 }
 
 /// Notes the threads of a process.

@@ -5,17 +5,16 @@ ghost use Rattle.image_format.specs.Format.{counted};
 ghost use Rattle.image_format.specs.Reading.{Gives, read};
 ghost use Rattle.image_shared.specs.SharedFormat as format;
 ghost use Rattle.image_shared.specs.SharedTests as field;
-ghost use Rattle.shared_objects.specs.Known.{KnowsDescriptions};
+ghost use Rattle.image_shared.specs.RisingLists.{ChannelsRise, DescriptionsRise, ProcessesRise};
 ghost use Rattle.shared_reader.specs.KnownThreads.{KnowsThreads};
 
+use crate::found::has_description;
 use crate::process_tests::{
-    is_description, is_descriptor_count, is_descriptor_number, is_parent, is_pending_set,
-    is_process_count, is_process_number, is_state, is_thread_count, is_thread_number, note_threads,
+    is_descriptor_count, is_descriptor_number, is_parent, is_pending_set, is_process_count,
+    is_process_number, is_state, is_thread_count, is_thread_number, note_threads,
 };
-use id_maps::ByDesc;
 use image_format::fields::{Fault, u8_at, u32_at};
 use image_shared::{ChannelImage, DescriptionImage, DescriptorEntry, ProcessEntry, ThreadEntry};
-use shared_objects::ids_of;
 use std::alloc::Global;
 use sys_abi::{DescId, Life, VPid};
 use views::list_of::ListOf;
@@ -29,7 +28,8 @@ fn thread_at<'a>(
     front: &[ThreadEntry],
     text: &'a [u8],
 ) -> Result<(ThreadEntry, &'a [u8]), Fault>
-    requires { KnowsThreads tids.now earlier.now }
+    requires processes { ProcessesRise earlier.now }
+    requires threads { KnowsThreads tids.now earlier.now }
     ensures { Gives (λ x. (x.0, x.1.now)) result
         (read (format.thread next_id earlier.now front.now) text.now) }
 {
@@ -53,7 +53,8 @@ fn threads_at<'a>(
     life: Life,
     text: &'a [u8],
 ) -> Result<(ListOf<ThreadEntry>, &'a [u8]), Fault>
-    requires { KnowsThreads tids.now earlier.now }
+    requires processes { ProcessesRise earlier.now }
+    requires threads { KnowsThreads tids.now earlier.now }
     ensures { Gives (λ x. (x.0, x.1.now)) result
         (read (counted (field.is_thread_count life) (format.thread next_id earlier.now)) text.now) }
 {
@@ -74,11 +75,10 @@ fn threads_at<'a>(
 #[tactic(auto, unfolding(image_shared::specs::SharedFormat::descriptor, image_format::specs::Reading::read, image_format::specs::Reading::read_next, image_format::specs::Reading::read_if))]
 fn descriptor_at<'a>(
     descriptions: &[DescriptionImage],
-    ids: &ByDesc<()>,
     front: &[DescriptorEntry],
     text: &'a [u8],
 ) -> Result<(DescriptorEntry, &'a [u8]), Fault>
-    requires { KnowsDescriptions ids.now descriptions.now }
+    requires { DescriptionsRise descriptions.now }
     ensures { Gives (λ x. (x.0, x.1.now)) result
         (read (format.descriptor descriptions.now front.now) text.now) }
 {
@@ -92,7 +92,7 @@ fn descriptor_at<'a>(
         pid: VPid(maker),
         num,
     };
-    if !is_description(descriptions, ids, desc) {
+    if !has_description(descriptions, desc) {
         return Err(Fault::Left(after_maker.len()));
     }
     let (cloexec, rest) = u8_at(after_pair)?;
@@ -111,11 +111,10 @@ fn descriptor_at<'a>(
 fn descriptors_at<'a>(
     alloc: Global,
     descriptions: &[DescriptionImage],
-    ids: &ByDesc<()>,
     life: Life,
     text: &'a [u8],
 ) -> Result<(ListOf<DescriptorEntry>, &'a [u8]), Fault>
-    requires { KnowsDescriptions ids.now descriptions.now }
+    requires { DescriptionsRise descriptions.now }
     ensures { Gives (λ x. (x.0, x.1.now)) result
         (read (counted (field.is_descriptor_count life) (format.descriptor descriptions.now)) text.now) }
 {
@@ -126,7 +125,7 @@ fn descriptors_at<'a>(
     let mut descriptors = ListOf::new(alloc);
     let mut rest = items;
     for _item in 0..count {
-        let (descriptor, more) = descriptor_at(descriptions, ids, descriptors.as_slice(), rest)?;
+        let (descriptor, more) = descriptor_at(descriptions, descriptors.as_slice(), rest)?;
         descriptors.push(descriptor)?;
         rest = more;
     }
@@ -143,6 +142,8 @@ fn life_at<'a>(
     made: u32,
     text: &'a [u8],
 ) -> Result<(Life, &'a [u8]), Fault>
+    requires channels { ChannelsRise channels.now }
+    requires descriptions { DescriptionsRise descriptions.now }
     ensures { Gives (λ x. (x.0, x.1.now)) result
         (read (format.life channels.now descriptions.now pid parent made) text.now) }
 {
@@ -166,12 +167,13 @@ fn process_at<'a>(
     next_id: u32,
     channels: &[ChannelImage],
     descriptions: &[DescriptionImage],
-    ids: &ByDesc<()>,
     front: &[ProcessEntry],
     tids: &NumberMap<()>,
     text: &'a [u8],
 ) -> Result<(ProcessEntry, &'a [u8]), Fault>
-    requires descriptions { KnowsDescriptions ids.now descriptions.now }
+    requires channels { ChannelsRise channels.now }
+    requires descriptions { DescriptionsRise descriptions.now }
+    requires processes { ProcessesRise front.now }
     requires threads { KnowsThreads tids.now front.now }
     ensures { Gives (λ x. (x.0, x.1.now)) result
         (read (format.process next_id channels.now descriptions.now front.now) text.now) }
@@ -195,7 +197,7 @@ fn process_at<'a>(
         return Err(Fault::Left(after_life.len()));
     }
     let (threads, after_threads) = threads_at(alloc, next_id, front, tids, life, after_pending)?;
-    let (descriptors, rest) = descriptors_at(alloc, descriptions, ids, life, after_threads)?;
+    let (descriptors, rest) = descriptors_at(alloc, descriptions, life, after_threads)?;
     let process = ProcessEntry {
         pid: VPid(pid),
         parent,
@@ -217,6 +219,8 @@ pub fn processes_at<'a>(
     descriptions: &[DescriptionImage],
     text: &'a [u8],
 ) -> Result<(ListOf<ProcessEntry>, &'a [u8]), Fault>
+    requires channels { ChannelsRise channels.now }
+    requires descriptions { DescriptionsRise descriptions.now }
     ensures { Gives (λ x. (x.0, x.1.now)) result
         (read (counted field.is_process_count (format.process next_id channels.now descriptions.now))
         text.now) }
@@ -225,7 +229,6 @@ pub fn processes_at<'a>(
     if !is_process_count(count) {
         return Err(Fault::Left(text.len()));
     }
-    let ids = ids_of(alloc, descriptions)?;
     let mut tids = NumberMap::new(alloc);
     let mut processes = ListOf::new(alloc);
     let mut rest = items;
@@ -236,7 +239,6 @@ pub fn processes_at<'a>(
             next_id,
             channels,
             descriptions,
-            &ids,
             front,
             &tids,
             rest,

@@ -12,7 +12,7 @@ use image_format::damage::damaged;
 use image_format::fields::{Fault, after_magic, u32_at};
 use image_shared::Shared;
 use shared_items::{channels_at, files_at};
-use shared_objects::{descriptions_at, numbers_of};
+use shared_objects::descriptions_at;
 use std::alloc::Global;
 
 /// The version of the file that begins with `DMTSHR01`.
@@ -33,13 +33,11 @@ fn shared_at(alloc: Global, text: &[u8]) -> Result<(Shared, &[u8]), Fault>
     }
     let (files, rest) = files_at(alloc, next_file, after_next_file)?;
     let (channels, rest) = channels_at(alloc, next_id, rest)?;
-    let numbers = numbers_of(alloc, files.as_slice())?;
     let (descriptions, rest) = descriptions_at(
         alloc,
         VERSION,
         next_id,
         files.as_slice(),
-        &numbers,
         channels.as_slice(),
         rest,
     )?;

@@ -2,35 +2,36 @@
 ghost use Rattle.std.specs.Prelude.{◌≡◌, IfOk, is_some};
 ghost use Rattle.std.specs.List.{list_all, list_any};
 ghost use Rattle.std.specs.FinMap as map;
+ghost use Rattle.image_shared.specs.RisingLists.{ChannelsRise, ProcessesRise};
 ghost use Rattle.image_shared.specs.WholeShared as whole;
 ghost use Rattle.shared_objects.specs.Known.{KnowsOpened, KnowsSides};
 ghost use Rattle.shared_reader.specs.HoldersOf.{KnowsHolders, verdict};
 
+use crate::found::process_of;
 use crate::holders::{Holders, holders_of};
-use crate::process_tests::is_live_entry;
 use id_maps::{ByDesc, ByDir};
-use image_shared::{ChannelImage, DescriptionImage, FileImage, ObjectImage, ProcessEntry, Shared};
-use shared_items::item_tests::is_same_channel;
+use image_shared::{
+    ChannelImage, DescriptionImage, FileImage, ObjectImage, ProcessEntry, Shared, SideImage,
+};
+use shared_items::found::channel_of;
 use shared_objects::{opened_of, sides_of};
 use std::alloc::{AllocError, Global};
 use sys_abi::{ConnId, Dir, VirtAddr};
 use views::number_map::NumberMap;
 
-fn is_owner_of(process: &ProcessEntry, host: u32, owner: u32) -> bool
-    ensures { result ≡ whole.is_owner_of owner host process.now }
-{
-    is_live_entry(process, owner) && process.host == host
-}
-
+/// Whether a process of the host that lives has this number.
 fn is_owner_of_some(processes: &[ProcessEntry], host: u32, owner: u32) -> bool
+    requires { ProcessesRise processes.now }
     ensures { result ≡ list_any (whole.is_owner_of owner host) processes.now }
 {
-    processes
-        .iter()
-        .any(|process| is_owner_of(process, host, owner))
+    match process_of(processes, owner) {
+        None => false,
+        Some(process) => process.life.is_live() && process.host == host,
+    }
 }
 
 fn is_owner(processes: &[ProcessEntry], host: u32, owner: u32) -> bool
+    requires { ProcessesRise processes.now }
     ensures { result ≡ whole.is_owner processes.now host owner }
 {
     owner == 0 || is_owner_of_some(processes, host, owner)
@@ -45,27 +46,29 @@ fn is_of_host(host: u32, address: Option<VirtAddr>) -> bool
     }
 }
 
-fn is_end_of_host(channel: &ChannelImage, host: u32, conn: ConnId, side: u8) -> bool
-    ensures { result ≡ whole.is_end_of_host host conn side channel.now }
+fn side_of(channel: &ChannelImage, side: u8) -> &SideImage
+    ensures { result.now ≡ whole.side_of channel.now side }
 {
-    let image = if side == 0 {
+    if side == 0 {
         &channel.first
     } else {
         &channel.second
-    };
-    !is_same_channel(conn, channel.id) || is_of_host(host, image.address)
+    }
 }
 
 /// Whether the side of the channel, where it has an address, is of the host.
 fn is_side_of_host(channels: &[ChannelImage], host: u32, side: u8, conn: ConnId) -> bool
+    requires { ChannelsRise channels.now }
     ensures { result ≡ whole.is_side_of_host channels.now host side conn }
 {
-    channels
-        .iter()
-        .all(|channel| is_end_of_host(channel, host, conn, side))
+    match channel_of(channels, conn) {
+        None => true,
+        Some(channel) => is_of_host(host, side_of(channel, side).address),
+    }
 }
 
 fn is_queue_of_host(channels: &[ChannelImage], host: u32, pending: &[ConnId]) -> bool
+    requires { ChannelsRise channels.now }
     ensures { result ≡ list_all (whole.is_side_of_host channels.now host 1) pending.now }
 {
     pending
@@ -75,6 +78,7 @@ fn is_queue_of_host(channels: &[ChannelImage], host: u32, pending: &[ConnId]) ->
 
 /// Whether what the description stands for is of the host, where it is of one.
 fn is_object_of_host(channels: &[ChannelImage], host: u32, object: &ObjectImage) -> bool
+    requires { ChannelsRise channels.now }
     ensures { result ≡ whole.is_object_of_host channels.now host object.now }
 {
     match object {
@@ -90,12 +94,17 @@ fn is_object_of_host(channels: &[ChannelImage], host: u32, object: &ObjectImage)
 }
 
 fn is_near_parent(processes: &[ProcessEntry], child: &ProcessEntry) -> bool
+    requires { ProcessesRise processes.now }
     ensures { result ≡ whole.is_near_parent processes.now child.now }
 {
-    processes.iter().all(|parent| child.parent != parent.pid.0 || child.host == parent.host)
+    match process_of(processes, child.parent) {
+        None => true,
+        Some(parent) => child.host == parent.host,
+    }
 }
 
 fn are_near_parents(processes: &[ProcessEntry]) -> bool
+    requires { ProcessesRise processes.now }
     ensures { result ≡ list_all (whole.is_near_parent processes.now) processes.now }
 {
     processes
@@ -148,6 +157,8 @@ fn is_held_by(
     description: &DescriptionImage,
     found: Option<Holders>,
 ) -> bool
+    requires channels { ChannelsRise channels.now }
+    requires processes { ProcessesRise processes.now }
     ensures { result ≡ verdict channels.now processes.now description.now found }
 {
     match found {
@@ -165,7 +176,9 @@ fn is_rightly_held(
     holders: &ByDesc<Holders>,
     description: &DescriptionImage,
 ) -> bool
-    requires { KnowsHolders holders.now processes.now }
+    requires channels { ChannelsRise channels.now }
+    requires processes { ProcessesRise processes.now }
+    requires holders { KnowsHolders holders.now processes.now }
     ensures { result ≡ whole.is_rightly_held channels.now processes.now description.now }
 {
     let found = holders.get(description.id).copied();
@@ -178,7 +191,9 @@ fn are_rightly_held(
     holders: &ByDesc<Holders>,
     descriptions: &[DescriptionImage],
 ) -> bool
-    requires { KnowsHolders holders.now processes.now }
+    requires channels { ChannelsRise channels.now }
+    requires processes { ProcessesRise processes.now }
+    requires holders { KnowsHolders holders.now processes.now }
     ensures { result ≡ list_all (whole.is_rightly_held channels.now processes.now) descriptions.now }
 {
     descriptions.iter().all(|description| is_rightly_held(
@@ -190,9 +205,9 @@ fn are_rightly_held(
 }
 
 /// Whether the file has a name or is open.
-fn is_kept(descriptions: &[DescriptionImage], opened: &NumberMap<()>, file: &FileImage) -> bool
+fn is_kept_file(descriptions: &[DescriptionImage], opened: &NumberMap<()>, file: &FileImage) -> bool
     requires { KnowsOpened opened.now descriptions.now }
-    ensures { result ≡ whole.is_kept descriptions.now file.now }
+    ensures { result ≡ whole.is_kept_file descriptions.now file.now }
 {
     let _ = descriptions;
     !file.name.is_empty() || opened.contains_key(file.number)
@@ -200,14 +215,18 @@ fn is_kept(descriptions: &[DescriptionImage], opened: &NumberMap<()>, file: &Fil
 
 fn are_kept(descriptions: &[DescriptionImage], opened: &NumberMap<()>, files: &[FileImage]) -> bool
     requires { KnowsOpened opened.now descriptions.now }
-    ensures { result ≡ list_all (whole.is_kept descriptions.now) files.now }
+    ensures { result ≡ list_all (whole.is_kept_file descriptions.now) files.now }
 {
-    files.iter().all(|file| is_kept(descriptions, opened, file))
+    files
+        .iter()
+        .all(|file| is_kept_file(descriptions, opened, file))
 }
 
 /// What is tested at the end of the file, over the whole value.
 #[tactic(auto, unfolding(image_shared::specs::WholeShared::is_whole_shared))]
 pub fn is_whole_shared(alloc: Global, s: &Shared) -> Result<bool, AllocError>
+    requires channels { ChannelsRise s.now.channels }
+    requires processes { ProcessesRise s.now.processes }
     ensures { IfOk result (λ b. b ≡ whole.is_whole_shared s.now) }
 {
     let channels = s.channels.as_slice();

@@ -4,10 +4,13 @@ use Rattle.image_shared.specs.declared.shared.FileImage.{FileImage}
 use Rattle.image_format.specs.Format.{each}
 use Rattle.image_shared.specs.SharedFormat as format
 use Rattle.image_format.specs.Reading.{read}
+use Rattle.shared_items.specs.KnownNames.{KnowsNames}
 use Rattle.shared_items.proofs.files.files_at.Given as goal
 
 abbrev pub invariant-loop-item : goal.invariant-loop-item
-invariant-loop-item l =
-    (read (each (format.file l.next_file) (l.count - l._item) l.files) l.rest ≡ read (each (format.file l.next_file) l.count []) l.initial.rest)
-    × (l.total ≡ sum_by (λ (file : FileImage). length file.bytes) l.files)
-    × (l.total ≤ 67108864)
+invariant-loop-item l = record {
+  reads : read (each (format.file l.next_file) (l.count - l._item) l.files) l.rest ≡ read (each (format.file l.next_file) l.count []) l.initial.rest;
+  names : KnowsNames l.names l.files;
+  total : l.total ≡ sum_by (λ (file : FileImage). length file.bytes) l.files;
+  limit : l.total ≤ 67108864;
+}

@@ -10,6 +10,6 @@ returns-then-has_process c =
 
 pub returns-else-has_process : goal.returns-else-has_process
 returns-else-has_process c =
-    c.contains_key.ensures ∙ c.requires c.args.n
+    c.contains_key.ensures ∙ c.requires.threads c.args.n
     ∙ sym (ap (λ b. b || list_any (lists_thread c.args.n) c.args.earlier.now) (sym c.has_process.ensures ∙ c.if-has_process.false))
     ∙ number_of_some c.args.n c.args.earlier.now

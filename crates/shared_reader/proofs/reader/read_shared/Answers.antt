@@ -2,9 +2,16 @@ use Rattle.std.proofs.Common.{ℕ, List, ◌-◌, length, sym, ◌∙◌, refl, 
 use Rattle.image_shared.specs.SharedFormat.{shared, DamagedShared}
 use Rattle.image_shared.specs.WholeShared.{is_whole_shared}
 use Rattle.image_format.proofs.Numerals.{fit_bytes}
+use Rattle.image_shared.proofs.RisingItems.{shared_rises}
 use Rattle.image_shared.proofs.SharedLaws as law
 use Rattle.image_format.proofs.WholeFiles as whole
 use Rattle.shared_reader.proofs.reader.read_shared.Goals as goal
+
+pub is_whole_shared-requires-clause-channels : goal.is_whole_shared-requires-clause-channels
+is_whole_shared-requires-clause-channels c = (shared_rises c.args.bytes.now c.in-Ok.rest.now c.in-Ok.s (fit_bytes _ c.type_inv.bytes) c.in-Ok.ensures).0
+
+pub is_whole_shared-requires-clause-processes : goal.is_whole_shared-requires-clause-processes
+is_whole_shared-requires-clause-processes c = (shared_rises c.args.bytes.now c.in-Ok.rest.now c.in-Ok.s (fit_bytes _ c.type_inv.bytes) c.in-Ok.ensures).1
 
 pub damaged-requires : goal.damaged-requires
 damaged-requires c = whole.rest-le shared is_whole_shared c.args.bytes.now c.in-Ok.s c.in-Ok.rest.now (fit_bytes _ c.type_inv.bytes) c.in-Ok.ensures

@@ -6,5 +6,5 @@ use Rattle.shared_reader.proofs.whole.is_rightly_held.Goals as goal
 pub returns : goal.returns
 returns c =
     c.is_held_by.ensures
-    ∙ ap (verdict c.args.channels.now c.args.processes.now c.args.description.now) (c.copied-found.ensures ∙ c.get.ensures ∙ c.requires c.args.description.now.id)
+    ∙ ap (verdict c.args.channels.now c.args.processes.now c.args.description.now) (c.copied-found.ensures ∙ c.get.ensures ∙ c.requires.holders c.args.description.now.id)
     ∙ sym (rightly_held c.args.channels.now c.args.processes.now c.args.description.now)

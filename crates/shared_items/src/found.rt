@@ -1,0 +1,33 @@
+//! Items of lists that rise, each found by a binary search.
+
+ghost use Rattle.std.specs.Prelude.{◌≡◌};
+ghost use Rattle.std.specs.Option.{option_copied};
+ghost use Rattle.image_shared.specs.RisingLists.{FilesRise, ChannelsRise};
+ghost use Rattle.image_shared.specs.SharedTests as field;
+ghost use Rattle.image_shared.specs.Sides.{same_channel};
+ghost use Rattle.shared_items.specs.Found.{Finds};
+
+use image_shared::{ChannelImage, FileImage};
+use sys_abi::ConnId;
+
+/// Whether a file of this number is listed.
+pub fn has_file(files: &[FileImage], number: u32) -> bool
+    requires { FilesRise files.now }
+    ensures { result ≡ field.is_listed_file files.now number }
+{
+    match files.binary_search_by_key(&number, |file| file.number) {
+        Ok(_) => true,
+        Err(_) => false,
+    }
+}
+
+/// The channel of this name.
+pub fn channel_of(channels: &[ChannelImage], name: ConnId) -> Option<&ChannelImage>
+    requires { ChannelsRise channels.now }
+    ensures { Finds (λ channel. same_channel name channel.id) channels.now (option_copied result) }
+{
+    match channels.binary_search_by_key(&name, |channel| channel.id) {
+        Ok(place) => Some(&channels[place]),
+        Err(_) => None,
+    }
+}
