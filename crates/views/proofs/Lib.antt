@@ -4,5 +4,10 @@ pub mod NextKeys
 pub mod MapLaws
 pub mod MapValues
 pub mod SeenKeys
+pub mod Seen
+pub mod SeenLengths
+pub mod Ways
+pub mod Leasts
+pub mod Counting
 pub mod Outcomes
 pub mod Passes

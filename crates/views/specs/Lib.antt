@@ -2,3 +2,5 @@ pub mod Faults
 pub mod NumberMap
 pub mod Maps
 pub mod Bytes
+pub mod Seen
+pub mod Leasts

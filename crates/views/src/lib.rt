@@ -9,6 +9,11 @@
 //! only where it rose. `proofs/` has the laws of finite maps that the crates above cite, and how an
 //! ordered map of another key type is seen as a finite map.
 //!
+//! `specs/Seen.antt` says what it is for two maps under different keys to stand for each other
+//! (`SeenBy`), through ways between their keys that lead back. `proofs/Seen.antt` has what a change
+//! at one pair of keys, and more or fewer pairs, keep of it, `proofs/SeenLengths.antt` that both
+//! have as many entries, and `proofs/Ways.antt` ways made of others.
+//!
 //! Proved: each method does what the word of its name does on the list or the map, a copy equals
 //! its source, and a failed allocation leaves the value as it was. Not proved: how long a call
 //! takes, and how much memory. Nothing here restates a standard.
