@@ -15,11 +15,9 @@
 
 mod conn;
 mod conn_fault;
-mod maker;
 mod table;
 mod unsupported;
 
 pub use conn::Conn;
 pub use conn_fault::ConnFault;
-pub use maker::Maker;
 pub use table::ConnTable;

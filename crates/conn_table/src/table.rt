@@ -9,11 +9,10 @@ ghost use Rattle.conn_table.specs.Unsupported as unsupported;
 
 use crate::conn::Conn;
 use crate::conn_fault::ConnFault;
-use crate::maker::Maker;
 use crate::unsupported::least_unsupported;
 use id_maps::{ByConn, ByDesc, ByPid};
 use std::alloc::{AllocError, Global};
-use sys_abi::{ConnId, DescId, Fd, Kind, VPid, VirtAddr};
+use sys_abi::{ConnId, DescId, Fd, Kind, Maker, VPid, VirtAddr};
 
 /// The channels, the addresses of sockets and listeners, and the makers of all processes. A socket that is not bound has
 /// the address of its host with the port 0.

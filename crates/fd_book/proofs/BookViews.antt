@@ -7,7 +7,7 @@ use Rattle.views.proofs.MapLaws.{true_false, insert_remove, get_remove_same}
 use Rattle.sys_abi.specs.declared.identity.DescId.{DescId}
 use Rattle.fd_book.specs.declared.real_slot.RealSlot.{RealSlot}
 use Rattle.fd_book.specs.declared.description.Desc.{Desc}
-use Rattle.fd_book.specs.declared.description.Descriptor.{Descriptor}
+use Rattle.sys_abi.specs.declared.descriptor.Descriptor.{Descriptor}
 use Rattle.fd_book.specs.declared.open.Open.{Open}
 use Rattle.fd_book.specs.Books.{Books, is_held, with_descriptor, without_descriptor, lost_without, after_close, lost_by_close, changed_or_same, with_changed, new_or_same, with_new}
 use Rattle.fd_book.specs.Counts.{after_retain, after_release, lost_by_release, desc_of, IsCounted, IsBook}

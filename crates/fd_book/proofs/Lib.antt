@@ -2,6 +2,7 @@ pub mod OrderLaws
 pub mod Places
 pub mod TableLaws
 pub mod TableViews
+pub mod InRange
 pub mod Ranges
 pub mod IndexLaws
 pub mod DescriptionViews

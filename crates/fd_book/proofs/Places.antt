@@ -3,7 +3,7 @@ use Rattle.std.proofs.Common.{◌≡◌, ◌≤◌, ℕ, List, length, ap, ◌�
 use Rattle.std.specs.Prelude.{Option, None, replicate}
 use Rattle.std.proofs.lemmas.Bool.{cases_lt}
 use Rattle.std.proofs.lemmas.List.{get_or_past, get_or-replicate, length-replicate}
-use Rattle.fd_book.specs.declared.description.Descriptor.{Descriptor}
+use Rattle.sys_abi.specs.declared.descriptor.Descriptor.{Descriptor}
 use Rattle.fd_book.specs.Tables.{at_place}
 
 pub past_places : (places : List (Option Descriptor)) (fd : ℕ) → length places ≤ fd → at_place places fd ≡ None

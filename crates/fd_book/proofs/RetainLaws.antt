@@ -8,7 +8,7 @@ use Rattle.views.proofs.MapLaws.{same_or_other, get_insert_same, get_insert_othe
 use Rattle.sys_abi.specs.declared.identity.DescId.{DescId}
 use Rattle.sys_abi.specs.Orders.{desc_cmp}
 use Rattle.sys_abi.proofs.OrderLaws.{desc_total, desc_exact}
-use Rattle.fd_book.specs.declared.description.Descriptor.{Descriptor}
+use Rattle.sys_abi.specs.declared.descriptor.Descriptor.{Descriptor}
 use Rattle.fd_book.specs.declared.open.Open.{Open}
 use Rattle.fd_book.specs.Counts.{with_holders, retained, after_retain, after_place, after_retains}
 

@@ -9,7 +9,7 @@ use Rattle.std.specs.FinMap.Entries.{below_all}
 use Rattle.views.proofs.MapLaws.{key_tied, other_key, same_or_other}
 use Rattle.sys_abi.specs.declared.identity.RealPid.{RealPid}
 use Rattle.fd_book.specs.declared.real_slot.RealSlot.{RealSlot}
-use Rattle.fd_book.specs.declared.description.Descriptor.{Descriptor}
+use Rattle.sys_abi.specs.declared.descriptor.Descriptor.{Descriptor}
 use Rattle.fd_book.specs.Orders.{real_slot_cmp}
 use Rattle.fd_book.specs.Books.{slot}
 use Rattle.fd_book.specs.Tables.{at_place, entries_from, all_entries, descriptors_of}

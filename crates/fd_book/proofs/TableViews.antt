@@ -11,7 +11,7 @@ use Rattle.views.proofs.TreeMaps.{view, get-view, entries-empty}
 use Rattle.views.proofs.MapLaws.{true_false, get_inserted, get_beside_inserted, remove_absent, get_removed, get_beside_removed, same_or_other}
 use Rattle.sys_abi.specs.declared.identity.RealPid.{RealPid}
 use Rattle.fd_book.specs.declared.real_slot.RealSlot.{RealSlot}
-use Rattle.fd_book.specs.declared.description.Descriptor.{Descriptor}
+use Rattle.sys_abi.specs.declared.descriptor.Descriptor.{Descriptor}
 use Rattle.fd_book.specs.Orders.{real_slot_cmp}
 use Rattle.fd_book.specs.Books.{slot}
 use Rattle.fd_book.specs.Numbers.{NoneOpen}

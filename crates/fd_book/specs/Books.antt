@@ -13,8 +13,9 @@
 --     IsHolder                    the process has a descriptor of the description
 --     is_after above id           a description that comes after this one; each does after none
 --     bound_above above           the start of the range of these names
+--     AreInRange descriptors      each has one of the 256 numbers
 --     IsWhole b                   what is always true of a book
-use Rattle.std.specs.Prelude.{◌≡◌, ◌==◌, ℕ, Bool, true, false, cond, Option, Some, None, IsSome, IsTrue, refl}
+use Rattle.std.specs.Prelude.{◌≡◌, ◌==◌, ◌<◌, ℕ, Bool, true, false, cond, Option, Some, None, IsSome, IsTrue, refl}
 use Rattle.std.specs.List.{list_any}
 use Rattle.std.specs.Ordering.{eq_by_cmp, is_lt}
 use Rattle.std.specs.declared.ops.Bound.{Bound}
@@ -29,9 +30,9 @@ use Rattle.fd_book.specs.declared.real_slot.RealSlot.{RealSlot}
 use Rattle.fd_book.specs.declared.description.Object.{Object}
 use Rattle.fd_book.specs.declared.description.Object.TheVariants.{Console, File, Stream, Socket, Listener, Datagram, Counter}
 use Rattle.fd_book.specs.declared.description.Desc.{Desc}
-use Rattle.fd_book.specs.declared.description.Descriptor.{Descriptor}
+use Rattle.sys_abi.specs.declared.descriptor.Descriptor.{Descriptor}
 use Rattle.fd_book.specs.contracts.description.Desc as desc
-use Rattle.fd_book.specs.contracts.description.Descriptor as descriptor
+use Rattle.sys_abi.specs.contracts.descriptor.Descriptor as descriptor
 use Rattle.fd_book.specs.Orders.{real_slot_cmp, coded_real_slot}
 
 pub record Books : Type 0 where
@@ -151,7 +152,12 @@ abbrev pub bound_above : Option DescId → Bound DescId
 bound_above None = Unbounded
 bound_above (Some above) = Excluded above
 
--- each descriptor refers to a description that is there, and each description has a descriptor
+-- each descriptor has one of the 256 numbers
+abbrev pub AreInRange : FinMap real_slot_cmp Descriptor → Type 0
+AreInRange descriptors = (at : RealSlot) (d : Descriptor) → map.get descriptors at ≡ Some d → at.fd < 256
+
+-- each descriptor has one of the 256 numbers and refers to a description that is there, and each description has a descriptor
 pub record IsWhole (b : Books) : Type 0 where
+  pub below : AreInRange b.descriptors
   pub described : (at : RealSlot) (d : Descriptor) → map.get b.descriptors at ≡ Some d → IsSome (map.get b.descriptions d.desc)
   pub held : (id : DescId) (d : Desc) → map.get b.descriptions id ≡ Some d → IsTrue (is_held b.descriptors id)

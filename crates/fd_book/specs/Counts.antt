@@ -10,7 +10,7 @@ use Rattle.std.specs.FinMap.{FinMap}
 use Rattle.sys_abi.specs.declared.identity.DescId.{DescId}
 use Rattle.sys_abi.specs.declared.identity.RealPid.{RealPid}
 use Rattle.sys_abi.specs.Orders.{desc_cmp}
-use Rattle.fd_book.specs.declared.description.Descriptor.{Descriptor}
+use Rattle.sys_abi.specs.declared.descriptor.Descriptor.{Descriptor}
 use Rattle.fd_book.specs.declared.description.Desc.{Desc}
 use Rattle.fd_book.specs.declared.open.Open.{Open}
 use Rattle.fd_book.specs.Orders.{real_slot_cmp}

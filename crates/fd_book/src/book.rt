@@ -3,13 +3,13 @@ ghost use Rattle.std.specs.FinMap as map;
 ghost use Rattle.views.specs.Maps.{map_values};
 ghost use Rattle.fd_book.specs.Books.{with_changed, with_object, with_flags, with_owner, disowned, with_cloexec, slot};
 
-use crate::description::{Desc, Descriptor, Object};
+use crate::description::{Desc, Object};
 use crate::descriptions::Descriptions;
 use crate::open::Open;
 use crate::tables::Tables;
 use std::alloc::Global;
 use std::marker::Model;
-use sys_abi::{DescId, Fd, RealPid};
+use sys_abi::{DescId, Descriptor, Fd, RealPid};
 
 /// The descriptors of all processes and the open descriptions that they refer to.
 #[derive(Drop)]

@@ -7,9 +7,8 @@ ghost use Rattle.fd_book.specs.Numbers.{NoneOpen, IsLowestOpen};
 
 use crate::book::Book;
 use crate::book_fault::BookFault;
-use crate::description::Descriptor;
 use std::alloc::AllocError;
-use sys_abi::{DescId, Fd, RealPid};
+use sys_abi::{DescId, Descriptor, Fd, RealPid};
 
 impl Book {
     /// Closes the descriptor, and tells the description that lost its last one by that, which is gone (`man 2 close`).

@@ -1,7 +1,7 @@
 ghost use Rattle.std.specs.Prelude.{◌≡◌};
 ghost use Rattle.fd_book.specs.Books as books;
 
-use sys_abi::{ConnId, DescId, RealAddr, RealPid};
+use sys_abi::{ConnId, RealAddr, RealPid};
 
 /// What an open description stands for.
 #[derive(Clone, Copy, Debug, PartialEq, Eq)]
@@ -41,11 +41,4 @@ pub struct Desc {
     pub object: Object,
     pub flags: u32,
     pub owner: Option<RealPid>,
-}
-
-/// A descriptor: the description that it refers to, and its close-on-exec flag.
-#[derive(Clone, Copy, Debug, PartialEq, Eq)]
-pub struct Descriptor {
-    pub desc: DescId,
-    pub cloexec: bool,
 }

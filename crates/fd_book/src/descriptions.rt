@@ -5,14 +5,13 @@ ghost use Rattle.std.specs.FinMap as map;
 ghost use Rattle.views.specs.Maps.{map_values};
 ghost use Rattle.sys_abi.specs.Orders.{desc_cmp};
 ghost use Rattle.sys_abi.specs.declared.identity.DescId.{DescId};
-ghost use Rattle.fd_book.specs.declared.description.Descriptor.{Descriptor};
+ghost use Rattle.sys_abi.specs.declared.descriptor.Descriptor.{Descriptor};
 ghost use Rattle.fd_book.specs.declared.open.Open.{Open};
 ghost use Rattle.slab.specs.Slab.{get, Updates};
 ghost use Rattle.fd_book.specs.Books.{is_after, bound_above, is_of_file};
 ghost use Rattle.fd_book.specs.Descriptions.{kept_at};
 ghost use Rattle.fd_book.specs.Counts.{disowned_open, after_retain, after_release, lost_by_release, after_place, after_retains};
 
-use crate::description::Descriptor;
 use crate::open::Open;
 use slab::Slab;
 use std::alloc::{AllocError, Global};
@@ -20,7 +19,7 @@ use std::collections::BTreeMap;
 use std::collections::btree_map::Values;
 use std::marker::Model;
 use std::ops::Bound;
-use sys_abi::{DescId, RealPid};
+use sys_abi::{DescId, Descriptor, RealPid};
 
 /// The open descriptions by their names.
 #[derive(Drop)]

@@ -28,5 +28,5 @@ mod tables;
 
 pub use book::Book;
 pub use book_fault::BookFault;
-pub use description::{Desc, Descriptor, Object};
+pub use description::{Desc, Object};
 pub use real_slot::RealSlot;

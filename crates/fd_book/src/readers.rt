@@ -18,7 +18,7 @@ impl Book {
     pub fn whole(&self)
         ensures { IsWhole self.now }
     {
-        let _ = &self.count;
+        self.tables.in_range();
     }
 
     /// The description to which the descriptor refers, which is there.

@@ -2,10 +2,9 @@ ghost use Rattle.std.specs.Prelude.{◌≡◌, ◌≢◌, ℕ, ◌≤◌, ◌<�
 ghost use Rattle.std.specs.List.{list_any};
 ghost use Rattle.fd_book.specs.Tables.{at_place, free_places, place_refers};
 
-use crate::description::Descriptor;
 use std::alloc::{AllocError, Global};
 use std::marker::Model;
-use sys_abi::DescId;
+use sys_abi::{DescId, Descriptor};
 
 /// The descriptors of one process, each at the place of its number: 256 places, made at once.
 #[derive(Drop)]
@@ -15,7 +14,7 @@ pub struct Table {
 
 impl Model for Table {
     ghost use Rattle.std.specs.Prelude.{◌≡◌, List, Option, vec_len};
-    ghost use Rattle.fd_book.specs.declared.description.Descriptor.{Descriptor};
+    ghost use Rattle.sys_abi.specs.declared.descriptor.Descriptor.{Descriptor};
 
     ghost Value = { List (Option Descriptor) };
 

@@ -7,16 +7,15 @@ ghost use Rattle.sys_abi.specs.declared.identity.RealPid.{RealPid};
 ghost use Rattle.fd_book.specs.declared.real_slot.RealSlot.{RealSlot};
 ghost use Rattle.fd_book.specs.Orders.{real_slot_cmp};
 ghost use Rattle.sys_abi.specs.Orders.{real_pid_cmp};
-ghost use Rattle.fd_book.specs.Books.{slot, IsHolder};
+ghost use Rattle.fd_book.specs.Books.{slot, AreInRange, IsHolder};
 ghost use Rattle.fd_book.specs.Numbers.{AllUsed, IsLowestFree, NoneOpen, IsLowestOpen, free_below};
 ghost use Rattle.fd_book.specs.Tables.{at_place, descriptors_of};
 
-use crate::description::Descriptor;
 use crate::table::Table;
 use std::alloc::{AllocError, Global};
 use std::collections::BTreeMap;
 use std::marker::Model;
-use sys_abi::{DescId, RealPid};
+use sys_abi::{DescId, Descriptor, RealPid};
 
 /// The descriptors of all processes.
 #[derive(Drop)]
@@ -27,9 +26,10 @@ pub struct Tables {
 
 impl Model for Tables {
     ghost use Rattle.std.specs.FinMap as map;
-    ghost use Rattle.fd_book.specs.declared.description.Descriptor.{Descriptor};
-    ghost use Rattle.fd_book.specs.contracts.description.Descriptor as descriptor;
+    ghost use Rattle.sys_abi.specs.declared.descriptor.Descriptor.{Descriptor};
+    ghost use Rattle.sys_abi.specs.contracts.descriptor.Descriptor as descriptor;
     ghost use Rattle.fd_book.specs.Orders.{real_slot_cmp, coded_real_slot};
+    ghost use Rattle.fd_book.specs.Books.{AreInRange};
     ghost use Rattle.fd_book.specs.Tables.{descriptors_of};
 
     ghost Value = { map.FinMap real_slot_cmp Descriptor };
@@ -37,6 +37,8 @@ impl Model for Tables {
     ghost coded = { map.code coded_real_slot descriptor.the_row.coded };
 
     ghost view = { λ t. descriptors_of (map.from_entries t.tables.entries) };
+
+    ghost invariant = { λ t. AreInRange (descriptors_of (map.from_entries t.tables.entries)) };
 }
 
 /// Puts what is to stand at a place of a process's table, if it has one.
@@ -73,6 +75,13 @@ impl Tables {
             alloc,
             tables: BTreeMap::new(alloc),
         }
+    }
+
+    /// Each descriptor has one of the 256 numbers. It does nothing.
+    pub fn in_range(&self)
+        ensures { AreInRange self.now }
+    {
+        let _ = &self.tables;
     }
 
     pub fn get(&self, p: RealPid, fd: u32) -> Option<Descriptor>

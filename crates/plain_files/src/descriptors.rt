@@ -10,11 +10,11 @@ use plain_machine::answer::{Attempt, RowResult};
 use plain_machine::commands::FcntlCommand;
 use plain_machine::descriptors::Held;
 use plain_machine::end::DESCRIPTOR_LIMIT;
-use plain_tables::description::{Description, Descriptor};
+use plain_tables::description::Description;
 use std::alloc::Global;
-use sys_abi::VPid;
 use sys_abi::errors::{EBADF, EINVAL, EMFILE, ESRCH};
 use sys_abi::flags::O_CLOEXEC;
+use sys_abi::{Descriptor, VPid};
 
 /// dup (`man 2 dup`).
 #[tactic(auto, unfolding(plain_machine::specs::Rows::Descriptors::dup_row, plain_process::specs::Attempts::and_then))]

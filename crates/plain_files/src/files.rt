@@ -11,13 +11,13 @@ use plain_machine::PlainKernel;
 use plain_machine::answer::{Attempt, RowResult};
 use plain_machine::descriptors::Held;
 use plain_tables::closing::drop_unkept;
-use plain_tables::description::{Description, Descriptor, Object};
+use plain_tables::description::{Description, Object};
 use std::alloc::{AllocError, Global};
 use sys_abi::errors::{
     EBADF, EEXIST, EINVAL, EMFILE, ENAMETOOLONG, ENFILE, ENOENT, ENOSPC, ESPIPE,
 };
 use sys_abi::flags::{AT_FDCWD, O_CLOEXEC, O_CREAT, O_EXCL, O_TRUNC};
-use sys_abi::{DescId, VPid};
+use sys_abi::{DescId, Descriptor, VPid};
 use views::list_of::ListOf;
 
 /// How many bytes a path has at most, its zero byte included.

@@ -66,4 +66,5 @@ pub mod Children
 pub mod ForkedKernels
 pub mod ReapedKernels
 pub mod WaitOrder
+pub mod Leasts
 pub mod Births

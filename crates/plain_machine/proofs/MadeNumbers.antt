@@ -11,7 +11,7 @@ use Rattle.sys_abi.specs.Flags.{has_flag}
 use Rattle.sys_abi.proofs.OrderLaws.{vpid_total, vpid_exact}
 use Rattle.plain_machine.specs.declared.kernel.PlainKernel.{PlainKernel}
 use Rattle.plain_tables.specs.declared.process.Process.{Process}
-use Rattle.plain_tables.specs.declared.process.Maker.{Maker}
+use Rattle.sys_abi.specs.declared.maker.Maker.{Maker}
 use Rattle.plain_tables.specs.Tables.{is_live_process, made_more}
 use Rattle.plain_tables.specs.Valid.Descriptions.{AreFlags}
 use Rattle.plain_machine.specs.Kernel.{is_live, made_of, has_numbers, numbered}

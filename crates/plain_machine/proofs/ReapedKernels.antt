@@ -16,7 +16,7 @@ use Rattle.plain_machine.specs.declared.kernel.PlainKernel.{PlainKernel}
 use Rattle.plain_machine.specs.declared.waiting.Waiting.{Waiting}
 use Rattle.plain_machine.specs.declared.waiting.Waiting.TheVariants.{NoChild, NotReady, Ended}
 use Rattle.plain_tables.specs.declared.process.Process.{Process}
-use Rattle.plain_tables.specs.declared.description.Descriptor.{Descriptor}
+use Rattle.sys_abi.specs.declared.descriptor.Descriptor.{Descriptor}
 use Rattle.plain_tables.specs.declared.description.Description.{Description}
 use Rattle.plain_tables.specs.Tables.{FIRST_PID, Processes, pid, is_live_process, has_thread_in, refers_to, is_held}
 use Rattle.plain_tables.specs.Ends.{is_child_of}

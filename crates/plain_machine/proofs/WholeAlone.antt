@@ -22,7 +22,7 @@ use Rattle.sys_abi.proofs.OrderLaws.{vpid_total, vpid_exact, desc_total, desc_ex
 use Rattle.plain_process.specs.Valid.{Each}
 use Rattle.plain_machine.specs.declared.kernel.PlainKernel.{PlainKernel}
 use Rattle.plain_tables.specs.declared.process.Process.{Process}
-use Rattle.plain_tables.specs.declared.process.Maker.{Maker}
+use Rattle.sys_abi.specs.declared.maker.Maker.{Maker}
 use Rattle.plain_tables.specs.declared.description.Description.{Description}
 use Rattle.plain_tables.specs.declared.description.Object.{Object}
 use Rattle.plain_tables.specs.declared.description.Object.TheVariants.{Console}

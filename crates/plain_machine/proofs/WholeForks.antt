@@ -10,8 +10,8 @@ use Rattle.sys_abi.specs.declared.identity.Slot.{Slot}
 use Rattle.sys_abi.proofs.OrderLaws.{vpid_total, vpid_exact}
 use Rattle.plain_machine.specs.declared.kernel.PlainKernel.{PlainKernel}
 use Rattle.plain_tables.specs.declared.process.Process.{Process}
-use Rattle.plain_tables.specs.declared.process.Maker.{Maker}
-use Rattle.plain_tables.specs.declared.description.Descriptor.{Descriptor}
+use Rattle.sys_abi.specs.declared.maker.Maker.{Maker}
+use Rattle.sys_abi.specs.declared.descriptor.Descriptor.{Descriptor}
 use Rattle.plain_tables.specs.Tables.{pid, is_live_process, lives_in, same_host}
 use Rattle.plain_tables.specs.Ends.{child_process}
 use Rattle.plain_machine.specs.Kernel.{DESCRIPTOR_LIMIT, is_live, host_of}

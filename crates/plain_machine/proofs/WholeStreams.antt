@@ -18,7 +18,7 @@ use Rattle.plain_tables.specs.declared.channel.Channel.{Channel}
 use Rattle.plain_tables.specs.declared.channel.ChannelKind.{ChannelKind}
 use Rattle.plain_tables.specs.declared.channel.ChannelKind.TheVariants.{Pipe}
 use Rattle.plain_tables.specs.declared.channel.Direction.{Direction}
-use Rattle.plain_tables.specs.declared.process.Maker.{Maker}
+use Rattle.sys_abi.specs.declared.maker.Maker.{Maker}
 use Rattle.plain_tables.specs.Tables.{Channels}
 use Rattle.plain_tables.specs.Objects.{end_of, host_of_end}
 use Rattle.plain_tables.specs.Valid.Descriptions.{AreFlags}

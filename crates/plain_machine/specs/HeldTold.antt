@@ -2,7 +2,7 @@
 --     held_of, held_told
 use Rattle.std.specs.Prelude.{Option, Some, None}
 use Rattle.sys_abi.specs.declared.errors.TheConstants.{EBADF}
-use Rattle.plain_tables.specs.declared.description.Descriptor.{Descriptor}
+use Rattle.sys_abi.specs.declared.descriptor.Descriptor.{Descriptor}
 use Rattle.plain_tables.specs.declared.description.Description.{Description}
 use Rattle.plain_process.specs.Attempts.{Try, Fails, Gives}
 use Rattle.plain_machine.specs.Kernel.{Held}

@@ -10,7 +10,7 @@ use Rattle.plain_tables.specs.declared.process.Process.{Process}
 use Rattle.sys_abi.specs.declared.identity.DescId.{DescId}
 use Rattle.sys_abi.specs.declared.errors.TheConstants.{EBADF, EMFILE}
 use Rattle.plain_process.specs.Attempts.{Try, Gives, found, ◌>>=◌}
-use Rattle.plain_tables.specs.declared.description.Descriptor.{Descriptor}
+use Rattle.sys_abi.specs.declared.descriptor.Descriptor.{Descriptor}
 use Rattle.plain_tables.specs.declared.description.Description.{Description}
 use Rattle.plain_tables.specs.declared.description.Object.{Object}
 use Rattle.plain_tables.specs.Tables.{Descriptors, pid, slot, is_live_process, pending_in, taken_from, raised_at, raised_for_all, changed_at, thread_count_in, has_thread_in, with_thread_entry, same_host, made_more}

@@ -7,10 +7,9 @@ ghost use Rattle.plain_machine.specs.HeldTold.{held_told};
 
 use crate::end::DESCRIPTOR_LIMIT;
 use crate::kernel::PlainKernel;
-use plain_tables::description::{Description, Descriptor, Object};
-use plain_tables::process::Maker;
+use plain_tables::description::{Description, Object};
 use std::alloc::AllocError;
-use sys_abi::{DescId, Slot, VPid};
+use sys_abi::{DescId, Descriptor, Maker, Slot, VPid};
 
 /// A call makes something only where its process's next number is below this one, so that there is room for
 /// all that one call makes.

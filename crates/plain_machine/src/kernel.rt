@@ -2,9 +2,10 @@ ghost use Rattle.std.specs.Prelude.{◌≡◌, IfOk};
 
 use id_maps::{ByAddress, ByConn, ByDesc, ByDir, ByName, ByPid, BySlot};
 use plain_tables::channel::{Channel, Direction, Listening};
-use plain_tables::description::{Description, Descriptor};
-use plain_tables::process::{Maker, Process};
+use plain_tables::description::Description;
+use plain_tables::process::Process;
 use std::alloc::{AllocError, Global};
+use sys_abi::{Descriptor, Maker};
 use views::duplicate::Duplicate;
 use views::list_of::ListOf;
 use views::number_map::NumberMap;

@@ -1,7 +1,7 @@
 ghost use Rattle.std.specs.Prelude.{◌≡◌, ◌<◌, ◌-◌, ◌^◌, OnOk};
 ghost use Rattle.std.specs.Option.{option_map_or};
 ghost use Rattle.std.specs.FinMap as map;
-ghost use Rattle.plain_tables.specs.declared.process.Maker.{Maker as AMaker};
+ghost use Rattle.sys_abi.specs.declared.maker.Maker.{Maker as AMaker};
 ghost use Rattle.plain_tables.specs.Tables.{changed_at, made_more, slot};
 ghost use Rattle.plain_machine.specs.Kernel as kernels;
 ghost use Rattle.plain_machine.specs.Channels as channels;
@@ -10,10 +10,10 @@ ghost use Rattle.plain_machine.specs.SocketWords as words;
 use id_maps::{ByAddress, ByDesc, ByPid};
 use plain_machine::PlainKernel;
 use plain_ports::look_ups::{Held, next_description};
-use plain_tables::{Channel, Description, Descriptor, Direction, Listening, Maker, Object};
+use plain_tables::{Channel, Description, Direction, Listening, Object};
 use std::alloc::{AllocError, Global};
 use std::mem;
-use sys_abi::{ConnId, DescId, Dir, Slot, VPid, VirtAddr};
+use sys_abi::{ConnId, DescId, Descriptor, Dir, Maker, Slot, VPid, VirtAddr};
 use views::list_of::ListOf;
 
 /// What a descriptor that is made refers to.

@@ -5,11 +5,11 @@ ghost use Rattle.plain_machine.specs.Answers.{RowTold, KeepsUnlessGives};
 use crate::made::{are_making_flags, has_cloexec, status_flags};
 use plain_machine::PlainKernel;
 use plain_machine::answer::{Attempt, RowResult};
-use plain_tables::{Descriptor, Object};
+use plain_tables::Object;
 use std::alloc::Global;
 use sys_abi::errors::{EINVAL, EMFILE, ENFILE};
 use sys_abi::flags::O_RDWR;
-use sys_abi::{DescId, VPid};
+use sys_abi::{DescId, Descriptor, VPid};
 
 /// eventfd2 (`man 2 eventfd`).
 #[tactic(auto, unfolding(plain_machine::specs::Rows::Counters::eventfd2_row, plain_process::specs::Attempts::and_then, plain_process::specs::Attempts::need, plain_process::specs::Attempts::found))]

@@ -9,10 +9,10 @@ ghost use Rattle.plain_machine.specs.Making as words;
 
 use plain_machine::PlainKernel;
 use plain_machine::new_end::NewEnd;
-use plain_tables::{Channel, ChannelEnd, ChannelKind, Descriptor, Direction, Object};
+use plain_tables::{Channel, ChannelEnd, ChannelKind, Direction, Object};
 use std::alloc::{AllocError, Global};
 use sys_abi::flags::{O_CLOEXEC, O_NONBLOCK};
-use sys_abi::{ConnId, DescId, Dir, VPid};
+use sys_abi::{ConnId, DescId, Descriptor, Dir, VPid};
 use views::list_of::ListOf;
 
 /// The flags that a call which makes descriptors takes.

@@ -11,7 +11,7 @@ use Rattle.sys_abi.specs.declared.life.Life.{Life}
 use Rattle.sys_abi.specs.declared.life.Life.TheVariants.{Live, Zombie}
 use Rattle.sys_abi.proofs.OrderLaws.{vpid_total, vpid_exact}
 use Rattle.plain_tables.specs.declared.process.Process.{Process}
-use Rattle.plain_tables.specs.declared.process.Maker.{Maker}
+use Rattle.sys_abi.specs.declared.maker.Maker.{Maker}
 use Rattle.plain_tables.specs.Tables.{FIRST_PID, NOBODY, Processes, Makers, pid, is_live_process, lives_in, has_thread_in, same_host}
 use Rattle.plain_tables.specs.Ends.{child_process}
 use Rattle.plain_tables.specs.Valid.Processes.{AreProcesses, AreMakers, AreParents, IsProcess, IsGivenOut, IsSignalSet, IsParent, HasParent}

@@ -7,7 +7,7 @@ use Rattle.sys_abi.specs.declared.identity.VPid.{VPid}
 use Rattle.sys_abi.specs.declared.life.Life.{Life}
 use Rattle.sys_abi.specs.declared.life.Life.TheVariants.{Live, Zombie}
 use Rattle.sys_abi.proofs.OrderLaws.{vpid_total, vpid_exact}
-use Rattle.plain_tables.specs.declared.process.Maker.{Maker}
+use Rattle.sys_abi.specs.declared.maker.Maker.{Maker}
 use Rattle.plain_tables.specs.declared.description.Object.{Object}
 use Rattle.plain_tables.specs.declared.description.Object.TheVariants.{Datagram}
 use Rattle.plain_tables.specs.Tables.{Processes, Makers, Descriptors, Descriptions, Channels, Listeners, pid, changed_at, made_more}

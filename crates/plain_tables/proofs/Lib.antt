@@ -23,3 +23,4 @@ pub mod NewChannels
 pub mod OpenedStreams
 pub mod SocketObjects
 pub mod Queues
+pub mod FewListeners

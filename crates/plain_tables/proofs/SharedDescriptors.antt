@@ -8,8 +8,8 @@ use Rattle.views.proofs.MapLaws.{get_insert_same, get_insert_other, same_or_othe
 use Rattle.sys_abi.specs.declared.identity.VPid.{VPid}
 use Rattle.sys_abi.specs.declared.identity.Slot.{Slot}
 use Rattle.sys_abi.proofs.OrderLaws.{slot_total, slot_exact}
-use Rattle.plain_tables.specs.declared.process.Maker.{Maker}
-use Rattle.plain_tables.specs.declared.description.Descriptor.{Descriptor}
+use Rattle.sys_abi.specs.declared.maker.Maker.{Maker}
+use Rattle.sys_abi.specs.declared.descriptor.Descriptor.{Descriptor}
 use Rattle.plain_tables.specs.Tables.{Processes, Makers, Descriptors, Descriptions, Channels, Listeners, pid, slot, lives_in, refers_to, is_held, same_host}
 use Rattle.plain_tables.specs.Ends.{shared_at, shared_below}
 use Rattle.plain_tables.specs.Valid.Descriptions.{AreDescriptors, AreDescriptions, AreHolders, IsOwner}

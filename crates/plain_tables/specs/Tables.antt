@@ -13,8 +13,8 @@ use Rattle.sys_abi.specs.Orders.{vpid_cmp, desc_cmp, slot_cmp, conn_cmp, dir_cmp
 use Rattle.sys_abi.specs.Names.{name_cmp}
 use Rattle.sys_abi.specs.Signals.{has_signal, with_signal, without_signal}
 use Rattle.plain_tables.specs.declared.process.Process.{Process}
-use Rattle.plain_tables.specs.declared.process.Maker.{Maker}
-use Rattle.plain_tables.specs.declared.description.Descriptor.{Descriptor}
+use Rattle.sys_abi.specs.declared.maker.Maker.{Maker}
+use Rattle.sys_abi.specs.declared.descriptor.Descriptor.{Descriptor}
 use Rattle.plain_tables.specs.declared.description.Description.{Description}
 use Rattle.plain_tables.specs.declared.channel.Channel.{Channel}
 use Rattle.plain_tables.specs.declared.channel.Direction.{Direction}

@@ -3,7 +3,7 @@ ghost use Rattle.plain_tables.specs.Tables as words;
 
 use id_maps::BySlot;
 use std::alloc::{AllocError, Global};
-use sys_abi::{ConnId, DescId, VirtAddr};
+use sys_abi::{ConnId, DescId, Descriptor, VirtAddr};
 use views::duplicate::Duplicate;
 
 /// What an open description stands for.
@@ -32,20 +32,7 @@ pub struct Description {
     pub owner: u32,
 }
 
-/// A descriptor: the description that it refers to, and its close-on-exec flag.
-#[derive(Clone, Copy, Debug, PartialEq, Eq)]
-pub struct Descriptor {
-    pub desc: DescId,
-    pub cloexec: bool,
-}
-
 impl Duplicate for Description {
-    fn duplicate(&self, alloc: Global) -> Result<Self, AllocError> {
-        Ok(*self)
-    }
-}
-
-impl Duplicate for Descriptor {
     fn duplicate(&self, alloc: Global) -> Result<Self, AllocError> {
         Ok(*self)
     }

@@ -5,10 +5,10 @@ ghost use Rattle.plain_tables.specs.Ends as words;
 ghost use Rattle.plain_tables.specs.Tables.{changed_at};
 
 use crate::description::Description;
-use crate::process::{Maker, Process};
+use crate::process::Process;
 use id_maps::{ByDesc, ByPid};
 use std::alloc::Global;
-use sys_abi::{Life, VPid};
+use sys_abi::{Life, Maker, VPid};
 use views::number_map::NumberMap;
 
 /// The parent of a process that nobody waits for.

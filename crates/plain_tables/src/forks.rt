@@ -4,11 +4,10 @@ ghost use Rattle.std.specs.FinMap as map;
 ghost use Rattle.plain_tables.specs.Ends as words;
 ghost use Rattle.plain_tables.specs.Tables.{slot};
 
-use crate::description::Descriptor;
 use crate::process::Process;
 use id_maps::BySlot;
 use std::alloc::{AllocError, Global};
-use sys_abi::{Life, Slot, VPid};
+use sys_abi::{Descriptor, Life, Slot, VPid};
 use views::number_map::NumberMap;
 
 /// A process of this parent with one thread, of its own number.

@@ -19,6 +19,6 @@ pub mod process;
 pub mod threads;
 
 pub use channel::{Channel, ChannelEnd, ChannelKind, Direction, Listening};
-pub use description::{Description, Descriptor, Object};
+pub use description::{Description, Object};
 pub use ends::NOBODY;
-pub use process::{Maker, Process};
+pub use process::Process;

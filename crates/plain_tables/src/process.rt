@@ -13,13 +13,6 @@ pub struct Process {
     pub threads: NumberMap<u32>,
 }
 
-/// Where a process runs, and its running number for the channels and descriptions that it makes.
-#[derive(Clone, Copy, Debug, PartialEq, Eq)]
-pub struct Maker {
-    pub host: u32,
-    pub made: u32,
-}
-
 impl Duplicate for Process {
     fn duplicate(&self, alloc: Global) -> Result<Self, AllocError> {
         Ok(Process {
@@ -28,11 +21,5 @@ impl Duplicate for Process {
             pending: self.pending,
             threads: self.threads.duplicate(alloc)?,
         })
-    }
-}
-
-impl Duplicate for Maker {
-    fn duplicate(&self, alloc: Global) -> Result<Self, AllocError> {
-        Ok(*self)
     }
 }

@@ -1,97 +1,108 @@
--- A wait for any child, which goes over the processes in the order of their numbers, finds the least one that has ended.
-use Rattle.std.proofs.Common.{◌≡◌, Ordering, Less, Equal, Greater, ℕ, Bool, true, false, T, not, ◌&&◌, List, [], ◌∷◌, refl, sym, ap, subst, ◌∙◌}
-use Rattle.std.specs.Prelude.{Some, if◌then◌else◌}
-use Rattle.std.specs.Ordering.{is_eq, is_le}
+-- A wait for any child, which goes over the processes in the order of their numbers, finds the least child
+-- that has ended, said of each child.
+--     finding found        what a wait finds, as the least child that gives a status
+--     finds-any            what a wait for any child finds, as the least entry of a map
+--     finds-wait_any, finds_for      the same in the words of a wait
+use Rattle.std.proofs.Common.{◌≡◌, ℕ, Bool, true, false, cond, not, ◌&&◌, List, [], ◌∷◌}
+use Rattle.std.proofs.Common.{refl, sym, ap, subst, ◌∙◌}
+use Rattle.std.specs.Prelude.{Option, Some, None, is_some, IsTrue}
 use Rattle.std.specs.FinMap as map
-use Rattle.std.specs.FinMap.{is_sorted}
-use Rattle.std.specs.FinMap.Entries.{below_all}
-use Rattle.views.proofs.MapLaws.{true_false, key_tied}
-use Rattle.views.proofs.MapValues.{EachEntry, each_entry, at_entry}
-use Rattle.views.proofs.Passes.{first, second, less}
+use Rattle.std.proofs.lemmas.Option.{same_Some, none-some}
+use Rattle.views.specs.Leasts.{this_first, least_of, FindsLeast}
+use Rattle.views.proofs.Leasts.{finds-least_of}
 use Rattle.sys_abi.specs.declared.identity.RealPid.{RealPid}
 use Rattle.sys_abi.specs.declared.life.Life.{Life}
 use Rattle.sys_abi.specs.declared.life.Life.TheVariants.{Live, Zombie}
 use Rattle.sys_abi.specs.Lives.{lives}
-use Rattle.sys_abi.specs.Orders.{real_pid_cmp}
 use Rattle.sys_abi.proofs.OrderLaws.{real_pid_total, real_pid_exact}
 use Rattle.proc_book.specs.declared.process.Process.{Process}
 use Rattle.proc_book.specs.declared.waiting.Waiting.{Waiting}
 use Rattle.proc_book.specs.declared.waiting.Waiting.TheVariants.{NoChild, NotReady, Ended}
 use Rattle.proc_book.specs.Processes.{is_live, is_child_of}
 use Rattle.proc_book.specs.Ends.{Processes, is_zombie_child}
-use Rattle.proc_book.specs.Procs.{ended_first, wait_any}
-use Rattle.proc_book.specs.Waits.{IsChild, IsEnded, Finds}
+use Rattle.proc_book.specs.Procs.{status_by, status_of, ended_first, wait_any, wait_for}
+use Rattle.proc_book.specs.Waits.{Finds}
 
-le_where_eq : (r : Ordering) → is_eq r ≡ true → is_le r ≡ true
-le_where_eq Less is = refl
-le_where_eq Equal is = refl
-le_where_eq Greater is = true_false (sym is)
+abbrev pub finding : Waiting → Option (Option (RealPid × ℕ))
+finding NoChild = None
+finding NotReady = Some None
+finding (Ended r status) = Some (Some (r, status))
 
-no_child : (p : RealPid) (process : Process) → is_child_of p process ≡ false → is_zombie_child p process ≡ false
-no_child p process none = ap (λ b. b && not (is_live process)) none
+finding-ended_first : (r : RealPid) (life : Life) (later : Waiting)
+    → finding (ended_first r life later) ≡ this_first r (status_by life) (finding later)
+finding-ended_first r (Zombie status) later = refl
+finding-ended_first r Live NoChild = refl
+finding-ended_first r Live NotReady = refl
+finding-ended_first r Live (Ended q status) = refl
 
-no_zombie : (p : RealPid) (process : Process) → is_child_of p process ≡ true → process.life ≡ Live → is_zombie_child p process ≡ false
-no_zombie p process child live = ap (λ b. b && not (is_live process)) child ∙ ap (λ life. not (lives life)) live
+one_before : (r : RealPid) (life : Life) (later : Waiting) (found : Option (Option (RealPid × ℕ)))
+    (child : Bool) → finding later ≡ found → finding (cond child (ended_first r life later) later)
+    ≡ cond child (this_first r (status_by life) found) found
+one_before r own later found true is = finding-ended_first r own later ∙ ap (this_first r (status_by own)) is
+one_before r own later found false is = is
 
-module _ (p : RealPid) where
-  none_zombie : (es : List (RealPid × Process)) → EachEntry (λ r q. is_child_of p q ≡ false) es → EachEntry (λ r q. is_zombie_child p q ≡ false) es
-  none_zombie [] each = tt
-  none_zombie (e ∷ es) each = (no_child p e.1 each.0, none_zombie es each.1)
+finding-wait_any : (p : RealPid) (es : List (RealPid × Process))
+    → finding (wait_any p es) ≡ least_of (is_child_of p) status_of es
+finding-wait_any p [] = refl
+finding-wait_any p (e ∷ es) =
+    one_before e.0 e.1.life (wait_any p es) (least_of (is_child_of p) status_of es) (is_child_of p e.1)
+    (finding-wait_any p es)
 
-  abbrev NoneBefore : RealPid → List (RealPid × Process) → Type 0
-  NoneBefore r es = EachEntry (λ q process. is_zombie_child p process ≡ true → is_le (real_pid_cmp r q) ≡ true) es
+pub finds-any : (p : RealPid) (m : Processes)
+    → FindsLeast (is_child_of p) status_of m (finding (wait_any p (map.entries m)))
+finds-any p m =
+    subst (FindsLeast (is_child_of p) status_of m) (sym (finding-wait_any p (map.entries m)))
+    (finds-least_of real_pid_total real_pid_exact (is_child_of p) status_of m)
 
-  all_above : (r : RealPid) (es : List (RealPid × Process)) → T (below_all real_pid_cmp r es) → NoneBefore r es
-  all_above r [] below = tt
-  all_above r (e ∷ es) below = ((λ zombie. ap is_le (less _ (first _ _ below))), all_above r es (second _ _ below))
+-- a status is that of a zombie
+no_status : (life : Life) → status_by life ≡ None → not (lives life) ≡ false
+no_status Live none = refl
+no_status (Zombie status) none = absurd (none-some status (sym none))
 
-  module _ (m : Processes) where
-    abbrev FindsIn : List (RealPid × Process) → Waiting → Type 0
-    FindsIn es NoChild = EachEntry (λ r q. is_child_of p q ≡ false) es
-    FindsIn es NotReady = ((r : RealPid) × IsChild m p r) × EachEntry (λ r q. is_zombie_child p q ≡ false) es
-    FindsIn es (Ended r status) = IsEnded m p r status × NoneBefore r es
+a_status : (life : Life) → not (lives life) ≡ true → is_some (status_by life) ≡ true
+a_status Live zombie = zombie
+a_status (Zombie status) zombie = refl
 
-    other_first : (e : RealPid × Process) (es : List (RealPid × Process)) (found : Waiting) → is_child_of p e.1 ≡ false → FindsIn es found → FindsIn (e ∷ es) found
-    other_first e es NoChild other rest = (other, rest)
-    other_first e es NotReady other rest = (rest.0, (no_child p e.1 other, rest.1))
-    other_first e es (Ended r status) other rest = (rest.0, ((λ zombie. true_false (sym zombie ∙ no_child p e.1 other)), rest.1))
+its_status : (life : Life) (status : ℕ) → status_by life ≡ Some status → life ≡ Zombie status
+its_status Live status is = absurd (none-some status is)
+its_status (Zombie own) status is = ap Zombie (same_Some own status is)
 
-    live_first : (e : RealPid × Process) (es : List (RealPid × Process)) (found : Waiting) → map.get m e.0 ≡ Some e.1 → is_child_of p e.1 ≡ true → e.1.life ≡ Live → FindsIn es found
-        → FindsIn (e ∷ es) (ended_first e.0 Live found)
-    live_first e es NoChild there child live rest = ((e.0, record { process = e.1; there = there; child = child }), (no_zombie p e.1 child live, none_zombie es rest))
-    live_first e es NotReady there child live rest = (rest.0, (no_zombie p e.1 child live, rest.1))
-    live_first e es (Ended r status) there child live rest = (rest.0, ((λ zombie. true_false (sym zombie ∙ no_zombie p e.1 child live)), rest.1))
+no_zombie : (p : RealPid) (process : Process) (child : Bool) → is_child_of p process ≡ child
+    → (IsTrue child → status_of process ≡ None) → is_zombie_child p process ≡ false
+no_zombie p process true is none =
+    ap (λ b. b && not (is_live process)) is ∙ no_status process.life (none refl)
+no_zombie p process false is none = ap (λ b. b && not (is_live process)) is
 
-    child_first : (e : RealPid × Process) (es : List (RealPid × Process)) (found : Waiting) (life : Life) → T (below_all real_pid_cmp e.0 es) → map.get m e.0 ≡ Some e.1 → is_child_of p e.1 ≡ true → e.1.life ≡ life
-        → FindsIn es found → FindsIn (e ∷ es) (ended_first e.0 life found)
-    child_first e es found Live below there child is rest = live_first e es found there child is rest
-    child_first e es found (Zombie status) below there child is rest = (
-      record { process = e.1; there = there; child = child; ended = is },
-      ((λ zombie. le_where_eq (real_pid_cmp e.0 e.0) (key_tied real_pid_total real_pid_exact e.0)), all_above e.0 es below),
-    )
+both_true : (b c : Bool) → (b && c) ≡ true → (b ≡ true) × (c ≡ true)
+both_true true c is = (refl, is)
+both_true false c is = (is, absurd (nothing is))
+  where
+    nothing : false ≡ true → ⊥
+    nothing e = subst (λ b. cond b ⊥ (Unit {0})) e tt
 
-    one_first : (e : RealPid × Process) (es : List (RealPid × Process)) (found : Waiting) (child : Bool) → T (below_all real_pid_cmp e.0 es) → map.get m e.0 ≡ Some e.1 → is_child_of p e.1 ≡ child
-        → FindsIn es found → FindsIn (e ∷ es) (if child then ended_first e.0 e.1.life found else found)
-    one_first e es found true below there is rest = child_first e es found e.1.life below there is refl rest
-    one_first e es found false below there is rest = other_first e es found is rest
+module _ (p : RealPid) (m : Processes) where
+  finds_all : (found : Waiting) → FindsLeast (is_child_of p) status_of m (finding found) → Finds m p found
+  finds_all NoChild told = told
+  finds_all NotReady told = record {
+    child = told.0.key;
+    there = record { process = told.0.value; there = told.0.there; child = told.0.asked };
+    live = λ r process is. no_zombie p process (is_child_of p process) refl (told.1 r process is);
+  }
+  finds_all (Ended r status) told = record {
+    child = record {
+      process = told.value;
+      there = told.there;
+      child = told.asked;
+      ended = its_status told.value.life status told.given;
+    };
+    least = λ q process is zombie.
+        let tests = both_true (is_child_of p process) (not (is_live process)) zombie in
+        told.least q process is tests.0 (a_status process.life tests.1);
+  }
 
-    finds_in : (es : List (RealPid × Process)) → T (is_sorted real_pid_cmp es) → EachEntry (λ r q. map.get m r ≡ Some q) es → FindsIn es (wait_any p es)
-    finds_in [] sorted there = tt
-    finds_in (e ∷ es) sorted there =
-        one_first e es (wait_any p es) (is_child_of p e.1) (first _ _ sorted) there.0 refl (finds_in es (second _ _ sorted) there.1)
+  pub finds-wait_any : Finds m p (wait_any p (map.entries m))
+  finds-wait_any = finds_all (wait_any p (map.entries m)) (finds-any p m)
 
-    finds_all : (found : Waiting) → FindsIn (map.entries m) found → Finds m p found
-    finds_all NoChild told = λ r process is. at_entry real_pid_total real_pid_exact (λ r q. is_child_of p q ≡ false) m r process told is
-    finds_all NotReady told = record {
-      child = told.0.0;
-      there = told.0.1;
-      live = λ r process is. at_entry real_pid_total real_pid_exact (λ r q. is_zombie_child p q ≡ false) m r process told.1 is;
-    }
-    finds_all (Ended r status) told = record {
-      child = told.0;
-      least = λ q process is zombie. at_entry real_pid_total real_pid_exact (λ k v. is_zombie_child p v ≡ true → is_le (real_pid_cmp r k) ≡ true) m q process told.1 is zombie;
-    }
-
-    pub finds-wait_any : Finds m p (wait_any p (map.entries m))
-    finds-wait_any =
-        finds_all (wait_any p (map.entries m)) (finds_in (map.entries m) (map.entries_sorted m) (each_entry real_pid_total real_pid_exact (λ r q. map.get m r ≡ Some q) m (λ r q is. is)))
+  pub finds_for : (child : Option RealPid) → child ≡ None → Finds m p (wait_for m p child)
+  finds_for None any = finds-wait_any
+  finds_for (Some child) any = absurd (none-some child (sym any))

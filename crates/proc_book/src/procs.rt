@@ -245,6 +245,7 @@ impl Procs {
     /// Waits for this child, or for any: the least one that has ended is gone then. Answers it with its status.
     pub fn wait(&mut self, p: RealPid, child: Option<RealPid>) -> Result<(RealPid, u32), ProcFault>
         ensures answer { result ≡ words.waited (words.wait_for self.old.processes p child) }
+        ensures least { child ≡ None → Finds self.old.processes p (words.wait_for self.old.processes p child) }
         ensures gone { self.new ≡ record self.old {
           processes =
               words.after_wait (words.wait_for self.old.processes p child) self.old.processes;

@@ -1,11 +1,15 @@
 -- Ports at which somebody listens, one after the other.
+--     all_ports-many      where somebody listens at each port of a node, there are as many listeners
 use Rattle.std.proofs.Common.{◌≡◌, ℕ, ◌+◌, ◌<◌, ◌≤◌, Bool, true, false, inl, inr, refl, ap, ◌∙◌, sym, arith}
 use Rattle.std.specs.Prelude.{Option, Some, None, is_some}
 use Rattle.std.specs.Cmp.{nat_cmp_total}
 use Rattle.std.specs.FinMap as map
 use Rattle.std.specs.FinMap.{nat_cmp-IsAntisymmetric}
 use Rattle.views.proofs.MapLaws.{true_false, same_or_other}
-use Rattle.wire_net.specs.Listeners.{Listeners, real, AreUsed, IsNextPort}
+use Rattle.views.proofs.Counting.{at_keys}
+use Rattle.sys_abi.specs.declared.identity.RealAddr.{RealAddr}
+use Rattle.sys_abi.proofs.OrderLaws.{real_address_total, real_address_exact}
+use Rattle.wire_net.specs.Listeners.{Listeners, real, AreUsed, AllPortsUsed, IsNextPort}
 use Rattle.wire_net.specs.declared.limits.TheConstants.{PORT_COUNT}
 
 pub none_there : {A : Type 0} (found : Option A) → is_some found ≡ false → found ≡ None
@@ -33,3 +37,12 @@ next_port-found m node base port found before told is low high = record {
   free = none_there (map.get m (real node port)) (sym told ∙ is);
   before = before;
 }
+
+-- so a table with fewer listeners has a port left
+pub all_ports-many : (m : Listeners) (node base : ℕ) → AllPortsUsed m node base → PORT_COUNT ≤ map.len m
+all_ports-many m node base used =
+    at_keys real_address_total real_address_exact (λ i. real node (base + i)) apart PORT_COUNT m
+    (λ i below. used (base + i) (omega arith) (omega (arith, below)))
+  where
+    apart : (i j : ℕ) → real node (base + i) ≡ real node (base + j) → i ≡ j
+    apart i j same = let ports = ap (λ (at : RealAddr). at.port) same in omega (arith, ports)

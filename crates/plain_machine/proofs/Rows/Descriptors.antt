@@ -14,8 +14,8 @@ use Rattle.sys_abi.proofs.OrderLaws.{slot_total, slot_exact}
 use Rattle.plain_machine.specs.declared.kernel.PlainKernel.{PlainKernel}
 use Rattle.plain_machine.specs.declared.commands.FcntlCommand.{FcntlCommand}
 use Rattle.plain_machine.specs.declared.commands.FcntlCommand.TheVariants.{DupFd, GetFd, SetFd, GetFl, SetFl, SetOwn, GetOwn, DupFdCloexec}
-use Rattle.plain_tables.specs.declared.process.Maker.{Maker}
-use Rattle.plain_tables.specs.declared.description.Descriptor.{Descriptor}
+use Rattle.sys_abi.specs.declared.maker.Maker.{Maker}
+use Rattle.sys_abi.specs.declared.descriptor.Descriptor.{Descriptor}
 use Rattle.plain_tables.specs.Tables.{pid, slot, same_host}
 use Rattle.plain_tables.specs.Valid.Descriptions.{IsOwner}
 use Rattle.plain_process.specs.Attempts.{need}

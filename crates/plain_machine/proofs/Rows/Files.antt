@@ -18,7 +18,7 @@ use Rattle.sys_abi.specs.Flags.{has_flag}
 use Rattle.plain_machine.specs.declared.kernel.PlainKernel.{PlainKernel}
 use Rattle.plain_tables.specs.declared.description.Object.{Object}
 use Rattle.plain_tables.specs.declared.description.Object.TheVariants.{File}
-use Rattle.plain_tables.specs.declared.process.Maker.{Maker}
+use Rattle.sys_abi.specs.declared.maker.Maker.{Maker}
 use Rattle.plain_tables.specs.Tables.{Makers, slot}
 use Rattle.plain_tables.specs.Valid.Files.{IsName}
 use Rattle.plain_process.specs.Attempts.{Gives, need, refuse_if, found}

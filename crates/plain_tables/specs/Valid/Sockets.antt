@@ -10,8 +10,8 @@ use Rattle.sys_abi.specs.declared.identity.DescId.{DescId}
 use Rattle.sys_abi.specs.declared.identity.ConnId.{ConnId}
 use Rattle.sys_abi.specs.declared.identity.VirtAddr.{VirtAddr}
 use Rattle.plain_process.specs.Valid.{Each}
-use Rattle.plain_tables.specs.declared.process.Maker.{Maker}
-use Rattle.plain_tables.specs.declared.description.Descriptor.{Descriptor}
+use Rattle.sys_abi.specs.declared.maker.Maker.{Maker}
+use Rattle.sys_abi.specs.declared.descriptor.Descriptor.{Descriptor}
 use Rattle.plain_tables.specs.declared.description.Description.{Description}
 use Rattle.plain_tables.specs.declared.description.Object.{Object}
 use Rattle.plain_tables.specs.declared.description.Object.TheVariants.{Socket, Listener}

@@ -1,4 +1,4 @@
-use Rattle.std.proofs.Common.{◌≡◌, sym, ap, subst, ◌∙◌}
+use Rattle.std.proofs.Common.{sym, ap, subst, ◌∙◌}
 use Rattle.proc_book.specs.Procs.{ProcTable, wait_for}
 use Rattle.proc_book.specs.Waits.{Finds}
 use Rattle.proc_book.proofs.Leasts.{finds-wait_any}
