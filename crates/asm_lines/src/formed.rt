@@ -13,7 +13,7 @@ use asm_parts::operands::{one, two};
 use asm_parts::quoted::quoted;
 use asm_parts::register::register;
 use asm_parts::text::{name_in, without_spaces};
-use rv_isa::Op;
+use plain_process::Op;
 
 /// The register of return addresses.
 const RA: u8 = 1;

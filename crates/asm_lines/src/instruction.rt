@@ -12,7 +12,7 @@ use asm_parts::number::{signed_number, upper_number};
 use asm_parts::operands::{based, three, two};
 use asm_parts::register::register;
 use asm_parts::text::name_in;
-use rv_isa::{Insn, Op};
+use plain_process::{Insn, Op};
 
 /// An instruction with these registers and no immediate.
 pub(crate) fn of_registers(op: Op, rd: u8, rs1: u8, rs2: u8) -> Insn

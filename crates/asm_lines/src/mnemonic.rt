@@ -2,7 +2,7 @@ ghost use Rattle.std.specs.Prelude.{◌≡◌, find};
 ghost use Rattle.std.specs.Str.{bytes_eq};
 ghost use Rattle.asm_lines.specs.Mnemonics.{mnemonic, op_named, operands_of};
 
-use rv_isa::Op;
+use plain_process::Op;
 
 /// Which operands an instruction has, in the order in which they are written.
 #[derive(Clone, Copy)]

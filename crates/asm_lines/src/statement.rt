@@ -1,4 +1,4 @@
-use rv_isa::Insn;
+use plain_process::Insn;
 
 /// What a line of a program's text says.
 #[derive(Clone, Copy)]

@@ -9,9 +9,9 @@ use Rattle.plain_process.specs.declared.instruction.Insn.{Insn}
 use Rattle.plain_process.specs.declared.instruction.Op.{Op}
 use Rattle.plain_process.specs.declared.instruction.Op.TheVariants.{Lui}
 use Rattle.plain_process.specs.Instructions.{encoding, match_of, rows, decoded}
-use Rattle.rv_isa.specs.Validity.{IsValid}
-use Rattle.rv_isa.specs.Words.{word_of}
-use Rattle.rv_isa.proofs.WordLaws.{word_of-decoded}
+use Rattle.rv_words.specs.Validity.{IsValid}
+use Rattle.rv_words.specs.Words.{word_of}
+use Rattle.rv_words.proofs.WordLaws.{word_of-decoded}
 use Rattle.rv_asm.specs.Labels.{Puts}
 use Rattle.rv_asm.specs.Pieces.{same_insn, is_read_as, has_word, is_aligned, bytes_of, given, insn_at, pair_at}
 

@@ -6,3 +6,4 @@ pub mod ElfRules
 pub mod Whole
 pub mod Steps
 pub mod TwoParts
+pub mod Rings

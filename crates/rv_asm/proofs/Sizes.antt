@@ -5,7 +5,7 @@ use Rattle.std.proofs.lemmas.Bool.{false≢true}
 use Rattle.std.proofs.lemmas.Bool.Decides.{nat_tests}
 use Rattle.std.proofs.lemmas.List.{length-replicate}
 use Rattle.plain_process.specs.declared.instruction.Insn.{Insn}
-use Rattle.rv_isa.specs.Words.{word_of}
+use Rattle.rv_words.specs.Words.{word_of}
 use Rattle.asm_lines.specs.Statements.{Statement, nothing, label, one, aimed, constant, address, word, bytes, align}
 use Rattle.rv_asm.specs.Layout.{Lines, Label, HEADERS, LIMIT, FAR, size_at, placed_after, place_of, line_at, end_of, labels_of, label_in}
 use Rattle.rv_asm.specs.Pieces.{given, bytes_of, insn_at, pair_at, aimed_at, address_at, label_at, statement_at, piece, piece_of, has_word, is_aligned}

@@ -7,10 +7,10 @@ use Rattle.plain_process.specs.declared.instruction.Insn.{Insn}
 use Rattle.plain_process.specs.declared.instruction.Op.{Op}
 use Rattle.plain_process.specs.declared.instruction.Op.TheVariants.{Lui, Auipc, Addi}
 use Rattle.plain_process.specs.Instructions.{encoding, decoded, row_of, insn_of, immediate, sign_extended, signed}
-use Rattle.rv_isa.specs.Fields.{fits}
-use Rattle.rv_isa.specs.Validity.{IsValid}
-use Rattle.rv_isa.proofs.Exclusive.{row_of-match}
-use Rattle.rv_isa.proofs.Fields.{same_test}
+use Rattle.rv_words.specs.Fields.{fits}
+use Rattle.rv_words.specs.Validity.{IsValid}
+use Rattle.rv_words.proofs.Exclusive.{row_of-match}
+use Rattle.rv_words.proofs.Fields.{same_test}
 use Rattle.asm_lines.specs.Lines.{insn}
 use Rattle.rv_asm.specs.Pieces.{with_immediate, upper, lower, PartsFit}
 use Rattle.rv_asm.proofs.InsnWords.{valid_is}

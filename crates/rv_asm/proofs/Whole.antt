@@ -61,7 +61,7 @@ begins lines body is =
 
 -- ---- the whole file
 
-header_bytes : (entry size : ℕ) (body : List ℕ) → length (headers entry size ++ body) ≡ 84 + length body
+pub header_bytes : (entry size : ℕ) (body : List ℕ) → length (headers entry size ++ body) ≡ 84 + length body
 unfolding headers
 header_bytes entry size body = length-append (headers entry size) body
 

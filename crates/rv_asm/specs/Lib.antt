@@ -3,3 +3,4 @@ pub mod Pieces
 pub mod Files
 pub mod Labels
 pub mod Answers
+pub mod Ring

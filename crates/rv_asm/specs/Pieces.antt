@@ -11,7 +11,7 @@ use Rattle.std.specs.Str.{bytes_eq}
 use Rattle.plain_process.specs.declared.instruction.Insn.{Insn}
 use Rattle.plain_process.specs.declared.instruction.Op.TheVariants.{Lui, Auipc, Addi}
 use Rattle.plain_process.specs.Instructions.{decoded, match_of, signed}
-use Rattle.rv_isa.specs.Words.{word_of}
+use Rattle.rv_words.specs.Words.{word_of}
 use Rattle.asm_parts.specs.Texts.{Text}
 use Rattle.asm_lines.specs.Lines.{insn}
 use Rattle.asm_lines.specs.Statements.{Statement, nothing, label, one, aimed, constant, address, word, bytes, align}

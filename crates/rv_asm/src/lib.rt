@@ -7,7 +7,7 @@
 //!
 //! Proved: where each line keeps the rules the file is the one of its lines, and `elf32` finds no fault in
 //! it; `Line` names the least line that breaks a rule, and comes only where there is one. An instruction's
-//! word is the one of `rv_isa`, so that it is decoded as that instruction, and the two of `li` and `la` always
+//! word is the one of `rv_words`, so that it is decoded as that instruction, and the two of `li` and `la` always
 //! fit and add up to their number ([`word_laws`]). Not proved: that memory is wanted only where there is none
 //! (`worked_asm` has ample memory).
 //!
@@ -20,8 +20,10 @@ mod elf_file;
 mod labels;
 mod layout;
 mod piece;
+mod ring;
 mod words;
 
 pub use asm_fault::AsmFault;
 pub use assembler::assemble;
+pub use ring::ring_program;
 pub use words::word_laws;

@@ -12,7 +12,7 @@ use crate::layout::{MOST_BYTES, padding, placed_after};
 use crate::words::{distance, is_aligned, put_insn, put_two_parts, put_word, with_immediate};
 use asm_lines::Statement;
 use asm_parts::quoted::put_spelled;
-use rv_isa::{Insn, Op};
+use rv_words::{Insn, Op};
 use std::alloc::AllocError;
 
 /// The label at which a program starts.

@@ -3,7 +3,7 @@ ghost use Rattle.asm_lines.specs.Lines.{insn};
 ghost use Rattle.rv_asm.specs.Labels.{Adds};
 ghost use Rattle.rv_asm.specs.Pieces.{has_word, distance, with_immediate, upper, is_aligned, word_at, insn_at, pair_at, two_parts, WordsDecode, PartsFit, PartsAdd};
 
-use rv_isa::{Insn, Op, encode, is_valid};
+use rv_words::{Insn, Op, encode, is_valid};
 use std::alloc::AllocError;
 
 /// Whether an instruction may begin at this place.

@@ -3,12 +3,13 @@
 //!
 //! A line `= NAME` begins a case, whose text is the lines up to the next one; `- NAME` begins one whose last
 //! line has no newline at its end. A file of more than 400 bytes behind the headers is told by the sum of its
-//! bytes. `stdout` was made by `tools/assembling`, a model written from the words of the documentation, which
+//! bytes, and that of `ring_program`, whose text is `examples/ring.s`, is told to be it. `stdout` was made by
+//! `tools/assembling`, a model written from the words of the documentation, which
 //! `tools/compare_with_binutils.py` compares with the GNU assembler. Nothing is proved here but that the
 //! program is safe and ends.
 #![tactic(auto)]
 
-use rv_asm::{AsmFault, assemble};
+use rv_asm::{AsmFault, assemble, ring_program};
 use std::alloc::{AllocError, Global};
 use std::io;
 
@@ -69,8 +70,13 @@ fn shown(alloc: Global, name: &str, file: &[u8]) -> Result<String, AllocError> {
     } else {
         format!(in alloc; "sum {}", sum(body))?
     };
+    let named = if file == ring_program(alloc)?.as_slice() {
+        ", the ring's program"
+    } else {
+        ""
+    };
     format!(in alloc;
-        "{name}: {} bytes, entry {:x}: {bytes}\n",
+        "{name}: {} bytes, entry {:x}: {bytes}{named}\n",
         file.len(),
         entry(file)
     )
