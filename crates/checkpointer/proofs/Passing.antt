@@ -9,8 +9,8 @@ use Rattle.sys_abi.specs.declared.identity.Dir.{Dir}
 use Rattle.sys_abi.specs.declared.record.Record.{Record}
 use Rattle.sys_abi.specs.declared.record.Record.TheVariants.{Cut, Drained, Refilled, Complete}
 use Rattle.edge_io.specs.Sink.{appended}
-use Rattle.set_disk.specs.SeenFolder.{SeenFolder}
-use Rattle.set_disk.specs.Moments.{LeavesOnly}
+use Rattle.disk_folder.specs.SeenFolder.{SeenFolder}
+use Rattle.disk_folder.specs.Moments.{LeavesOnly}
 use Rattle.image_store.specs.StoreCrashes.{ChangesNothing}
 use Rattle.plain_machine.specs.declared.plain.Plain.{Plain}
 use Rattle.plain_machine.specs.Records.{outcome, quiet}

@@ -10,10 +10,10 @@ use Rattle.views.proofs.MapLaws.{true_false}
 use Rattle.sys_abi.specs.declared.record.Record.{Record}
 use Rattle.sys_abi.specs.declared.record.Record.TheVariants.{Complete, Refused}
 use Rattle.sys_abi.specs.declared.record.Cause.TheVariants.{DiskFault}
-use Rattle.set_disk.specs.Files.{FolderFiles as Folder}
-use Rattle.set_disk.specs.Moments.{LeavesOnly}
-use Rattle.set_disk.proofs.Stretches.{joins, weakens, told_then}
-use Rattle.set_disk.specs.SeenFolder.{SeenFolder}
+use Rattle.disk_folder.specs.Files.{FolderFiles as Folder}
+use Rattle.disk_folder.specs.Moments.{LeavesOnly}
+use Rattle.disk_folder.proofs.Stretches.{joins, weakens, told_then}
+use Rattle.disk_folder.specs.SeenFolder.{SeenFolder}
 use Rattle.plain_machine.specs.declared.plain.Plain.{Plain}
 use Rattle.trace_log.specs.Requests.{CutAt}
 use Rattle.checkpointer.specs.Sets.{SpellsState}

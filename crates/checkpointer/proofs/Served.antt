@@ -13,9 +13,9 @@ use Rattle.sys_abi.specs.declared.record.Record.TheVariants.{Cut, Complete, Refu
 use Rattle.sys_abi.specs.declared.record.Cause.{Cause}
 use Rattle.sys_abi.specs.declared.record.Cause.TheVariants.{Unsupported, DiskFault, Memory}
 use Rattle.edge_io.specs.Sink.{appended}
-use Rattle.set_disk.specs.Files.{FolderFiles as Folder}
-use Rattle.set_disk.specs.Moments.{LeavesOnly}
-use Rattle.set_disk.specs.SeenFolder.{SeenFolder}
+use Rattle.disk_folder.specs.Files.{FolderFiles as Folder}
+use Rattle.disk_folder.specs.Moments.{LeavesOnly}
+use Rattle.disk_folder.specs.SeenFolder.{SeenFolder}
 use Rattle.plain_machine.specs.declared.plain.Plain.{Plain}
 use Rattle.plain_machine.specs.Tests.{ended, full_arrive}
 use Rattle.trace_log.specs.declared.requests.Schedule.{Schedule}

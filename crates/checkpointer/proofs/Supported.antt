@@ -14,7 +14,7 @@ use Rattle.plain_tables.specs.declared.description.Object.TheVariants.{Datagram,
 use Rattle.sys_abi.proofs.OrderLaws.{slot_total, slot_exact, desc_total, desc_exact}
 use Rattle.plain_tables.specs.declared.channel.Direction.{Direction}
 use Rattle.plain_tables.specs.declared.description.Description.{Description}
-use Rattle.plain_tables.specs.declared.description.Descriptor.{Descriptor}
+use Rattle.sys_abi.specs.declared.descriptor.Descriptor.{Descriptor}
 use Rattle.plain_tables.specs.Tables.{refers_to, is_held}
 use Rattle.plain_machine.specs.declared.plain.Plain.{Plain}
 use Rattle.plain_machine.specs.declared.kernel.PlainKernel.{PlainKernel}

@@ -14,9 +14,9 @@ use Rattle.checkpointer.specs.Sets.{SpellsState}
 use Rattle.image_store.specs.StoreCrashes.{OldOrNew}
 use Rattle.image_store.specs.declared.store_fault.StoreFault.{StoreFault}
 use Rattle.image_store.specs.declared.store_fault.StoreFault.TheVariants as disk_failed
-use Rattle.set_disk.specs.Files.{FolderFiles as Folder}
-use Rattle.set_disk.specs.Moments.{LeavesOnly}
-use Rattle.set_disk.specs.SeenFolder.{SeenFolder}
+use Rattle.disk_folder.specs.Files.{FolderFiles as Folder}
+use Rattle.disk_folder.specs.Moments.{LeavesOnly}
+use Rattle.disk_folder.specs.SeenFolder.{SeenFolder}
 use Rattle.plain_machine.specs.declared.plain.Plain.{Plain}
 use Rattle.trace_log.specs.Requests.{CutAt}
 use Rattle.image_store.specs.Slots.{last}

@@ -8,7 +8,7 @@
 --     opening_of files                  the generation of the set that counts, 0 where none does
 use Rattle.std.specs.Prelude.{◌≡◌, ◌⊎◌, ℕ, ◌≤◌, List, Some}
 use Rattle.std.specs.Option.{option_map_or}
-use Rattle.set_disk.specs.Files.{FolderFiles}
+use Rattle.disk_folder.specs.Files.{FolderFiles}
 use Rattle.plain_machine.specs.declared.plain.Plain.{Plain}
 use Rattle.image_format.specs.declared.damage.Damage.{Damage}
 use Rattle.image_process.specs.declared.process_image.ProcImage.{ProcImage}

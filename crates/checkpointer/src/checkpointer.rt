@@ -11,9 +11,9 @@ ghost use Rattle.checkpointer.specs.UnderWay.{IsUnderWay, IsBrokenOff, WaitsIfAs
 
 use crate::unsupported::first_unsupported;
 use computation::{Computation, Stop};
+use disk_folder::Folder;
 use edge_io::Sink;
 use image_store::Store;
-use set_disk::Folder;
 use std::alloc::Global;
 use sys_abi::{Cause, Record};
 use trace_log::{Progress, Schedule, Tally, Trace};

@@ -35,7 +35,9 @@ use Rattle.plain_machine.specs.Kernel.{after_take}
 use Rattle.plain_machine.specs.Serve.{serve}
 use Rattle.plain_machine.specs.Valid.{IsValid}
 use Rattle.plain_machine.specs.Records.{Outcome, outcome, quiet, living, users_after, stands, with_user, if_ends, is_unready, delivered, deliverable, outcome_of_user, outcome_of_lent, outcome_of_serve, outcome_of_signal, outcome_of_pending}
+use Rattle.plain_machine.proofs.LocalBounds.{asks_there}
 use Rattle.guest_proc.specs.Guests.{GuestPart}
+use Rattle.guest_proc.proofs.LocalAnswers.{local_fault}
 use Rattle.computation.specs.declared.computation.Computation.{Computation}
 use Rattle.computation.specs.Computations.{plain_of}
 use Rattle.computation.specs.Parts.{Guests, kernel_found, delivery_at}
@@ -66,11 +68,15 @@ pub fault_goes : (g : Plain) (p : VPid) (t : Tid) (user : UserPart) (q : Request
     → outcome g (Call p t) ≡ Some (quiet (with_user g p (put_fault user t.0 q)))
 fault_goes g p t user q there asks faults = asked g p t user q there asks ∙ ap (outcome_of_lent g p t.0 user q) faults
 
-pub local_goes : (g : Plain) (p : VPid) (t : Tid) (user : UserPart) (q : Request) (given : List ℕ) → map.get g.users p ≡ Some user → user_step user t.0 ≡ Asks q → lent user.memory q ≡ Some given
-    → is_local q ≡ true → outcome g (Call p t) ≡ Some (quiet (with_user g p (local_row user t.0 q)))
-local_goes g p t user q given there asks reads local =
-    asked g p t user q there asks ∙ ap (outcome_of_lent g p t.0 user q) reads
-    ∙ ap (λ b. cond b (Some (quiet (with_user g p (local_row user t.0 q)))) (outcome_of_serve g p t.0 user q (serve g.kernel p t.0 q given))) local
+-- a call that the process answers alone, also where its buffers aren't readable or writable as it needs
+pub local_goes : (g : Plain) (p : VPid) (t : Tid) (user : UserPart) (q : Request) → map.get g.users p ≡ Some user → user_step user t.0 ≡ Asks q → is_local q ≡ true
+    → outcome g (Call p t) ≡ Some (quiet (with_user g p (local_row user t.0 q)))
+local_goes g p t user q there asks local = asked g p t user q there asks ∙ by_lent (lent user.memory q) refl
+  where
+    by_lent : (read : Option (List ℕ)) → lent user.memory q ≡ read → outcome_of_lent g p t.0 user q read ≡ Some (quiet (with_user g p (local_row user t.0 q)))
+    by_lent None faults = ap (λ (u : UserPart). Some (quiet (with_user g p u))) (local_fault user t.0 q (asks_there user t.0 q asks) (ap is_some faults))
+    by_lent (Some given) reads =
+        ap (λ b. cond b (Some (quiet (with_user g p (local_row user t.0 q)))) (outcome_of_serve g p t.0 user q (serve g.kernel p t.0 q given))) local
 
 pub serve_goes : (g : Plain) (p : VPid) (t : Tid) (user : UserPart) (q : Request) (given : List ℕ) (served : Served) → map.get g.users p ≡ Some user → user_step user t.0 ≡ Asks q
     → lent user.memory q ≡ Some given → is_local q ≡ false → serve g.kernel p t.0 q given ≡ Some served
@@ -174,6 +180,9 @@ found_part guests p guest is = get-map_values (λ (guest : GuestPart). guest.use
 
 pub nobody : {X : Type 0} (o : Option X) (x : X) → o ≡ None → o ≡ Some x → ⊥
 nobody o x none some = let no : None ≡ Some x = sym none ∙ some in cc
+
+pub same_some : (one other : GuestPart) → Some one ≡ Some other → one ≡ other
+same_some one other both = cc
 
 pub same_part : (guests : Guests) (p : VPid) (guest : GuestPart) (user : UserPart) → Some guest ≡ map.get guests p → map.get (map_values (λ guest. guest.user) guests) p ≡ Some user → guest.user ≡ user
 same_part guests p guest user is there = let both : Some guest.user ≡ Some user = sym (found_part guests p guest is) ∙ there in cc

@@ -110,14 +110,11 @@ impl Computation {
         ensures cause { IsFaultOf result Stop.Sink (O.seen out.old).faults (O.seen out.new).faults }
         ensures later { (O.seen out.old).faults ≤ (O.seen out.new).faults }
     {
+        if is_local(request) {
+            return self.local_call(alloc, p, t, request, trace);
+        }
         match self.lend(p, t, request) {
-            Ok(()) => {
-                if is_local(request) {
-                    self.local_call(alloc, p, t, request, trace)
-                } else {
-                    self.kernel_call(alloc, p, t, request, out, trace)
-                }
-            }
+            Ok(()) => self.kernel_call(alloc, p, t, request, out, trace),
             Err(LendFault::Fault) => {
                 self.refuse(p, t, request, trace);
                 Ok(())
@@ -162,7 +159,7 @@ impl Computation {
         trace.append(Record::Call { p, t });
     }
 
-    /// Serves a call that the process answers alone.
+    /// Serves a call that the process answers alone, which reads its buffers itself.
     pub(crate) fn local_call(
         &mut self,
         alloc: Global,
@@ -173,8 +170,6 @@ impl Computation {
     ) -> Result<(), Stop>
         requires ready { IsReady self.old }
         requires asks { AsksAt (plain_of self.old).users p t.0 request.now }
-        requires given { (user : UserPart) → user_at self.old p ≡ Some user
-            → lent user.memory request.now ≡ Some self.old.transfer }
         requires local { is_local request.now ≡ true }
         requires room { 0 < trace.old.room }
         ensures ok { OnOk result ((taken : _) → Takes (plain_of self.old) (plain_of self.new)

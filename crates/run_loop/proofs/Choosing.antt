@@ -9,7 +9,7 @@ use Rattle.std.proofs.lemmas.List.Sums.{count_by-le-length}
 use Rattle.views.proofs.MapLaws.{true_false}
 use Rattle.sys_abi.specs.declared.record.Record.{Record}
 use Rattle.sys_abi.specs.declared.record.Record.TheVariants.{User, Call, Deliver}
-use Rattle.set_disk.specs.SeenFolder.{SeenFolder}
+use Rattle.disk_folder.specs.SeenFolder.{SeenFolder}
 use Rattle.plain_machine.specs.declared.plain.Plain.{Plain}
 use Rattle.plain_machine.specs.Tests.{is_work}
 use Rattle.trace_log.specs.declared.requests.Schedule.{Schedule}

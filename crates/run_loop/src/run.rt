@@ -16,9 +16,9 @@ ghost use Rattle.run_loop.specs.Going.{IsGoing, IsChosen, HasEnded, end_of};
 use crate::run_end::RunEnd;
 use crate::start::Start;
 use computation::Stop;
+use disk_folder::Folder;
 use edge_io::Sink;
 use scheduler::{Chosen, Made, Rounds};
-use set_disk::Folder;
 use std::alloc::Global;
 use trace_log::Trace;
 

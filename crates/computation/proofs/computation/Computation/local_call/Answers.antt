@@ -18,7 +18,7 @@ returns-clause-ok c taken =
     let asks = c.requires.asks in
     let same = same_part c.args.self.now.guests c.args.p c.in-Some.guest.now asks.user c.in-Some.ensures.value asks.there in
     put_takes c.args.self.now _ c.args.p c.local.new.self (local_row asks.user c.args.t.0 c.args.request.now) (Call c.args.p c.args.t)
-    (local_goes (plain_of c.args.self.now) c.args.p c.args.t asks.user c.args.request.now c.args.self.now.transfer asks.there asks.asks (c.requires.given asks.user asks.there) c.requires.local)
+    (local_goes (plain_of c.args.self.now) c.args.p c.args.t asks.user c.args.request.now asks.there asks.asks c.requires.local)
     (on_some c.in-Some.is (c.get_mut.follows.holds c.local.new.self))
     (ap (λ (g : GuestPart). g.user) c.in_ok-local.ensures.ok ∙ ap (λ (u : UserPart). local_row u c.args.t.0 c.args.request.now) same) c.args.trace.now c.append.new.self taken c.append.ensures
 
