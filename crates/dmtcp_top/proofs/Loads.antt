@@ -9,10 +9,10 @@ use Rattle.std.specs.List.{Contains}
 use Rattle.std.specs.Option.{ForSome, option_map_or}
 use Rattle.sys_abi.specs.declared.record.Record.{Record}
 use Rattle.sys_abi.specs.declared.record.Record.TheVariants.{Complete}
-use Rattle.set_disk.specs.Files.{FolderFiles as Folder}
-use Rattle.set_disk.specs.Crash.{Same}
-use Rattle.set_disk.proofs.Stretches.{joins, weakens, told_then}
-use Rattle.set_disk.specs.SeenFolder.{SeenFolder}
+use Rattle.disk_folder.specs.Files.{FolderFiles as Folder}
+use Rattle.disk_folder.specs.Crash.{Same}
+use Rattle.disk_folder.proofs.Stretches.{joins, weakens, told_then}
+use Rattle.disk_folder.specs.SeenFolder.{SeenFolder}
 use Rattle.dmtcp_top.specs.Sessions.{Beginning}
 use Rattle.trace_log.specs.Requests.{first_tally}
 use Rattle.image_store.specs.declared.set_info.SetInfo.{SetInfo}

@@ -11,7 +11,7 @@ use Rattle.std.specs.Prelude.{◌≡◌, ◌≢◌, ℕ, ◌⊎◌, ◌↔◌, L
 use Rattle.sys_abi.specs.declared.record.Record.{Record}
 use Rattle.elf32.specs.declared.fault.ElfFault.{ElfFault}
 use Rattle.edge_io.specs.Inputs.{NamedFiles}
-use Rattle.set_disk.specs.Files.{FolderFiles as Folder}
+use Rattle.disk_folder.specs.Files.{FolderFiles as Folder}
 use Rattle.plain_machine.specs.declared.plain.Plain.{Plain}
 use Rattle.image_format.specs.declared.damage.Damage.{Damage}
 use Rattle.image_store.specs.Slots.{last as set_that_counts}

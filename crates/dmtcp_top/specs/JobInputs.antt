@@ -81,8 +81,8 @@ bytes_in failed = []
 
 abbrev pub sum_refusal : List FileInput → Option Refusal
 sum_refusal files =
-    if nat_lt 67108864 (sum_by (λ (input : FileInput). length (bytes_in input.content)) files) then Some too_big
-    else None
+    if nat_lt 67108864 (sum_by (λ (input : FileInput). length (bytes_in input.content)) files)
+    then Some too_big else None
 
 -- for a name that is not held; for a program; for the sum of the files
 abbrev pub IsMissing : Option Refusal → Type 0

@@ -1,14 +1,14 @@
 -- What beginning a run gives: a computation at its start with its checkpointer, or how the call ends without
 -- them.
 use Rattle.std.specs.Prelude.{◌≡◌, ◌≢◌, ℕ, List, Option, None, Result, Ok, Err, IfSome}
-use Rattle.set_disk.specs.Moments.{LeavesOnly}
+use Rattle.disk_folder.specs.Moments.{LeavesOnly}
 use Rattle.image_store.specs.declared.set_info.SetInfo.{SetInfo}
 use Rattle.image_store.specs.StoreStates.{Known}
 use Rattle.image_store.specs.StoreCrashes.{ChangesNothing}
 use Rattle.checkpointer.specs.Keeping.{Counts}
 use Rattle.edge_io.specs.Inputs.{NamedFiles}
-use Rattle.set_disk.specs.Files.{FolderFiles as Folder}
-use Rattle.set_disk.specs.SeenFolder.{SeenFolder}
+use Rattle.disk_folder.specs.Files.{FolderFiles as Folder}
+use Rattle.disk_folder.specs.SeenFolder.{SeenFolder}
 use Rattle.image_codec.specs.Sets.{DamagedFiles}
 use Rattle.image_store.specs.Slots.{last}
 use Rattle.trace_log.specs.LogText.{at_start}

@@ -27,7 +27,7 @@ use Rattle.plain_process.specs.Valid.{IsByte}
 use Rattle.plain_machine.specs.Valid.{IsValid}
 use Rattle.trace_log.specs.declared.requests.Schedule.{Schedule}
 use Rattle.trace_log.specs.Requests.{is_mark}
-use Rattle.set_disk.specs.Files.{FolderFiles as Folder}
+use Rattle.disk_folder.specs.Files.{FolderFiles as Folder}
 use Rattle.endings.specs.declared.status.Status.{Status}
 use Rattle.endings.specs.declared.status.Status.TheVariants.{Done, Budget, Stuck, Memory as WantsMemory}
 use Rattle.dmtcp_top.specs.Jobs.{NameNoEvery}

@@ -9,9 +9,9 @@
 use Rattle.std.specs.Prelude.{◌≡◌, ◌⊎◌, ℕ, List, Option, Some}
 use Rattle.std.specs.Option.{ForSome}
 use Rattle.sys_abi.specs.declared.record.Record.{Record}
-use Rattle.set_disk.specs.Files.{FolderFiles as Folder}
-use Rattle.set_disk.specs.Moments.{LeavesOnly}
-use Rattle.set_disk.specs.SeenFolder.{SeenFolder}
+use Rattle.disk_folder.specs.Files.{FolderFiles as Folder}
+use Rattle.disk_folder.specs.Moments.{LeavesOnly}
+use Rattle.disk_folder.specs.SeenFolder.{SeenFolder}
 use Rattle.plain_machine.specs.declared.plain.Plain.{Plain}
 use Rattle.image_format.specs.declared.damage.Damage.{Damage}
 use Rattle.endings.specs.declared.status.Status.{Status}
@@ -54,8 +54,8 @@ pub record IsPromised (status : Status) (words : List (List ℕ)) (trace : List 
   pub sink_failed : status ≡ SinkFault → StreamsFailed before after
   pub disk_failed : status ≡ DiskFault → FolderFailed before after
   -- Where no stream failed the words decide whether it is Usage; where no input failed either, what the
-  -- inputs hold decides whether a launch is refused, but for want of memory; and where nothing outside failed,
-  -- what the call was given decides the rest in the same way.
+  -- inputs hold decides whether a launch is refused, but for want of memory; and where nothing outside
+  -- failed, what the call was given decides the rest in the same way.
   pub usage : (StreamsFailed before after → ⊥) → WordsDecide status words
   pub inputs : (InputsFailed before after → ⊥) → (StreamsFailed before after → ⊥)
       → InputsDecide status (given_in words before)

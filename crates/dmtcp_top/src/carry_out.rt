@@ -8,11 +8,11 @@ ghost use Rattle.dmtcp_top.specs.Sessions.{outside};
 
 use crate::loading::begin;
 use crate::settings::Settings;
+use disk_folder::Folder;
 use edge_io::{Inputs, Sink};
 use endings::{Ending, Status};
 use job_words::Job;
 use run_loop::RunEnd;
-use set_disk::Folder;
 use std::alloc::Global;
 use trace_log::Trace;
 

@@ -16,6 +16,7 @@ use crate::read_inputs::look_at_bytes;
 use crate::settings::Settings;
 use checkpointer::{Checkpointer, restored};
 use computation::Computation;
+use disk_folder::Folder;
 use edge_io::Inputs;
 use endings::{Ending, Status};
 use image_codec::{ReadFault, SetBytes};
@@ -23,7 +24,6 @@ use image_store::{SetInfo, Store, StoreFault};
 use job_words::{Job, LaunchJob};
 use rebuild::decode_set;
 use run_loop::Start;
-use set_disk::Folder;
 use std::alloc::Global;
 use views::list_of::ListOf;
 

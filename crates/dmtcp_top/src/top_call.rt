@@ -5,9 +5,9 @@ ghost use Rattle.dmtcp_top.specs.Jobs.{MakesNoCheckpoints};
 
 use crate::carry_out::carry_out;
 use crate::job::read_job;
+use disk_folder::Folder;
 use edge_io::{Inputs, Sink};
 use endings::Status;
-use set_disk::Folder;
 use std::alloc::Global;
 use std::sync::Wait;
 use std::thread::Threads;

@@ -13,7 +13,7 @@ use Rattle.sys_abi.specs.declared.identity.RealPid.{RealPid}
 use Rattle.sys_abi.specs.Orders.{desc_cmp}
 use Rattle.sys_abi.proofs.OrderLaws.{desc_total, desc_exact}
 use Rattle.fd_book.specs.declared.description.Desc.{Desc}
-use Rattle.fd_book.specs.declared.description.Descriptor.{Descriptor}
+use Rattle.sys_abi.specs.declared.descriptor.Descriptor.{Descriptor}
 use Rattle.fd_book.specs.Books.{Books, slot, refers_to, with_owner, changed_or_same, with_changed, IsHolder}
 use Rattle.fd_book.specs.Numbers.{NoneOpen, IsLowestOpen}
 use Rattle.leader_vote.specs.Elections.{leader_of, is_holder, after_vote_of, after_vote, after_vote_by}

@@ -3,11 +3,11 @@ use plain_files::descriptors::{close, dup, dup3, fcntl};
 use plain_files::files::{lseek, openat, unlinkat};
 use plain_machine::answer::Attempt;
 use plain_machine::{FIRST_PID, PlainKernel};
-use plain_tables::{Maker, Object};
+use plain_tables::Object;
 use std::alloc::{AllocError, Global};
 use std::test::Fail;
 use sys_abi::flags::AT_FDCWD;
-use sys_abi::{Reply, VPid};
+use sys_abi::{Maker, Reply, VPid};
 use views::list_of::ListOf;
 
 pub const FIRST: VPid = VPid(FIRST_PID);

@@ -1,7 +1,7 @@
 use crate::fault::CaseFault;
 use crate::mnemonics::{MNEMONICS, Operands, REGISTERS};
 use crate::numbers::Numbers;
-use rv_isa::{Insn, Op, encode, is_valid};
+use rv_words::{Insn, Op, encode, is_valid};
 
 /// The word of the instruction that these words spell: a mnemonic, and operands with or without
 /// commas between them.

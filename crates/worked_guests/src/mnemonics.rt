@@ -1,4 +1,4 @@
-use rv_isa::Op;
+use rv_words::Op;
 
 /// Which operands an instruction has, in the order in which they are written.
 #[derive(Clone, Copy)]

@@ -5,11 +5,11 @@ use plain_sockets::connections::{accept, connect};
 use plain_sockets::sockets::{
     bind, getpeername, getsockname, listen, setsockopt, shutdown, socket,
 };
-use plain_tables::{Description, Descriptor, Object};
+use plain_tables::{Description, Object};
 use std::alloc::{AllocError, Global};
 use std::process::Abort;
 use std::test::Fail;
-use sys_abi::{DescId, Reply, Slot, VPid};
+use sys_abi::{DescId, Descriptor, Reply, Slot, VPid};
 
 /// On host 3, whose address is 10.0.0.4.
 pub const FIRST: VPid = VPid(FIRST_PID);

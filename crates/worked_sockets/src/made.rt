@@ -2,14 +2,14 @@
 use crate::asking::Want::{Fails, Gives, Writes};
 use crate::asking::{Call, FIRST, OWN_80, SECOND, STREAM, Step, Want, after, put, same, says};
 use plain_machine::PlainKernel;
-use plain_tables::{Channel, ChannelEnd, ChannelKind, Maker, Object};
+use plain_tables::{Channel, ChannelEnd, ChannelKind, Object};
 use std::alloc::AllocError;
 use std::process::Abort;
 use std::test::Fail;
 use sys_abi::errors::{
     EAFNOSUPPORT, EBADF, EINVAL, EISCONN, EMFILE, ENFILE, ENOTCONN, ENOTSOCK, EOPNOTSUPP,
 };
-use sys_abi::{ConnId, DescId, Slot};
+use sys_abi::{ConnId, DescId, Maker, Slot};
 
 /// 4 has O_NONBLOCK and O_CLOEXEC. Also what a socket that isn't connected refuses.
 const KINDS: &[Step] = &[

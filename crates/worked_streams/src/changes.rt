@@ -3,10 +3,10 @@ use crate::answers::bytes_text;
 use crate::lines::Line;
 use crate::setting::{FILE, FIRST, THREAD, refer};
 use plain_machine::PlainKernel;
-use plain_tables::{Direction, Maker, Object};
+use plain_tables::{Direction, Object};
 use std::alloc::{AllocError, Global};
 use sys_abi::flags::O_RDWR;
-use sys_abi::{Dir, VirtAddr};
+use sys_abi::{Dir, Maker, VirtAddr};
 
 /// What came of the line, None where it is another one.
 pub fn change_of(

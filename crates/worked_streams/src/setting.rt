@@ -1,7 +1,7 @@
 use plain_machine::{FIRST_PID, PlainKernel};
-use plain_tables::{Descriptor, Object};
+use plain_tables::Object;
 use std::alloc::{AllocError, Global};
-use sys_abi::{DescId, Tid, VPid};
+use sys_abi::{DescId, Descriptor, Tid, VPid};
 use views::list_of::ListOf;
 
 /// The process that calls.

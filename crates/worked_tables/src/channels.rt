@@ -1,6 +1,6 @@
 use crate::asserting::{holds, same};
-use conn_table::{Conn, ConnFault, ConnTable, Maker};
-use sys_abi::{ConnId, DescId, Fd, Kind, VPid, VirtAddr};
+use conn_table::{Conn, ConnFault, ConnTable};
+use sys_abi::{ConnId, DescId, Fd, Kind, Maker, VPid, VirtAddr};
 
 const FIRST: VPid = VPid(40000);
 
