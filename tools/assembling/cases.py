@@ -1,6 +1,10 @@
 """The worked cases of crates/worked_asm: its standard input, and what it must print."""
 
+import pathlib
+
 import model
+
+RING = (pathlib.Path(__file__).parents[2] / "examples/ring.elf").read_bytes()
 
 
 def read_cases(path):
@@ -22,4 +26,5 @@ def said(name, text):
     entry = int.from_bytes(file[24:28], "little")
     body = file[model.HEADERS :]
     shown = body.hex() if len(body) <= 400 else f"sum {sum(body)}"
-    return f"{name}: {len(file)} bytes, entry {entry:x}: {shown}"
+    named = ", the ring's program" if file == RING else ""
+    return f"{name}: {len(file)} bytes, entry {entry:x}: {shown}{named}"
