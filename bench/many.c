@@ -21,6 +21,7 @@ static void await_child(void) { wait(0); }
 static void make_pipe(word ends[2]) { if (pipe((int *)ends)) exit(1); }
 static long get(word end, void *to, word count) { return read(end, to, count); }
 static long put(word end, const void *from, word count) { return write(end, from, count); }
+static void shut(word end) { close(end); }
 static void *pages(word bytes) { return mmap(0, bytes, PROT_READ | PROT_WRITE, MAP_PRIVATE | MAP_ANONYMOUS, -1, 0); }
 static void make_pair(word ends[2]) { if (socketpair(AF_UNIX, SOCK_STREAM, 0, (int *)ends)) exit(1); }
 static int is_same(const char *a, const char *b) { return !strcmp(a, b); }
@@ -34,13 +35,14 @@ static void await_child(void) { wait_for_child(0); }
 static void make_pipe(word ends[2]) { if (is_error(pipe(ends))) exit_group(1); }
 static int get(word end, void *to, word count) { return read(end, to, count); }
 static int put(word end, const void *from, word count) { return call(WRITE, end, (word)from, count, 0); }
+static void shut(word end) { close(end); }
 static void *pages(word bytes) { return (void *)mmap(bytes); }
 static void make_pair(word ends[2]) { if (is_error(call(199, 1, STREAM, 0, (word)ends))) exit_group(1); }
 static int is_same(const char *a, const char *b) { while (*a && *a == *b) a++, b++; return *a == *b; }
 static word number_in(const char *text) { word n = 0; while (*text) n = n * 10 + (*text++ - '0'); return n; }
 #endif
 
-enum { PIECE = 65536, PAGE = 4096, PARTNERS = 15 };
+enum { PIECE = 65536, PAGE = 4096, PARTNERS = 15, IDLE = 127 };
 
 static char piece[PIECE];
 
@@ -93,6 +95,34 @@ static void full(word count)
         ;
 }
 
+/* A channel with both ends here; it is full both ways where that is asked for. */
+static void make_channel(word ends[2], int is_full)
+{
+    make_pair(ends);
+    for (word side = 0; is_full && side < 2; side++)
+        put(ends[side], piece, PIECE);
+}
+
+/* So many rounds over 128 processes, a call of the first in each. The others wait: each has a channel with the first, from
+ * which it reads, or to which it writes where it is full, and another with itself, 254 in all. */
+static void rounds(word count, int is_full)
+{
+    for (word child = 0; child < IDLE; child++) {
+        word ends[2], own[2];
+        make_channel(ends, is_full);
+        if (fork_child() == 0) {
+            make_channel(own, is_full);
+            if (is_full)
+                put(ends[1], piece, 1);
+            else
+                get(ends[1], piece, 1);
+            end_child();
+        }
+        shut(ends[1]);
+    }
+    calls(count);
+}
+
 int main(int words, char **word_at)
 {
     word ends[2], count = words > 2 ? number_in(word_at[2]) : 1;
@@ -110,5 +140,9 @@ int main(int words, char **word_at)
         forks(count, 7168);
     if (is_same(word_at[1], "full"))
         full(count);
+    if (is_same(word_at[1], "rounds"))
+        rounds(count, 0);
+    if (is_same(word_at[1], "rounds-full"))
+        rounds(count, 1);
     return 0;
 }

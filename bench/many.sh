@@ -1,7 +1,8 @@
 #!/usr/bin/env bash
 # Times what calls of several processes cost the built program: calls, pipes, streams and forks, beside the same program
 # (many.c) built for the host, where the same calls are Linux's; and a checkpoint of 16 processes whose channels are full,
-# beside a plain write and fsync of files of as many bytes. Seconds of the processor (user and system), the least of RUNS runs.
+# beside a plain write and fsync of files of as many bytes; and rounds over 128 processes that wait at 254 channels, empty and
+# full, beside as many calls of one process alone. Seconds of the processor (user and system), the least of RUNS runs.
 # Usage: many.sh [RUNS], after `cd crates/dmtcp && rt run -- --version` has built crates/dmtcp/out/dmtcp, or with another program of
 # the same words in DMTCP.
 set -eu
@@ -15,7 +16,7 @@ cp "$here/many.elf" "$folder/"
 cd "$folder"
 
 guest() {
-    "$program" launch --records 4000000 "0:many.elf,$1,$2" 2>log || { cat log >&2; exit 1; }
+    "$program" launch --records 4000000 "0:many.elf,$1,$2" 2>log || [ "$(cat log)" = stuck ] || { cat log >&2; exit 1; }
 }
 
 native() {
@@ -55,3 +56,12 @@ without=$(time_of "$program" launch --records 4000 0:many.elf,full,1000000000 ||
 plain=$(time_of sh -c 'for f in dmtcp_set/s0_*; do dd if="$f" of="plain_${f##*/}" bs=16M conv=fsync; done')
 awk -v s="$sets" -v b="$bytes" -v w="$with" -v o="$without" -v p="$plain" \
     'BEGIN { printf "full: %d sets of %.1f MB, %.1f ms each; plain files with fsync %.1f ms\n", s, b / 1e6, (w - o) * 1000 / s, p * 1000 }'
+
+# time_of_rounds TASK COUNT: microseconds of a round, without what comes before the rounds
+time_of_rounds() {
+    awk -v n="$2" -v all="$(best guest "$1" "$2")" -v none="$(best guest "$1" 0)" \
+        'BEGIN { printf "%.2f", (all - none) * 1e6 / n }'
+}
+rounds=50000
+printf 'rounds over 128 processes that wait: %s us each with empty channels, %s us with full ones; a call of one alone %s us\n' \
+    "$(time_of_rounds rounds $rounds)" "$(time_of_rounds rounds-full $rounds)" "$(time_of_rounds calls $rounds)"
