@@ -6,7 +6,7 @@ use Rattle.job_words.specs.declared.job.Job.{Job}
 use Rattle.job_words.specs.declared.job.Job.TheVariants as job
 use Rattle.job_words.specs.declared.job.NamedProgram.{NamedProgram}
 use Rattle.job_words.specs.declared.outline.Outline.{Outline}
-use Rattle.job_words.specs.declared.outline.Outline.TheVariants.{Launch, Restart, Other}
+use Rattle.job_words.specs.declared.outline.Outline.TheVariants.{Launch, Restart, Ring, Help}
 
 abbrev pub hosts_used : List NamedProgram → ℕ
 hosts_used programs = fold (λ count program. max count (program.host + 1)) 0 programs
@@ -21,5 +21,5 @@ outline_of (job.Restart asked) = Restart (record {
   pid_base = asked.pid_base;
   port_base = asked.port_base;
 })
-outline_of (job.Ring asked) = Other
-outline_of job.Help = Other
+outline_of (job.Ring asked) = Ring (record { workers = asked.workers })
+outline_of job.Help = Help

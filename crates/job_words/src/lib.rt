@@ -27,6 +27,6 @@ mod word_fault;
 
 pub use job::{Job, LaunchJob, NamedProgram, RestartJob, RingJob};
 pub use option_words::FileName;
-pub use outline::{LaunchOutline, Outline, RestartOutline, outline_words};
+pub use outline::{LaunchOutline, Outline, RestartOutline, RingOutline, outline_words};
 pub use reader::{read_words, word_laws};
 pub use word_fault::WordFault;

@@ -1,4 +1,5 @@
-ghost use Rattle.std.specs.Prelude.{◌≡◌, ◌++◌, List, map, string_bytes};
+ghost use Rattle.std.specs.Prelude.{◌≡◌, ◌∷◌, ◌++◌, ℕ, List, map, string_bytes};
+ghost use Rattle.std.specs.Fmt.{decimal};
 ghost use Rattle.option_words.specs.declared.option_key.Form.TheVariants as form;
 ghost use Rattle.option_words.specs.Options.{Setting, AreSettings, given_or, words_of_all};
 ghost use Rattle.option_words.specs.declared.option_key.OptionKey.TheVariants as key;
@@ -17,8 +18,9 @@ use option_words::{Form, OptionKey, read_options};
 pub enum Outline {
     Launch(LaunchOutline),
     Restart(RestartOutline),
-    /// A ring, or the forms of the command line.
-    Other,
+    Ring(RingOutline),
+    /// The forms of the command line are asked for.
+    Help,
 }
 
 /// Where a launch runs.
@@ -40,17 +42,24 @@ pub struct RestartOutline {
     pub port_base: u32,
 }
 
+/// Where a ring runs.
+#[derive(Clone, Copy, Debug, PartialEq, Eq)]
+pub struct RingOutline {
+    pub workers: u32,
+}
+
 /// The outline of the job that the words ask for. Takes no memory. Of words that ask for none it tells nothing.
 pub fn outline_words(words: &[String]) -> Outline
     ensures { (job : Job) → IsJob (map string_bytes words.now) job → result ≡ outline_of job }
 {
     let Some((form, rest)) = words.split_first() else {
-        return Outline::Other;
+        return Outline::Help;
     };
     match form.as_str() {
         "launch" => Outline::Launch(launch_outline(rest)),
         "restart" => Outline::Restart(restart_outline(rest)),
-        _ => Outline::Other,
+        "ring" => Outline::Ring(ring_outline(rest)),
+        _ => Outline::Help,
     }
 }
 
@@ -91,5 +100,20 @@ fn restart_outline(words: &[String]) -> RestartOutline
         shift: options.get(OptionKey::Shift).unwrap_or(0),
         pid_base: options.get(OptionKey::PidBase).unwrap_or(2_000),
         port_base: options.get(OptionKey::PortBase).unwrap_or(30_000),
+    }
+}
+
+/// Where the ring runs of the words behind `ring`.
+fn ring_outline(words: &[String]) -> RingOutline
+    ensures { (n : ℕ) (given : List Setting) → AreSettings form.Ring given
+        → texts_of words.now ≡ decimal n ∷ words_of_all given
+        → result ≡ record { workers = given_or key.Workers given 0 } }
+{
+    let Some((_, words)) = words.split_first() else {
+        return RingOutline { workers: 0 };
+    };
+    let (options, _) = read_options(Form::Ring, words);
+    RingOutline {
+        workers: options.get(OptionKey::Workers).unwrap_or(0),
     }
 }

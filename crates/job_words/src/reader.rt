@@ -1,4 +1,4 @@
-ghost use Rattle.std.specs.Prelude.{◌≡◌, ◌↔◌, ℕ, [], ◌∷◌, codes, map, All, IsTrue, IfOk, Ok, Err, string_bytes};
+ghost use Rattle.std.specs.Prelude.{◌≡◌, ◌↔◌, ℕ, [], ◌∷◌, codes, map, All, IsTrue, IfOk, IfErr, Ok, Err, string_bytes};
 ghost use Rattle.job_words.specs.declared.word_fault.WordFault.TheVariants.{Usage};
 ghost use Rattle.job_words.specs.Commands.{Command, SpellNothing, OneCommand, HasNoZero};
 ghost use Rattle.job_words.specs.Jobs.{IsJob, OneJob};
@@ -18,10 +18,11 @@ const LEAST_RING: u32 = 2;
 const GREATEST_RING: u32 = 16;
 
 /// The job that the words ask for, which are those after the program's own name. `Usage` exactly where the words are of
-/// no command; it never gives way to want of memory.
+/// no command; it never gives way to want of memory. `help` alone wants none.
 pub fn read_words(alloc: Global, words: &[String]) -> Result<Job, WordFault>
     ensures found { IfOk result (IsJob (map string_bytes words.now)) }
     ensures usage { (result ≡ Err Usage) ↔ SpellNothing (map string_bytes words.now) }
+    ensures help { map string_bytes words.now ≡ codes "help" ∷ [] → IfErr result (λ fault. fault ≡ Usage) }
 {
     if are_plain(words) {
         read_form(alloc, words)
@@ -34,6 +35,7 @@ pub fn read_words(alloc: Global, words: &[String]) -> Result<Job, WordFault>
 fn read_form(alloc: Global, words: &[String]) -> Result<Job, WordFault>
     ensures found { IfOk result (AnswersFor (texts_of words.now)) }
     ensures usage { (result ≡ Err Usage) ↔ IsRefusal (texts_of words.now) }
+    ensures help { texts_of words.now ≡ codes "help" ∷ [] → IfErr result (λ fault. fault ≡ Usage) }
 {
     let Some((form, rest)) = words.split_first() else {
         return Err(WordFault::Usage);
@@ -117,6 +119,7 @@ fn ring(alloc: Global, words: &[String]) -> Result<Job, WordFault>
 fn help(words: &[String]) -> Result<Job, WordFault>
     ensures found { IfOk result (AnswersFor (codes "help" ∷ texts_of words.now)) }
     ensures usage { (result ≡ Err Usage) ↔ IsRefusal (codes "help" ∷ texts_of words.now) }
+    ensures ample { IfErr result (λ fault. fault ≡ Usage) }
 {
     if words.is_empty() {
         Ok(Job::Help)
