@@ -30,7 +30,7 @@ use Rattle.checkpointer.proofs.Sinks.{took_front}
 use Rattle.run_loop.specs.declared.run_end.RunEnd.{RunEnd}
 use Rattle.run_loop.specs.declared.run_end.RunEnd.TheVariants as run_ended
 use Rattle.run_loop.specs.Going.{HasEnded, end_of}
-use Rattle.run_loop.specs.RunEnds.{IsRun, Shown, ShownInPart, RanOut, FilledUp, GotStuck}
+use Rattle.run_loop.specs.RunEnds.{EndsAt, IsRun, Shown, ShownInPart, RanOut, FilledUp, GotStuck}
 
 -- lines that are cut off are a first part of all
 cut_front : (trace : List Record) (lines : List ℕ) (log : Sunk) → CutLines trace lines → Took log lines → TookFront log (log_text trace)
@@ -129,3 +129,8 @@ module _ (schedule : Schedule) (g h : Plain) (upcoming : Upcoming) (trace : Trac
 pub ended_so : {schedule : Schedule} {g : Plain} {room : ℕ} {trace : List Record} {sink log : Sunk} {first disk : SeenFolder} (end : RunEnd) (stop : Stop) → end ≡ end_of stop → HasEnded (end_of stop) schedule g room trace sink log first disk
     → HasEnded end schedule g room trace sink log first disk
 ended_so {schedule} {g} {room} {trace} {sink} {log} {first} {disk} end stop is ended = subst (λ e. HasEnded e schedule g room trace sink log first disk) (sym is) ended
+
+-- a run that was stopped did not come to its end
+pub ends_nowhere : (g : Plain) (trace : List Record) (state : Plain) (end : RunEnd) (stop : Stop) → end ≡ end_of stop → EndsAt end g trace state
+ends_nowhere g trace state end Sink is = subst (λ e. EndsAt e g trace state) (sym is) tt
+ends_nowhere g trace state end Memory is = subst (λ e. EndsAt e g trace state) (sym is) tt

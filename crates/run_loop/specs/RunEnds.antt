@@ -2,6 +2,7 @@
 --     IsRun schedule g room trace state      the trace is a run from g to this state
 --     EndsRun end schedule g room trace ..   how it ended, what the console took, and the log of the lines
 --                                            for the checkpoints
+--     EndsAt end g trace state               where nobody lives at its end, that is this state
 use Rattle.std.specs.Prelude.{◌≡◌, ◌⊎◌, ℕ, ◌≤◌, ◌<◌, true, false, List, length, Some}
 use Rattle.sys_abi.specs.declared.record.Record.{Record}
 use Rattle.plain_machine.specs.declared.plain.Plain.{Plain}
@@ -74,3 +75,7 @@ EndsRun SinkFault schedule g room trace sink log =
     ShownInPart schedule g room trace sink × TookFront log (log_text trace)
 EndsRun Memory schedule g room trace sink log =
     Shown schedule g room trace sink × TookFront log (log_text trace)
+
+abbrev pub EndsAt : RunEnd → Plain → List Record → Plain → Type 0
+EndsAt Done g trace state = run g trace ≡ Some state
+EndsAt _ g trace state = Unit {0}

@@ -9,7 +9,7 @@ ghost use Rattle.computation.specs.Sinks.{sunk};
 ghost use Rattle.scheduler.specs.Scheduling.{CanTake};
 ghost use Rattle.checkpointer.specs.Keeping.{IsKept, IsSafe};
 ghost use Rattle.checkpointer.specs.Rounds.{GoesInRounds};
-ghost use Rattle.run_loop.specs.RunEnds.{EndsRun};
+ghost use Rattle.run_loop.specs.RunEnds.{EndsAt, EndsRun};
 ghost use Rattle.run_loop.specs.Pace.{KeepsPace};
 ghost use Rattle.run_loop.specs.Going.{IsGoing, IsChosen, HasEnded, end_of};
 
@@ -49,6 +49,8 @@ impl Start {
             (sunk (L.seen log.old).taken (L.seen log.new).taken) }
         ensures in_rounds { GoesInRounds self.old.checkpointer.schedule
             (plain_of self.old.computation) trace.new.records }
+        ensures state { EndsAt result (plain_of self.old.computation) trace.new.records
+            (plain_of self.new.computation) }
         ensures safe { IsSafe (plain_of self.old.computation) trace.new.records (F.seen disk.old)
             (F.seen disk.new) }
         ensures untouched { self.old.checkpointer.schedule.every ≡ None → disk.new ≡ disk.old }

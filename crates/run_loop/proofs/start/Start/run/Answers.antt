@@ -5,7 +5,8 @@ use Rattle.plain_machine.specs.Tests.{ended}
 use Rattle.computation.specs.Computations.{plain_of}
 use Rattle.computation.specs.Turns.{NewRound}
 use Rattle.run_loop.proofs.Choosing.{chosen_so, ended_if, goes_on_if, is_free, none_left, work_is_few}
-use Rattle.run_loop.proofs.Ended.{at_end, at_full, at_memory, at_rest, ended_so}
+use Rattle.checkpointer.proofs.Running.{steps_of}
+use Rattle.run_loop.proofs.Ended.{at_end, at_full, at_memory, at_rest, ended_so, ends_nowhere}
 use Rattle.run_loop.proofs.Standstill.{stands_still}
 use Rattle.run_loop.proofs.Starting.{starting}
 use Rattle.run_loop.proofs.start.Start.run.Goals as goal
@@ -52,6 +53,11 @@ returns-then-not-lives-clause-ends g c =
     let going = l.invariant.going in
     let over = ended_if (ended (plain_of l.self.computation)) (sym c.lives.ensures ∙ c.if-not-lives.true) in
     (at_end _ (plain_of c.args.self.now.computation) (plain_of l.self.computation) going.upcoming l.trace _ c.args.trace.now.room l.self.checkpointer _ _ _ going.under going.settled (l.invariant.size ∙ c.room-room.ensures) over).ends
+
+pub returns-then-not-lives-clause-state : goal.returns-then-not-lives-clause-state
+returns-then-not-lives-clause-state g c =
+    let going = c.loop-record.invariant.going in
+    steps_of _ _ _ going.upcoming _ _ going.under.running
 
 pub returns-then-room-eq0-clause-ends : goal.returns-then-room-eq0-clause-ends
 returns-then-room-eq0-clause-ends g c =
@@ -109,6 +115,9 @@ returns-in-Err-clause-in_rounds g c =
     let ended = c.in-Err.ensures.ended s.checkpointer.schedule (plain_of s.computation) c.args.trace.now.room (g.O.Sink.seen c.args.out.now).taken (g.L.Sink.seen c.args.log.now).taken c.args.disk.now chosen (l.invariant.size ∙ c.room-room.ensures) in
     (ended_so _ _ c.ended_by.ensures ended).in_rounds
 
+pub returns-in-Err-clause-state : goal.returns-in-Err-clause-state
+returns-in-Err-clause-state g c = ends_nowhere _ _ _ c.ended_by.result c.in-Err.stop c.ended_by.ensures
+
 pub returns-in-Err-clause-safe : goal.returns-in-Err-clause-safe
 returns-in-Err-clause-safe g c =
     let l = c.loop-record in
@@ -152,3 +161,8 @@ returns-clause-ends g c =
     let going = l.invariant.going in
     let over = ended_if (ended (plain_of l.self.computation)) (sym c.lives-2.ensures ∙ c.if-lives.false) in
     (at_end _ (plain_of c.args.self.now.computation) (plain_of l.self.computation) going.upcoming l.trace _ c.args.trace.now.room l.self.checkpointer _ _ _ going.under going.settled (l.invariant.size ∙ c.room-room.ensures) over).ends
+
+pub returns-clause-state : goal.returns-clause-state
+returns-clause-state g c =
+    let going = c.loop-record.invariant.going in
+    steps_of _ _ _ going.upcoming _ _ going.under.running
