@@ -4,11 +4,12 @@
 use Rattle.std.specs.Prelude.{◌≡◌, ◌≢◌, ◌⊎◌, ℕ, List, [], ◌∷◌, Option, Some, None, codes}
 use Rattle.views.specs.Faults.{Rose}
 use Rattle.edge_io.specs.Sink.{SeenSink, appended}
+use Rattle.dmtcp_top.specs.Help.{help_text}
 use Rattle.endings.specs.declared.status.Status.{Status}
 use Rattle.endings.specs.declared.status.Status.TheVariants.{SinkFault}
 
 pub record Greets (words : List (List ℕ)) (text : Option (List ℕ)) : Type 0 where
-  pub help : words ≡ codes "--help" ∷ [] → text ≡ Some (codes "dmtcp launch [--every K] [--records M] [--file NAME].. HOST:NAME[,ARGUMENT]..\ndmtcp restart [--every K] [--records M]\n")
+  pub help : words ≡ codes "--help" ∷ [] → text ≡ Some help_text
   pub version : words ≡ codes "--version" ∷ [] → text ≡ Some (codes "dmtcp 0.1.0\n")
   pub none : words ≢ codes "--help" ∷ [] → words ≢ codes "--version" ∷ [] → text ≡ None
 

@@ -18,7 +18,7 @@ ghost use Rattle.std.specs.Process.{exit_status};
 ghost use Rattle.endings.specs.Statuses.{number_of};
 ghost use Rattle.dmtcp.specs.Answers.{Greets, Said};
 
-use dmtcp_top::{Status, dmtcp};
+use dmtcp_top::{FORMS, Status, dmtcp};
 use edge_io::{HostInputs, HostSink, Sink};
 use set_disk::HostFolder;
 use std::alloc::Global;
@@ -34,9 +34,6 @@ const TRACE_FILE: &str = "dmtcp.trace";
 
 /// Where the sets of checkpoints lie.
 const SET_FOLDER: &str = "dmtcp_set";
-
-const HELP: &str = "dmtcp launch [--every K] [--records M] [--file NAME].. HOST:NAME[,ARGUMENT]..\n\
-    dmtcp restart [--every K] [--records M]\n";
 
 const VERSION: &str = "dmtcp 0.1.0\n";
 
@@ -104,7 +101,7 @@ fn greeting(words: &[String]) -> Option<&'static str>
 {
     match words {
         [word] => match word.as_str() {
-            "--help" => Some(HELP),
+            "--help" => Some(FORMS),
             "--version" => Some(VERSION),
             _ => None,
         },

@@ -64,7 +64,7 @@ module _ (words : List (List ℕ)) (files : Option NamedFiles) (folder : Option 
 
   pub words_refused : (ending : Ending) → RefusesWords ending words → IsAtEnding ending unbegun_call log
   words_refused Usage why = usage_arrives why
-  words_refused Memory why = memory_arrives why
+  words_refused Memory why = memory_arrives why.0
   words_refused Done why = absurd why
   words_refused (InputFault who) why = absurd why
   words_refused (Missing who) why = absurd why

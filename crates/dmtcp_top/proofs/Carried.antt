@@ -2,24 +2,33 @@
 --     from_ok, from_err            whether the trace has its room
 --     begun_refused                no run was begun
 --     begun_arrives                a run was begun, and came to its end
---     every_is_some                a checkpoint is asked for after one record of work or more
-use Rattle.std.proofs.Common.{◌≡◌, ℕ, ◌<◌, true, List, [], Option, Some, None, sym, ap, subst, ◌∙◌}
+--     every_is_some, every_is_none     a checkpoint is asked for after one record of work or more, or none is
+--     refusal_is_no_end            where no run was begun it is not done
+--     done_at                      where it is done, the computation is the state there
+use Rattle.std.proofs.Common.{◌≡◌, ◌≢◌, ℕ, ◌<◌, true, List, [], Option, Some, None, sym, ap, subst, ◌∙◌}
 use Rattle.std.specs.Prelude.{IfSome, Result, Ok, Err, OnOk, OnErr, is_ok, is_err}
 use Rattle.sys_abi.specs.declared.record.Record.{Record}
 use Rattle.edge_io.specs.Inputs.{NamedFiles}
 use Rattle.disk_folder.specs.Files.{FolderFiles as Folder}
 use Rattle.trace_log.specs.declared.requests.Schedule.{Schedule}
+use Rattle.plain_machine.specs.declared.plain.Plain.{Plain}
+use Rattle.plain_machine.specs.Runs.{run}
+use Rattle.endings.specs.declared.status.Status.TheVariants.{Done as IsDone}
 use Rattle.endings.specs.declared.ending.Ending.{Ending}
+use Rattle.endings.specs.declared.ending.Ending.TheVariants as an_ending
+use Rattle.endings.specs.Endings.{status_of}
 use Rattle.job_words.specs.declared.job.Job.{Job}
+use Rattle.job_words.specs.declared.job.LaunchJob.{LaunchJob}
 use Rattle.job_words.specs.declared.job.Job.TheVariants.{Launch, Restart, Ring, Help}
 use Rattle.job_words.proofs.JobFacts.{launch_every, restart_every}
 use Rattle.run_loop.specs.declared.run_end.RunEnd.{RunEnd}
+use Rattle.run_loop.specs.declared.run_end.RunEnd.TheVariants.{Done as RunDone}
 use Rattle.run_loop.specs.declared.start.Start.{Start}
 use Rattle.dmtcp_top.specs.Endings.{IsAtEnding}
 use Rattle.dmtcp_top.specs.Jobs.{Asks, settings_of}
-use Rattle.dmtcp_top.specs.Loads.{Begins}
+use Rattle.dmtcp_top.specs.Loads.{Begins, RefusesLaunch, RefusesRestart}
 use Rattle.computation.specs.Computations.{plain_of}
-use Rattle.run_loop.specs.RunEnds.{EndsRun}
+use Rattle.run_loop.specs.RunEnds.{EndsAt, EndsRun}
 use Rattle.computation.specs.Sinks.{Sunk, Took}
 use Rattle.dmtcp_top.specs.Sessions.{given, session}
 use Rattle.dmtcp_top.proofs.Arrivals.{beginning_of, ending_by, launch_arrives, launch_refused, restart_arrives, restart_refused}
@@ -60,3 +69,48 @@ every_is_some words files folder start (Launch job) asks begins = scheduled star
 every_is_some words files folder start (Restart job) asks begins = scheduled start.checkpointer.schedule job.every (ap (λ (s : Schedule). s.every) begins.checkpointer.schedule) (restart_every words job asks.is)
 every_is_some words files folder start (Ring job) asks begins = absurd begins
 every_is_some words files folder start Help asks begins = absurd begins
+
+pub every_is_none : (job : Job) (files : Option NamedFiles) (folder : Option Folder) (start : Start) → Begins (Ok start) job files folder → (settings_of job).every ≡ None → start.checkpointer.schedule.every ≡ None
+every_is_none (Launch job) files folder start begins none = ap (λ (s : Schedule). s.every) begins.checkpointer.schedule ∙ none
+every_is_none (Restart job) files folder start begins none = ap (λ (s : Schedule). s.every) begins.checkpointer.schedule ∙ none
+every_is_none (Ring job) files folder start begins none = absurd begins
+every_is_none Help files folder start begins none = absurd begins
+
+launch_no_end : (ending : Ending) (files : Option NamedFiles) (job : LaunchJob) → RefusesLaunch ending files job → status_of ending ≢ IsDone
+launch_no_end an_ending.Done files job why = absurd why
+launch_no_end an_ending.Usage files job why = λ e. absurd (cc)
+launch_no_end (an_ending.InputFault who) files job why = λ e. absurd (cc)
+launch_no_end (an_ending.Missing who) files job why = λ e. absurd (cc)
+launch_no_end (an_ending.BadElf who fault) files job why = λ e. absurd (cc)
+launch_no_end an_ending.TooBig files job why = λ e. absurd (cc)
+launch_no_end an_ending.SinkFault files job why = λ e. absurd (cc)
+launch_no_end an_ending.DiskFault files job why = λ e. absurd (cc)
+launch_no_end an_ending.NoSet files job why = λ e. absurd (cc)
+launch_no_end (an_ending.Damaged slot damage) files job why = λ e. absurd (cc)
+launch_no_end (an_ending.Budget records) files job why = λ e. absurd (cc)
+launch_no_end an_ending.Stuck files job why = λ e. absurd (cc)
+launch_no_end an_ending.Memory files job why = λ e. absurd (cc)
+
+restart_no_end : (ending : Ending) (folder : Option Folder) → RefusesRestart ending folder → status_of ending ≢ IsDone
+restart_no_end an_ending.Done folder why = absurd why
+restart_no_end an_ending.Usage folder why = λ e. absurd (cc)
+restart_no_end (an_ending.InputFault who) folder why = λ e. absurd (cc)
+restart_no_end (an_ending.Missing who) folder why = λ e. absurd (cc)
+restart_no_end (an_ending.BadElf who fault) folder why = λ e. absurd (cc)
+restart_no_end an_ending.TooBig folder why = λ e. absurd (cc)
+restart_no_end an_ending.SinkFault folder why = λ e. absurd (cc)
+restart_no_end an_ending.DiskFault folder why = λ e. absurd (cc)
+restart_no_end an_ending.NoSet folder why = λ e. absurd (cc)
+restart_no_end (an_ending.Damaged slot damage) folder why = λ e. absurd (cc)
+restart_no_end (an_ending.Budget records) folder why = λ e. absurd (cc)
+restart_no_end an_ending.Stuck folder why = λ e. absurd (cc)
+restart_no_end an_ending.Memory folder why = λ e. absurd (cc)
+
+pub refusal_is_no_end : (job : Job) (ending : Ending) (files : Option NamedFiles) (folder : Option Folder) → Begins (Err ending) job files folder → status_of ending ≢ IsDone
+refusal_is_no_end (Launch job) ending files folder why = launch_no_end ending files job why
+refusal_is_no_end (Restart job) ending files folder why = restart_no_end ending folder why
+refusal_is_no_end (Ring job) ending files folder why = absurd why
+refusal_is_no_end Help ending files folder why = absurd why
+
+pub done_at : (end : RunEnd) (g : Plain) (trace : List Record) (state : Plain) → end ≡ RunDone → EndsAt end g trace state → run g trace ≡ Some state
+done_at end g trace state is at = subst (λ e. EndsAt e g trace state) is at

@@ -24,7 +24,7 @@ take_of_nothing : (n : ℕ) (xs : List ℕ) → xs ≡ [] → take n xs ≡ []
 take_of_nothing zero xs is = refl
 take_of_nothing (suc n) xs is = ap (take (suc n)) is
 
-front_of_nothing : (sink : Sunk) → TookFront sink [] → Took sink []
+pub front_of_nothing : (sink : Sunk) → TookFront sink [] → Took sink []
 front_of_nothing sink front = front.1 ∙ ap (appended sink.before) (take_of_nothing front.0 [] refl)
 
 module _ (session : Session) (had mid has : Option (List ℕ)) where

@@ -15,7 +15,7 @@ use Rattle.job_words.proofs.OneJob.{one_job}
 use Rattle.endings.specs.declared.status.Status.{Status}
 use Rattle.endings.specs.declared.status.Status.TheVariants.{Done, Usage, InputFault, Missing, BadElf, SinkFault, DiskFault, NoSet, Damaged, Budget, Stuck, Memory, TooBig}
 use Rattle.dmtcp_top.specs.Jobs.{Asks, AskNothing, AskSomething}
-use Rattle.dmtcp_top.specs.JobInputs.{JobInputs, Refusal, missing, bad, too_big, IsMissing, IsBad, IsTooBig, AreInputs, first_refusal, inputs_in}
+use Rattle.launch_start.specs.JobInputs.{JobInputs, Refusal, missing, bad, too_big, IsMissing, IsBad, IsTooBig, AreInputs, first_refusal, inputs_in}
 use Rattle.checkpointer.specs.Sets.{SpellsSet, SpoilsSet}
 use Rattle.computation.specs.Sinks.{Sunk}
 use Rattle.dmtcp_top.specs.Sessions.{Session}
@@ -23,8 +23,8 @@ use Rattle.dmtcp_top.specs.Launches.{LaunchAsked, RestartAsked, Begun}
 use Rattle.dmtcp_top.specs.Launches.Begun.{ByLaunch, ByRestart}
 use Rattle.dmtcp_top.specs.Ends.{Ends, WordsDecide, InputsDecide, IsDecided, Reaches, RunsOn, NeedsStore}
 use Rattle.dmtcp_top.specs.Ends.NeedsStore.{ToLaunch, ToRestart}
-use Rattle.dmtcp_top.proofs.Refusals.{IsKnown}
-use Rattle.dmtcp_top.proofs.JobInputs.{told_refusal}
+use Rattle.launch_start.proofs.Refusals.{IsKnown}
+use Rattle.launch_start.proofs.JobInputs.{told_refusal}
 use Rattle.dmtcp_top.proofs.SetLaws.{SetLaws, none_spelled, none_spoilt, spelled_or_spoilt}
 
 none_some : {A P : Type 0} (a : A) → None ≡ Some a → P

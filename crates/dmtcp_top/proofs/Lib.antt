@@ -1,14 +1,9 @@
-pub mod Bytes
 pub mod Asking
 pub mod Determined
 pub mod ArrivedCalls
 pub mod AtRest
 pub mod Arriving
 pub mod OneOrder
-pub mod Refusals
-pub mod JobInputs
-pub mod JobStarts
-pub mod JobNames
 pub mod Conclusions
 pub mod SetLaws
 pub mod Decisions
@@ -19,3 +14,9 @@ pub mod Carried
 pub mod RoundTrips
 pub mod OneRestart
 pub mod MissedRequests
+pub mod RingLaunches
+pub mod RingRuns
+pub mod RingHalves
+pub mod RingEnds
+pub mod RingAsks
+pub mod Commands

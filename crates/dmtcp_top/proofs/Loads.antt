@@ -39,7 +39,7 @@ nothing_there : (generation : ℕ) → Contains {X = Record} [] (Complete genera
 nothing_there generation there = let below = there.1 in omega arith
 
 -- what could be left after calls that change nothing could be left before them
-left_before : (old new : SeenFolder) (image : Folder) → ChangesNothing old new → new.may_leave image → old.may_leave image
+pub left_before : (old new : SeenFolder) (image : Folder) → ChangesNothing old new → new.may_leave image → old.may_leave image
 left_before old new image nothing left = let before = nothing.crash.now image left in subst old.may_leave (sym before.2) before.1
 
 opening_before : (old new : SeenFolder) (image : Folder) → ChangesNothing old new → IsOpening new.may_leave image → IsOpening old.may_leave image

@@ -1,22 +1,24 @@
 -- The promise of a call, from how it came to its end and what became of the last line.
+--     come_of, ended_by  how a run that was carried out comes to its end
 --     refused_start      how a call comes to its end that has no job
 --     promised           the promise
-use Rattle.std.proofs.Common.{◌≡◌, ◌≤◌, List, [], None, inl, inr, refl}
-use Rattle.std.specs.Prelude.{◌⊎◌}
+use Rattle.std.proofs.Common.{◌≡◌, ◌≢◌, ◌≤◌, List, [], None, inl, inr, refl}
+use Rattle.std.specs.Prelude.{◌⊎◌, Result, Ok, Err, IfErr}
 use Rattle.views.specs.Faults.{Rose}
 use Rattle.views.proofs.FaultCounts.{Rose-after}
 use Rattle.sys_abi.specs.declared.record.Record.{Record}
 use Rattle.edge_io.specs.Sink.{SeenSink}
 use Rattle.option_words.specs.Options.{Text}
 use Rattle.endings.specs.declared.status.Status.{Status}
-use Rattle.endings.specs.declared.status.Status.TheVariants.{Usage as IsUsage, InputFault, SinkFault, DiskFault, Memory as IsMemory}
+use Rattle.endings.specs.declared.status.Status.TheVariants.{Done as IsDone, Usage as IsUsage, InputFault, SinkFault, DiskFault, Memory as IsMemory}
 use Rattle.endings.specs.declared.ending.Ending.{Ending}
 use Rattle.endings.specs.declared.ending.Ending.TheVariants as an_ending
 use Rattle.endings.specs.Endings.{status_of, Concludes}
-use Rattle.dmtcp_top.specs.Endings.{ComesToEnd}
+use Rattle.dmtcp_top.specs.Endings.{ComesToEnd, IsCarriedOut, ending_in}
 use Rattle.dmtcp_top.specs.Loads.{RefusesWords}
 use Rattle.dmtcp_top.specs.Promise.{IsPromised}
 use Rattle.dmtcp_top.specs.Sessions.{Outside, InputsFailed, StreamsFailed, FolderFailed, outside, session_in}
+use Rattle.computation.specs.declared.computation.Computation.{Computation}
 use Rattle.computation.specs.Sinks.{sunk}
 use Rattle.dmtcp_top.proofs.Arrivals.{words_refused, unbegun_paced}
 use Rattle.dmtcp_top.proofs.Conclusions.{call_ends, call_keeps_pace, status_kept}
@@ -24,6 +26,16 @@ use Rattle.dmtcp_top.proofs.Decisions.{words_decide, inputs_decide, decided}
 use Rattle.dmtcp_top.proofs.Loads.{looks_none, whole_unbegun}
 use Rattle.dmtcp_top.proofs.SetLaws.{set_laws}
 use Rattle.checkpointer.proofs.Sinks.{took_nothing}
+
+-- what was carried out came to its end
+pub come_of : (result : Result Computation Ending) (words : List Text) (trace : List Record) (before now : Outside) → IsCarriedOut result words trace before now → ComesToEnd (ending_in result) words trace before now
+come_of (Ok c) words trace before now out = out.come
+come_of (Err ending) words trace before now out = out.come
+
+-- and what its ending says of what failed outside
+pub ended_by : {P : Type 0} (result : Result Computation Ending) (wanted : Status) → IsDone ≢ wanted → IfErr result (λ ending. status_of ending ≡ wanted → P) → status_of (ending_in result) ≡ wanted → P
+ended_by (Ok c) wanted apart holds is = absurd (apart is)
+ended_by (Err ending) wanted apart holds is = holds is
 
 pub refused_start : (ending : Ending) (words : List Text) (trace : List Record) (at : Outside) → trace ≡ [] → RefusesWords ending words → ComesToEnd ending words trace at at
 refused_start ending words trace at none why =

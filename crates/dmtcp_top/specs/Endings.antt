@@ -2,15 +2,19 @@
 --     IsAtEnding ending session log        what holds there
 --     KeepsPaceAt ending session log       how far console and log came, with a run by one thread
 --     ComesToEnd ending words trace before now     both, and what a crash leaves
-use Rattle.std.specs.Prelude.{ℕ, List, Option}
+--     IsCarriedOut result words trace before now     the same of a run, with the computation at its end
+use Rattle.std.specs.Prelude.{◌≡◌, ◌≢◌, ℕ, List, Option, Some, Result, Ok, Err, IfSome}
 use Rattle.sys_abi.specs.declared.record.Record.{Record}
 use Rattle.option_words.specs.Options.{Text}
 use Rattle.trace_log.specs.LogText.{log_text}
-use Rattle.endings.specs.declared.status.Status.TheVariants.{Memory as IsMemory}
+use Rattle.endings.specs.declared.status.Status.TheVariants.{Done as IsDone, Memory as IsMemory}
 use Rattle.endings.specs.declared.ending.Ending.{Ending}
-use Rattle.endings.specs.declared.ending.Ending.TheVariants.{SinkFault, Memory}
+use Rattle.endings.specs.declared.ending.Ending.TheVariants.{Done, SinkFault, Memory}
 use Rattle.endings.specs.Log.{memory_line}
 use Rattle.endings.specs.Endings.{status_of, line_of}
+use Rattle.plain_machine.specs.Runs.{run}
+use Rattle.computation.specs.declared.computation.Computation.{Computation}
+use Rattle.computation.specs.Computations.{plain_of}
 use Rattle.computation.specs.Sinks.{Sunk, Took, TookFront}
 use Rattle.dmtcp_top.specs.Sessions.{Session, Beginning, Outside, session_in, log_in}
 use Rattle.run_loop.specs.Pace.{LinesOf}
@@ -38,3 +42,24 @@ pub record ComesToEnd (ending : Ending) (words : List Text) (trace : List Record
   pub pace : KeepsPaceAt ending (session_in words start trace before now) (log_in before now)
   pub in_rounds : CallGoesInRounds (session_in words start trace before now)
   pub whole : StaysWhole start trace before.folder now.folder
+
+-- how the call ends whose run gave this
+abbrev pub ending_in : Result Computation Ending → Ending
+ending_in (Ok c) = Done
+ending_in (Err ending) = ending
+
+-- nobody lives at the end of the run, which is where the computation stands
+pub record IsRunOut (c : Computation) (words : List Text) (trace : List Record) (before now : Outside)
+    : Type 0 where
+  pub come : ComesToEnd Done words trace before now
+  pub state : IfSome come.start (λ begun. run begun.state trace ≡ Some (plain_of c))
+
+-- it came to its end otherwise
+pub record IsStopped (ending : Ending) (words : List Text) (trace : List Record) (before now : Outside)
+    : Type 0 where
+  pub come : ComesToEnd ending words trace before now
+  pub other : status_of ending ≢ IsDone
+
+abbrev pub IsCarriedOut : Result Computation Ending → List Text → List Record → Outside → Outside → Type 0
+IsCarriedOut (Ok c) words trace before now = IsRunOut c words trace before now
+IsCarriedOut (Err ending) words trace before now = IsStopped ending words trace before now

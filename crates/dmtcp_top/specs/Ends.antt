@@ -21,7 +21,7 @@ use Rattle.endings.specs.declared.status.Status.{Status}
 use Rattle.endings.specs.declared.status.Status.TheVariants.{Done, Usage, InputFault, Missing, BadElf, SinkFault, DiskFault, NoSet, Damaged, Budget, Stuck, Memory, TooBig}
 use Rattle.option_words.specs.Options.{Text}
 use Rattle.dmtcp_top.specs.Jobs.{AskNothing, AskSomething}
-use Rattle.dmtcp_top.specs.JobInputs.{Refusal, unread, missing, bad, too_big, JobInputs, IsMissing, IsBad, IsTooBig, IsFirstRefusal, AreLoaded, first_refusal, inputs_in}
+use Rattle.launch_start.specs.JobInputs.{Refusal, unread, missing, bad, too_big, JobInputs, IsMissing, IsBad, IsTooBig, IsFirstRefusal, AreLoaded, first_refusal, inputs_in}
 use Rattle.endings.specs.Log.{done_line, usage_line, input_fault_line, missing_line, bad_program_line, too_big_line, disk_fault_line, no_set_line, damaged_line, budget_line, stuck_line, memory_line}
 use Rattle.computation.specs.Sinks.{Sunk, Took, TookFront}
 use Rattle.dmtcp_top.specs.Sessions.{Given, Beginning, Session}

@@ -1,8 +1,10 @@
 -- What the words of a command line ask for, of what is built so far.
 --     IsBuilt job            the one place that says what is built
+--     IsOneRun job           it is one run, a launch or a restart, and neither the ring nor help
 --     Asks words job         the words ask for this job, and it is built
 --     AskNothing words       they ask for none
 --     AskSomething words     they ask for one
+--     AskForOneRun words     they ask for nothing but one run, if for anything
 --     settings_of job        after how many records of work each a job asks for a checkpoint, if ever, and how
 --                            many records its trace has room for
 use Rattle.std.specs.Prelude.{◌≡◌, List, Some, None}
@@ -11,6 +13,7 @@ use Rattle.job_words.specs.declared.job.Job.{Job}
 use Rattle.job_words.specs.declared.job.Job.TheVariants.{Launch, Restart, Ring, Help}
 use Rattle.job_words.specs.declared.job.LaunchJob.{LaunchJob}
 use Rattle.job_words.specs.declared.job.RestartJob.{RestartJob}
+use Rattle.job_words.specs.declared.job.RingJob.{RingJob}
 use Rattle.job_words.specs.Jobs.{IsJob}
 use Rattle.job_words.specs.Outlines.{hosts_used}
 use Rattle.dmtcp_top.specs.declared.settings.Settings.{Settings}
@@ -28,11 +31,15 @@ pub record IsBuiltRestart (job : RestartJob) : Type 0 where
   pub pid_base : job.pid_base ≡ 2000
   pub port_base : job.port_base ≡ 30000
 
+-- without workers
+abbrev pub IsBuiltRing : RingJob → Type 0
+IsBuiltRing job = job.workers ≡ 0
+
 abbrev pub IsBuilt : Job → Type 0
 IsBuilt (Launch job) = IsBuiltLaunch job
 IsBuilt (Restart job) = IsBuiltRestart job
-IsBuilt (Ring job) = ⊥
-IsBuilt Help = ⊥
+IsBuilt (Ring job) = IsBuiltRing job
+IsBuilt Help = Unit {0}
 
 pub record Asks (words : List Text) (job : Job) : Type 0 where
   pub is : IsJob words job
@@ -43,6 +50,15 @@ AskNothing words = (job : Job) → Asks words job → ⊥
 
 abbrev pub AskSomething : List Text → Type 0
 AskSomething words = AskNothing words → ⊥
+
+abbrev pub IsOneRun : Job → Type 0
+IsOneRun (Launch job) = Unit {0}
+IsOneRun (Restart job) = Unit {0}
+IsOneRun (Ring job) = ⊥
+IsOneRun Help = ⊥
+
+abbrev pub AskForOneRun : List Text → Type 0
+AskForOneRun words = (job : Job) → Asks words job → IsOneRun job
 
 abbrev pub settings_of : Job → Settings
 settings_of (Launch job) = record { every = job.every; records = job.records }

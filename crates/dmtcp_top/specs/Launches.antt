@@ -12,7 +12,7 @@ use Rattle.job_words.specs.declared.job.LaunchJob.{LaunchJob}
 use Rattle.job_words.specs.declared.job.RestartJob.{RestartJob}
 use Rattle.dmtcp_top.specs.declared.settings.Settings.{Settings}
 use Rattle.dmtcp_top.specs.Jobs.{Asks, settings_of}
-use Rattle.dmtcp_top.specs.JobInputs.{JobInputs, AreLoaded, loaded_job}
+use Rattle.launch_start.specs.JobInputs.{JobInputs, AreLoaded, loaded_job}
 use Rattle.dmtcp_top.specs.Sessions.{Given, Beginning}
 use Rattle.checkpointer.specs.Sets.{SpellsState, SpellsSet, opening_of}
 

@@ -1,10 +1,11 @@
 pub mod Jobs
 pub mod Sessions
-pub mod JobInputs
 pub mod Launches
 pub mod Ends
 pub mod Endings
 pub mod OneOrder
 pub mod Promise
 pub mod Loads
-pub mod JobStarts
+pub mod Ring
+pub mod Help
+pub mod RingEndings

@@ -17,15 +17,15 @@ use Rattle.endings.specs.declared.ending.Ending.{Ending}
 use Rattle.endings.specs.declared.ending.Ending.TheVariants.{Usage, InputFault, Missing, BadElf, TooBig, DiskFault, NoSet, Damaged, Memory}
 use Rattle.option_words.specs.Options.{Text}
 use Rattle.job_words.specs.declared.job.Job.{Job}
-use Rattle.job_words.specs.declared.job.Job.TheVariants.{Launch, Restart}
+use Rattle.job_words.specs.declared.job.Job.TheVariants.{Launch, Restart, Help}
 use Rattle.job_words.specs.declared.job.LaunchJob.{LaunchJob}
 use Rattle.computation.specs.declared.computation.Computation.{Computation}
 use Rattle.dmtcp_top.specs.declared.settings.Settings.{Settings}
 use Rattle.checkpointer.specs.declared.checkpointer.Checkpointer.{Checkpointer}
 use Rattle.run_loop.specs.declared.start.Start.{Start}
 use Rattle.checkpointer.specs.Sets.{SpellsState, SpellsSet, SpoilsSet}
-use Rattle.dmtcp_top.specs.Jobs.{AskNothing, AskSomething, settings_of}
-use Rattle.dmtcp_top.specs.JobInputs.{JobInputs, AreLoaded, IsFirstRefusal, unread, missing, bad, too_big, loaded_job}
+use Rattle.dmtcp_top.specs.Jobs.{AskNothing, AskSomething, Asks, settings_of}
+use Rattle.launch_start.specs.JobInputs.{JobInputs, AreLoaded, IsFirstRefusal, unread, missing, bad, too_big, loaded_job}
 use Rattle.dmtcp_top.specs.Launches.{Opens, schedule_of}
 use Rattle.computation.specs.Computations.{plain_of, IsReady}
 
@@ -68,10 +68,10 @@ pub record IsRestarted (folder : Option Folder) (settings : Settings) (start : S
   pub ready : IsReady start.computation
   pub checkpointer : IsFresh start.checkpointer settings generation
 
--- how the words end a call without a job
+-- how the words end a call without a job. For help no memory is wanted
 abbrev pub RefusesWords : Ending → List Text → Type 0
 RefusesWords Usage words = AskNothing words
-RefusesWords Memory words = AskSomething words
+RefusesWords Memory words = AskSomething words × (Asks words Help → ⊥)
 RefusesWords _ words = ⊥
 
 -- how a launch ends without a computation, and why

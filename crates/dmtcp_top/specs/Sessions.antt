@@ -1,7 +1,6 @@
 -- A call of the program, as far as its promise speaks of it: what it was given, what it left, and what is
 -- seen of what is outside.
 use Rattle.std.specs.Prelude.{◌≡◌, ◌⊎◌, ℕ, List, Option, Some}
-use Rattle.std.specs.FinMap as map
 use Rattle.sys_abi.specs.declared.record.Record.{Record}
 use Rattle.views.specs.Faults.{Rose}
 use Rattle.edge_io.specs.Inputs.{NamedFiles, SeenInputs}
@@ -40,10 +39,6 @@ given words files folder = record { words = words; files = files; folder = folde
 abbrev pub session : Given → Option Beginning → List Record → Sunk → Session
 session given start trace console =
     record { given = given; left = record { start = start; trace = trace; console = console } }
-
--- the inputs hold this under the name, or they don't tell
-abbrev pub IsInput : Option NamedFiles → List ℕ → Option (List ℕ) → Type 0
-IsInput files name content = (held : NamedFiles) → files ≡ Some held → map.get held name ≡ content
 
 -- what is seen at a moment of what a call is lent
 pub record Outside : Type 1 where

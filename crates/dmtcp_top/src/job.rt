@@ -37,7 +37,8 @@ fn is_built(outline: Outline) -> bool
     match outline {
         Outline::Launch(launch) => is_built_launch(launch),
         Outline::Restart(restart) => is_built_restart(restart),
-        Outline::Other => false,
+        Outline::Ring(ring) => ring.workers == 0,
+        Outline::Help => true,
     }
 }
 

@@ -17,13 +17,14 @@
 #![tactic(auto)]
 
 mod carry_out;
+mod help;
 mod job;
-pub mod job_start;
 pub mod laws;
 mod loading;
-mod read_inputs;
+pub mod ring;
 mod settings;
 pub mod top_call;
 
 pub use endings::Status;
+pub use help::FORMS;
 pub use top_call::{dmtcp, run_words};

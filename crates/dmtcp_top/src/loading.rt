@@ -8,11 +8,9 @@ ghost use Rattle.option_words.specs.Options.{Text};
 ghost use Rattle.job_words.specs.declared.job.Job.TheVariants.{Launch};
 ghost use Rattle.checkpointer.specs.Keeping.{IsKept};
 ghost use Rattle.endings.specs.Endings.{status_of};
-ghost use Rattle.dmtcp_top.specs.Jobs.{Asks, IsQuiet, settings_of};
+ghost use Rattle.dmtcp_top.specs.Jobs.{Asks, IsOneRun, IsQuiet, settings_of};
 ghost use Rattle.dmtcp_top.specs.Loads.{Begins, IsComputationOf, IsFresh, IsMade, IsUnmade, Launches, OnlyLooks, Reopened, Restarts, Restored};
 
-use crate::job_start::load;
-use crate::read_inputs::look_at_bytes;
 use crate::settings::Settings;
 use checkpointer::{Checkpointer, restored};
 use computation::Computation;
@@ -22,6 +20,7 @@ use endings::{Ending, Status};
 use image_codec::{ReadFault, SetBytes};
 use image_store::{SetInfo, Store, StoreFault};
 use job_words::{Job, LaunchJob};
+use launch_start::{load, look_at_bytes};
 use rebuild::decode_set;
 use run_loop::Start;
 use std::alloc::Global;
@@ -35,6 +34,7 @@ pub(crate) fn begin<'a, I: Inputs, F: Folder>(
     disk: &mut F,
 ) -> Result<Start, Ending<'a>>
     requires asked { (words : List Text) × Asks words job.now }
+    requires run { IsOneRun job.now }
     ensures begins { Begins result job.now (I.seen inputs.old).files (F.seen disk.old).files }
     ensures kept { IfOk result (λ start. start.checkpointer.schedule.every ≢ None
         → IsKept start.checkpointer (F.seen disk.new)) }

@@ -1,13 +1,21 @@
-ghost use Rattle.std.specs.Prelude.{◌≡◌, [], map, string_bytes};
+ghost use Rattle.std.specs.Prelude.{◌≡◌, List, [], map, string_bytes};
+ghost use Rattle.option_words.specs.Options.{Text};
+ghost use Rattle.job_words.specs.declared.job.Job.TheVariants.{Ring, Help};
+ghost use Rattle.job_words.specs.declared.job.RingJob.{RingJob};
+ghost use Rattle.dmtcp_top.specs.Help.{IsHelp};
 ghost use Rattle.dmtcp_top.specs.Sessions.{outside};
 ghost use Rattle.dmtcp_top.specs.Promise.{IsPromised};
-ghost use Rattle.dmtcp_top.specs.Jobs.{MakesNoCheckpoints};
+ghost use Rattle.dmtcp_top.specs.Ring.{IsRing};
+ghost use Rattle.dmtcp_top.specs.Jobs.{AskForOneRun, Asks, IsOneRun, IsQuiet, MakesNoCheckpoints};
 
-use crate::carry_out::carry_out;
+use crate::carry_out::{carry_out, ending_of};
+use crate::help::tell_forms;
 use crate::job::read_job;
+use crate::ring::run_ring;
 use disk_folder::Folder;
 use edge_io::{Inputs, Sink};
 use endings::Status;
+use job_words::Job;
 use std::alloc::Global;
 use std::sync::Wait;
 use std::thread::Threads;
@@ -17,7 +25,8 @@ use trace_log::Trace;
 ///
 /// `launch` runs the programs in the inputs that its words name, with their arguments and files, until nobody lives or
 /// can go on, or the trace has no room. `restart` goes on in the same way from the last complete set in `disk`. After
-/// every so many records of work, where the words ask for it, a set of the whole state goes to `disk`.
+/// every so many records of work, where the words ask for it, a set of the whole state goes to `disk`. `ring` does both
+/// with a job of its own, and tells on `out` what it came to; `help` tells the forms of the command line there.
 ///
 /// The bytes that the programs write go to `out`. `log` gets a line for each checkpoint, and how the call
 /// ended in one last line. `trace` gets a record for each step of the run and a mark for each stage of a
@@ -37,7 +46,17 @@ pub fn dmtcp<R: Wait + Threads + Sync, I: Inputs, O: Sink, L: Sink, F: Folder>(
     // What the status says of the trace, the console and the log, in which order the records come, what a
     // crash at any moment leaves of the folder of sets, and which status comes where: `specs/Promise.antt`
     // has it field by field.
-    ensures promise { IsPromised result (map string_bytes words.now) trace.new.records
+    ensures promise { AskForOneRun (map string_bytes words.now)
+        → IsPromised result (map string_bytes words.now) trace.new.records
+        (outside (I.seen inputs.old) (O.seen out.old) (L.seen log.old) (F.seen disk.old))
+        (outside (I.seen inputs.new) (O.seen out.new) (L.seen log.new) (F.seen disk.new)) }
+
+    // The ring is a launch and a restart, and help tells the forms.
+    ensures ring { (job : RingJob) → Asks (map string_bytes words.now) (Ring job)
+        → IsRing result job trace.new.records
+        (outside (I.seen inputs.old) (O.seen out.old) (L.seen log.old) (F.seen disk.old))
+        (outside (I.seen inputs.new) (O.seen out.new) (L.seen log.new) (F.seen disk.new)) }
+    ensures help { Asks (map string_bytes words.now) Help → IsHelp result trace.new.records
         (outside (I.seen inputs.old) (O.seen out.old) (L.seen log.old) (F.seen disk.old))
         (outside (I.seen inputs.new) (O.seen out.new) (L.seen log.new) (F.seen disk.new)) }
 
@@ -59,7 +78,15 @@ pub fn run_words<I: Inputs, O: Sink, L: Sink, F: Folder>(
     trace: &mut Trace,
 ) -> Status
     requires { trace.old.records ≡ [] }
-    ensures promise { IsPromised result (map string_bytes words.now) trace.new.records
+    ensures promise { AskForOneRun (map string_bytes words.now)
+        → IsPromised result (map string_bytes words.now) trace.new.records
+        (outside (I.seen inputs.old) (O.seen out.old) (L.seen log.old) (F.seen disk.old))
+        (outside (I.seen inputs.new) (O.seen out.new) (L.seen log.new) (F.seen disk.new)) }
+    ensures ring { (job : RingJob) → Asks (map string_bytes words.now) (Ring job)
+        → IsRing result job trace.new.records
+        (outside (I.seen inputs.old) (O.seen out.old) (L.seen log.old) (F.seen disk.old))
+        (outside (I.seen inputs.new) (O.seen out.new) (L.seen log.new) (F.seen disk.new)) }
+    ensures help { Asks (map string_bytes words.now) Help → IsHelp result trace.new.records
         (outside (I.seen inputs.old) (O.seen out.old) (L.seen log.old) (F.seen disk.old))
         (outside (I.seen inputs.new) (O.seen out.new) (L.seen log.new) (F.seen disk.new)) }
 
@@ -70,6 +97,31 @@ pub fn run_words<I: Inputs, O: Sink, L: Sink, F: Folder>(
         Ok(job) => job,
         Err(ending) => return ending.conclude(log),
     };
-    let ending = carry_out(alloc, &job, inputs, out, log, disk, trace);
+    match &job {
+        Job::Ring(ring) => run_ring(alloc, *ring, out, log, disk, trace),
+        Job::Help => tell_forms(out, log),
+        _ => run_job(alloc, &job, inputs, out, log, disk, trace),
+    }
+}
+
+/// Makes the run that a job asks for.
+fn run_job<I: Inputs, O: Sink, L: Sink, F: Folder>(
+    alloc: Global,
+    job: &Job,
+    inputs: &mut I,
+    out: &mut O,
+    log: &mut L,
+    disk: &mut F,
+    trace: &mut Trace,
+) -> Status
+    requires empty { trace.old.records ≡ [] }
+    requires asked { (words : List Text) × Asks words job.now }
+    requires run { IsOneRun job.now }
+    ensures promise { (words : List Text) → Asks words job.now → IsPromised result words trace.new.records
+        (outside (I.seen inputs.old) (O.seen out.old) (L.seen log.old) (F.seen disk.old))
+        (outside (I.seen inputs.new) (O.seen out.new) (L.seen log.new) (F.seen disk.new)) }
+    ensures untouched { IsQuiet job.now → disk.new ≡ disk.old }
+{
+    let ending = ending_of(carry_out(alloc, job, inputs, out, log, disk, trace));
     ending.conclude(log)
 }

@@ -8,9 +8,11 @@ use Rattle.computation.specs.Computations.{plain_of}
 use Rattle.run_loop.specs.Pace.{KeepsPace}
 use Rattle.computation.specs.Sinks.{sunk}
 use Rattle.dmtcp_top.proofs.Arrivals.{beginning_of, memory_arrives, paced_by, unbegun_paced}
-use Rattle.dmtcp_top.proofs.Carried.{from_ok, from_err, begun_refused, begun_arrives, every_is_some}
+use Rattle.dmtcp_top.proofs.Carried.{from_ok, from_err, begun_refused, begun_arrives, done_at, every_is_none, every_is_some, refusal_is_no_end}
 use Rattle.dmtcp_top.proofs.Decisions.{of_job}
 use Rattle.dmtcp_top.proofs.Loads.{looks_none, whole_unbegun, whole_begun}
+use Rattle.dmtcp_top.specs.Loads.{OnlyLooks}
+use Rattle.trace_log.specs.declared.requests.Schedule.{Schedule}
 use Rattle.checkpointer.proofs.Sinks.{took_nothing}
 use Rattle.dmtcp_top.proofs.carry_out.carry_out.Goals as goal
 
@@ -27,11 +29,14 @@ returns-then-is_err-clause-ends g c words asks =
     let none : trace ≡ [] = ap (λ (t : TraceState). t.records) same ∙ c.requires.empty in
     let at_end = memory_arrives words files folder trace console log none quiet unlogged (of_job words c.args.job.now asks) in
     record {
-      start = None;
-      there = at_end;
-      pace = unbegun_paced words files folder trace console log none quiet unlogged Memory at_end;
-      in_rounds = tt;
-      whole = whole_unbegun trace (g.F.Folder.seen c.args.disk.now) (g.F.Folder.seen c.args.disk.now) none (looks_none (g.F.Folder.seen c.args.disk.now));
+      come = record {
+        start = None;
+        there = at_end;
+        pace = unbegun_paced words files folder trace console log none quiet unlogged Memory at_end;
+        in_rounds = tt;
+        whole = whole_unbegun trace (g.F.Folder.seen c.args.disk.now) (g.F.Folder.seen c.args.disk.now) none (looks_none (g.F.Folder.seen c.args.disk.now));
+      };
+      other = λ e. absurd (cc);
     }
 
 pub returns-in-Err-clause-ends : goal.returns-in-Err-clause-ends
@@ -47,11 +52,14 @@ returns-in-Err-clause-ends g c words asks =
     let none : trace ≡ [] = ap (λ (t : TraceState). t.records) reserved ∙ c.requires.empty in
     let at_end = begun_refused words files folder trace console log c.args.job.now c.in-Err.ending asks c.in-Err.ensures.begins none quiet unlogged in
     record {
-      start = None;
-      there = at_end;
-      pace = unbegun_paced words files folder trace console log none quiet unlogged c.in-Err.ending at_end;
-      in_rounds = tt;
-      whole = whole_unbegun trace (g.F.Folder.seen c.args.disk.now) (g.F.Folder.seen c.begin.new.disk) none c.begin.ensures.looks;
+      come = record {
+        start = None;
+        there = at_end;
+        pace = unbegun_paced words files folder trace console log none quiet unlogged c.in-Err.ending at_end;
+        in_rounds = tt;
+        whole = whole_unbegun trace (g.F.Folder.seen c.args.disk.now) (g.F.Folder.seen c.begin.new.disk) none c.begin.ensures.looks;
+      };
+      other = refusal_is_no_end c.args.job.now c.in-Err.ending files folder c.in-Err.ensures.begins;
     }
 
 pub run-requires-clause-every : goal.run-requires-clause-every
@@ -68,13 +76,16 @@ returns-in-Done-clause-ends g c words asks =
     let records = c.of-records.result.records in
     let room : c.reserve.new.self.room ≡ records = ap (λ (t : TraceState). t.room) reserved in
     record {
-      start = Some (beginning_of c.in-Ok.start);
-      there =
-          begun_arrives words files folder c.run.new.trace.records console log RunDone c.run.result c.in-Ok.start c.args.job.now c.reserve.new.self.room records asks c.in-Ok.ensures.begins room
-          (ap (λ (s : Settings). s.records) c.of-records.ensures) c.in-Done.is c.run.ensures.ends;
-      pace = tt;
-      in_rounds = c.run.ensures.in_rounds;
-      whole = whole_begun (beginning_of c.in-Ok.start) c.run.new.trace.records (g.F.Folder.seen c.args.disk.now) (g.F.Folder.seen c.begin.new.disk) (g.F.Folder.seen c.run.new.disk) c.begin.ensures.looks c.run.ensures.safe;
+      come = record {
+        start = Some (beginning_of c.in-Ok.start);
+        there =
+            begun_arrives words files folder c.run.new.trace.records console log RunDone c.run.result c.in-Ok.start c.args.job.now c.reserve.new.self.room records asks c.in-Ok.ensures.begins room
+            (ap (λ (s : Settings). s.records) c.of-records.ensures) c.in-Done.is c.run.ensures.ends;
+        pace = tt;
+        in_rounds = c.run.ensures.in_rounds;
+        whole = whole_begun (beginning_of c.in-Ok.start) c.run.new.trace.records (g.F.Folder.seen c.args.disk.now) (g.F.Folder.seen c.begin.new.disk) (g.F.Folder.seen c.run.new.disk) c.begin.ensures.looks c.run.ensures.safe;
+      };
+      state = done_at c.run.result (plain_of c.in-Ok.start.computation) c.run.new.trace.records (plain_of c.run.new.self.computation) c.in-Done.is c.run.ensures.state;
     }
 
 pub returns-in-Budget-clause-ends : goal.returns-in-Budget-clause-ends
@@ -87,13 +98,16 @@ returns-in-Budget-clause-ends g c words asks =
     let records = c.of-records.result.records in
     let room : c.reserve.new.self.room ≡ records = ap (λ (t : TraceState). t.room) reserved in
     record {
-      start = Some (beginning_of c.in-Ok.start);
-      there =
-          begun_arrives words files folder c.run.new.trace.records console log RunBudget c.run.result c.in-Ok.start c.args.job.now c.reserve.new.self.room records asks c.in-Ok.ensures.begins room
-          (ap (λ (s : Settings). s.records) c.of-records.ensures) c.in-Budget.is c.run.ensures.ends;
-      pace = tt;
-      in_rounds = c.run.ensures.in_rounds;
-      whole = whole_begun (beginning_of c.in-Ok.start) c.run.new.trace.records (g.F.Folder.seen c.args.disk.now) (g.F.Folder.seen c.begin.new.disk) (g.F.Folder.seen c.run.new.disk) c.begin.ensures.looks c.run.ensures.safe;
+      come = record {
+        start = Some (beginning_of c.in-Ok.start);
+        there =
+            begun_arrives words files folder c.run.new.trace.records console log RunBudget c.run.result c.in-Ok.start c.args.job.now c.reserve.new.self.room records asks c.in-Ok.ensures.begins room
+            (ap (λ (s : Settings). s.records) c.of-records.ensures) c.in-Budget.is c.run.ensures.ends;
+        pace = tt;
+        in_rounds = c.run.ensures.in_rounds;
+        whole = whole_begun (beginning_of c.in-Ok.start) c.run.new.trace.records (g.F.Folder.seen c.args.disk.now) (g.F.Folder.seen c.begin.new.disk) (g.F.Folder.seen c.run.new.disk) c.begin.ensures.looks c.run.ensures.safe;
+      };
+      other = λ e. absurd (cc);
     }
 
 pub returns-in-Stuck-clause-ends : goal.returns-in-Stuck-clause-ends
@@ -106,13 +120,16 @@ returns-in-Stuck-clause-ends g c words asks =
     let records = c.of-records.result.records in
     let room : c.reserve.new.self.room ≡ records = ap (λ (t : TraceState). t.room) reserved in
     record {
-      start = Some (beginning_of c.in-Ok.start);
-      there =
-          begun_arrives words files folder c.run.new.trace.records console log RunStuck c.run.result c.in-Ok.start c.args.job.now c.reserve.new.self.room records asks c.in-Ok.ensures.begins room
-          (ap (λ (s : Settings). s.records) c.of-records.ensures) c.in-Stuck.is c.run.ensures.ends;
-      pace = tt;
-      in_rounds = c.run.ensures.in_rounds;
-      whole = whole_begun (beginning_of c.in-Ok.start) c.run.new.trace.records (g.F.Folder.seen c.args.disk.now) (g.F.Folder.seen c.begin.new.disk) (g.F.Folder.seen c.run.new.disk) c.begin.ensures.looks c.run.ensures.safe;
+      come = record {
+        start = Some (beginning_of c.in-Ok.start);
+        there =
+            begun_arrives words files folder c.run.new.trace.records console log RunStuck c.run.result c.in-Ok.start c.args.job.now c.reserve.new.self.room records asks c.in-Ok.ensures.begins room
+            (ap (λ (s : Settings). s.records) c.of-records.ensures) c.in-Stuck.is c.run.ensures.ends;
+        pace = tt;
+        in_rounds = c.run.ensures.in_rounds;
+        whole = whole_begun (beginning_of c.in-Ok.start) c.run.new.trace.records (g.F.Folder.seen c.args.disk.now) (g.F.Folder.seen c.begin.new.disk) (g.F.Folder.seen c.run.new.disk) c.begin.ensures.looks c.run.ensures.safe;
+      };
+      other = λ e. absurd (cc);
     }
 
 pub returns-in-SinkFault-clause-ends : goal.returns-in-SinkFault-clause-ends
@@ -125,15 +142,18 @@ returns-in-SinkFault-clause-ends g c words asks =
     let records = c.of-records.result.records in
     let room : c.reserve.new.self.room ≡ records = ap (λ (t : TraceState). t.room) reserved in
     record {
-      start = Some (beginning_of c.in-Ok.start);
-      there =
-          begun_arrives words files folder c.run.new.trace.records console log RunSinkFault c.run.result c.in-Ok.start c.args.job.now c.reserve.new.self.room records asks c.in-Ok.ensures.begins room
-          (ap (λ (s : Settings). s.records) c.of-records.ensures) c.in-SinkFault.is c.run.ensures.ends;
-      pace =
-          paced_by words files folder c.run.new.trace.records console log (beginning_of c.in-Ok.start) RunSinkFault records
-          (subst (λ (e : RunEnd). KeepsPace e (plain_of c.in-Ok.start.computation) c.run.new.trace.records console log) c.in-SinkFault.is c.run.ensures.pace);
-      in_rounds = c.run.ensures.in_rounds;
-      whole = whole_begun (beginning_of c.in-Ok.start) c.run.new.trace.records (g.F.Folder.seen c.args.disk.now) (g.F.Folder.seen c.begin.new.disk) (g.F.Folder.seen c.run.new.disk) c.begin.ensures.looks c.run.ensures.safe;
+      come = record {
+        start = Some (beginning_of c.in-Ok.start);
+        there =
+            begun_arrives words files folder c.run.new.trace.records console log RunSinkFault c.run.result c.in-Ok.start c.args.job.now c.reserve.new.self.room records asks c.in-Ok.ensures.begins room
+            (ap (λ (s : Settings). s.records) c.of-records.ensures) c.in-SinkFault.is c.run.ensures.ends;
+        pace =
+            paced_by words files folder c.run.new.trace.records console log (beginning_of c.in-Ok.start) RunSinkFault records
+            (subst (λ (e : RunEnd). KeepsPace e (plain_of c.in-Ok.start.computation) c.run.new.trace.records console log) c.in-SinkFault.is c.run.ensures.pace);
+        in_rounds = c.run.ensures.in_rounds;
+        whole = whole_begun (beginning_of c.in-Ok.start) c.run.new.trace.records (g.F.Folder.seen c.args.disk.now) (g.F.Folder.seen c.begin.new.disk) (g.F.Folder.seen c.run.new.disk) c.begin.ensures.looks c.run.ensures.safe;
+      };
+      other = λ e. absurd (cc);
     }
 
 pub returns-clause-ends : goal.returns-clause-ends
@@ -146,13 +166,44 @@ returns-clause-ends g c words asks =
     let records = c.of-records.result.records in
     let room : c.reserve.new.self.room ≡ records = ap (λ (t : TraceState). t.room) reserved in
     record {
-      start = Some (beginning_of c.in-Ok.start);
-      there =
-          begun_arrives words files folder c.run.new.trace.records console log RunMemory c.run.result c.in-Ok.start c.args.job.now c.reserve.new.self.room records asks c.in-Ok.ensures.begins room
-          (ap (λ (s : Settings). s.records) c.of-records.ensures) c.in-Memory.is c.run.ensures.ends;
-      pace =
-          paced_by words files folder c.run.new.trace.records console log (beginning_of c.in-Ok.start) RunMemory records
-          (subst (λ (e : RunEnd). KeepsPace e (plain_of c.in-Ok.start.computation) c.run.new.trace.records console log) c.in-Memory.is c.run.ensures.pace);
-      in_rounds = c.run.ensures.in_rounds;
-      whole = whole_begun (beginning_of c.in-Ok.start) c.run.new.trace.records (g.F.Folder.seen c.args.disk.now) (g.F.Folder.seen c.begin.new.disk) (g.F.Folder.seen c.run.new.disk) c.begin.ensures.looks c.run.ensures.safe;
+      come = record {
+        start = Some (beginning_of c.in-Ok.start);
+        there =
+            begun_arrives words files folder c.run.new.trace.records console log RunMemory c.run.result c.in-Ok.start c.args.job.now c.reserve.new.self.room records asks c.in-Ok.ensures.begins room
+            (ap (λ (s : Settings). s.records) c.of-records.ensures) c.in-Memory.is c.run.ensures.ends;
+        pace =
+            paced_by words files folder c.run.new.trace.records console log (beginning_of c.in-Ok.start) RunMemory records
+            (subst (λ (e : RunEnd). KeepsPace e (plain_of c.in-Ok.start.computation) c.run.new.trace.records console log) c.in-Memory.is c.run.ensures.pace);
+        in_rounds = c.run.ensures.in_rounds;
+        whole = whole_begun (beginning_of c.in-Ok.start) c.run.new.trace.records (g.F.Folder.seen c.args.disk.now) (g.F.Folder.seen c.begin.new.disk) (g.F.Folder.seen c.run.new.disk) c.begin.ensures.looks c.run.ensures.safe;
+      };
+      other = λ e. absurd (cc);
     }
+
+pub returns-in-Done-clause-looks : goal.returns-in-Done-clause-looks
+returns-in-Done-clause-looks g c quiet =
+    let none = every_is_none c.args.job.now (g.I.Inputs.seen c.args.inputs.now).files (g.F.Folder.seen c.args.disk.now).files c.in-Ok.start c.in-Ok.ensures.begins quiet in
+    subst (λ disk. OnlyLooks (g.F.Folder.seen c.args.disk.now) (g.F.Folder.seen disk)) (sym (c.run.ensures.untouched none)) c.begin.ensures.looks
+
+pub returns-in-Budget-clause-looks : goal.returns-in-Budget-clause-looks
+returns-in-Budget-clause-looks g c quiet =
+    let none = every_is_none c.args.job.now (g.I.Inputs.seen c.args.inputs.now).files (g.F.Folder.seen c.args.disk.now).files c.in-Ok.start c.in-Ok.ensures.begins quiet in
+    subst (λ disk. OnlyLooks (g.F.Folder.seen c.args.disk.now) (g.F.Folder.seen disk)) (sym (c.run.ensures.untouched none)) c.begin.ensures.looks
+
+pub returns-in-Stuck-clause-looks : goal.returns-in-Stuck-clause-looks
+returns-in-Stuck-clause-looks g c quiet =
+    let none = every_is_none c.args.job.now (g.I.Inputs.seen c.args.inputs.now).files (g.F.Folder.seen c.args.disk.now).files c.in-Ok.start c.in-Ok.ensures.begins quiet in
+    subst (λ disk. OnlyLooks (g.F.Folder.seen c.args.disk.now) (g.F.Folder.seen disk)) (sym (c.run.ensures.untouched none)) c.begin.ensures.looks
+
+pub returns-in-SinkFault-clause-looks : goal.returns-in-SinkFault-clause-looks
+returns-in-SinkFault-clause-looks g c quiet =
+    let none = every_is_none c.args.job.now (g.I.Inputs.seen c.args.inputs.now).files (g.F.Folder.seen c.args.disk.now).files c.in-Ok.start c.in-Ok.ensures.begins quiet in
+    subst (λ disk. OnlyLooks (g.F.Folder.seen c.args.disk.now) (g.F.Folder.seen disk)) (sym (c.run.ensures.untouched none)) c.begin.ensures.looks
+
+pub returns-clause-looks : goal.returns-clause-looks
+returns-clause-looks g c quiet =
+    let none = every_is_none c.args.job.now (g.I.Inputs.seen c.args.inputs.now).files (g.F.Folder.seen c.args.disk.now).files c.in-Ok.start c.in-Ok.ensures.begins quiet in
+    subst (λ disk. OnlyLooks (g.F.Folder.seen c.args.disk.now) (g.F.Folder.seen disk)) (sym (c.run.ensures.untouched none)) c.begin.ensures.looks
+
+pub returns-then-is_err-clause-looks : goal.returns-then-is_err-clause-looks
+returns-then-is_err-clause-looks g c quiet = looks_none (g.F.Folder.seen c.args.disk.now)

@@ -2,7 +2,7 @@ use Rattle.std.proofs.Common.{ℕ, List, ◌<◌, ◌∙◌, length, subst, arit
 use Rattle.std.specs.Prelude.{All, slice_index_or}
 use Rattle.std.proofs.lemmas.List.{get_or_default}
 use Rattle.plain_process.specs.Valid.{IsByte}
-use Rattle.dmtcp_top.proofs.Bytes.{one_more}
+use Rattle.launch_start.proofs.Bytes.{one_more}
 use Rattle.dmtcp_top.proofs.loading.look_at_files.Goals as goal
 
 pub loop-file-preserved : goal.loop-file-preserved

@@ -1,0 +1,5 @@
+pub mod Bytes
+pub mod Refusals
+pub mod JobInputs
+pub mod JobStarts
+pub mod JobNames

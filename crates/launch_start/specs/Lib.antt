@@ -1,0 +1,2 @@
+pub mod JobInputs
+pub mod JobStarts

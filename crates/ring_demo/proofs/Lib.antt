@@ -1,0 +1,3 @@
+pub mod RingBounds
+pub mod RingWords
+pub mod RingFiles

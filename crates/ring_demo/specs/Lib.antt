@@ -1,0 +1,2 @@
+pub mod RingJobs
+pub mod Values
