@@ -3,6 +3,7 @@
 from collections.abc import Callable
 from dataclasses import dataclass
 from enum import IntEnum
+from pathlib import Path
 
 from .driver import Keeper, RunEnd, drive
 from .elf import BadProgram, read_elf
@@ -11,16 +12,23 @@ from .start import Word, start_job
 from .state import Machine
 from .store import SetDamaged, Store
 from .trace import Trace
-from .words import Command, Program, Usage, Verb, read_words
+from .words import DEFAULT_RECORDS, Command, Program, Usage, Verb, read_words
 
 FILE_LIMIT = 67_108_864
 """The bytes that a file may have, and so many may those that the words name have together."""
-HELP = """\
-dmtcp launch [--every K] [--records M] [--file NAME].. HOST:NAME[,ARGUMENT]..
-dmtcp restart [--every K] [--records M]
+FORMS = """\
+dmtcp launch [options] host:name[,argument]...
+dmtcp restart [options]
+dmtcp ring N [options]
+dmtcp help
 """
 VERSION = "dmtcp 0.1.0\n"
-GREETINGS = {"--help": HELP, "--version": VERSION}
+GREETINGS = {"--help": FORMS, "--version": VERSION}
+RING = "ring"
+"""The name of the ring's program."""
+RING_FILE = Path(__file__).parents[2] / "examples" / "ring.elf"
+VALUE = b"value"
+"""The file in which a ring leaves the value of its counter."""
 Read = Callable[[str], bytes | None]
 """Gives the bytes of a file of the current folder, None where there is none."""
 
@@ -118,6 +126,44 @@ def _run(command: Command, machine: Machine, store: Store) -> Outcome:
     return Outcome(last.status, bytes(machine.console), log.encode(), trace, store.files)
 
 
+def _file_of(machine: Machine, name: bytes) -> bytes:
+    """The bytes of the file of this name, none where there is no such file."""
+    return next((bytes(file.data) for file in machine.files.values() if file.name == name), b"")
+
+
+def _ring_programs(processes: int) -> tuple[Program, ...]:
+    """Process i on host i, with the arguments `ring`, i and how many there are."""
+    return tuple(Program(host, RING, (str(host), str(processes))) for host in range(processes))
+
+
+def _half(command: Command, store: Store) -> tuple[Outcome, bytes]:
+    """The launch or the restart of a ring: what it leaves, and what is in the file of the value then."""
+    try:
+        machine = _begun(command, {RING: RING_FILE.read_bytes()}.get, store)
+    except Ended as ended:
+        return Outcome(ended.status, b"", ended.line.encode() + b"\n", None, store.files), b""
+    outcome = _run(command, machine, store)
+    return outcome, _file_of(machine, VALUE)
+
+
+def _ring(ring: Command, store: Store) -> Outcome:
+    """A launch of the ring's programs and, where nobody lives at its end, a restart from the last set."""
+    launch = Command(Verb.LAUNCH, ring.every, DEFAULT_RECORDS, programs=_ring_programs(ring.processes))
+    first, value = _half(launch, store)
+    if first.status:
+        return Outcome(first.status, b"", first.log, first.trace, store.files)
+    second, again = _half(Command(Verb.RESTART, None, DEFAULT_RECORDS), store)
+    lines = b"".join(first.log.splitlines(keepends=True)[:-1])
+    told = b"ring %d: value %s, restart value %s\n" % (ring.processes, value, again)
+    return Outcome(second.status, b"" if second.status else told, lines + second.log, second.trace, store.files)
+
+
+def _begun(command: Command, read: Read, store: Store) -> Machine:
+    """The state with which the run of a launch or a restart begins."""
+    # A name that is a path is looked up as that of a file of the current folder: there are no other folders here.
+    return launched(command, read) if command.verb is Verb.LAUNCH else _restarted(store)
+
+
 def run(words: list[str], files: dict[str, bytes], sets: dict[str, bytes]) -> Outcome:
     """What the program does with these words, in a folder with these files and these sets."""
     if len(words) == 1 and words[0] in GREETINGS:
@@ -125,8 +171,11 @@ def run(words: list[str], files: dict[str, bytes], sets: dict[str, bytes]) -> Ou
     store = Store(dict(sets))
     try:
         command = read_words(words)
-        # A name that is a path is looked up as that of a file of the current folder: there are no other folders here.
-        machine = launched(command, files.get) if command.verb is Verb.LAUNCH else _restarted(store)
+        if command.verb is Verb.HELP:
+            return Outcome(Status.DONE, FORMS.encode(), b"done\n", None, store.files)
+        if command.verb is Verb.RING:
+            return _ring(command, store)
+        machine = _begun(command, files.get, store)
     except Usage:
         return Outcome(Status.USAGE, b"", b"usage\n", None, store.files)
     except Ended as ended:

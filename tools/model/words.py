@@ -19,19 +19,26 @@ class Usage(Exception):
 
 
 class Verb(Enum):
-    """The two commands."""
+    """The commands."""
 
     LAUNCH = "launch"
     RESTART = "restart"
+    RING = "ring"
+    HELP = "help"
 
 
 OPTIONS = {
     Verb.LAUNCH: {EVERY, RECORDS, FILE, NODES, "--workers"},
     Verb.RESTART: {EVERY, RECORDS, NODES, "--workers", "--shift", "--pid-base", "--port-base"},
+    Verb.RING: {EVERY, "--workers"},
+    Verb.HELP: set(),
 }
+DEFAULTS_OF_EVERY = {Verb.RING: 1_000}
+"""Without it there are no checkpoints."""
 FIXED = {"--workers": "0", "--shift": "0", "--pid-base": "2000", "--port-base": "30000"}
 """Of the options of what is not built yet the only value that is; that of `--nodes` hangs on the command."""
 NODES_OF_RESTART = 16
+PROCESSES_OF_RING = {str(count): count for count in range(2, 17)}
 
 
 @dataclass(frozen=True)
@@ -52,6 +59,8 @@ class Command:
     records: int
     files: tuple[str, ...] = ()
     programs: tuple[Program, ...] = ()
+    processes: int = 0
+    """Of a ring."""
 
 
 def _number(word: str) -> int:
@@ -99,8 +108,15 @@ def _program(word: str) -> Program:
     return Program(HOSTS[host], _named(name), tuple(arguments))
 
 
+def _processes(word: str) -> int:
+    """2 to 16 processes of a ring, as a number is written."""
+    if word not in PROCESSES_OF_RING:
+        raise Usage
+    return PROCESSES_OF_RING[word]
+
+
 def _programs(verb: Verb, words: list[str]) -> tuple[Program, ...]:
-    """1 to 128 programs of a launch, none of a restart."""
+    """1 to 128 programs of a launch, none of another command."""
     counts = range(1, PROGRAMS_LIMIT + 1) if verb is Verb.LAUNCH else range(1)
     if len(words) not in counts:
         raise Usage
@@ -109,7 +125,7 @@ def _programs(verb: Verb, words: list[str]) -> tuple[Program, ...]:
 
 def _test_fixed(verb: Verb, options: dict[str, list[str]], programs: tuple[Program, ...]) -> None:
     """An option of what is not built yet says what the call does without it."""
-    nodes = NODES_OF_RESTART if verb is Verb.RESTART else 1 + max(one.host for one in programs)
+    nodes = 1 + max(one.host for one in programs) if verb is Verb.LAUNCH else NODES_OF_RESTART
     for name, value in {**FIXED, NODES: str(nodes)}.items():
         if options.get(name, [value]) != [value]:
             raise Usage
@@ -127,13 +143,14 @@ def _test_text(words: list[str]) -> None:
 def read_words(words: list[str]) -> Command:
     """The command that the words spell."""
     _test_text(words)
-    if not words or words[0] not in (Verb.LAUNCH.value, Verb.RESTART.value):
+    if not words or words[0] not in (verb.value for verb in Verb):
         raise Usage
-    verb = Verb(words[0])
-    options = _options(verb, words[1:])
+    verb, rest = Verb(words[0]), words[1:]
+    processes = _processes(rest.pop(0) if rest else "") if verb is Verb.RING else 0
+    options = _options(verb, rest)
     taken = 2 * sum(len(values) for values in options.values())
-    programs = _programs(verb, words[1 + taken :])
+    programs = _programs(verb, rest[taken:])
     _test_fixed(verb, options, programs)
-    every = _number(options[EVERY][0]) if EVERY in options else None
+    every = _number(options[EVERY][0]) if EVERY in options else DEFAULTS_OF_EVERY.get(verb)
     records = _number(options[RECORDS][0]) if RECORDS in options else DEFAULT_RECORDS
-    return Command(verb, every, records, _files(options.get(FILE, [])), programs)
+    return Command(verb, every, records, _files(options.get(FILE, [])), programs, processes)

@@ -112,7 +112,8 @@ class Words(unittest.TestCase):
         wrong = ["", "launch", "restart 0:hello.elf", "launch --every 0 0:a", "launch --every 01 0:a", "launch 16:a"]
         wrong += ["launch --every +1 0:a", "launch --every 4000001 0:a", "launch --every 1 --every 1 0:a", "launch 0:"]
         wrong += ["launch 0:a --every 1", "launch 0:,b", "--help --version", "launch 0:\udcff", "launch --every ٣ 0:a"]
-        wrong += ["launch --nodes 2 0:a", "launch --nodes 1 0:a 1:b", "launch --workers 1 0:a", "ring 2", "help"]
+        wrong += ["launch --nodes 2 0:a", "launch --nodes 1 0:a 1:b", "launch --workers 1 0:a", "ring", "help 2"]
+        wrong += ["ring 1", "ring 17", "ring 02", "ring --every 5 2", "ring 2 --records 5", "ring 2 --workers 1"]
         wrong += ["launch --file a", "launch --file a --file a 0:a", "launch 0:a --file b", "restart --file a"]
         wrong += ["launch 00:a", "launch a", "launch 0", "launch :a", "launch 01:a", "launch -1:a", "launch 0:a b"]
         wrong += [f"launch --file {256 * 'n'} 0:a", "launch --file a\0 0:a", "launch --file \udcff 0:a"]
@@ -141,9 +142,22 @@ class Words(unittest.TestCase):
         self.assertEqual(said(f"launch{files} 0:a").log, b"missing: 0\n")
 
     def test_help(self) -> None:
-        launch = b"dmtcp launch [--every K] [--records M] [--file NAME].. HOST:NAME[,ARGUMENT]..\n"
-        self.assertEqual(said("--help").console, launch + b"dmtcp restart [--every K] [--records M]\n")
+        forms = b"dmtcp launch [options] host:name[,argument]...\ndmtcp restart [options]\n"
+        forms += b"dmtcp ring N [options]\ndmtcp help\n"
+        self.assertEqual((said("help").console, said("help").log), (forms, b"done\n"))
+        self.assertEqual((said("--help").console, said("--help").log), (forms, b""))
         self.assertEqual((said("--version").console, said("--version").log), (b"dmtcp 0.1.0\n", b""))
+
+    def test_ring(self) -> None:
+        """A launch of the ring's programs, and a restart from its last set, whose trace is left."""
+        ring = said("ring 2")
+        self.assertEqual((ring.status, ring.console), (0, b"ring 2: value 300, restart value 300\n"))
+        sets = [b"checkpoint %d complete: generation %d, drained" % (number, number) for number in (1, 2, 3)]
+        lines = ring.log.splitlines()
+        self.assertEqual([line.rpartition(b" ")[0] for line in lines[:-1]], sets)
+        self.assertEqual((lines[-1], ring.trace), (b"done", said("restart", ring.sets).trace))
+        alone = said("ring 2 --every 4000000")
+        self.assertEqual((alone.status, alone.console, alone.log, alone.trace), (16, b"", b"no set\n", None))
 
     def test_order(self) -> None:
         """The files, the programs in their order, each with its format, and then the sum of the files."""
