@@ -12,20 +12,22 @@
 //! folder of sets, standard error and the trace. A sole word `--help` or `--version` is answered here.
 #![tactic(auto)]
 
-ghost use Rattle.std.specs.Prelude.{◌≡◌, ◌≢◌, map, string_bytes, option_map, codes};
+ghost use Rattle.std.specs.Prelude.{◌≡◌, ◌≢◌, [], map, string_bytes, option_map, codes};
 ghost use Rattle.std.specs.IoError.{error_kind};
 ghost use Rattle.std.specs.Process.{exit_status};
 ghost use Rattle.endings.specs.Statuses.{number_of};
 ghost use Rattle.dmtcp.specs.Answers.{Greets, Said};
 
 use dmtcp_top::{FORMS, Status, dmtcp};
-use edge_io::{HostInputs, HostSink, Sink};
-use set_disk::HostFolder;
+use edge_io::{HostInputs, HostSink, Inputs, Sink};
+use set_disk::{Folder, HostFolder};
 use std::alloc::Global;
 use std::env::Env;
 use std::io::ErrorKind;
 use std::process::ExitCode;
 use std::rt::Files;
+use std::sync::Wait;
+use std::thread::Threads;
 use std::{env, fs, io};
 use trace_log::Trace;
 
@@ -52,9 +54,8 @@ fn main(rt: HostRuntime) -> ExitCode {
     };
     let mut inputs = HostInputs::new(&rt);
     let mut trace = Trace::new(rt.alloc());
-    let status = dmtcp(
+    let status = carried_out(
         &rt,
-        rt.alloc(),
         words.as_slice(),
         &mut inputs,
         &mut out,
@@ -64,6 +65,21 @@ fn main(rt: HostRuntime) -> ExitCode {
     );
     write_trace(&rt, &trace);
     exit_code(status)
+}
+
+/// The top call. Its promise is `dmtcp_top`'s, and nothing here rests on it.
+fn carried_out<R: Wait + Threads + Sync + Alloc<A = Global>, I: Inputs, O: Sink, L: Sink, F: Folder>(
+    rt: &R,
+    words: &[String],
+    inputs: &mut I,
+    out: &mut O,
+    log: &mut L,
+    disk: &mut F,
+    trace: &mut Trace,
+) -> Status
+    requires { trace.old.records ≡ [] }
+{
+    dmtcp(rt, rt.alloc(), words, inputs, out, log, disk, trace)
 }
 
 /// What the program ends with.

@@ -1,3 +1,5 @@
+ghost use Rattle.std.specs.Prelude.{◌≡◌, []};
+
 use dmtcp_top::{Status, run_words};
 use edge_io::{MemInputs, MemSink};
 use set_disk::MemFolder;
@@ -46,22 +48,23 @@ impl Outcome {
     }
 }
 
-/// Makes the top call.
+/// Makes the top call, which leaves its records in a trace that has none.
 pub fn called(
     alloc: Global,
     words: &[String],
     streams: &mut Streams,
     disk: &mut MemFolder,
-) -> (Status, Trace) {
-    let mut trace = Trace::new(alloc);
-    let status = run_words(
+    trace: &mut Trace,
+) -> Status
+    requires { trace.old.records ≡ [] }
+{
+    run_words(
         alloc,
         words,
         &mut streams.inputs,
         &mut streams.console,
         &mut streams.log,
         disk,
-        &mut trace,
-    );
-    (status, trace)
+        trace,
+    )
 }

@@ -3,6 +3,7 @@ use edge_io::{MemInputs, MemSink};
 use set_disk::MemFolder;
 use std::alloc::{AllocError, Global};
 use std::collections::BTreeMap;
+use trace_log::Trace;
 use worked_guests::fault::CaseFault;
 
 /// What each call of a case is given: the files among its inputs, and which calls of the inputs,
@@ -105,7 +106,8 @@ impl Setting {
     /// Makes the top call with these words, in a folder with what earlier calls left there.
     pub fn call(&self, words: &[String], disk: &mut MemFolder) -> Result<Box<Outcome>, AllocError> {
         let mut streams = self.streams()?;
-        let (status, trace) = called(self.alloc, words, &mut streams, disk);
+        let mut trace = Trace::new(self.alloc);
+        let status = called(self.alloc, words, &mut streams, disk, &mut trace);
         let outcome = Outcome {
             status,
             trace,
