@@ -40,11 +40,14 @@ ends() {
     judge "$*" "$wanted" "$console" "$last"
 }
 
-usage='dmtcp launch [--every K] [--records M] [--file NAME].. HOST:NAME[,ARGUMENT]..
-dmtcp restart [--every K] [--records M]'
+usage='dmtcp launch [options] host:name[,argument]...
+dmtcp restart [options]
+dmtcp ring N [options]
+dmtcp help'
 ends 0 "$usage" '' --help
 ends 0 'dmtcp 0.1.0' '' --version
 ends 0 hello 'done' launch 0:hello.elf
+ends 0 "$usage" 'done' help
 ends 0 $'hello\nhello' 'done' launch --nodes 16 --file hello.elf 0:hello.elf 15:hello.elf,argument
 
 ends 10 '' usage
@@ -84,6 +87,9 @@ for image in dmtcp_set/*_1.img; do
     printf 'no image' > "$image"
 done
 ends 17 '' 'damaged: slot * file * at *' restart
+rm -r dmtcp_set
+
+ends 0 'ring 2: value 300, restart value 300' 'done' ring 2
 rm -r dmtcp_set
 
 ends 18 hello 'budget spent: 3 records' launch --records 3 0:hello.elf

@@ -2,11 +2,15 @@
 --     not_this         they don't ask for another
 --     ring_is          the ring that they ask for is the one that was read
 --     one_run          a job that is neither the ring nor help
-use Rattle.std.proofs.Common.{◌≡◌, List, refl, sym, ap, subst, ◌∙◌}
+--     help_words       the words that ask for help
+use Rattle.std.proofs.Common.{◌≡◌, List, [], ◌∷◌, refl, sym, ◌∙◌}
+use Rattle.std.specs.Prelude.{codes}
 use Rattle.option_words.specs.Options.{Text}
 use Rattle.job_words.specs.declared.job.Job.{Job}
 use Rattle.job_words.specs.declared.job.Job.TheVariants.{Launch, Restart, Ring, Help}
 use Rattle.job_words.specs.declared.job.RingJob.{RingJob}
+use Rattle.job_words.specs.Commands.{Command, Spell, launch, restart, ring, help}
+use Rattle.job_words.specs.Jobs.{IsJob, IsJobOf}
 use Rattle.job_words.proofs.OneJob.{one_job}
 use Rattle.dmtcp_top.specs.Jobs.{Asks, IsOneRun}
 
@@ -25,3 +29,12 @@ one_run (Launch job) no_ring no_help = tt
 one_run (Restart job) no_ring no_help = tt
 one_run (Ring job) no_ring no_help = absurd (no_ring job refl)
 one_run Help no_ring no_help = absurd (no_help refl)
+
+spelled : (words : List Text) (command : Command) → Spell words command → IsJobOf command Help → words ≡ codes "help" ∷ []
+spelled words (launch given programs) spell is = absurd is
+spelled words (restart given) spell is = absurd is
+spelled words (ring n given) spell is = absurd is
+spelled words help spell is = spell.text
+
+pub help_words : (words : List Text) → IsJob words Help → words ≡ codes "help" ∷ []
+help_words words asked = spelled words asked.command asked.spell asked.job

@@ -20,3 +20,4 @@ pub mod RingHalves
 pub mod RingEnds
 pub mod RingAsks
 pub mod Commands
+pub mod RefusedWords

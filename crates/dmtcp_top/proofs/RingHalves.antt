@@ -30,7 +30,7 @@ use Rattle.computation.specs.Sinks.{Sunk, sunk, Took, TookFront}
 use Rattle.checkpointer.proofs.Sinks.{took_both, took_front}
 use Rattle.run_loop.specs.RunEnds.{IsRun, RanOut, ShownInPart}
 use Rattle.ring_demo.specs.RingJobs.{launch_of, restart_of, ring_files}
-use Rattle.ring_demo.specs.Values.{content_in, summary}
+use Rattle.ring_demo.specs.Values.{content_named, summary}
 use Rattle.dmtcp_top.specs.declared.ring.Values.{Values}
 use Rattle.dmtcp_top.specs.Jobs.{Asks, settings_of}
 use Rattle.dmtcp_top.specs.Sessions.{Session, Beginning, given}
@@ -262,8 +262,8 @@ module _ (ring : RingJob) (launch restart : Job) (are : AreHalves ring launch re
 
     -- both came to their end
     pub both_done : (values : Values) (again : Again Done)
-        → IfSome come.start (λ begun. (g : Plain) × (run begun.state launched ≡ Some g) × (values.launched ≡ content_in g.kernel (codes "value")))
-        → IfSome again.start (λ begun. (g : Plain) × (run begun.state trace ≡ Some g) × (values.restarted ≡ content_in g.kernel (codes "value")))
+        → IfSome come.start (λ begun. (g : Plain) × (run begun.state launched ≡ Some g) × (values.launched ≡ content_named g.kernel (codes "value")))
+        → IfSome again.start (λ begun. (g : Plain) × (run begun.state trace ≡ Some g) × (values.restarted ≡ content_named g.kernel (codes "value")))
         → AreDone values ring trace old new whole_log
     both_done values again value other =
         let came = moved again.start (CameTo RanOut) again.there.0.0 in

@@ -34,7 +34,7 @@ use Rattle.checkpointer.specs.Sets.{IsAtLeast}
 use Rattle.checkpointer.proofs.Sinks.{took_front}
 use Rattle.image_store.specs.StoreCrashes.{ChangesNothing}
 use Rattle.run_loop.specs.RunEnds.{IsRun, RanOut}
-use Rattle.ring_demo.specs.Values.{content_in}
+use Rattle.ring_demo.specs.Values.{content_named}
 use Rattle.dmtcp_top.specs.Sessions.{Session, Beginning, Outside, session_in, log_in}
 use Rattle.dmtcp_top.specs.Launches.{beginning, origin}
 use Rattle.dmtcp_top.specs.Ends.{CameTo, Reaches}
@@ -82,21 +82,21 @@ if_some : (o : Option Beginning) (P Q : Beginning → Type 0) → IfSome o P →
 if_some None P Q holds next = tt
 if_some (Some b) P Q holds next = next b holds
 
-pub half_done : (c : Computation) (left : List ℕ) (words : List Text) (trace : List Record) (before now : Outside) → IsRunOut c words trace before now → left ≡ content_in c.kernel (codes "value")
+pub half_done : (c : Computation) (left : List ℕ) (words : List Text) (trace : List Record) (before now : Outside) → IsRunOut c words trace before now → left ≡ content_named c.kernel (codes "value")
     → IsHalfDone left words trace before now
 half_done c left words trace before now out is = record {
   come = out.come;
-  value = if_some out.come.start (λ begun. run begun.state trace ≡ Some (plain_of c)) (λ begun. (g : Plain) × (run begun.state trace ≡ Some g) × (left ≡ content_in g.kernel (codes "value")))
+  value = if_some out.come.start (λ begun. run begun.state trace ≡ Some (plain_of c)) (λ begun. (g : Plain) × (run begun.state trace ≡ Some g) × (left ≡ content_named g.kernel (codes "value")))
       out.state (λ begun steps. (plain_of c, steps, is));
 }
 
 -- what the half left is what its run left
-pub value_found : (half : Session) (came : CameTo RanOut half) (left : List ℕ) → IfSome half.left.start (λ begun. (g : Plain) × (run begun.state half.left.trace ≡ Some g) × (left ≡ content_in g.kernel (codes "value")))
+pub value_found : (half : Session) (came : CameTo RanOut half) (left : List ℕ) → IfSome half.left.start (λ begun. (g : Plain) × (run begun.state half.left.trace ≡ Some g) × (left ≡ content_named g.kernel (codes "value")))
     → left ≡ value_left came
 value_found half came left there =
     let at : Beginning = beginning came.begun in
-    let found = subst (λ (o : Option Beginning). IfSome o (λ begun. (g : Plain) × (run begun.state half.left.trace ≡ Some g) × (left ≡ content_in g.kernel (codes "value")))) came.start there in
-    found.2 ∙ ap (λ (g : Plain). content_in g.kernel (codes "value")) (sym (state_at half came at found.0 came.start found.1))
+    let found = subst (λ (o : Option Beginning). IfSome o (λ begun. (g : Plain) × (run begun.state half.left.trace ≡ Some g) × (left ≡ content_named g.kernel (codes "value")))) came.start there in
+    found.2 ∙ ap (λ (g : Plain). content_named g.kernel (codes "value")) (sym (state_at half came at found.0 came.start found.1))
 
 -- ---- lines
 

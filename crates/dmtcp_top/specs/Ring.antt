@@ -19,7 +19,7 @@ use Rattle.computation.specs.Sinks.{Sunk, sunk, Took, TookFront}
 use Rattle.checkpointer.specs.Pace.{TookThen}
 use Rattle.run_loop.specs.RunEnds.{RanOut, ShownInPart}
 use Rattle.ring_demo.specs.RingJobs.{launch_of, restart_of, ring_files}
-use Rattle.ring_demo.specs.Values.{content_in, summary}
+use Rattle.ring_demo.specs.Values.{content_named, summary}
 use Rattle.dmtcp_top.specs.Sessions.{Session, Beginning, Outside, StreamsFailed, FolderFailed, given, session, log_in}
 use Rattle.dmtcp_top.specs.Ends.{CameTo, Reaches, IsFrontOfLines, CallGoesInRounds}
 use Rattle.dmtcp_top.specs.Promise.{StaysWhole}
@@ -47,7 +47,7 @@ pub record RingCall : Type 0 where
 
 -- what a run that came to its end left in the file `value`, nothing where there is no such file
 abbrev pub value_left : {half : Session} → CameTo RanOut half → List ℕ
-value_left came = content_in came.run.shown.state.kernel (codes "value")
+value_left came = content_named came.run.shown.state.kernel (codes "value")
 
 -- both halves came to their end: the summary belongs on the console
 pub record BothEnd (call : RingCall) (shown last : List ℕ) : Type 0 where
@@ -127,7 +127,8 @@ pub record RingHalves (ring : RingJob) (old new : SeenFolder) : Type 0 where
   -- A crash at any moment of the call leaves the set that counted before it, or one of a cut of the launch.
   pub whole : StaysWhole first launched old new
 
-abbrev pub call_of : {ring : RingJob} {old new : SeenFolder} → RingHalves ring old new → List Record → RingCall
+abbrev pub call_of : {ring : RingJob} {old new : SeenFolder}
+    → RingHalves ring old new → List Record → RingCall
 call_of {ring} {old} {new} halves trace = record {
   processes = ring.processes;
   launch = launch_half ring old.files halves.first halves.launched;

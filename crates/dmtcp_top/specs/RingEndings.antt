@@ -28,7 +28,7 @@ use Rattle.endings.specs.Log.{done_line}
 use Rattle.computation.specs.Sinks.{Sunk, Took, TookFront}
 use Rattle.run_loop.specs.RunEnds.{RanOut}
 use Rattle.ring_demo.specs.RingJobs.{launch_of, launch_settings, members, restart_of, ring_files}
-use Rattle.ring_demo.specs.Values.{content_in}
+use Rattle.ring_demo.specs.Values.{content_named}
 use Rattle.dmtcp_top.specs.declared.ring.Values.{Values}
 use Rattle.dmtcp_top.specs.Jobs.{Asks}
 use Rattle.dmtcp_top.specs.Sessions.{Outside, outside}
@@ -47,7 +47,7 @@ pub record IsHalfDone (left : List ℕ) (words : List Text) (trace : List Record
     : Type 0 where
   pub come : ComesToEnd Done words trace before now
   pub value : IfSome come.start
-      (λ begun. (g : Plain) × (run begun.state trace ≡ Some g) × (left ≡ content_in g.kernel (codes "value")))
+      (λ begun. (g : Plain) × (run begun.state trace ≡ Some g) × (left ≡ content_named g.kernel (codes "value")))
 
 abbrev pub HalfEnds : Result (List ℕ) Ending → List Text → List Record → Outside → Outside → Type 0
 HalfEnds (Ok left) words trace before now = IsHalfDone left words trace before now

@@ -1,5 +1,5 @@
 ghost use Rattle.std.specs.Prelude.{◌≡◌, IfOk};
-ghost use Rattle.ring_demo.specs.Values.{content_in, summary};
+ghost use Rattle.ring_demo.specs.Values.{content_named, summary};
 
 use itoa::Buffer;
 use plain_machine::PlainKernel;
@@ -13,7 +13,7 @@ pub fn content_of(
     kernel: &PlainKernel,
     name: &[u8],
 ) -> Result<ListOf<u8>, AllocError>
-    ensures { IfOk result (λ content. content ≡ content_in kernel.now name.now) }
+    ensures { IfOk result (λ content. content ≡ content_named kernel.now name.now) }
 {
     let Some(number) = kernel.names.get(name).copied() else {
         return Ok(ListOf::new(alloc));

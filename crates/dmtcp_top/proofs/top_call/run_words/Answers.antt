@@ -1,11 +1,15 @@
 use Rattle.std.proofs.Common.{◌≡◌, ◌≢◌, inl, inr, map, string_bytes, refl, sym, subst, ◌∙◌, arith}
 use Rattle.std.specs.Prelude.{◌⊎◌}
-use Rattle.views.specs.Faults.{Rose}
+use Rattle.job_words.specs.declared.job.Job.TheVariants.{Ring, Help}
+use Rattle.job_words.specs.declared.job.RingJob.{RingJob}
 use Rattle.endings.specs.declared.status.Status.{Status}
 use Rattle.endings.specs.declared.status.Status.TheVariants.{Usage, InputFault, SinkFault, DiskFault, Memory}
 use Rattle.endings.specs.Endings.{status_of}
 use Rattle.dmtcp_top.specs.Sessions.{outside}
+use Rattle.dmtcp_top.specs.Ring.{IsRing}
+use Rattle.dmtcp_top.proofs.Commands.{not_this, ring_is}
 use Rattle.dmtcp_top.proofs.Promised.{promised, refused_start, refused_status}
+use Rattle.dmtcp_top.proofs.RefusedWords.{refused_ring, refused_help}
 use Rattle.dmtcp_top.proofs.top_call.run_words.Goals as goal
 
 -- it is neither of these two
@@ -14,7 +18,7 @@ neither status wanted (inl usage) no_usage no_memory is = absurd (no_usage (sym 
 neither status wanted (inr memory) no_usage no_memory is = absurd (no_memory (sym memory ∙ is))
 
 pub returns-in-Err-clause-promise : goal.returns-in-Err-clause-promise
-returns-in-Err-clause-promise g c =
+returns-in-Err-clause-promise g c one =
     let words = map string_bytes c.args.words.now in
     let at = outside (g.I.Inputs.seen c.args.inputs.now) (g.O.Sink.seen c.args.out.now) (g.L.Sink.seen c.args.log.now) (g.F.Folder.seen c.args.disk.now) in
     let one_of = refused_status c.in-Err.ending words c.in-Err.ensures.refused in
@@ -25,20 +29,11 @@ returns-in-Err-clause-promise g c =
     (neither (status_of c.in-Err.ending) DiskFault one_of (λ e. absurd (cc)) (λ e. absurd (cc)))
     c.conclude.ensures.cause refl (omega arith)
 
-either : {A B P : Type 0} → A ⊎ B → (A → P) → (B → P) → P
-either (inl a) f h = f a
-either (inr b) f h = h b
+pub returns-in-Err-clause-ring : goal.returns-in-Err-clause-ring
+returns-in-Err-clause-ring g c ring asks =
+    refused_ring c.conclude.result (map string_bytes c.args.words.now) ring asks c.args.trace.now.records c.requires
+    (g.I.Inputs.seen c.args.inputs.now) (g.O.Sink.seen c.args.out.now) (g.L.Sink.seen c.args.log.now) (g.L.Sink.seen c.conclude.new.log) (g.F.Folder.seen c.args.disk.now)
+    c.in-Err.ending c.in-Err.ensures.refused c.conclude.ensures.concludes c.conclude.ensures.cause
 
-pub returns-clause-promise : goal.returns-clause-promise
-returns-clause-promise g c =
-    let words = map string_bytes c.args.words.now in
-    let before = outside (g.I.Inputs.seen c.args.inputs.now) (g.O.Sink.seen c.args.out.now) (g.L.Sink.seen c.args.log.now) (g.F.Folder.seen c.args.disk.now) in
-    let mid = c.carry_out-ending.new in
-    let now = outside (g.I.Inputs.seen mid.inputs) (g.O.Sink.seen mid.out) (g.L.Sink.seen mid.log) (g.F.Folder.seen mid.disk) in
-    let had = (g.L.Sink.seen c.args.log.now).faults in
-    promised c.carry_out-ending.result c.conclude-2.result words mid.trace.records before now (g.L.Sink.seen c.conclude-2.new.log) c.conclude-2.ensures.concludes
-    (c.carry_out-ending.ensures.ends words c.in-Ok.ensures.found)
-    c.carry_out-ending.ensures.input
-    (λ is. either (c.carry_out-ending.ensures.sink is) (λ rose. inl rose)
-    (λ rose. inr (subst (λ log. Rose had (g.L.Sink.seen log).faults) (sym (c.conclude-2.ensures.silent is)) rose)))
-    c.carry_out-ending.ensures.disk c.conclude-2.ensures.cause c.carry_out-ending.ensures.same c.carry_out-ending.ensures.log_later
+pub returns-in-Err-clause-help : goal.returns-in-Err-clause-help
+returns-in-Err-clause-help g c asks = refused_help c.in-Err.ending (map string_bytes c.args.words.now) asks c.in-Err.ensures.refused
