@@ -4,11 +4,14 @@
 --     wants_memory, memory_then      memory was wanted when it had come there
 --     value_found             what it left in the file of the value
 --     silent                  the log's lines of a run without checkpoints
+--     raised                  a result that is this error
 --     then_looks              the folder was only looked at afterwards
+--     rose_then               so a fault that was counted then was counted in both
 use Rattle.std.proofs.Common.{◌≡◌, ◌≢◌, ℕ, ◌^◌, ◌<◌, List, [], ◌∷◌, ◌++◌, Option, Some, None, true, false, inl, inr, refl, sym, ap, subst, ◌∙◌, arith}
-use Rattle.std.specs.Prelude.{◌⊎◌, All, IfSome, codes}
+use Rattle.std.specs.Prelude.{◌⊎◌, All, IfSome, IsErrAnd, Result, Ok, Err, codes}
 use Rattle.std.proofs.lemmas.List.Elements.{All-head, All-tail}
 use Rattle.views.specs.Faults.{Rose}
+use Rattle.views.proofs.FaultCounts.{Rose-after}
 use Rattle.sys_abi.specs.declared.record.Record.{Record}
 use Rattle.sys_abi.specs.declared.record.Record.TheVariants.{User, Call, Deliver, Arrive, Cut, Drained, Refilled, Complete, Refused, Lapsed}
 use Rattle.disk_folder.specs.Files.{FolderFiles as Folder}
@@ -48,6 +51,10 @@ use Rattle.dmtcp_top.proofs.Loads.{left_before}
 pub never_rose : {P : Type 0} → Rose 0 0 → P
 never_rose (inl less) = absurd (omega arith)
 never_rose (inr most) = absurd (cc)
+
+pub raised : {A E : Type 0} (P : Result A E → Type 0) (r : Result A E) (e : E) → IsErrAnd r (λ x. x ≡ e) → P (Err e) → P r
+raised P (Ok a) e is holds = absurd is
+raised P (Err x) e is holds = subst (λ y. P (Err y)) (sym is) holds
 
 inner : {A : Type 0} (a b : A) → Some a ≡ Some b → a ≡ b
 inner a b is = cc
@@ -144,3 +151,8 @@ then_looks start trace old mid new whole looks = record {
     counted (inl counts) = inl (let later = looks.counts.later in omega arith)
     counted (inr full) =
         inr (let later = looks.counts.later in let small : new.faults < 2 ^ 64 = looks.counts.small (omega (arith, full)) in omega arith)
+
+pub rose_then : (trace : List Record) (old mid new : SeenFolder) → CountsFaults trace old.faults mid.faults → OnlyLooks mid new → Rose mid.faults new.faults → Rose old.faults new.faults
+rose_then trace old mid new (inl counts) looks rose = Rose-after old.faults mid.faults new.faults (omega (arith, counts)) rose
+rose_then trace old mid new (inr full) looks (inl less) = let small : new.faults < 2 ^ 64 = looks.counts.small (omega (arith, full)) in absurd (omega arith)
+rose_then trace old mid new (inr full) looks (inr most) = inr most

@@ -1,4 +1,4 @@
-use Rattle.std.proofs.Common.{◌≡◌, [], Some, None, ap, subst, ◌∙◌}
+use Rattle.std.proofs.Common.{◌≡◌, [], Some, None, ap, sym, subst, ◌∙◌}
 use Rattle.trace_log.specs.Trace.{TraceState}
 use Rattle.run_loop.specs.declared.run_end.RunEnd.{RunEnd}
 use Rattle.run_loop.specs.declared.run_end.RunEnd.TheVariants.{Done as RunDone, Budget as RunBudget, Stuck as RunStuck, SinkFault as RunSinkFault, Memory as RunMemory}
