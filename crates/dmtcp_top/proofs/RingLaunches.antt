@@ -1,5 +1,5 @@
 -- The launch of a ring is refused for nothing that it reads.
-use Rattle.std.proofs.Common.{◌≡◌, ℕ, List, [], ◌∷◌, map, Option, Some, None, refl, sym, ap, subst, ◌∙◌}
+use Rattle.std.proofs.Common.{◌≡◌, ℕ, List, [], ◌∷◌, map, get_or, Option, Some, None, refl, sym, ap, subst, ◌∙◌}
 use Rattle.std.specs.Prelude.{All}
 use Rattle.std.specs.Option.{option_map, option_or}
 use Rattle.std.specs.List.{range_with_len}
@@ -34,7 +34,7 @@ all_good : (n : ℕ) (hosts : List ℕ) → first (map program_refusal (map (pro
 all_good n hosts =
     none_refused program_refusal (map (program_in ring_files) (map start_of (map (member n) hosts)))
     (All-map (λ (input : ProgramInput). program_refusal input ≡ None) (program_in ring_files) (map start_of (map (member n) hosts))
-    (All-map Fine start_of (map (member n) hosts) (All-map (λ program. Fine (start_of program)) (member n) hosts (λ k d inside. good n _))))
+    (All-map Fine start_of (map (member n) hosts) (All-map (λ program. Fine (start_of program)) (member n) hosts (λ k d inside. good n (get_or hosts k d)))))
 
 inputs_of : List Text → List NamedProgram → JobInputs
 inputs_of names programs = record { files = map (file_in ring_files) names; programs = map (program_in ring_files) programs }

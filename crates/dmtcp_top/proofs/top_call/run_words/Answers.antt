@@ -7,7 +7,7 @@ use Rattle.endings.specs.declared.status.Status.TheVariants.{Usage, InputFault, 
 use Rattle.endings.specs.Endings.{status_of}
 use Rattle.dmtcp_top.specs.Sessions.{outside}
 use Rattle.dmtcp_top.specs.Ring.{IsRing}
-use Rattle.dmtcp_top.proofs.Commands.{not_this, ring_is}
+use Rattle.dmtcp_top.proofs.Commands.{ring_is, same_asked}
 use Rattle.dmtcp_top.proofs.Promised.{promised, refused_start, refused_status}
 use Rattle.dmtcp_top.proofs.RefusedWords.{refused_ring, refused_help}
 use Rattle.dmtcp_top.proofs.top_call.run_words.Goals as goal
@@ -37,3 +37,17 @@ returns-in-Err-clause-ring g c ring asks =
 
 pub returns-in-Err-clause-help : goal.returns-in-Err-clause-help
 returns-in-Err-clause-help g c asks = refused_help c.in-Err.ending (map string_bytes c.args.words.now) asks c.in-Err.ensures.refused
+
+pub returns-in-Ring-clause-ring : goal.returns-in-Ring-clause-ring
+returns-in-Ring-clause-ring g c ring asks =
+    let inputs = g.I.Inputs.seen c.args.inputs.now in
+    let before = outside inputs (g.O.Sink.seen c.args.out.now) (g.L.Sink.seen c.args.log.now) (g.F.Folder.seen c.args.disk.now) in
+    let after = outside inputs (g.O.Sink.seen c.run_ring.new.out) (g.L.Sink.seen c.run_ring.new.log) (g.F.Folder.seen c.run_ring.new.disk) in
+    subst (λ (r : RingJob). IsRing c.run_ring.result r c.run_ring.new.trace.records before after)
+    (ring_is (map string_bytes c.args.words.now) c.in-Ok.job c.in-Ring.ring ring c.in-Ok.ensures.found asks c.in-Ring.is) (c.run_ring.ensures inputs)
+
+pub returns-clause-ring : goal.returns-clause-ring
+returns-clause-ring g c ring asks = absurd (c.in_default.not-Ring ring (same_asked (map string_bytes c.args.words.now) c.in-Ok.job (Ring ring) c.in-Ok.ensures.found asks))
+
+pub returns-clause-help : goal.returns-clause-help
+returns-clause-help g c asks = absurd (c.in_default.not-Help (same_asked (map string_bytes c.args.words.now) c.in-Ok.job Help c.in-Ok.ensures.found asks))
