@@ -1,7 +1,7 @@
 -- A call whose words came to no job, where they ask for the ring or for help: memory was wanted, and never for help.
 --     refused_ring     the contract of a ring holds then
 --     refused_help     this never comes where they ask for help
-use Rattle.std.proofs.Common.{◌≡◌, List, [], inl, inr, arith}
+use Rattle.std.proofs.Common.{◌≡◌, List, [], arith}
 use Rattle.std.specs.Prelude.{◌⊎◌}
 use Rattle.views.specs.Faults.{Rose}
 use Rattle.sys_abi.specs.declared.record.Record.{Record}

@@ -2,7 +2,7 @@
 --     asks_launch, asks_restart      the words of the halves ask for their jobs
 --     made_halves                    so these jobs are the ring's halves
 --     refused_memory                 the call where memory was wanted before the launch
-use Rattle.std.proofs.Common.{◌≡◌, ℕ, List, [], ◌∷◌, map, Option, Some, None, inl, inr, refl, sym, ap, subst, ◌∙◌}
+use Rattle.std.proofs.Common.{◌≡◌, List, [], None, inl, refl, ◌∙◌}
 use Rattle.sys_abi.specs.declared.record.Record.{Record}
 use Rattle.edge_io.specs.Sink.{SeenSink}
 use Rattle.disk_folder.specs.SeenFolder.{SeenFolder}
@@ -12,7 +12,7 @@ use Rattle.job_words.specs.declared.job.LaunchJob.{LaunchJob}
 use Rattle.job_words.specs.declared.job.RestartJob.{RestartJob}
 use Rattle.job_words.specs.declared.job.RingJob.{RingJob}
 use Rattle.job_words.specs.Commands.{words_of_command}
-use Rattle.job_words.specs.Jobs.{IsJob, IsLaunchOf, IsRestartOf}
+use Rattle.job_words.specs.Jobs.{IsLaunchOf, IsRestartOf}
 use Rattle.endings.specs.declared.status.Status.TheVariants.{Memory as IsMemory}
 use Rattle.endings.specs.declared.ending.Ending.TheVariants.{Memory}
 use Rattle.endings.specs.Log.{memory_line}

@@ -2,7 +2,7 @@
 --     ring_ends            what console and log took
 --     is_ring              the contract of the call
 --     refused_memory       memory was wanted before the launch
-use Rattle.std.proofs.Common.{◌≡◌, ◌≢◌, ℕ, ◌≤◌, List, [], ◌++◌, take, Option, Some, None, inl, inr, refl, sym, ap, subst, ◌∙◌, append-nil}
+use Rattle.std.proofs.Common.{◌≡◌, ℕ, ◌≤◌, List, [], take, Option, inl, inr, refl, sym, ap, subst, ◌∙◌, append-nil}
 use Rattle.std.specs.Prelude.{◌⊎◌}
 use Rattle.views.specs.Faults.{Rose}
 use Rattle.views.proofs.FaultCounts.{Rose-after}
@@ -13,14 +13,14 @@ use Rattle.disk_folder.specs.SeenFolder.{SeenFolder}
 use Rattle.trace_log.specs.LogText.{log_text}
 use Rattle.job_words.specs.declared.job.RingJob.{RingJob}
 use Rattle.endings.specs.declared.status.Status.{Status}
-use Rattle.endings.specs.declared.status.Status.TheVariants.{Done as IsDone, SinkFault as IsSinkFault, DiskFault as IsDiskFault, Memory as IsMemory}
+use Rattle.endings.specs.declared.status.Status.TheVariants.{Done as IsDone, SinkFault as IsSinkFault, DiskFault as IsDiskFault}
 use Rattle.endings.specs.declared.ending.Ending.{Ending}
 use Rattle.endings.specs.declared.ending.Ending.TheVariants.{Done, Usage, InputFault, Missing, BadElf, TooBig, SinkFault, DiskFault, NoSet, Damaged, Budget, Stuck, Memory}
 use Rattle.endings.specs.Endings.{status_of, line_of, Concludes}
 use Rattle.endings.specs.Log.{done_line}
 use Rattle.computation.specs.Sinks.{Sunk, sunk, Took, TookFront}
 use Rattle.checkpointer.proofs.Sinks.{took_both, took_then}
-use Rattle.dmtcp_top.specs.Sessions.{Outside, StreamsFailed, FolderFailed, outside}
+use Rattle.dmtcp_top.specs.Sessions.{StreamsFailed, FolderFailed, outside}
 use Rattle.dmtcp_top.specs.Ring.{RingCall, RingEnded, RingEnds, RingCutOff, IsRing, call_of}
 use Rattle.dmtcp_top.specs.RingEndings.{IsTold, SummaryFailed, RingIsAt, RingComesToEnd}
 use Rattle.dmtcp_top.proofs.Conclusions.{front_of_nothing, status_kept}

@@ -2,8 +2,8 @@
 --     first_stops, second_stops      the ring ends with one of them
 --     both_done                      both came to their end
 --     told_so                        and the line that tells it was put, or not
-use Rattle.std.proofs.Common.{◌≡◌, ◌≢◌, ℕ, List, [], ◌++◌, take, Option, Some, None, inl, inr, refl, sym, ap, subst, ◌∙◌, append-nil}
-use Rattle.std.specs.Prelude.{◌⊎◌, IfSome, codes}
+use Rattle.std.proofs.Common.{◌≡◌, ◌≢◌, ℕ, List, [], take, Option, Some, None, inl, inr, refl, sym, ap, subst, ◌∙◌, append-nil}
+use Rattle.std.specs.Prelude.{IfSome, codes}
 use Rattle.sys_abi.specs.declared.record.Record.{Record}
 use Rattle.edge_io.specs.Sink.{SeenSink, appended}
 use Rattle.disk_folder.specs.Files.{FolderFiles as Folder}
@@ -11,11 +11,9 @@ use Rattle.disk_folder.specs.SeenFolder.{SeenFolder}
 use Rattle.plain_machine.specs.declared.plain.Plain.{Plain}
 use Rattle.plain_machine.specs.Runs.{run}
 use Rattle.option_words.specs.Options.{Text}
-use Rattle.trace_log.specs.declared.requests.Schedule.{Schedule}
 use Rattle.trace_log.specs.LogText.{log_text}
 use Rattle.job_words.specs.declared.job.Job.{Job}
 use Rattle.job_words.specs.declared.job.Job.TheVariants.{Launch, Restart}
-use Rattle.job_words.specs.declared.job.LaunchJob.{LaunchJob}
 use Rattle.job_words.specs.declared.job.RestartJob.{RestartJob}
 use Rattle.job_words.specs.declared.job.RingJob.{RingJob}
 use Rattle.job_words.specs.Commands.{words_of_command}
@@ -32,7 +30,6 @@ use Rattle.run_loop.specs.RunEnds.{IsRun, RanOut, ShownInPart}
 use Rattle.ring_demo.specs.RingJobs.{launch_of, restart_of, ring_files}
 use Rattle.ring_demo.specs.Values.{content_named, summary}
 use Rattle.dmtcp_top.specs.declared.ring.Values.{Values}
-use Rattle.dmtcp_top.specs.Jobs.{Asks, settings_of}
 use Rattle.dmtcp_top.specs.Sessions.{Session, Beginning, given}
 use Rattle.dmtcp_top.specs.Launches.{LaunchAsked, Begun, origin, schedule_in}
 use Rattle.dmtcp_top.specs.Launches.Begun.{ByLaunch, ByRestart}

@@ -7,7 +7,7 @@
 --     raised                  a result that is this error
 --     then_looks              the folder was only looked at afterwards
 --     rose_then               so a fault that was counted then was counted in both
-use Rattle.std.proofs.Common.{◌≡◌, ◌≢◌, ℕ, ◌^◌, ◌<◌, List, [], ◌∷◌, ◌++◌, Option, Some, None, true, false, inl, inr, refl, sym, ap, subst, ◌∙◌, arith}
+use Rattle.std.proofs.Common.{◌≡◌, ℕ, ◌^◌, ◌<◌, List, [], ◌∷◌, ◌++◌, Option, Some, None, false, inl, inr, refl, sym, ap, subst, ◌∙◌, arith}
 use Rattle.std.specs.Prelude.{◌⊎◌, All, IfSome, IsErrAnd, Result, Ok, Err, codes}
 use Rattle.std.proofs.lemmas.List.Elements.{All-head, All-tail}
 use Rattle.views.specs.Faults.{Rose}
@@ -19,23 +19,19 @@ use Rattle.disk_folder.specs.SeenFolder.{SeenFolder}
 use Rattle.disk_folder.proofs.Stretches.{joins, weakens}
 use Rattle.plain_machine.specs.declared.plain.Plain.{Plain}
 use Rattle.plain_machine.specs.Runs.{run}
-use Rattle.plain_machine.specs.declared.kernel.PlainKernel.{PlainKernel}
 use Rattle.option_words.specs.Options.{Text}
 use Rattle.trace_log.specs.declared.requests.Schedule.{Schedule}
 use Rattle.trace_log.specs.declared.log_lines.Progress.{Progress}
 use Rattle.trace_log.specs.LogText.{after, at_start, line_of, lines_from, log_text}
 use Rattle.trace_log.specs.Requests.{is_mark}
 use Rattle.trace_log.proofs.RequestMarks.{has_no_marks}
-use Rattle.endings.specs.declared.status.Status.TheVariants.{Done as IsDone, Memory as IsMemory}
+use Rattle.endings.specs.declared.status.Status.TheVariants.{Memory as IsMemory}
 use Rattle.endings.specs.declared.ending.Ending.TheVariants.{Memory}
-use Rattle.endings.specs.Endings.{status_of}
 use Rattle.endings.specs.Log.{memory_line}
 use Rattle.computation.specs.declared.computation.Computation.{Computation}
 use Rattle.computation.specs.Computations.{plain_of}
 use Rattle.checkpointer.specs.Keeping.{IsOpening, CountsFaults}
-use Rattle.checkpointer.specs.Sets.{IsAtLeast}
 use Rattle.checkpointer.proofs.Sinks.{took_front}
-use Rattle.image_store.specs.StoreCrashes.{ChangesNothing}
 use Rattle.run_loop.specs.RunEnds.{IsRun, RanOut}
 use Rattle.ring_demo.specs.Values.{content_named}
 use Rattle.dmtcp_top.specs.Sessions.{Session, Beginning, Outside, session_in, log_in}

@@ -11,7 +11,7 @@ use Rattle.disk_folder.specs.Files.{FolderFiles as Folder}
 use Rattle.disk_folder.specs.SeenFolder.{SeenFolder}
 use Rattle.trace_log.specs.LogText.{log_text}
 use Rattle.endings.specs.declared.status.Status.{Status}
-use Rattle.endings.specs.declared.status.Status.TheVariants.{Done, Usage, InputFault, Missing, BadElf, SinkFault, DiskFault, NoSet, Damaged, Budget, Stuck, Memory, TooBig}
+use Rattle.endings.specs.declared.status.Status.TheVariants.{Done, Usage, InputFault, Missing, BadElf, SinkFault, DiskFault, Memory, TooBig}
 use Rattle.endings.specs.Log.{done_line}
 use Rattle.job_words.specs.declared.job.RingJob.{RingJob}
 use Rattle.job_words.specs.Commands.{words_of_command}

@@ -4,7 +4,7 @@
 --     HalvesEnd result ring ..                   both halves, or how one of them ended the ring
 --     Telling ending line console                the line that tells the values was put
 --     RingComesToEnd ending ring ..              the ring
-use Rattle.std.specs.Prelude.{◌≡◌, ◌⊎◌, ℕ, List, [], codes, Option, Some, None, Result, Ok, Err, IfSome}
+use Rattle.std.specs.Prelude.{◌≡◌, ◌⊎◌, ℕ, List, [], codes, Some, None, Result, Ok, Err, IfSome}
 use Rattle.sys_abi.specs.declared.record.Record.{Record}
 use Rattle.edge_io.specs.Sink.{SeenSink}
 use Rattle.disk_folder.specs.SeenFolder.{SeenFolder}

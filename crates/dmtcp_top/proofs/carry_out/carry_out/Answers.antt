@@ -12,7 +12,6 @@ use Rattle.dmtcp_top.proofs.Carried.{from_ok, from_err, begun_refused, begun_arr
 use Rattle.dmtcp_top.proofs.Decisions.{of_job}
 use Rattle.dmtcp_top.proofs.Loads.{looks_none, whole_unbegun, whole_begun}
 use Rattle.dmtcp_top.specs.Loads.{OnlyLooks}
-use Rattle.trace_log.specs.declared.requests.Schedule.{Schedule}
 use Rattle.checkpointer.proofs.Sinks.{took_nothing}
 use Rattle.dmtcp_top.proofs.carry_out.carry_out.Goals as goal
 

@@ -1,4 +1,4 @@
-use Rattle.std.proofs.Common.{◌≡◌, List, None, sym, ap, subst, ◌∙◌}
+use Rattle.std.proofs.Common.{◌≡◌, None, sym, ap, subst, ◌∙◌}
 use Rattle.std.specs.Prelude.{Result, IfErr}
 use Rattle.views.specs.Faults.{Rose}
 use Rattle.job_words.specs.declared.job.Job.{Job}
