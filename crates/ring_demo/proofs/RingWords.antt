@@ -3,11 +3,10 @@
 --     launch_made, launch_there        such a launch, and that there is one
 --     programs_more                    its programs, one after the other
 --     hosts_counted, nodes_used        a ring of n processes has n hosts, and as many nodes
-use Rattle.std.proofs.Common.{◌≡◌, ◌≢◌, true, not, ◌==◌, ℕ, zero, suc, ◌+◌, ◌<◌, ◌≤◌, ◌^◌, List, [], ◌∷◌, ◌++◌, length, map, get_or, Option, Some, None, refl, sym, ap, subst, ◌∙◌, arith, add-zero, length-append, eq-eqb, lit<, lit≤}
+use Rattle.std.proofs.Common.{◌≡◌, ◌≢◌, true, not, ◌==◌, ℕ, zero, suc, ◌+◌, ◌<◌, ◌≤◌, ◌^◌, List, [], ◌∷◌, ◌++◌, length, map, Some, refl, sym, ap, subst, ◌∙◌, arith, add-zero, length-append, eq-eqb, lit<, lit≤}
 use Rattle.std.specs.Prelude.{All, codes, fold, max}
 use Rattle.std.specs.List.{range_with_len, list_all, flat_map, IsDistinct}
 use Rattle.std.specs.Fmt.{decimal}
-use Rattle.std.specs.Str.{bytes_eq}
 use Rattle.std.proofs.lemmas.Fmt.{length-decimal-le}
 use Rattle.std.proofs.lemmas.List.FromFn.{get_or-range_with_len, length-range_with_len, length-map-range_with_len, map-range_with_len_more}
 use Rattle.std.proofs.lemmas.List.{map-append}
@@ -16,14 +15,14 @@ use Rattle.std.proofs.lemmas.List.Sums.{AllPass-from_list_all}
 use Rattle.option_words.specs.declared.option_key.OptionKey.{OptionKey}
 use Rattle.option_words.specs.declared.option_key.OptionKey.TheVariants.{Nodes, Workers, Every, Records, Shift, PidBase, PortBase}
 use Rattle.option_words.specs.declared.option_key.Form.TheVariants as form
-use Rattle.option_words.specs.Options.{Text, Setting, number, IsSetting, AreSettings, numbers_of, files_of, words_of_all}
+use Rattle.option_words.specs.Options.{Text, Setting, number, IsSetting, AreSettings, numbers_of, words_of_all}
 use Rattle.option_words.proofs.Numbers.{digit_in_decimal}
 use Rattle.job_words.specs.declared.job.Job.TheVariants as job
 use Rattle.job_words.specs.declared.job.LaunchJob.{LaunchJob}
 use Rattle.job_words.specs.declared.job.RestartJob.{RestartJob}
 use Rattle.job_words.specs.declared.job.RingJob.{RingJob}
 use Rattle.job_words.specs.declared.job.NamedProgram.{NamedProgram}
-use Rattle.job_words.specs.Programs.{ProgramText, IsProgram, HasNoComma, COLON, COMMA, argument_bytes, listed, after_comma, program_word, hosts_of}
+use Rattle.job_words.specs.Programs.{ProgramText, IsProgram, COLON, COMMA, argument_bytes, listed, after_comma, program_word, hosts_of}
 use Rattle.job_words.specs.Outlines.{hosts_used}
 use Rattle.job_words.specs.Commands.{HasNoZero, IsLaunch, words_of_command}
 use Rattle.job_words.specs.Jobs.{IsJob, IsLaunchOf, IsRestartOf, start_of}

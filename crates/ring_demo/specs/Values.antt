@@ -1,7 +1,7 @@
 -- What the processes of the ring leave, and the line that tells it.
 --     content_named k name  the bytes of the file of this name, none where there is no such file
 --     summary n v w         the line of a ring of n processes
-use Rattle.std.specs.Prelude.{ℕ, List, [], ◌++◌, codes, Option, Some, None, unwrap_or}
+use Rattle.std.specs.Prelude.{ℕ, List, [], ◌++◌, codes, unwrap_or}
 use Rattle.std.specs.Option.{option_and_then}
 use Rattle.std.specs.Fmt.{decimal}
 use Rattle.std.specs.FinMap as map_of

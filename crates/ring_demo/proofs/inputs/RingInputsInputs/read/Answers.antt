@@ -1,4 +1,4 @@
-use Rattle.std.proofs.Common.{◌≡◌, ◌≢◌, Some, sym, ap, ◌∙◌}
+use Rattle.std.proofs.Common.{Some, sym, ap, ◌∙◌}
 use Rattle.std.specs.FinMap as map_of
 use Rattle.option_words.proofs.Numbers.{text_is, text_is_not}
 use Rattle.ring_demo.specs.RingJobs.{RING, ring_files}
