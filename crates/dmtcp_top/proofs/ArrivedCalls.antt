@@ -5,6 +5,7 @@ use Rattle.std.specs.Prelude.{◌==◌, ◌&&◌, ◌||◌, is_some, min, nat_le
 use Rattle.std.specs.Option.{option_map}
 use Rattle.std.specs.FinMap as map
 use Rattle.std.proofs.lemmas.Bool.{lt-ltb}
+use Rattle.views.specs.Limits.{CHANNEL_LIMIT}
 use Rattle.views.proofs.MapValues.{get-map_values}
 use Rattle.sys_abi.specs.declared.identity.VPid.{VPid}
 use Rattle.sys_abi.specs.declared.identity.Dir.{Dir}
@@ -28,7 +29,7 @@ use Rattle.plain_machine.specs.declared.plain.Plain.{Plain}
 use Rattle.plain_machine.specs.declared.kernel.PlainKernel.{PlainKernel}
 use Rattle.plain_machine.specs.Addresses.{AF_INET, ADDRESS_SIZE, Endpoint, address_at, endpoint_of, named_host, is_port_used, unused_among, automatic_port}
 use Rattle.plain_machine.specs.Attempts.{Served}
-use Rattle.plain_machine.specs.Channels.{CHANNEL_LIMIT, direction_at}
+use Rattle.plain_machine.specs.Channels.{direction_at}
 use Rattle.plain_machine.specs.Kernel.{Held, held, free_from, has_numbers}
 use Rattle.plain_machine.specs.Records.{quiet, with_user, outcome_of_lent, outcome_of_serve}
 use Rattle.plain_machine.specs.Rows.Connections.{Connecting, may_connect, if_room, accepting_of, connecting_of, is_accept_ready, is_connect_ready}

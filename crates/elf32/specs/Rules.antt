@@ -5,6 +5,7 @@
 --     first_fault file              the fault of the first rule that does not hold
 use Rattle.std.specs.Prelude.{ℕ, ◌+◌, ◌*◌, ◌/◌, ◌%◌, ◌==◌, Bool, true, false, not, ◌&&◌, nat_lt, nat_le, if◌then◌else◌, List, [], ◌∷◌, ◌++◌, length, slice_index, bit_and, codes, Option, None, zero, suc}
 use Rattle.std.specs.List.{list_any}
+use Rattle.views.specs.Limits.{PROGRAM_PAGE_LIMIT}
 use Rattle.elf32.specs.declared.fault.ElfFault.{ElfFault}
 use Rattle.elf32.specs.declared.fault.ElfReason.{ElfReason}
 use Rattle.elf32.specs.declared.fault.ElfReason.TheVariants.{Short, Magic, Class, Machine, FileType, Flags, Dynamic, Segment, Overlap, TooLarge}
@@ -61,7 +62,7 @@ unfoldable pub memory_rules : List ℕ → List MemorySegment → ℕ → Progra
 memory_rules file before place h =
     needs (is_well_placed file h) Segment place
     ∷ needs (not (list_any (λ s. meets (range_of s) (memory_of h)) before)) Overlap place
-    ∷ needs (nat_le (page_count (before ++ segment_of file h ∷ [])) 1536) TooLarge place
+    ∷ needs (nat_le (page_count (before ++ segment_of file h ∷ [])) PROGRAM_PAGE_LIMIT) TooLarge place
     ∷ []
 
 unfoldable pub rules_at : List ℕ → List MemorySegment → ℕ → ProgramHeader → List (Option ElfFault)

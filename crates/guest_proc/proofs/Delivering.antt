@@ -10,7 +10,8 @@ use Rattle.plain_process.specs.declared.user_part.SignalAction.{SignalAction}
 use Rattle.plain_process.specs.declared.user_part.ThreadPart.{ThreadPart}
 use Rattle.plain_process.specs.declared.user_part.UserPart.{UserPart}
 use Rattle.plain_process.specs.Steps.{user_step}
-use Rattle.plain_process.specs.Deliveries.{Delivery, Enters, CONTEXT_LIMIT, action_on, with_entered, delivery, traps_with, deliver_to, deliver, delivered_told}
+use Rattle.views.specs.Limits.{CONTEXT_LIMIT}
+use Rattle.plain_process.specs.Deliveries.{Delivery, Enters, action_on, with_entered, delivery, traps_with, deliver_to, deliver, delivered_told}
 use Rattle.guest_proc.specs.Guests.{part_after}
 use Rattle.thread_group.specs.Groups.{entered_in}
 use Rattle.plain_process.proofs.Delivering.{chosen}

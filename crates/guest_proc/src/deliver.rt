@@ -2,7 +2,7 @@ ghost use Rattle.std.specs.Prelude.{◌≡◌, ◌<◌, Bool, Some, length, opti
 ghost use Rattle.std.specs.FinMap as map;
 ghost use Rattle.plain_process.specs.Deliveries as words;
 ghost use Rattle.plain_process.specs.Steps.{user_step};
-ghost use Rattle.plain_process.specs.Deliveries.{CONTEXT_LIMIT};
+ghost use Rattle.views.specs.Limits.{CONTEXT_LIMIT};
 ghost use Rattle.thread_group.specs.Groups.{entered_in};
 ghost use Rattle.guest_proc.specs.Guests.{HasThread, with_user, delivered_by, part_after};
 

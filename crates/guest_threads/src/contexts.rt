@@ -1,5 +1,5 @@
 ghost use Rattle.std.specs.Prelude.{◌≡◌, ◌-◌, ◌<◌, [], ◌∷◌, ◌++◌, length, take, IfOk};
-ghost use Rattle.plain_process.specs.Deliveries.{CONTEXT_LIMIT as LIMIT};
+ghost use Rattle.views.specs.Limits.{CONTEXT_LIMIT as LIMIT};
 ghost use Rattle.plain_process.specs.Rows.Handlers.{last_context};
 
 use plain_process::Context;

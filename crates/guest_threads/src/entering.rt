@@ -1,7 +1,8 @@
 //! The entry into a signal's handler (`man 7 signal`).
 ghost use Rattle.std.specs.Prelude.{◌≡◌, ◌<◌, length, IfSome};
 ghost use Rattle.std.specs.FinMap as map;
-ghost use Rattle.plain_process.specs.Deliveries.{CONTEXT_LIMIT, entered};
+ghost use Rattle.views.specs.Limits.{CONTEXT_LIMIT};
+ghost use Rattle.plain_process.specs.Deliveries.{entered};
 ghost use Rattle.guest_threads.specs.Threads.{at_thread};
 
 use crate::threads::Threads;

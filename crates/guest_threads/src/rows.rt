@@ -1,7 +1,7 @@
 ghost use Rattle.std.specs.Prelude.{◌≡◌, ◌==◌, ◌<◌, ◌≤◌, ◌+◌, ◌∷◌, ◌++◌, [], find, slice_get, length, vec_len, vec_capacity, option_map, option_and_then, IsOk, OnOk, OnErr, IfSome};
 ghost use Rattle.std.specs.Option.{option_copied};
 ghost use Rattle.std.specs.FinMap as map;
-ghost use Rattle.plain_process.specs.Deliveries.{CONTEXT_LIMIT};
+ghost use Rattle.views.specs.Limits.{CONTEXT_LIMIT};
 ghost use Rattle.plain_process.specs.Local.{with_clear_tid};
 ghost use Rattle.plain_process.specs.Rows.Handlers.{last_context, with_mask};
 ghost use Rattle.plain_process.specs.Steps.{with_regs};

@@ -3,7 +3,7 @@ ghost use Rattle.std.specs.Option.{option_copied};
 ghost use Rattle.std.specs.FinMap as map;
 ghost use Rattle.views.specs.NumberMap.{is_above};
 ghost use Rattle.image_process.specs.UserParts.{thread_entry};
-ghost use Rattle.plain_process.specs.Deliveries.{CONTEXT_LIMIT};
+ghost use Rattle.views.specs.Limits.{CONTEXT_LIMIT};
 ghost use Rattle.plain_process.specs.Local.{with_clear_tid};
 ghost use Rattle.plain_process.specs.Rows.Handlers.{last_context, with_mask};
 ghost use Rattle.plain_process.specs.Steps.{with_regs};

@@ -3,6 +3,7 @@
 --     StartHasImage      the kernel part of such a start has that image
 -- Source: docs/FORMATS.md, "Shared image".
 use Rattle.std.specs.Prelude.{ℕ, ◌+◌, ◌<◌, false, [], ◌∷◌}
+use Rattle.views.specs.Limits.{HOST_LIMIT}
 use Rattle.sys_abi.specs.declared.flags.TheConstants.{O_RDWR}
 use Rattle.sys_abi.specs.declared.life.Life.TheVariants.{Live}
 use Rattle.plain_tables.specs.Tables.{pid}
@@ -36,4 +37,4 @@ start_image host = record {
 }
 
 abbrev pub StartHasImage : Type 0
-StartHasImage = (job : Launched) → job.host < 16 → IsImage (start_image job.host) (start_kernel (job ∷ []) [])
+StartHasImage = (job : Launched) → job.host < HOST_LIMIT → IsImage (start_image job.host) (start_kernel (job ∷ []) [])

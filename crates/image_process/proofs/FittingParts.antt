@@ -11,6 +11,7 @@ use Rattle.std.specs.FinMap.Entries.{is_sorted, below_all}
 use Rattle.std.proofs.lemmas.Bool.Decides.{nat_tests}
 use Rattle.std.proofs.lemmas.List.{length-map}
 use Rattle.std.proofs.lemmas.List.Elements.{All-nil, All-cons}
+use Rattle.views.specs.Limits.{BREAK_LIMIT}
 use Rattle.views.proofs.MapLaws.{key_tied, other_key, same_or_other}
 use Rattle.plain_process.specs.declared.memory.Frame.{Frame}
 use Rattle.plain_process.specs.declared.user_part.UserPart.{UserPart}
@@ -21,7 +22,7 @@ use Rattle.image_process.specs.declared.thread_image.ThreadImage.{ThreadImage}
 use Rattle.image_process.specs.declared.process_image.ProcImage.{ProcImage}
 use Rattle.image_format.specs.Texts.{EachFrom}
 use Rattle.image_process.specs.UserParts.{page_entry, thread_entry}
-use Rattle.image_process.specs.ProcessTests.{is_number, is_listed, BREAK_LIMIT, is_heap_page, is_free_of_break, is_above_page, is_page_number, is_page_content, return_content, has_page, has_pages, has_heap}
+use Rattle.image_process.specs.ProcessTests.{is_number, is_listed, is_heap_page, is_free_of_break, is_above_page, is_page_number, is_page_content, return_content, has_page, has_pages, has_heap}
 use Rattle.image_process.specs.ProcessImages.{is_whole_process}
 use Rattle.image_process.specs.ProcessFits.{IsPage, IsWaiter, IsThreadImage, threads_of, IsImage, HasImage}
 use Rattle.image_process.proofs.DistinctWaiters.{waiters_fit}

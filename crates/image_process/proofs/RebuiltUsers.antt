@@ -12,6 +12,7 @@ use Rattle.std.proofs.lemmas.List.{length-map}
 use Rattle.std.proofs.lemmas.List.Elements.{All-nil, All-cons}
 use Rattle.std.proofs.lemmas.Slice.Eq.{bytes_eq-Decides}
 use Rattle.std.proofs.lemmas.Bool.{cases_lt}
+use Rattle.views.specs.Limits.{BREAK_LIMIT}
 use Rattle.views.proofs.MapLaws.{other_key, key_tied, same_or_other, true_false}
 use Rattle.plain_process.specs.declared.memory.Frame.{Frame}
 use Rattle.plain_process.specs.declared.user_part.Waiter.{Waiter}
@@ -24,7 +25,7 @@ use Rattle.image_process.specs.declared.process_image.ProcImage.{ProcImage}
 use Rattle.image_format.specs.Format.{number_text, n8, n32}
 use Rattle.image_format.specs.Texts.{EachFrom}
 use Rattle.image_process.specs.UserParts.{page_entry, thread_entry, user_of}
-use Rattle.image_process.specs.ProcessTests.{BREAK_LIMIT, is_heap_page, is_free_of_break, is_above_page, is_page_number, is_page_content, return_content, has_page, has_pages, has_heap, has_return_page, heap_pages, is_listed, is_context_count}
+use Rattle.image_process.specs.ProcessTests.{is_heap_page, is_free_of_break, is_above_page, is_page_number, is_page_content, return_content, has_page, has_pages, has_heap, has_return_page, heap_pages, is_listed, is_context_count}
 use Rattle.image_process.specs.ProcessImages.{SpellsProcess, PROCESS_MAGIC, is_whole_process}
 use Rattle.image_process.specs.ProcessFits.{IsPage, IsThreadImage, ThreadWords, WaiterWords}
 use Rattle.image_process.specs.ProcessTexts.{list_text, page_text, action_text, waiter_text, thread_text}

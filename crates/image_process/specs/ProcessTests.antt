@@ -9,13 +9,10 @@ use Rattle.std.specs.Prelude.{ℕ, zero, suc, ◌+◌, ◌-◌, ◌*◌, ◌/◌
 use Rattle.std.specs.Prelude.{nat_lt}
 use Rattle.std.specs.Prelude.{Bool, true, false, List, length, slice_get, Option, Some, None, if◌then◌else◌}
 use Rattle.std.specs.List.{list_any}
+use Rattle.views.specs.Limits.{THREAD_LIMIT, CONTEXT_LIMIT, PAGE_LIMIT, BREAK_LIMIT}
 use Rattle.plain_process.specs.Start.{RETURN_PAGE, return_code, page_of}
 use Rattle.image_process.specs.declared.page_image.PageImage.{PageImage}
 use Rattle.image_format.specs.Fields.{is_bytes, is_within}
-
--- the break never passes this address
-abbrev pub BREAK_LIMIT : ℕ
-BREAK_LIMIT = 0x40000000
 
 abbrev pub RETURN_RIGHTS : ℕ
 RETURN_RIGHTS = 5
@@ -32,7 +29,7 @@ abbrev pub is_break_end : ℕ → ℕ → Bool
 is_break_end start end = is_within start BREAK_LIMIT end
 
 abbrev pub is_page_count : ℕ → Bool
-is_page_count count = nat_le count 2048
+is_page_count count = nat_le count PAGE_LIMIT
 
 abbrev pub is_heap_page : ℕ → ℕ → Bool
 is_heap_page start page = nat_le start (4096 * page) && nat_lt (4096 * page) BREAK_LIMIT
@@ -61,11 +58,11 @@ is_page_content page bytes = not (page == RETURN_PAGE) || is_bytes return_conten
 
 -- a thread saves at most so many contexts, one for each signal handler that it is in
 abbrev pub is_context_count : ℕ → Bool
-is_context_count count = nat_le count 64
+is_context_count count = nat_le count CONTEXT_LIMIT
 
 -- 1 to 64 threads, as many as the shared image has of the process
 abbrev pub is_count_of_threads : List ℕ → ℕ → Bool
-is_count_of_threads tids count = is_within 1 64 count && (length tids == count)
+is_count_of_threads tids count = is_within 1 THREAD_LIMIT count && (length tids == count)
 
 abbrev pub is_listed : List ℕ → ℕ → Bool
 is_listed numbers n = list_any (λ number. number == n) numbers

@@ -6,13 +6,14 @@ use Rattle.std.specs.Prelude.{◌==◌, ◌&&◌, ◌||◌, ℕ, ◌+◌, ◌-�
 use Rattle.std.specs.Prelude.{false, not}
 use Rattle.std.specs.Prelude.{List, length, sum_by, Option, Some, None, option_map, if◌then◌else◌}
 use Rattle.std.specs.List.{list_any, list_all}
+use Rattle.views.specs.Limits.{HOST_LIMIT, PROCESS_LIMIT, THREAD_LIMIT, DESCRIPTOR_LIMIT, CHANNEL_LIMIT, FILE_LIMIT, ALL_FILES_LIMIT, DIRECTION_LIMIT}
 use Rattle.sys_abi.specs.declared.identity.DescId.{DescId}
 use Rattle.sys_abi.specs.declared.identity.ConnId.{ConnId}
 use Rattle.views.specs.NumberMap.{is_above}
 use Rattle.sys_abi.specs.declared.life.Life.{Life}
 use Rattle.plain_tables.specs.declared.channel.ChannelKind.{ChannelKind}
 use Rattle.plain_tables.specs.declared.channel.ChannelKind.TheVariants.{Internet, Pipe}
-use Rattle.plain_tables.specs.Tables.{pid}
+use Rattle.plain_tables.specs.Tables.{FIRST_PID, pid}
 use Rattle.image_shared.specs.declared.shared.FileImage.{FileImage}
 use Rattle.image_shared.specs.declared.shared.ChannelImage.{ChannelImage}
 use Rattle.image_shared.specs.declared.shared.ObjectImage.{ObjectImage}
@@ -27,25 +28,25 @@ use Rattle.sys_abi.specs.Lives.{lives}
 
 -- numbers of processes and threads are given out from here on
 abbrev pub is_given_out : ℕ → ℕ → Bool
-is_given_out next_id n = nat_le 40000 n && nat_lt n next_id
+is_given_out next_id n = nat_le FIRST_PID n && nat_lt n next_id
 
 abbrev pub is_next_id : ℕ → Bool
-is_next_id n = nat_le 40000 n && nat_lt n (2 ^ 31)
+is_next_id n = nat_le FIRST_PID n && nat_lt n (2 ^ 31)
 
 abbrev pub is_next_file : ℕ → Bool
 is_next_file n = nat_le 1 n
 
 abbrev pub is_file_count : ℕ → Bool
-is_file_count n = nat_le n 1024
+is_file_count n = nat_le n FILE_LIMIT
 
 abbrev pub is_channel_count : ℕ → Bool
-is_channel_count n = nat_le n 256
+is_channel_count n = nat_le n CHANNEL_LIMIT
 
 abbrev pub is_process_count : ℕ → Bool
-is_process_count n = nat_le n 128
+is_process_count n = nat_le n PROCESS_LIMIT
 
 abbrev pub is_host : ℕ → Bool
-is_host n = nat_lt n 16
+is_host n = nat_lt n HOST_LIMIT
 
 -- a port, which is 0 where there is none
 abbrev pub is_port : ℕ → Bool
@@ -72,7 +73,7 @@ abbrev pub is_file_name : List FileImage → List ℕ → Bool
 is_file_name front name = list_all (is_within 1 255) name && is_new_name front name
 
 abbrev pub is_file_size : List FileImage → ℕ → Bool
-is_file_size front size = nat_le (sum_by (λ file. length file.bytes) front + size) 67108864
+is_file_size front size = nat_le (sum_by (λ file. length file.bytes) front + size) ALL_FILES_LIMIT
 
 -- a list of pairs rises: at its maker a pair is not below the one before, and at its number it is above it
 abbrev pub is_maker_after : Option (ℕ × ℕ) → ℕ → Bool
@@ -104,7 +105,7 @@ abbrev pub may_hold_bytes : ℕ → ℕ → ℕ → Bool
 may_hold_bytes kind side flags = nat_lt flags 2 && not ((kind == 2) && (side == 1))
 
 abbrev pub is_left_count : ℕ → ℕ → ℕ → ℕ → Bool
-is_left_count kind side flags n = nat_le n 65536 && ((n == 0) || may_hold_bytes kind side flags)
+is_left_count kind side flags n = nat_le n DIRECTION_LIMIT && ((n == 0) || may_hold_bytes kind side flags)
 
 abbrev pub is_side_host : ℕ → ℕ → Bool
 is_side_host kind n = if kind == 1 then is_host n else n == 0xFFFFFFFF
@@ -233,7 +234,7 @@ is_pending_set life n = is_signals n && (lives life || (n == 0))
 
 -- a process that lives has 1 to 64 threads, and a zombie has none
 abbrev pub is_thread_count : Life → ℕ → Bool
-is_thread_count life n = if lives life then is_within 1 64 n else n == 0
+is_thread_count life n = if lives life then is_within 1 THREAD_LIMIT n else n == 0
 
 abbrev pub is_number_of : ℕ → ProcessEntry → Bool
 is_number_of n process = (process.pid.0 == n) || lists_thread n process
@@ -246,13 +247,13 @@ is_thread_number next_id earlier front n =
     is_above (last_thread front) n && is_given_out next_id n && not (list_any (is_number_of n) earlier)
 
 abbrev pub is_descriptor_count : Life → ℕ → Bool
-is_descriptor_count life n = nat_le n 256 && (lives life || (n == 0))
+is_descriptor_count life n = nat_le n DESCRIPTOR_LIMIT && (lives life || (n == 0))
 
 abbrev pub last_descriptor : List DescriptorEntry → Option ℕ
 last_descriptor front = option_map (λ descriptor. descriptor.number) (last_item front)
 
 abbrev pub is_descriptor_number : List DescriptorEntry → ℕ → Bool
-is_descriptor_number front n = is_above (last_descriptor front) n && nat_lt n 256
+is_descriptor_number front n = is_above (last_descriptor front) n && nat_lt n DESCRIPTOR_LIMIT
 
 abbrev pub is_pair : ℕ → ℕ → DescId → Bool
 is_pair maker n id = (id.pid.0 == maker) && (id.num == n)

@@ -6,10 +6,11 @@
 --     help
 use Rattle.std.specs.Prelude.{◌≡◌, ◌≢◌, ℕ, ◌<◌, ◌≤◌, List, [], ◌∷◌, ◌++◌, length, map, codes, All}
 use Rattle.std.specs.Fmt.{decimal}
+use Rattle.views.specs.Limits.{HOST_LIMIT, PROCESS_LIMIT}
 use Rattle.option_words.specs.declared.option_key.OptionKey.TheVariants.{Nodes}
 use Rattle.option_words.specs.declared.option_key.Form.TheVariants.{Launch, Restart, Ring}
 use Rattle.option_words.specs.Options.{Text, Setting, AreSettings, words_of_all, given_or}
-use Rattle.job_words.specs.Programs.{ProgramText, IsProgram, HOSTS, program_word, hosts_of}
+use Rattle.job_words.specs.Programs.{ProgramText, IsProgram, program_word, hosts_of}
 
 pub data Command : Type 0 where
   launch : List Setting → List ProgramText → Command
@@ -30,14 +31,14 @@ nodes_of given programs = given_or Nodes given (hosts_of programs)
 pub record IsLaunch (given : List Setting) (programs : List ProgramText) : Type 0 where
   pub settings : AreSettings Launch given
   pub some : 1 ≤ length programs
-  pub few : length programs ≤ 128
+  pub few : length programs ≤ PROCESS_LIMIT
   pub each : All IsProgram programs
   pub placed : All (λ program. program.host < nodes_of given programs) programs
 
 abbrev pub IsCommand : Command → Type 0
 IsCommand (launch given programs) = IsLaunch given programs
 IsCommand (restart given) = AreSettings Restart given
-IsCommand (ring n given) = (2 ≤ n) × (n ≤ HOSTS) × AreSettings Ring given
+IsCommand (ring n given) = (2 ≤ n) × (n ≤ HOST_LIMIT) × AreSettings Ring given
 IsCommand help = Unit {0}
 
 abbrev pub HasNoZero : Text → Type 0

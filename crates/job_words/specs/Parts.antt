@@ -1,5 +1,6 @@
 -- The parts into which the reader takes a program's word.
 use Rattle.std.specs.Prelude.{◌≡◌, ◌⊎◌, ℕ, ◌<◌, ◌≤◌, ◌==◌, if◌then◌else◌, List, [], ◌∷◌, ◌++◌, length, map, All, Option, unwrap_or}
+use Rattle.views.specs.Limits.{PROCESS_LIMIT}
 use Rattle.job_words.specs.declared.programs.Parts.{Parts}
 use Rattle.option_words.specs.Options.{Text}
 use Rattle.job_words.specs.Programs.{ProgramText, IsProgram, HasNoComma, COMMA, listed, program_word, hosts_of}
@@ -38,5 +39,5 @@ pub record StandsFirst (listed name : Text) : Type 0 where
 pub record IsNodesOf (asked : Option ℕ) (words : List Text) (programs : List ProgramText) : Type 0 where
   pub are : ArePrograms words programs
   pub some : 1 ≤ length programs
-  pub few : length programs ≤ 128
+  pub few : length programs ≤ PROCESS_LIMIT
   pub placed : All (λ program. program.host < unwrap_or asked (hosts_of programs)) programs

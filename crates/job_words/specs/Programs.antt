@@ -4,6 +4,7 @@
 use Rattle.std.specs.Prelude.{◌≢◌, ℕ, ◌+◌, ◌<◌, ◌≤◌, max, List, [], ◌∷◌, ◌++◌, length, fold, All}
 use Rattle.std.specs.List.{flat_map}
 use Rattle.std.specs.Fmt.{decimal}
+use Rattle.views.specs.Limits.{HOST_LIMIT, NAME_LIMIT}
 use Rattle.option_words.specs.Options.{Text}
 
 abbrev pub COMMA : ℕ
@@ -11,9 +12,6 @@ COMMA = 44
 
 abbrev pub COLON : ℕ
 COLON = 58
-
-abbrev pub HOSTS : ℕ
-HOSTS = 16
 
 -- a program with its arguments, on a host
 pub record ProgramText : Type 0 where
@@ -42,9 +40,9 @@ abbrev pub HasNoComma : Text → Type 0
 HasNoComma text = All (λ byte. byte ≢ COMMA) text
 
 pub record IsProgram (program : ProgramText) : Type 0 where
-  pub host : program.host < HOSTS
+  pub host : program.host < HOST_LIMIT
   pub some : 1 ≤ length program.name
-  pub short : length program.name ≤ 255
+  pub short : length program.name ≤ NAME_LIMIT
   pub name : HasNoComma program.name
   pub arguments : All HasNoComma program.arguments
   pub bytes : length (argument_bytes program) ≤ 4096

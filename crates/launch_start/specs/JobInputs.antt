@@ -8,6 +8,7 @@
 use Rattle.std.specs.Prelude.{◌≡◌, ℕ, nat_lt, if◌then◌else◌, List, [], ◌∷◌, ◌++◌, length, map, fold, sum_by, All, Option, Some, None}
 use Rattle.std.specs.Option.{option_map, option_or}
 use Rattle.std.specs.FinMap as map_of
+use Rattle.views.specs.Limits.{ALL_FILES_LIMIT}
 use Rattle.elf32.specs.declared.fault.ElfFault.{ElfFault}
 use Rattle.elf32.specs.Programs.{program_of}
 use Rattle.elf32.specs.Rules.{first_fault}
@@ -84,7 +85,7 @@ bytes_in failed = []
 
 abbrev pub sum_refusal : List FileInput → Option Refusal
 sum_refusal files =
-    if nat_lt 67108864 (sum_by (λ (input : FileInput). length (bytes_in input.content)) files)
+    if nat_lt ALL_FILES_LIMIT (sum_by (λ (input : FileInput). length (bytes_in input.content)) files)
     then Some too_big else None
 
 -- for a name that is not held; for a program; for the sum of the files

@@ -3,6 +3,7 @@
 --     room_after files            how many bytes the files to come may have
 --     HasRead files start read    these inputs were read, nothing was wrong with them, and the start is theirs
 use Rattle.std.specs.Prelude.{◌≡◌, ◌≢◌, ℕ, ◌-◌, ◌<◌, ◌≤◌, nat_lt, if◌then◌else◌, List, [], ◌∷◌, ◌++◌, length, map, sum_by, All, Option, Some, None}
+use Rattle.views.specs.Limits.{HOST_LIMIT, PROCESS_LIMIT, ALL_FILES_LIMIT}
 use Rattle.elf32.specs.declared.fault.ElfFault.{ElfFault}
 use Rattle.elf32.specs.declared.program.Program.{Program}
 use Rattle.elf32.specs.Programs.{program_of}
@@ -49,7 +50,7 @@ pub record IsProgramRefused (files : Option NamedFiles) (program : NamedProgram)
 
 -- it can be launched on every host with every list of arguments
 abbrev pub IsGoodProgram : Program → Type 0
-IsGoodProgram program = (host : ℕ) (arguments : List ℕ) → host < 16 → All IsByte arguments
+IsGoodProgram program = (host : ℕ) (arguments : List ℕ) → host < HOST_LIMIT → All IsByte arguments
     → CanLaunch (record { host = host; program = program; arguments = arguments })
 
 -- the file of a job under this name holds these bytes
@@ -76,7 +77,7 @@ pub record IsProgramRead (files : Option NamedFiles) (name : Text) (program : Pr
 
 -- how many bytes files may have that come after so many, if any may come
 abbrev pub room_after : ℕ → Option ℕ
-room_after total = if nat_lt 67108864 total then None else Some (67108864 - total)
+room_after total = if nat_lt ALL_FILES_LIMIT total then None else Some (ALL_FILES_LIMIT - total)
 
 abbrev pub size_of : List FileInput → ℕ
 size_of files = sum_by (λ (input : FileInput). length (bytes_in input.content)) files
@@ -115,8 +116,8 @@ pub record CanFollow (before : List FileInput) (name : Text) : Type 0 where
 
 -- a program may come after so many
 pub record CanRun (before : ℕ) (program : NamedProgram) : Type 0 where
-  pub few : before < 128
-  pub placed : program.host < 16
+  pub few : before < PROCESS_LIMIT
+  pub placed : program.host < HOST_LIMIT
   pub some : 1 ≤ length program.arguments
   pub short : length program.arguments ≤ 4096
 

@@ -15,6 +15,7 @@ use Rattle.std.specs.Prelude.{◌≡◌, ℕ, ◌≤◌, Bool, true, false, if�
 use Rattle.std.specs.List.{flat_map, IsDistinct}
 use Rattle.std.specs.Str.{bytes_eq}
 use Rattle.std.specs.Fmt.{decimal}
+use Rattle.views.specs.Limits.{NAMED_FILE_LIMIT, NAME_LIMIT}
 use Rattle.option_words.specs.declared.option_key.OptionKey.{OptionKey}
 use Rattle.option_words.specs.declared.option_key.OptionKey.TheVariants.{Nodes, Workers, Every, Records, Shift, PidBase, PortBase}
 use Rattle.option_words.specs.declared.option_key.Form.{Form}
@@ -78,7 +79,7 @@ words_of_all = flat_map words_of
 
 abbrev pub IsSetting : Form → Setting → Type 0
 IsSetting form (number key n) = (has_option form key ≡ true) × (least_of key ≤ n) × (n ≤ greatest_of key)
-IsSetting form (file name) = (form ≡ Launch) × (1 ≤ length name) × (length name ≤ 255)
+IsSetting form (file name) = (form ≡ Launch) × (1 ≤ length name) × (length name ≤ NAME_LIMIT)
 
 -- the numbers that are given for an option
 abbrev pub numbers_of : OptionKey → List Setting → List ℕ
@@ -96,7 +97,7 @@ files_of (file name ∷ rest) = name ∷ files_of rest
 pub record AreSettings (form : Form) (given : List Setting) : Type 0 where
   pub each : All (IsSetting form) given
   pub once : (key : OptionKey) → length (numbers_of key given) ≤ 1
-  pub few : length (files_of given) ≤ 64
+  pub few : length (files_of given) ≤ NAMED_FILE_LIMIT
   pub distinct : IsDistinct bytes_eq (files_of given)
 
 -- what is given for an option, if it is given

@@ -3,6 +3,7 @@ use Rattle.std.specs.Prelude.{◌≡◌, ℕ, Bool, not, ◌&&◌, nat_lt, true,
 use Rattle.std.specs.List.{list_any}
 use Rattle.std.specs.declared.string.String.{String}
 use Rattle.std.specs.Str.{bytes_eq}
+use Rattle.views.specs.Limits.{NAMED_FILE_LIMIT}
 use Rattle.option_words.specs.declared.option_key.OptionKey.{OptionKey}
 use Rattle.option_words.specs.declared.option_key.OptionKey.TheVariants.{Nodes, Workers, Every, Records, Shift, PidBase, PortBase}
 use Rattle.option_words.specs.declared.option_key.Form.{Form}
@@ -31,7 +32,7 @@ kept_number options key = slice_index_or options.numbers (place_of key) None
 -- the setting may be given beside what is kept
 abbrev pub has_room : Options → Setting → Bool
 has_room options (number key n) = not (is_some (kept_number options key))
-has_room options (file name) = nat_lt (length options.files) 64 && not (list_any (bytes_eq name) options.files)
+has_room options (file name) = nat_lt (length options.files) NAMED_FILE_LIMIT && not (list_any (bytes_eq name) options.files)
 
 abbrev pub with_setting : Options → Setting → Options
 with_setting options (number key n) = record { numbers = slice_set options.numbers (place_of key) (Some n); files = options.files }

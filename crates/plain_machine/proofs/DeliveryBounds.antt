@@ -7,6 +7,7 @@ use Rattle.std.proofs.lemmas.Bool.Decides.{nat_tests}
 use Rattle.std.proofs.lemmas.Nat.{or_lt}
 use Rattle.std.proofs.lemmas.Option.{slice_get_within, get_or_from_slice_get}
 use Rattle.std.proofs.lemmas.List.Elements.{All-push}
+use Rattle.views.specs.Limits.{CONTEXT_LIMIT}
 use Rattle.views.proofs.MapLaws.{true_false}
 use Rattle.sys_abi.specs.Signals.{has_signal, bit_of}
 use Rattle.sys_abi.specs.declared.signals.TheConstants.{SIGKILL, SIGSEGV}
@@ -19,7 +20,7 @@ use Rattle.plain_process.specs.declared.user_part.Context.{Context}
 use Rattle.plain_process.specs.Registers.{RA, SP, A0, A1, A2, reg, with_reg, at_pc, next_pc}
 use Rattle.plain_process.specs.Steps.{user_step, with_thread}
 use Rattle.plain_process.specs.Start.{default_action}
-use Rattle.plain_process.specs.Deliveries.{Delivery, Enters, Ignores, Kills, action_on, is_ignored, interrupted, RETURN_ADDRESS, handler_regs, handler_mask, CONTEXT_LIMIT, entered, with_entered, handled, traps_with, deliver_to, deliver}
+use Rattle.plain_process.specs.Deliveries.{Delivery, Enters, Ignores, Kills, action_on, is_ignored, interrupted, RETURN_ADDRESS, handler_regs, handler_mask, entered, with_entered, handled, traps_with, deliver_to, deliver}
 use Rattle.plain_process.specs.Valid.{IsWord, IsRegs, IsThread, IsAction, IsUser}
 use Rattle.plain_machine.specs.Laws.{DeliveryKeepsUser}
 use Rattle.plain_machine.proofs.SignalBounds.{bit_small}

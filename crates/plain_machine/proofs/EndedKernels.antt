@@ -4,6 +4,7 @@ use Rattle.std.proofs.Common.{◌≡◌, ◌≢◌, ℕ, ◌<◌, ◌≤◌, Boo
 use Rattle.std.specs.Prelude.{◌&&◌, not, Option, Some, None, is_some, option_map}
 use Rattle.std.specs.Ordering.{nat_cmp}
 use Rattle.std.specs.FinMap as map
+use Rattle.views.specs.Limits.{DESCRIPTOR_LIMIT}
 use Rattle.views.specs.Maps.{option_filter}
 use Rattle.views.proofs.MapLaws.{get_insert_same, get_remove_same, get_remove_other, true_false}
 use Rattle.sys_abi.specs.declared.identity.VPid.{VPid}
@@ -17,7 +18,7 @@ use Rattle.plain_tables.specs.declared.process.Process.{Process}
 use Rattle.plain_tables.specs.Tables.{NOBODY, Processes, pid, is_live_process, has_thread_in, changed_by, changed_at, raised_for_all}
 use Rattle.plain_tables.specs.Ends.{is_child_of, is_zombie_child, orphan, orphaned, zombie}
 use Rattle.plain_tables.specs.Valid.Processes.{AreProcesses, FitsLife}
-use Rattle.plain_machine.specs.Kernel.{DESCRIPTOR_LIMIT, is_live, has_thread, after_raise_for_all, without_process}
+use Rattle.plain_machine.specs.Kernel.{is_live, has_thread, after_raise_for_all, without_process}
 use Rattle.plain_machine.specs.Ends.{closed_below, with_zombie, left_to, left_by, without_holds, after_end}
 use Rattle.plain_machine.specs.Kernels.{IsKernel}
 use Rattle.plain_tables.proofs.Orphans.{orphan_life, orphan_threads, look_up}

@@ -5,6 +5,7 @@ use Rattle.std.specs.Prelude.{◌==◌, min, nat_le, Option, Some, option_and_th
 use Rattle.std.specs.Ordering.{eq_by_cmp}
 use Rattle.std.specs.FinMap as map
 use Rattle.std.proofs.lemmas.List.{take-append-drop, take_min, length-take, append-nil}
+use Rattle.views.specs.Limits.{DIRECTION_LIMIT, MESSAGE_LIMIT}
 use Rattle.views.proofs.MapLaws.{get_insert_same, get_insert_other, same_key, key_tied, true_false}
 use Rattle.sys_abi.specs.declared.identity.VPid.{VPid}
 use Rattle.sys_abi.specs.declared.identity.DescId.{DescId}
@@ -31,9 +32,9 @@ use Rattle.plain_machine.specs.Rows.Write.{is_writable, write_object, write_acce
 use Rattle.plain_machine.specs.StreamLaws.{reads_from, writes_to, is_open_by, given_of, count_of, taken_of, ReadsFlow, WritesFlow}
 use Rattle.plain_machine.specs.Transfers.Answers.{may_read, gave, broken_pipe}
 use Rattle.plain_machine.specs.Transfers.Counters.{COUNTER_SIZE, may_add, read_counter, write_counter}
-use Rattle.plain_machine.specs.Transfers.Datagrams.{MESSAGE_LIMIT, messages_at, read_first, read_message, write_message}
+use Rattle.plain_machine.specs.Transfers.Datagrams.{messages_at, read_first, read_message, write_message}
 use Rattle.plain_machine.specs.Transfers.Files.{read_file, write_place, write_piece, write_file}
-use Rattle.plain_machine.specs.Transfers.Streams.{DIRECTION_LIMIT, is_broken, without_front, with_sent, fitting_bytes, read_stream, sent, write_direction, write_stream}
+use Rattle.plain_machine.specs.Transfers.Streams.{is_broken, without_front, with_sent, fitting_bytes, read_stream, sent, write_direction, write_stream}
 use Rattle.plain_machine.specs.Waiting.{need_ready}
 use Rattle.plain_machine.proofs.HeldDescriptors.{held_is}
 use Rattle.plain_machine.proofs.LocalReplies.{was_found, or_try}

@@ -8,6 +8,7 @@ use Rattle.std.specs.List.{list_any}
 use Rattle.std.specs.Option.{option_map_or}
 use Rattle.std.specs.FinMap as map
 use Rattle.std.proofs.lemmas.Bool.Decides.{nat_tests}
+use Rattle.views.specs.Limits.{DESCRIPTOR_LIMIT}
 use Rattle.views.proofs.MapLaws.{key_tied, true_false}
 use Rattle.views.proofs.MapValues.{some_among-values}
 use Rattle.sys_abi.specs.declared.identity.VPid.{VPid}
@@ -29,7 +30,7 @@ use Rattle.plain_tables.specs.Objects.{bound_at}
 use Rattle.plain_tables.specs.Valid.Sockets.{has_host}
 use Rattle.plain_process.specs.Attempts.{Try, Fails, NotReady, Gives, and_then, need, found}
 use Rattle.plain_machine.specs.Attempts.{Served, settled}
-use Rattle.plain_machine.specs.Kernel.{Held, held, is_live, DESCRIPTOR_LIMIT, free_among, free_from, made_of, host_of, has_numbers, numbered}
+use Rattle.plain_machine.specs.Kernel.{Held, held, is_live, free_among, free_from, made_of, host_of, has_numbers, numbered}
 use Rattle.plain_machine.specs.Addresses.{address_at, is_at, has_end_at, is_port_used, unused_among, automatic_port, FIRST_AUTOMATIC, AUTOMATIC_COUNT}
 use Rattle.plain_machine.specs.SocketWords.{is_settled, unready, socket_at, is_socket, bound_or}
 use Rattle.plain_machine.specs.Kernels.{IsKernel}

@@ -9,6 +9,7 @@ use Rattle.std.proofs.lemmas.Bool.{cases_lt}
 use Rattle.std.proofs.lemmas.Bool.Decides.{nat_tests}
 use Rattle.std.proofs.lemmas.List.Elements.{All-nil}
 use Rattle.std.proofs.lemmas.List.Filters.{length-filter_both}
+use Rattle.views.specs.Limits.{PAGE_LIMIT}
 use Rattle.views.specs.Maps.{retain}
 use Rattle.views.proofs.MapLaws.{get_insert_same, get_insert_other, get-retain}
 use Rattle.views.proofs.MapValues.{entries-retain, retain-keys}
@@ -16,7 +17,7 @@ use Rattle.plain_process.specs.declared.memory.Frame.{Frame}
 use Rattle.plain_process.specs.declared.user_part.UserPart.{UserPart}
 use Rattle.plain_process.specs.Memory.{Memory}
 use Rattle.plain_process.specs.Start.{page_of, with_pages, RETURN_PAGE}
-use Rattle.plain_process.specs.Pages.{PAGE_LIMIT, pages_of, is_among, without_pages, is_free, free_run}
+use Rattle.plain_process.specs.Pages.{pages_of, is_among, without_pages, is_free, free_run}
 use Rattle.plain_process.specs.Rows.Mappings.{with_memory, heap_to, with_break, room_for}
 use Rattle.plain_process.specs.Valid.{IsByte, IsUser}
 use Rattle.plain_process.proofs.Giving.{Giving, gives, nothing, where_, either}

@@ -6,13 +6,14 @@ use Rattle.std.specs.FinMap as map
 use Rattle.std.proofs.Math.Nat.{min-le_left, min-le_right}
 use Rattle.std.proofs.lemmas.List.{length-take, length-drop, length-append, length-replicate}
 use Rattle.std.proofs.lemmas.List.Elements.{All-take, All-drop, All-append, All-replicate}
+use Rattle.views.specs.Limits.{ALL_FILES_LIMIT}
 use Rattle.plain_process.specs.Valid.{IsByte}
 use Rattle.plain_machine.specs.declared.kernel.PlainKernel.{PlainKernel}
 use Rattle.plain_tables.specs.declared.description.Object.TheVariants.{File}
 use Rattle.plain_machine.specs.Kernel.{Held}
 use Rattle.plain_machine.specs.Kernels.{IsKernel}
 use Rattle.plain_machine.specs.Rows.Files.{with_file_bytes}
-use Rattle.plain_machine.specs.Transfers.Files.{ALL_FILES_LIMIT, LAST_OFFSET, read_room, bytes_from, filled, with_piece, total_bytes, moved_behind}
+use Rattle.plain_machine.specs.Transfers.Files.{LAST_OFFSET, read_room, bytes_from, filled, with_piece, total_bytes, moved_behind}
 use Rattle.plain_tables.proofs.FileSums.{sum_replaced}
 use Rattle.plain_machine.proofs.WholeObjects.{whole_bytes, whole_offset}
 

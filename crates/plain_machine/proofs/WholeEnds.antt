@@ -5,6 +5,7 @@ use Rattle.std.proofs.Common.{◌≡◌, ◌≢◌, ℕ, ◌^◌, ◌<◌, ◌�
 use Rattle.std.specs.Prelude.{◌==◌, nat_le, Option, Some, None, option_map}
 use Rattle.std.specs.FinMap as map
 use Rattle.std.proofs.lemmas.Bool.Decides.{nat_tests}
+use Rattle.views.specs.Limits.{DESCRIPTOR_LIMIT}
 use Rattle.views.proofs.MapLaws.{true_false}
 use Rattle.views.proofs.MapValues.{get-map_values}
 use Rattle.sys_abi.specs.declared.identity.VPid.{VPid}
@@ -21,7 +22,7 @@ use Rattle.plain_tables.specs.Tables.{FIRST_PID, Processes, Makers, Descriptors,
 use Rattle.plain_tables.specs.Ends.{is_child_of, is_zombie_child, orphan, orphaned, makers_of, disown, disowned, zombie}
 use Rattle.plain_tables.specs.Valid.Processes.{AreProcesses, AreMakers, AreParents, HasParent, IsParent}
 use Rattle.plain_tables.specs.Valid.Descriptions.{AreHolders, IsOwner}
-use Rattle.plain_machine.specs.Kernel.{DESCRIPTOR_LIMIT, is_live, at_process, without_process, after_raise_for_all, thread_count}
+use Rattle.plain_machine.specs.Kernel.{is_live, at_process, without_process, after_raise_for_all, thread_count}
 use Rattle.plain_machine.specs.Ends.{closed_below, without_owner, without_children, with_zombie, left_to, left_by, without_holds, after_end, thread_ended}
 use Rattle.plain_machine.specs.Kernels.{IsKernel}
 use Rattle.plain_tables.proofs.Changes.{each_changed}

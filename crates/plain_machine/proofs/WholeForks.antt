@@ -4,6 +4,7 @@ use Rattle.std.proofs.Common.{◌≡◌, ◌≢◌, ◌+◌, ◌^◌, ◌<◌, t
 use Rattle.std.specs.Prelude.{Option, Some, None, is_some}
 use Rattle.std.specs.Option.{option_map_or}
 use Rattle.std.specs.FinMap as map
+use Rattle.views.specs.Limits.{DESCRIPTOR_LIMIT}
 use Rattle.views.proofs.MapLaws.{get_insert_same, get_insert_other, true_false}
 use Rattle.sys_abi.specs.declared.identity.VPid.{VPid}
 use Rattle.sys_abi.specs.declared.identity.Slot.{Slot}
@@ -14,7 +15,7 @@ use Rattle.sys_abi.specs.declared.maker.Maker.{Maker}
 use Rattle.sys_abi.specs.declared.descriptor.Descriptor.{Descriptor}
 use Rattle.plain_tables.specs.Tables.{pid, is_live_process, lives_in, same_host}
 use Rattle.plain_tables.specs.Ends.{child_process}
-use Rattle.plain_machine.specs.Kernel.{DESCRIPTOR_LIMIT, is_live, host_of}
+use Rattle.plain_machine.specs.Kernel.{is_live, host_of}
 use Rattle.plain_machine.specs.Ends.{after_fork}
 use Rattle.plain_machine.specs.Kernels.{IsKernel}
 use Rattle.plain_tables.proofs.AddedProcesses.{live_below}

@@ -6,6 +6,7 @@ use Rattle.std.specs.FinMap as map
 use Rattle.std.proofs.lemmas.Bool.Decides.{nat_tests}
 use Rattle.std.proofs.lemmas.List.{length-take, length-drop, length-append, drop_all}
 use Rattle.std.proofs.lemmas.List.Elements.{All-take, All-drop, All-append}
+use Rattle.views.specs.Limits.{DIRECTION_LIMIT}
 use Rattle.views.proofs.MapLaws.{get_insert_same, true_false}
 use Rattle.sys_abi.specs.declared.identity.VPid.{VPid}
 use Rattle.sys_abi.specs.declared.identity.Dir.{Dir}
@@ -28,7 +29,7 @@ use Rattle.plain_machine.specs.Kernel.{is_live, made_of, has_numbers, numbered}
 use Rattle.plain_machine.specs.Channels.{open_end, open_channel, with_direction}
 use Rattle.plain_machine.specs.Kernels.{IsKernel}
 use Rattle.plain_machine.specs.Making.{conn_id, has_channel_room, with_ends}
-use Rattle.plain_machine.specs.Transfers.Streams.{DIRECTION_LIMIT, is_broken, without_front, with_sent, fitting_bytes}
+use Rattle.plain_machine.specs.Transfers.Streams.{is_broken, without_front, with_sent, fitting_bytes}
 use Rattle.plain_tables.proofs.DirectionChanges.{direction_keeps}
 use Rattle.plain_machine.proofs.HeldDescriptors.{IsFreeFrom}
 use Rattle.plain_machine.proofs.MadeNumbers.{maker_of, made_is, number_made, whole_making}

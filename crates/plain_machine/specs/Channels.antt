@@ -14,10 +14,6 @@ use Rattle.plain_tables.specs.declared.channel.Listening.{Listening}
 use Rattle.plain_tables.specs.Objects.{dir}
 use Rattle.plain_tables.specs.Closing.{closed_channels, closed_directions, pending_channels, pending_directions}
 
--- there are at most so many channels
-abbrev pub CHANNEL_LIMIT : ℕ
-CHANNEL_LIMIT = 256
-
 abbrev pub direction_at : PlainKernel → Dir → Option Direction
 direction_at k at = map.get k.directions at
 

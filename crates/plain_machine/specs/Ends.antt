@@ -8,13 +8,14 @@
 --     after_fork k p              a child more, with the next number and its parent's descriptors
 use Rattle.std.specs.Prelude.{ℕ, zero, suc, ◌+◌, ◌*◌, ◌%◌, nat_le, Option, Some, None, if◌then◌else◌}
 use Rattle.std.specs.FinMap as map
+use Rattle.views.specs.Limits.{DESCRIPTOR_LIMIT}
 use Rattle.sys_abi.specs.declared.identity.VPid.{VPid}
 use Rattle.sys_abi.specs.declared.signals.TheConstants.{SIGCHLD}
 use Rattle.plain_machine.specs.declared.kernel.PlainKernel.{PlainKernel}
 use Rattle.plain_tables.specs.declared.process.Process.{Process}
 use Rattle.plain_tables.specs.Tables.{pid, without_thread_entry}
 use Rattle.plain_tables.specs.Ends.{orphaned, makers_of, disowned, zombie, child_process, shared_below}
-use Rattle.plain_machine.specs.Kernel.{DESCRIPTOR_LIMIT, is_live, at_process, without_process, after_raise_for_all, thread_count, host_of}
+use Rattle.plain_machine.specs.Kernel.{is_live, at_process, without_process, after_raise_for_all, thread_count, host_of}
 use Rattle.plain_machine.specs.Closing.{close_fd}
 
 -- the descriptors below a number close, in rising order

@@ -3,6 +3,7 @@
 --     shape object      what all tables but the files see of an object
 use Rattle.std.specs.Prelude.{◌≡◌, ℕ, ◌+◌, ◌%◌, ◌^◌, ◌<◌, ◌≤◌, Bool, true, List, length, sum_by, Some, None, All}
 use Rattle.std.specs.FinMap as map
+use Rattle.views.specs.Limits.{ALL_FILES_LIMIT, DESCRIPTOR_LIMIT}
 use Rattle.sys_abi.specs.declared.identity.VPid.{VPid}
 use Rattle.sys_abi.specs.declared.identity.Slot.{Slot}
 use Rattle.sys_abi.specs.declared.identity.DescId.{DescId}
@@ -30,7 +31,7 @@ shape object = object
 -- a description that a process makes, with its running number
 abbrev pub MadeKeeps : Type 0
 MadeKeeps = (k : PlainKernel) (p : VPid) (fd : ℕ) (cloexec : Bool) (object : Object) (flags : ℕ) → IsKernel k
-    → is_live k p ≡ true → has_numbers k p ≡ true → fd < 256 → map.get k.descriptors (slot p fd) ≡ None
+    → is_live k p ≡ true → has_numbers k p ≡ true → fd < DESCRIPTOR_LIMIT → map.get k.descriptors (slot p fd) ≡ None
     → AreFlags flags → IsAlone object → MayBePlaced k.files k.channels k.makers p object
     → IsKernel
     (placed (numbered k p 1) p fd (record { pid = p; num = made_of k p }) cloexec object flags)
@@ -63,7 +64,7 @@ ObjectKeeps = (k : PlainKernel) (h : Held) (object : Object) → IsKernel k
 abbrev pub BytesKeep : Type 0
 BytesKeep = (k : PlainKernel) (number : ℕ) (old bytes : List ℕ) → IsKernel k
     → map.get k.files number ≡ Some old → All IsByte bytes
-    → sum_by length (map.values k.files) + length bytes ≤ 67108864 + length old
+    → sum_by length (map.values k.files) + length bytes ≤ ALL_FILES_LIMIT + length old
     → IsKernel (with_file_bytes k number bytes)
 
 -- a file loses its name

@@ -4,6 +4,7 @@
 use Rattle.std.specs.Prelude.{ℕ, zero, suc, ◌+◌, ◌-◌, ◌^◌, Bool, ◌&&◌, nat_lt, Option, Some, None, is_some, option_and_then, if◌then◌else◌}
 use Rattle.std.specs.Option.{option_map_or}
 use Rattle.std.specs.FinMap as map
+use Rattle.views.specs.Limits.{DESCRIPTOR_LIMIT}
 use Rattle.sys_abi.specs.declared.identity.VPid.{VPid}
 use Rattle.plain_machine.specs.declared.kernel.PlainKernel.{PlainKernel}
 use Rattle.plain_tables.specs.declared.process.Process.{Process}
@@ -35,10 +36,6 @@ held k p fd = do
   descriptor ← found (map.get k.descriptors (slot p fd)) EBADF
   description ← found (map.get k.descriptions descriptor.desc) EBADF
   Gives (record { desc = descriptor.desc; cloexec = descriptor.cloexec; description = description })
-
--- a process has at most so many descriptors
-abbrev pub DESCRIPTOR_LIMIT : ℕ
-DESCRIPTOR_LIMIT = 256
 
 -- the least number from this one on at which no descriptor is, among the next n
 unfoldable pub free_among : Descriptors → VPid → ℕ → ℕ → Option ℕ

@@ -1,6 +1,7 @@
 -- What each word of change keeps, and what it needs for that: the contract of `kernel_laws`.
 use Rattle.std.specs.Prelude.{◌≡◌, ◌≢◌, ◌⊎◌, ℕ, ◌+◌, ◌^◌, ◌<◌, ◌≤◌, Bool, true, false, List, length, Some, None, All}
 use Rattle.std.specs.FinMap as map
+use Rattle.views.specs.Limits.{CHANNEL_LIMIT, DESCRIPTOR_LIMIT, PROCESS_LIMIT, THREAD_LIMIT}
 use Rattle.sys_abi.specs.declared.identity.VPid.{VPid}
 use Rattle.sys_abi.specs.declared.identity.DescId.{DescId}
 use Rattle.sys_abi.specs.declared.identity.ConnId.{ConnId}
@@ -27,12 +28,12 @@ use Rattle.plain_machine.specs.Kernel.{is_live, thread_count, has_thread, after_
 use Rattle.plain_machine.specs.Channels.{with_direction, with_channel, arrived_more}
 use Rattle.plain_machine.specs.Closing.{close_fd}
 use Rattle.plain_machine.specs.Ends.{after_end, thread_ended, after_fork}
-use Rattle.plain_machine.specs.Start.{NamedFile, PROGRAM_LIMIT, start_kernel}
+use Rattle.plain_machine.specs.Start.{NamedFile, start_kernel}
 use Rattle.plain_machine.specs.Kernels.{IsKernel, AreNamed}
 
 -- a start is whole
 abbrev pub StartIsKernel : Type 0
-StartIsKernel = (jobs : List Launched) (files : List NamedFile) → length jobs ≤ PROGRAM_LIMIT
+StartIsKernel = (jobs : List Launched) (files : List NamedFile) → length jobs ≤ PROCESS_LIMIT
     → All IsLaunched jobs → AreNamed files → IsKernel (start_kernel jobs files)
 
 -- signals
@@ -51,7 +52,7 @@ RaiseForAllKeeps = (k : PlainKernel) (p : VPid) → IsKernel k → (s : ℕ) →
 -- threads and processes
 
 abbrev pub NextThreadKeeps : Type 0
-NextThreadKeeps = (k : PlainKernel) (p : VPid) → IsKernel k → is_live k p ≡ true → thread_count k p < 64
+NextThreadKeeps = (k : PlainKernel) (p : VPid) → IsKernel k → is_live k p ≡ true → thread_count k p < THREAD_LIMIT
     → k.next_id + 1 < 2 ^ 31
     → IsKernel (with_next_thread k p)
 
@@ -64,7 +65,7 @@ EndKeeps = (k : PlainKernel) (p : VPid) (status : ℕ) → IsKernel k → is_liv
     → IsKernel (after_end k p status)
 
 abbrev pub ForkKeeps : Type 0
-ForkKeeps = (k : PlainKernel) (p : VPid) → IsKernel k → is_live k p ≡ true → map.len k.processes < 128
+ForkKeeps = (k : PlainKernel) (p : VPid) → IsKernel k → is_live k p ≡ true → map.len k.processes < PROCESS_LIMIT
     → k.next_id + 1 < 2 ^ 31
     → IsKernel (after_fork k p)
 
@@ -75,7 +76,7 @@ CloseKeeps = (k : PlainKernel) (p : VPid) (fd : ℕ) → IsKernel k → IsKernel
 
 -- one more to a description that the process holds already
 abbrev pub AgainKeeps : Type 0
-AgainKeeps = (k : PlainKernel) (p : VPid) (fd : ℕ) (descriptor : Descriptor) → IsKernel k → fd < 256
+AgainKeeps = (k : PlainKernel) (p : VPid) (fd : ℕ) (descriptor : Descriptor) → IsKernel k → fd < DESCRIPTOR_LIMIT
     → map.get k.descriptors (slot p fd) ≡ None → (other : ℕ) (y : Descriptor)
     → map.get k.descriptors (slot p other) ≡ Some y
     → y.desc ≡ descriptor.desc → IsKernel (with_descriptor k p fd descriptor)
@@ -108,7 +109,7 @@ pub record IsNumberOf (k : PlainKernel) (p : VPid) (num : ℕ) : Type 0 where
 -- a new description behind a new descriptor
 abbrev pub PlacedKeeps : Type 0
 PlacedKeeps = (k : PlainKernel) (p : VPid) (fd num : ℕ) (cloexec : Bool) (object : Object) (flags : ℕ)
-    → IsKernel k → is_live k p ≡ true → fd < 256 → map.get k.descriptors (slot p fd) ≡ None
+    → IsKernel k → is_live k p ≡ true → fd < DESCRIPTOR_LIMIT → map.get k.descriptors (slot p fd) ≡ None
     → IsNumberOf k p num → AreFlags flags
     → IsAlone object → MayBePlaced k.files k.channels k.makers p object
     → IsKernel (placed k p fd (record { pid = p; num = num }) cloexec object flags)
@@ -126,7 +127,7 @@ NumberedKeeps = (k : PlainKernel) (p : VPid) (n : ℕ) → IsKernel k
 
 -- a channel that a process may make, open at both sides, of a number that it gave out
 pub record MayBeMade (k : PlainKernel) (p : VPid) (conn : ConnId) (channel : Channel) : Type 0 where
-  pub few : map.len k.channels < 256
+  pub few : map.len k.channels < CHANNEL_LIMIT
   pub new : map.get k.channels conn ≡ None
   pub number : IsMade k.next_id k.processes k.makers conn.pid conn.num
   pub first_address : HasAddress channel.kind channel.first.address
@@ -138,7 +139,7 @@ pub record MayBeMade (k : PlainKernel) (p : VPid) (conn : ConnId) (channel : Cha
 
 -- a place for a new descriptor, and a number for its description
 pub record HasPlace (k : PlainKernel) (p : VPid) (fd num flags : ℕ) : Type 0 where
-  pub low : fd < 256
+  pub low : fd < DESCRIPTOR_LIMIT
   pub free : map.get k.descriptors (slot p fd) ≡ None
   pub number : IsNumberOf k p num
   pub sound : AreFlags flags

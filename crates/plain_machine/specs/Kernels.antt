@@ -2,6 +2,7 @@
 -- Source: the limits of docs/MACHINE.md.
 --     IsKernel k      all of it      AreNamed files      what a job's named files need
 use Rattle.std.specs.Prelude.{◌≢◌, ◌≤◌, List, length, sum_by, All, AllPairs}
+use Rattle.views.specs.Limits.{NAMED_FILE_LIMIT, ALL_FILES_LIMIT}
 use Rattle.plain_process.specs.Valid.{IsByte}
 use Rattle.plain_machine.specs.declared.kernel.PlainKernel.{PlainKernel}
 use Rattle.plain_machine.specs.Start.{NamedFile}
@@ -33,8 +34,8 @@ pub record IsKernel (k : PlainKernel) : Type 0 where
 
 -- named files that a job may begin with: at most 64 under distinct names, of as many bytes as files may have
 pub record AreNamed (files : List NamedFile) : Type 0 where
-  pub count : length files ≤ 64
+  pub count : length files ≤ NAMED_FILE_LIMIT
   pub names : All (λ file. IsName file.name) files
   pub bytes : All (λ file. All IsByte file.bytes) files
-  pub total : sum_by (λ file. length file.bytes) files ≤ 67108864
+  pub total : sum_by (λ file. length file.bytes) files ≤ ALL_FILES_LIMIT
   pub apart : AllPairs (λ file later. file.name ≢ later.name) files

@@ -1,6 +1,7 @@
 -- Laws of runs, each of which the contract of `run_laws` promises.
 use Rattle.std.specs.Prelude.{◌≡◌, ◌≢◌, ◌<◌, ◌≤◌, ℕ, Bool, true, List, [], ◌∷◌, ◌++◌, length, Option, Some, None, is_some, All}
 use Rattle.std.specs.FinMap as map
+use Rattle.views.specs.Limits.{HOST_LIMIT, PROCESS_LIMIT}
 use Rattle.sys_abi.specs.declared.identity.VPid.{VPid}
 use Rattle.sys_abi.specs.declared.reply.Reply.{Reply}
 use Rattle.sys_abi.specs.declared.request.Request.{Request}
@@ -24,7 +25,7 @@ use Rattle.plain_machine.specs.Runs.{run, console}
 use Rattle.elf32.specs.Pages.{page_count}
 use Rattle.elf32.specs.Programs.{program_of, IsWellPlaced}
 use Rattle.plain_process.specs.Start.{Launched, start_user}
-use Rattle.plain_machine.specs.Start.{NamedFile, start, PROGRAM_LIMIT}
+use Rattle.plain_machine.specs.Start.{NamedFile, start}
 use Rattle.plain_process.specs.Valid.{IsWord, IsByte, IsUser, IsRequest, CanAdd}
 use Rattle.plain_machine.specs.Valid.{IsValid, AreNamed}
 use Rattle.plain_process.specs.Launches.{IsLaunched}
@@ -43,7 +44,7 @@ RecordIsLocal =
 
 -- a start is valid
 abbrev pub StartIsValid : Type 0
-StartIsValid = (jobs : List Launched) (files : List NamedFile) → length jobs ≤ PROGRAM_LIMIT → All IsLaunched jobs → AreNamed files → IsValid (start jobs files)
+StartIsValid = (jobs : List Launched) (files : List NamedFile) → length jobs ≤ PROCESS_LIMIT → All IsLaunched jobs → AreNamed files → IsValid (start jobs files)
 
 -- each step from a valid state leads to a valid one
 abbrev pub StepKeepsValid : Type 0
@@ -52,7 +53,7 @@ StepKeepsValid = (g next : Plain) (r : Record) → IsValid g → step g r ≡ So
 -- what a program of a file gives a job, where the file's reader accepts it
 abbrev pub ReadIsLaunched : Type 0
 ReadIsLaunched =
-    (host : ℕ) (file arguments : List ℕ) → All IsByte file → All IsByte arguments → All IsWellPlaced (program_of file).segments → page_count (program_of file).segments ≤ 1536 → host < 16
+    (host : ℕ) (file arguments : List ℕ) → All IsByte file → All IsByte arguments → All IsWellPlaced (program_of file).segments → page_count (program_of file).segments ≤ 1536 → host < HOST_LIMIT
     → IsLaunched (record { host = host; program = program_of file; arguments = arguments })
 
 -- a process's part is valid at its start, and stays so over its steps and over the answers to its calls

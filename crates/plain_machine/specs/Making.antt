@@ -6,6 +6,7 @@
 --     with_ends, with_datagrams      a channel with both its ends, a pair of datagram ends
 use Rattle.std.specs.Prelude.{◌==◌, ◌&&◌, ℕ, ◌+◌, Bool, nat_lt, bit_and, List, [], if◌then◌else◌, None}
 use Rattle.std.specs.FinMap as map
+use Rattle.views.specs.Limits.{CHANNEL_LIMIT}
 use Rattle.sys_abi.specs.declared.identity.VPid.{VPid}
 use Rattle.sys_abi.specs.declared.identity.DescId.{DescId}
 use Rattle.sys_abi.specs.declared.identity.ConnId.{ConnId}
@@ -16,7 +17,7 @@ use Rattle.plain_machine.specs.declared.new_end.NewEnd.{NewEnd}
 use Rattle.plain_tables.specs.declared.channel.ChannelKind.{ChannelKind}
 use Rattle.plain_tables.specs.declared.description.Object.TheVariants.{Stream, Datagram}
 use Rattle.plain_machine.specs.Kernel.{made_of, has_numbers, numbered, placed}
-use Rattle.plain_machine.specs.Channels.{CHANNEL_LIMIT, open_channel, with_channel}
+use Rattle.plain_machine.specs.Channels.{open_channel, with_channel}
 
 abbrev pub are_making_flags : ℕ → Bool
 are_making_flags flags = bit_and flags (O_NONBLOCK + O_CLOEXEC) == flags

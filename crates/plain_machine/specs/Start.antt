@@ -21,10 +21,6 @@ pub record NamedFile : Type 0 where
   pub name : List ℕ
   pub bytes : List ℕ
 
--- a job has at most so many programs
-abbrev pub PROGRAM_LIMIT : ℕ
-PROGRAM_LIMIT = 128
-
 -- the console description of a process is number 0 of its own
 abbrev pub console_of : ℕ → DescId
 console_of p = record { pid = pid p; num = 0 }

@@ -4,6 +4,7 @@
 use Rattle.std.specs.Prelude.{◌≡◌, ◌≢◌, ℕ, ◌+◌, ◌-◌, ◌<◌, ◌≤◌, Bool, true, false, List, [], ◌++◌, take, Option, Some, None, is_some, All, if◌then◌else◌}
 use Rattle.std.specs.Ordering.{eq_by_cmp}
 use Rattle.std.specs.FinMap as map
+use Rattle.views.specs.Limits.{DESCRIPTOR_LIMIT}
 use Rattle.sys_abi.specs.declared.identity.VPid.{VPid}
 use Rattle.sys_abi.specs.declared.identity.DescId.{DescId}
 use Rattle.sys_abi.specs.declared.identity.Dir.{Dir}
@@ -36,8 +37,8 @@ use Rattle.plain_machine.specs.Transfers.Streams.{is_broken, without_front, with
 -- two free descriptors, one after the other
 pub record AreFree (k : PlainKernel) (p : VPid) (fd other : ℕ) : Type 0 where
   pub rising : fd + 1 ≤ other
-  pub low : fd < 256
-  pub low_other : other < 256
+  pub low : fd < DESCRIPTOR_LIMIT
+  pub low_other : other < DESCRIPTOR_LIMIT
   pub free : map.get k.descriptors (slot p fd) ≡ None
   pub free_other : map.get k.descriptors (slot p other) ≡ None
 

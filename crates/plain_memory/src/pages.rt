@@ -1,5 +1,6 @@
 ghost use Rattle.std.specs.Prelude.{◌≡◌, ◌+◌, ◌-◌, ◌≤◌, ◌^◌, [], nat_le, IfOk, IfSome};
 ghost use Rattle.std.specs.FinMap as map;
+ghost use Rattle.views.specs.Limits as limits;
 ghost use Rattle.plain_process.specs.Pages as words;
 ghost use Rattle.plain_process.specs.Start.{with_pages};
 
@@ -19,7 +20,7 @@ const PLACES: u32 = 0x3_0001;
 
 /// Whether the pages are at most so many as a process may have, after these were added and those removed.
 pub fn has_room(memory: &NumberMap<Frame>, added: u32, removed: u32) -> bool
-    ensures { result ≡ nat_le (map.len memory.now + added - removed) words.PAGE_LIMIT }
+    ensures { result ≡ nat_le (map.len memory.now + added - removed) limits.PAGE_LIMIT }
 {
     memory.len() as u128 + added as u128 <= PAGE_LIMIT as u128 + removed as u128
 }

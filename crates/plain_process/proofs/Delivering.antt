@@ -3,6 +3,7 @@
 use Rattle.std.proofs.Common.{◌≡◌, ◌≢◌, ℕ, Bool, true, false, cond, refl, sym, ap, subst, ◌∙◌}
 use Rattle.std.specs.Prelude.{◌==◌, ◌&&◌, ◌||◌, Option, Some, nat_lt, length, IfSome}
 use Rattle.std.specs.FinMap as map
+use Rattle.views.specs.Limits.{CONTEXT_LIMIT}
 use Rattle.sys_abi.specs.declared.delivery.Delivered.{Delivered}
 use Rattle.sys_abi.specs.declared.delivery.Delivered.TheVariants as came
 use Rattle.sys_abi.specs.Signals.{has_signal}
@@ -11,7 +12,7 @@ use Rattle.plain_process.specs.declared.user_part.SignalAction.{SignalAction}
 use Rattle.plain_process.specs.declared.user_part.ThreadPart.{ThreadPart}
 use Rattle.plain_process.specs.declared.user_part.UserPart.{UserPart}
 use Rattle.plain_process.specs.Steps.{user_step}
-use Rattle.plain_process.specs.Deliveries.{Delivery, Enters, Ignores, Kills, CONTEXT_LIMIT, action_on, is_ignored, with_entered, delivery, traps_with, deliver, deliver_to, delivered_told}
+use Rattle.plain_process.specs.Deliveries.{Delivery, Enters, Ignores, Kills, action_on, is_ignored, with_entered, delivery, traps_with, deliver, deliver_to, delivered_told}
 use Rattle.plain_process.specs.Delivered.{delivery_told, KeepsUnlessEntered}
 
 -- what the code decides, for each part

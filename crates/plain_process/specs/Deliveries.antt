@@ -5,6 +5,7 @@
 --     delivered_told                   the same without the part that it leaves
 use Rattle.std.specs.Prelude.{◌==◌, ◌&&◌, ◌||◌, ℕ, ◌-◌, ◌*◌, ◌/◌, Bool, true, false, nat_lt, bit_or, [], ◌∷◌, ◌++◌, length, slice_get, Option, Some, None, unwrap_or, if◌then◌else◌}
 use Rattle.std.specs.FinMap as map
+use Rattle.views.specs.Limits.{CONTEXT_LIMIT}
 use Rattle.sys_abi.specs.Signals.{has_signal, with_signal}
 use Rattle.sys_abi.specs.declared.delivery.Delivered.{Delivered}
 use Rattle.sys_abi.specs.declared.delivery.Delivered.TheVariants as came
@@ -60,10 +61,6 @@ abbrev pub handler_mask : ℕ → SignalAction → ℕ → ℕ
 handler_mask mask action s =
     let blocked = bit_or mask action.mask in
     if has_flag action.flags SA_NODEFER then blocked else with_signal blocked s
-
--- how many contexts a thread saves at most
-abbrev pub CONTEXT_LIMIT : ℕ
-CONTEXT_LIMIT = 64
 
 abbrev pub entered : ThreadPart → SignalAction → ℕ → Bool → ThreadPart
 entered thread action s is_unready = record {

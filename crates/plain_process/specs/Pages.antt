@@ -8,9 +8,6 @@ use Rattle.std.specs.List.{range_with_len}
 use Rattle.std.specs.FinMap as map
 use Rattle.plain_process.specs.Memory.{Memory}
 
-abbrev pub PAGE_LIMIT : ℕ
-PAGE_LIMIT = 2048
-
 -- so many bytes from a page's start on touch so many pages
 abbrev pub pages_of : ℕ → ℕ
 pages_of bytes = (bytes + 4095) / 4096

@@ -5,6 +5,7 @@
 use Rattle.std.specs.Prelude.{◌==◌, ◌&&◌, ◌≤◌, All, ℕ, zero, suc, ◌+◌, ◌-◌, ◌*◌, ◌/◌, ◌^◌, max, nat_le, nat_lt, Bool, true, false, List, [], ◌∷◌, ◌++◌, find, fold, length, take, drop, replicate, slice_index, slice_set, Option, Some, None, if◌then◌else◌}
 use Rattle.std.specs.List.{flat_map}
 use Rattle.std.specs.FinMap as map
+use Rattle.views.specs.Limits.{PROGRAM_PAGE_LIMIT}
 use Rattle.elf32.specs.declared.program.Program.{Program}
 use Rattle.elf32.specs.declared.program.Segment.{Segment}
 use Rattle.elf32.specs.Pages.{is_touched, page_rights, page_count}
@@ -25,7 +26,7 @@ pub record Launched : Type 0 where
 -- what a program keeps that was read from a file
 pub record IsLoadable (program : Program) : Type 0 where
   pub placed : All IsWellPlaced program.segments
-  pub pages : page_count program.segments ≤ 1536
+  pub pages : page_count program.segments ≤ PROGRAM_PAGE_LIMIT
 
 -- a page's worth of a content, with zeros after its end
 abbrev pub page_of : List ℕ → List ℕ

@@ -6,6 +6,7 @@ use Rattle.std.specs.Prelude.{◌≡◌, ◌≢◌, ℕ, ◌*◌, ◌%◌, ◌^�
 use Rattle.std.specs.Ordering.{nat_cmp}
 use Rattle.std.specs.declared.cmp.Ordering.{Ordering}
 use Rattle.std.specs.FinMap as map
+use Rattle.views.specs.Limits.{THREAD_LIMIT, CONTEXT_LIMIT, PAGE_LIMIT, BREAK_LIMIT}
 use Rattle.sys_abi.specs.declared.request.Request.{Request}
 use Rattle.sys_abi.specs.declared.request.Request.TheVariants.{Eventfd2, Dup, Dup3, Fcntl, Unlinkat, Openat, Close, Pipe2, Lseek, Read, Write, Exit, ExitGroup, SetTidAddress, Futex, Kill, Tgkill, RtSigaction, RtSigprocmask, Socket, Socketpair, Bind, Listen, Accept, Connect, Getsockname, Getpeername, Setsockopt, Shutdown, Brk, Munmap, Clone, Mmap, Wait4, Unknown}
 use Rattle.sys_abi.specs.declared.reply.Reply.{Reply}
@@ -46,7 +47,7 @@ pub record IsThread (thread : ThreadPart) : Type 0 where
   pub regs : IsRegs thread.regs
   pub mask : IsWord thread.mask
   pub clear_tid : IsWord thread.clear_tid
-  pub count : length thread.contexts ≤ 64
+  pub count : length thread.contexts ≤ CONTEXT_LIMIT
   pub contexts : All (λ context. IsRegs context.regs × IsWord context.mask) thread.contexts
 
 pub record IsAction (action : SignalAction) : Type 0 where
@@ -66,14 +67,14 @@ IsHeap memory break_start break_end =
     → is_some (map.get memory place) ≡ nat_lt (4096 * place) break_end
 
 pub record IsUser (user : UserPart) : Type 0 where
-  pub pages : map.len user.memory ≤ 2048
+  pub pages : map.len user.memory ≤ PAGE_LIMIT
   pub memory : Each user.memory IsFrame
   pub return_page : map.get user.memory RETURN_PAGE ≡ Some return_frame
   pub break_start : user.break_start % 4096 ≡ 0
   pub break_order : user.break_start ≤ user.break_end
-  pub break_limit : user.break_end ≤ 0x40000000
+  pub break_limit : user.break_end ≤ BREAK_LIMIT
   pub heap : IsHeap user.memory user.break_start user.break_end
-  pub thread_count : map.len user.threads ≤ 64
+  pub thread_count : map.len user.threads ≤ THREAD_LIMIT
   pub thread_numbers : Each user.threads (λ t thread. IsWord t)
   pub threads : Each user.threads (λ t thread. IsThread thread)
   pub actions : length user.actions ≡ 31
@@ -123,7 +124,7 @@ IsRequest q = Unit {0}
 -- where an answer adds a thread, its number is free, and there is room for one more
 abbrev pub CanAddAs : UserPart → Option ℕ → Type 0
 CanAddAs user None = Unit {0}
-CanAddAs user (Some new) = IsWord new × (map.get user.threads new ≡ None) × (map.len user.threads < 64)
+CanAddAs user (Some new) = IsWord new × (map.get user.threads new ≡ None) × (map.len user.threads < THREAD_LIMIT)
 
 abbrev pub CanAdd : UserPart → Request → Reply → Type 0
 CanAdd user q reply = CanAddAs user (added_thread q reply)

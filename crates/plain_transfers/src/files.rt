@@ -1,5 +1,6 @@
 //! Bytes of files.
 ghost use Rattle.std.specs.Prelude.{◌≡◌, ◌≤◌, ◌<◌, ◌+◌, ◌^◌, nat_le, length, min, IfOk, OnOk};
+ghost use Rattle.views.specs.Limits as limits;
 ghost use Rattle.sys_abi.specs.declared.transfer.TheConstants.{TRANSFER_LIMIT};
 ghost use Rattle.plain_tables.specs.Tables.{changed_at};
 ghost use Rattle.plain_machine.specs.HeldTold.{held_of};
@@ -124,7 +125,7 @@ fn write_place(flags: u32, offset: u32, bytes: &[u8]) -> usize
 
 /// Whether all files together may have so many bytes more.
 fn have_room(files: &NumberMap<ListOf<u8>>, growth: u64) -> bool
-    ensures { result ≡ nat_le (words.total_bytes files.now + growth) words.ALL_FILES_LIMIT }
+    ensures { result ≡ nat_le (words.total_bytes files.now + growth) limits.ALL_FILES_LIMIT }
 {
     let mut room = ALL_FILES_LIMIT;
     for bytes in files.values() {

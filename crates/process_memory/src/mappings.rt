@@ -1,6 +1,7 @@
 //! brk, munmap and mmap (`man 2 brk`, `man 2 mmap`).
 ghost use Rattle.std.specs.Prelude.{◌≡◌, ◌+◌, ◌-◌, ◌≤◌, ◌<◌, ◌^◌, ◌==◌, ◌&&◌, ◌%◌, not, nat_le, nat_lt, IfSome, OnOk, OnErr};
 ghost use Rattle.std.specs.FinMap as map;
+ghost use Rattle.views.specs.Limits as limits;
 ghost use Rattle.plain_process.specs.Pages as words;
 ghost use Rattle.plain_process.specs.Pages.{MAPPING_START as START, MAPPING_END as END, IsFree};
 ghost use Rattle.plain_process.specs.Rows.Mappings as rows;
@@ -79,7 +80,7 @@ impl ProcessMemory {
     fn is_break(&self, address: u32) -> bool
         ensures { result ≡ (nat_le self.now.break_start address && nat_le address 0x40000000
             && nat_le (map.len self.now.pages + words.pages_of address - words.pages_of self.now.break_end)
-            words.PAGE_LIMIT) }
+            limits.PAGE_LIMIT) }
     {
         let pages = self.ram.space.len() + pages_of(address) as usize;
         self.break_start <= address

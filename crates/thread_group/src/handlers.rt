@@ -3,7 +3,8 @@
 ghost use Rattle.std.specs.Prelude.{◌≡◌, ◌==◌, ◌<◌, ◌&&◌, ◌||◌, ◌-◌, ℕ, List, length, not, nat_le, slice_set, is_some, true, Some, IfSome, if◌then◌else◌};
 ghost use Rattle.std.specs.FinMap as map;
 ghost use Rattle.sys_abi.specs.Signals.{is_signal as is_number};
-ghost use Rattle.plain_process.specs.Deliveries.{CONTEXT_LIMIT, action_on};
+ghost use Rattle.views.specs.Limits.{CONTEXT_LIMIT};
+ghost use Rattle.plain_process.specs.Deliveries.{action_on};
 ghost use Rattle.plain_process.specs.Rows.Handlers as rows;
 ghost use Rattle.plain_process.specs.Steps.{with_thread};
 ghost use Rattle.plain_process.specs.declared.user_part.ThreadPart.{ThreadPart};

@@ -4,3 +4,4 @@ pub mod Maps
 pub mod Bytes
 pub mod Seen
 pub mod Leasts
+pub mod Limits

@@ -4,6 +4,7 @@ use Rattle.std.specs.Prelude.{nat_lt, Option, Some, None, is_some, All}
 use Rattle.std.specs.FinMap as map
 use Rattle.std.proofs.lemmas.Bool.Decides.{nat_tests}
 use Rattle.std.proofs.lemmas.List.Elements.{All-nil, All-append}
+use Rattle.views.specs.Limits.{PROCESS_LIMIT, THREAD_LIMIT}
 use Rattle.sys_abi.specs.declared.identity.VPid.{VPid}
 use Rattle.sys_abi.specs.declared.errors.TheConstants.{EAGAIN, EINVAL}
 use Rattle.sys_abi.specs.declared.flags.TheConstants.{CLONE_PARENT_SETTID, CLONE_CHILD_SETTID}
@@ -26,7 +27,7 @@ use Rattle.plain_machine.specs.Kernel.{is_live, has_thread, thread_count, with_n
 use Rattle.plain_machine.specs.Ends.{after_fork}
 use Rattle.plain_machine.specs.Valid.{IsKernel}
 use Rattle.plain_machine.specs.RowLaws.{with_one, IsAsked, IsAnswer, IsServed, IsMade, MayAdd, there_after}
-use Rattle.plain_machine.specs.Rows.Clone.{THREAD_LIMIT, PROCESS_LIMIT, LAST_ID, number_if, number_bytes, cloned, forked, clone_thread, clone_process, clone_by, clone_row}
+use Rattle.plain_machine.specs.Rows.Clone.{LAST_ID, number_if, number_bytes, cloned, forked, clone_thread, clone_process, clone_by, clone_row}
 use Rattle.plain_machine.specs.Serve.{row, is_ready}
 use Rattle.plain_process.proofs.MemoryBounds.{low_bytes_are}
 use Rattle.plain_machine.proofs.Trying.{Trying, succeeds, fails, after}

@@ -4,6 +4,7 @@ use Rattle.std.specs.Prelude.{◌==◌, ◌&&◌, nat_le, nat_lt, Some, None, Al
 use Rattle.std.specs.FinMap as map
 use Rattle.std.proofs.lemmas.Bool.Decides.{nat_tests}
 use Rattle.std.proofs.lemmas.List.Elements.{All-nil}
+use Rattle.views.specs.Limits.{CHANNEL_LIMIT}
 use Rattle.sys_abi.specs.declared.identity.VPid.{VPid}
 use Rattle.sys_abi.specs.declared.identity.ConnId.{ConnId}
 use Rattle.sys_abi.specs.declared.identity.VirtAddr.{VirtAddr}
@@ -25,7 +26,7 @@ use Rattle.plain_process.specs.Memory.{Memory}
 use Rattle.plain_process.specs.Put.{CanTake}
 use Rattle.plain_process.specs.Valid.{IsByte}
 use Rattle.plain_machine.specs.Kernel.{Held, is_live, made_of, has_numbers, free_from, numbered, placed, with_description}
-use Rattle.plain_machine.specs.Channels.{CHANNEL_LIMIT, open_channel, with_channel}
+use Rattle.plain_machine.specs.Channels.{open_channel, with_channel}
 use Rattle.plain_machine.specs.Addresses.{AF_INET, ADDRESS_SIZE, Endpoint, endpoint_of, named_host, address_at, cut_to}
 use Rattle.plain_machine.specs.SocketWords.{is_settled, unready, socket_at, listens_at, bound_or, end_name, next_description, next_channel, without_first, with_last}
 use Rattle.plain_machine.specs.Rows.Connections.{Accepting, first_waiting, accepting_of, accepted, accept_served, accept_row, is_accept_ready, Connecting, may_connect, if_room, connecting_of, connected, connect_row, is_connect_ready}

@@ -3,6 +3,7 @@ use Rattle.std.proofs.Common.{◌≡◌, ◌≢◌, ℕ, ◌<◌, Bool, true, fa
 use Rattle.std.specs.Prelude.{◌==◌, ◌%◌, ◌⊎◌, not, nat_lt, Option, Some, None}
 use Rattle.std.specs.FinMap as map
 use Rattle.std.proofs.lemmas.Bool.Decides.{nat_tests}
+use Rattle.views.specs.Limits.{DESCRIPTOR_LIMIT}
 use Rattle.views.proofs.MapLaws.{get_remove_same, get_remove_other, true_false}
 use Rattle.sys_abi.specs.declared.identity.VPid.{VPid}
 use Rattle.sys_abi.specs.declared.identity.Slot.{Slot}
@@ -22,7 +23,7 @@ use Rattle.plain_process.specs.Attempts.{need}
 use Rattle.plain_process.specs.Valid.{IsWord}
 use Rattle.plain_machine.specs.Closing.{close_fd}
 use Rattle.plain_machine.specs.Commands.{fcntl_command}
-use Rattle.plain_machine.specs.Kernel.{Held, DESCRIPTOR_LIMIT, is_live, is_neighbour, held, free_from, with_descriptor}
+use Rattle.plain_machine.specs.Kernel.{Held, is_live, is_neighbour, held, free_from, with_descriptor}
 use Rattle.plain_machine.specs.Kernels.{IsKernel}
 use Rattle.plain_machine.specs.Rows.Descriptors.{dup_from, dup_row, is_cloexec_at_most, moved_to, dup3_row, dup_above, set_flags, with_flags, with_owner, may_own, set_owner, fcntl_by, fcntl_row, close_row}
 use Rattle.plain_machine.specs.Serve.{row, is_ready}

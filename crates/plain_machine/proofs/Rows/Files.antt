@@ -8,6 +8,7 @@ use Rattle.std.proofs.lemmas.Bool.Decides.{nat_tests}
 use Rattle.std.proofs.lemmas.List.{length-take-le, get_or-take}
 use Rattle.std.proofs.lemmas.List.Elements.{All-nil}
 use Rattle.std.proofs.lemmas.List.Quantifiers.{position-Some}
+use Rattle.views.specs.Limits.{FILE_LIMIT}
 use Rattle.views.proofs.MapLaws.{get_insert_same}
 use Rattle.sys_abi.specs.declared.identity.VPid.{VPid}
 use Rattle.sys_abi.specs.declared.errors.TheConstants.{ENOENT, EBADF, EEXIST, EINVAL, ENFILE, ENOSPC, ESPIPE, ENAMETOOLONG}
@@ -28,7 +29,7 @@ use Rattle.plain_machine.specs.Kernel.{Held, held, free_from, has_numbers, with_
 use Rattle.plain_machine.specs.KernelLaws.{IsAlone}
 use Rattle.plain_machine.specs.Kernels.{IsKernel}
 use Rattle.plain_machine.specs.RowLaws.{IsAsked}
-use Rattle.plain_machine.specs.Rows.Files.{path_of, without_name, unlinkat_row, FILE_LIMIT, LAST_FILE, may_open, with_file_bytes, opened_number, with_opened, status_flags, with_open_file, open_at, openat_row, seek_start, OFFSET_LIMIT, in_reach, place_moved, file_size, seek, lseek_row}
+use Rattle.plain_machine.specs.Rows.Files.{path_of, without_name, unlinkat_row, LAST_FILE, may_open, with_file_bytes, opened_number, with_opened, status_flags, with_open_file, open_at, openat_row, seek_start, OFFSET_LIMIT, in_reach, place_moved, file_size, seek, lseek_row}
 use Rattle.plain_machine.specs.Serve.{row, is_ready}
 use Rattle.plain_machine.specs.Start.{with_file}
 use Rattle.plain_machine.proofs.HeldDescriptors.{IsHeldAt, held_is, held_prompt, IsFreeFrom, free_is, free_prompt}

@@ -6,6 +6,7 @@ use Rattle.std.proofs.Math.Nat.{min-le_left}
 use Rattle.std.proofs.lemmas.Bool.Decides.{nat_tests}
 use Rattle.std.proofs.lemmas.List.{length-take, length-append, take-take}
 use Rattle.std.proofs.lemmas.List.Elements.{All-nil, All-cons, All-take, All-append}
+use Rattle.views.specs.Limits.{ALL_FILES_LIMIT, DIRECTION_LIMIT, MESSAGE_LIMIT}
 use Rattle.sys_abi.specs.declared.identity.VPid.{VPid}
 use Rattle.sys_abi.specs.declared.identity.DescId.{DescId}
 use Rattle.sys_abi.specs.declared.identity.Dir.{Dir}
@@ -38,9 +39,9 @@ use Rattle.plain_machine.specs.Rows.Files.{OFFSET_LIMIT, with_file_bytes}
 use Rattle.plain_machine.specs.Rows.Write.{is_writable, write_object, write_access, write_row, is_write_ready}
 use Rattle.plain_machine.specs.Serve.{row, is_ready, front_of}
 use Rattle.plain_machine.specs.Transfers.Counters.{COUNTER_SIZE, COUNTER_LIMIT, number_added, may_add, takes_more, write_counter}
-use Rattle.plain_machine.specs.Transfers.Datagrams.{MESSAGE_LIMIT, takes_message, write_message}
-use Rattle.plain_machine.specs.Transfers.Files.{ALL_FILES_LIMIT, total_bytes, with_piece, write_place, moved_behind, write_piece, write_file}
-use Rattle.plain_machine.specs.Transfers.Streams.{DIRECTION_LIMIT, is_broken, with_sent, fitting_bytes, sent, write_direction, write_stream}
+use Rattle.plain_machine.specs.Transfers.Datagrams.{takes_message, write_message}
+use Rattle.plain_machine.specs.Transfers.Files.{total_bytes, with_piece, write_place, moved_behind, write_piece, write_file}
+use Rattle.plain_machine.specs.Transfers.Streams.{is_broken, with_sent, fitting_bytes, sent, write_direction, write_stream}
 use Rattle.plain_machine.specs.Waiting.{need_ready, waits}
 use Rattle.plain_machine.proofs.HeldDescriptors.{held_is}
 use Rattle.plain_machine.specs.FileLaws.{shape}

@@ -3,6 +3,7 @@
 -- is the child's own.
 use Rattle.std.specs.Prelude.{◌&&◌, ℕ, ◌-◌, ◌^◌, nat_lt, List, [], ◌++◌, Option, Some, None, Bool, if◌then◌else◌}
 use Rattle.std.specs.FinMap as map
+use Rattle.views.specs.Limits.{PROCESS_LIMIT, THREAD_LIMIT}
 use Rattle.sys_abi.specs.declared.identity.VPid.{VPid}
 use Rattle.sys_abi.specs.declared.reply.Reply.TheVariants.{Value}
 use Rattle.sys_abi.specs.declared.errors.TheConstants.{EAGAIN, EINVAL}
@@ -17,13 +18,6 @@ use Rattle.plain_machine.specs.Attempts.{Served}
 use Rattle.plain_machine.specs.Kernel.{thread_count, with_next_thread}
 use Rattle.plain_machine.specs.Ends.{after_fork}
 use Rattle.sys_abi.specs.Flags.{has_flag}
-
-abbrev pub THREAD_LIMIT : ℕ
-THREAD_LIMIT = 64
-
--- those that have ended and are still there count too
-abbrev pub PROCESS_LIMIT : ℕ
-PROCESS_LIMIT = 128
 
 -- numbers of processes and threads are below this one
 abbrev pub LAST_ID : ℕ

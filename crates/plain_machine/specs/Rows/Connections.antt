@@ -4,6 +4,7 @@
 --     accepted, connected              the kernel part after it
 use Rattle.std.specs.Prelude.{◌==◌, ◌&&◌, ℕ, nat_le, nat_lt, Bool, false, List, [], ◌∷◌, length, Some, if◌then◌else◌}
 use Rattle.std.specs.FinMap as map
+use Rattle.views.specs.Limits.{CHANNEL_LIMIT}
 use Rattle.sys_abi.specs.declared.identity.VPid.{VPid}
 use Rattle.sys_abi.specs.declared.identity.ConnId.{ConnId}
 use Rattle.sys_abi.specs.declared.identity.VirtAddr.{VirtAddr}
@@ -19,7 +20,7 @@ use Rattle.plain_tables.specs.Tables.{changed_at}
 use Rattle.plain_process.specs.Attempts.{Try, Fails, Gives, need, found, ◌>>=◌, ◌>>◌}
 use Rattle.plain_machine.specs.Attempts.{Served, replied}
 use Rattle.plain_machine.specs.Kernel.{Held, has_numbers, free_from, numbered, placed, with_object}
-use Rattle.plain_machine.specs.Channels.{CHANNEL_LIMIT, open_channel, with_channel}
+use Rattle.plain_machine.specs.Channels.{open_channel, with_channel}
 use Rattle.plain_machine.specs.Addresses.{AF_INET, ADDRESS_SIZE, Endpoint, endpoint_of, named_host, address_at, cut_to}
 use Rattle.plain_machine.specs.SocketWords.{is_settled, unready, socket_at, listens_at, bound_or, end_name, next_description, next_channel, without_first, with_last}
 

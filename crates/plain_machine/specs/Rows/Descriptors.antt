@@ -1,6 +1,7 @@
 -- dup(fd), dup3(fd, to, flags), fcntl(fd, command, argument), close(fd) (`man 2 dup`, `man 2 fcntl`,
 -- `man 2 close`).
 use Rattle.std.specs.Prelude.{◌==◌, ◌%◌, ◌||◌, ℕ, Bool, true, false, not, ◌&&◌, bit_and, bit_or, nat_lt, Option, Some, None, if◌then◌else◌}
+use Rattle.views.specs.Limits.{DESCRIPTOR_LIMIT}
 use Rattle.sys_abi.specs.declared.identity.VPid.{VPid}
 use Rattle.sys_abi.specs.declared.errors.TheConstants.{EBADF, EINVAL, ESRCH}
 use Rattle.sys_abi.specs.declared.flags.TheConstants.{O_CLOEXEC}
@@ -11,7 +12,7 @@ use Rattle.plain_machine.specs.declared.commands.FcntlCommand.TheVariants.{DupFd
 use Rattle.plain_process.specs.Attempts.{Try, Fails, need, ◌>>=◌, ◌>>◌}
 use Rattle.plain_machine.specs.Attempts.{Served, replied}
 use Rattle.plain_machine.specs.Commands.{fcntl_command}
-use Rattle.plain_machine.specs.Kernel.{Held, DESCRIPTOR_LIMIT, held, free_from, is_neighbour, with_descriptor, with_description}
+use Rattle.plain_machine.specs.Kernel.{Held, held, free_from, is_neighbour, with_descriptor, with_description}
 use Rattle.plain_machine.specs.Closing.{close_fd}
 
 -- the free descriptor from a number on refers to the same description

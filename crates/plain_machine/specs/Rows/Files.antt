@@ -4,6 +4,7 @@
 use Rattle.std.specs.Prelude.{◌==◌, ◌+◌, ◌-◌, ◌%◌, ◌^◌, ℕ, ◌&&◌, bit_and, nat_lt, List, [], length, take, position, Option, Some, None, if◌then◌else◌}
 use Rattle.std.specs.Option.{option_map_or}
 use Rattle.std.specs.FinMap as map
+use Rattle.views.specs.Limits.{FILE_LIMIT}
 use Rattle.sys_abi.specs.declared.identity.VPid.{VPid}
 use Rattle.sys_abi.specs.declared.errors.TheConstants.{ENOENT, EBADF, EEXIST, EINVAL, ENFILE, ENOSPC, ESPIPE, ENAMETOOLONG}
 use Rattle.sys_abi.specs.declared.flags.TheConstants.{O_CREAT, O_EXCL, O_TRUNC, O_CLOEXEC, AT_FDCWD}
@@ -39,9 +40,6 @@ unlinkat_row k p directory flags given = do
   name ← path_of given
   number ← found (map.get k.names name) ENOENT
   replied (without_name k name number) 0
-
-abbrev pub FILE_LIMIT : ℕ
-FILE_LIMIT = 1024
 
 -- files' numbers are below this one
 abbrev pub LAST_FILE : ℕ

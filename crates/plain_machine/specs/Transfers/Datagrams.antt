@@ -7,6 +7,7 @@
 --     write_message k peer count given
 use Rattle.std.specs.Prelude.{◌||◌, ℕ, not, nat_lt, nat_le, Bool, List, [], ◌∷◌, ◌++◌, take, length, is_some, unwrap_or}
 use Rattle.std.specs.FinMap as map
+use Rattle.views.specs.Limits.{INBOX_LIMIT, MESSAGE_LIMIT}
 use Rattle.sys_abi.specs.declared.identity.DescId.{DescId}
 use Rattle.sys_abi.specs.declared.errors.TheConstants.{EMSGSIZE, ECONNREFUSED}
 use Rattle.plain_machine.specs.declared.kernel.PlainKernel.{PlainKernel}
@@ -14,14 +15,6 @@ use Rattle.plain_process.specs.Attempts.{Try, need, found, ◌>>=◌, ◌>>◌}
 use Rattle.plain_machine.specs.Attempts.{Served, replied}
 use Rattle.plain_machine.specs.Making.{with_inbox}
 use Rattle.plain_machine.specs.Transfers.Answers.{gave}
-
--- a message has at most so many bytes
-abbrev pub MESSAGE_LIMIT : ℕ
-MESSAGE_LIMIT = 4096
-
--- so many messages wait at an end at most
-abbrev pub INBOX_LIMIT : ℕ
-INBOX_LIMIT = 64
 
 abbrev pub is_open_end : PlainKernel → DescId → Bool
 is_open_end k d = is_some (map.get k.inboxes d)

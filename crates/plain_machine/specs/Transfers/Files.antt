@@ -5,6 +5,7 @@
 --     write_file k h number offset given
 use Rattle.std.specs.Prelude.{◌==◌, ℕ, ◌+◌, ◌-◌, ◌^◌, min, nat_lt, nat_le, List, ◌++◌, take, drop, length, replicate, sum_by, if◌then◌else◌}
 use Rattle.std.specs.FinMap as map
+use Rattle.views.specs.Limits.{ALL_FILES_LIMIT}
 use Rattle.sys_abi.specs.declared.errors.TheConstants.{EBADF, EFBIG, ENOSPC}
 use Rattle.sys_abi.specs.declared.flags.TheConstants.{O_APPEND}
 use Rattle.sys_abi.specs.Flags.{has_flag}
@@ -16,10 +17,6 @@ use Rattle.plain_machine.specs.Attempts.{Served, replied}
 use Rattle.plain_machine.specs.Kernel.{Held, with_object}
 use Rattle.plain_machine.specs.Rows.Files.{OFFSET_LIMIT, with_file_bytes}
 use Rattle.plain_machine.specs.Transfers.Answers.{gave}
-
--- all files together have at most so many bytes
-abbrev pub ALL_FILES_LIMIT : ℕ
-ALL_FILES_LIMIT = 67108864
 
 -- the greatest offset, up to which no file has bytes
 abbrev pub LAST_OFFSET : ℕ

@@ -4,6 +4,7 @@
 --     read_stream k from count        from the direction to the end
 --     write_stream k p t to count given      into the direction from it
 use Rattle.std.specs.Prelude.{◌==◌, ◌||◌, ◌&&◌, ℕ, ◌-◌, min, nat_lt, Bool, true, List, ◌++◌, take, drop, length, Option, Some, None, if◌then◌else◌}
+use Rattle.views.specs.Limits.{DIRECTION_LIMIT}
 use Rattle.sys_abi.specs.declared.identity.VPid.{VPid}
 use Rattle.sys_abi.specs.declared.identity.Dir.{Dir}
 use Rattle.sys_abi.specs.declared.errors.TheConstants.{ENOTCONN, EPIPE}
@@ -13,10 +14,6 @@ use Rattle.plain_process.specs.Attempts.{Try, found, ◌>>=◌}
 use Rattle.plain_machine.specs.Attempts.{Served, replied}
 use Rattle.plain_machine.specs.Channels.{direction_at, with_direction}
 use Rattle.plain_machine.specs.Transfers.Answers.{gave, broken_pipe}
-
--- a direction holds at most so many bytes
-abbrev pub DIRECTION_LIMIT : ℕ
-DIRECTION_LIMIT = 65536
 
 -- nothing more is sent, or nobody reads
 abbrev pub is_broken : Direction → Bool

@@ -2,11 +2,12 @@
 -- and its pages can be read and written. A mapping is anonymous and private, at the lowest place where it fits.
 use Rattle.std.specs.Prelude.{◌==◌, ◌&&◌, ℕ, ◌+◌, ◌-◌, ◌*◌, ◌/◌, ◌%◌, nat_le, nat_lt, Bool, not, [], Option, None, if◌then◌else◌}
 use Rattle.std.specs.FinMap as map
+use Rattle.views.specs.Limits.{PAGE_LIMIT, BREAK_LIMIT}
 use Rattle.sys_abi.specs.declared.errors.TheConstants.{EINVAL, ENOMEM}
 use Rattle.plain_process.specs.declared.user_part.UserPart.{UserPart}
 use Rattle.plain_process.specs.Memory.{Memory}
 use Rattle.plain_process.specs.Start.{with_pages}
-use Rattle.plain_process.specs.Pages.{PAGE_LIMIT, MAPPING_START, MAPPING_END, pages_of, without_pages, free_run}
+use Rattle.plain_process.specs.Pages.{MAPPING_START, MAPPING_END, pages_of, without_pages, free_run}
 use Rattle.plain_process.specs.Attempts.{Try, need, found, ◌>>=◌, ◌>>◌}
 use Rattle.plain_process.specs.Rows.Locals.{Local, local_reply}
 
@@ -20,7 +21,7 @@ heap_to memory old new =
 
 abbrev pub is_break : UserPart → ℕ → Bool
 is_break user address =
-    nat_le user.break_start address && nat_le address 0x40000000
+    nat_le user.break_start address && nat_le address BREAK_LIMIT
     && nat_le (map.len user.memory + pages_of address - pages_of user.break_end) PAGE_LIMIT
 
 abbrev pub with_break : UserPart → ℕ → UserPart

@@ -3,6 +3,7 @@
 --     AreChannels, AreStreams      a topic each, over the tables that it speaks of
 use Rattle.std.specs.Prelude.{◌≡◌, ℕ, ◌-◌, ◌==◌, ◌&&◌, ◌||◌, ◌<◌, ◌≤◌, ◌%◌, nat_lt, true, false, [], length, Option, Some, None, is_some, All, if◌then◌else◌}
 use Rattle.std.specs.FinMap as map
+use Rattle.views.specs.Limits.{HOST_LIMIT, CHANNEL_LIMIT, DIRECTION_LIMIT}
 use Rattle.sys_abi.specs.declared.identity.DescId.{DescId}
 use Rattle.sys_abi.specs.declared.identity.ConnId.{ConnId}
 use Rattle.sys_abi.specs.declared.identity.Dir.{Dir}
@@ -21,13 +22,13 @@ use Rattle.plain_tables.specs.Objects.{dir, end_of, is_end, has_stream, is_pendi
 -- at most 65,536 unread bytes, of which no more have arrived than there are
 pub record IsDirection (direction : Direction) : Type 0 where
   pub arrived : direction.arrived ≤ length direction.left
-  pub size : length direction.left ≤ 65536
+  pub size : length direction.left ≤ DIRECTION_LIMIT
   pub bytes : All IsByte direction.left
   pub unread : direction.unread ≡ true → direction.left ≡ []
 
 -- the sides of an internet connection, and of no other channel, have addresses
 abbrev pub HasAddress : ChannelKind → Option VirtAddr → Type 0
-HasAddress Internet (Some address) = (address.host < 16) × (address.port < 65536)
+HasAddress Internet (Some address) = (address.host < HOST_LIMIT) × (address.port < 65536)
 HasAddress Internet None = ⊥
 HasAddress _ (Some address) = ⊥
 HasAddress _ None = Unit {0}
@@ -39,7 +40,7 @@ pub record IsClosed (out inward : Option Direction) : Type 0 where
 
 -- at most 256 channels, each open at a side; they and no others have both directions
 pub record AreChannels (channels : Channels) (directions : Directions) : Type 0 where
-  pub count : map.len channels ≤ 256
+  pub count : map.len channels ≤ CHANNEL_LIMIT
   pub sides : (at : Dir) → is_some (map.get directions at)
       ≡ (nat_lt at.side 2 && is_some (map.get channels at.conn))
   pub addresses : Each channels (λ conn channel.

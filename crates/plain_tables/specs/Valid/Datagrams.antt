@@ -3,6 +3,7 @@
 --     AreInboxes, AreCounters      a topic each, over the tables that it speaks of
 use Rattle.std.specs.Prelude.{◌≡◌, ℕ, ◌-◌, ◌^◌, ◌<◌, ◌≤◌, Bool, true, false, List, length, Option, Some, None, is_some, All}
 use Rattle.std.specs.FinMap as map
+use Rattle.views.specs.Limits.{INBOX_LIMIT, MESSAGE_LIMIT}
 use Rattle.sys_abi.specs.declared.identity.DescId.{DescId}
 use Rattle.plain_process.specs.Valid.{IsByte, Each}
 use Rattle.plain_tables.specs.declared.description.Description.{Description}
@@ -17,8 +18,8 @@ is_datagram_in (Some description) = is_datagram description.object
 
 -- at most 64 messages of 4,096 bytes
 pub record IsInbox (messages : List (List ℕ)) : Type 0 where
-  pub count : length messages ≤ 64
-  pub sizes : All (λ message. length message ≤ 4096) messages
+  pub count : length messages ≤ INBOX_LIMIT
+  pub sizes : All (λ message. length message ≤ MESSAGE_LIMIT) messages
   pub bytes : All (All IsByte) messages
 
 -- each datagram end has an inbox and nothing else has one; the ends of a pair know each other, and no third

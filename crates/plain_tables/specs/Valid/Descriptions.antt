@@ -4,6 +4,7 @@
 --     AreDescriptors, AreDescriptions, AreHolders, AreMade      a topic each, over its tables
 use Rattle.std.specs.Prelude.{◌≡◌, ◌≢◌, ◌⊎◌, ℕ, ◌^◌, ◌<◌, ◌%◌, bit_and, true, Some, is_some}
 use Rattle.std.specs.FinMap as map
+use Rattle.views.specs.Limits.{DESCRIPTOR_LIMIT}
 use Rattle.sys_abi.specs.declared.identity.VPid.{VPid}
 use Rattle.sys_abi.specs.declared.identity.Slot.{Slot}
 use Rattle.plain_process.specs.Valid.{Each}
@@ -17,7 +18,7 @@ use Rattle.plain_tables.specs.Tables.{Processes, Makers, Descriptors, Descriptio
 -- a descriptor is below 256, of a live process, and refers to a description that is there
 pub record AreDescriptors (processes : Processes) (descriptions : Descriptions)
     (descriptors : Descriptors) : Type 0 where
-  pub number : Each descriptors (λ at descriptor. at.fd < 256)
+  pub number : Each descriptors (λ at descriptor. at.fd < DESCRIPTOR_LIMIT)
   pub alive : Each descriptors (λ at descriptor. lives_in processes at.pid ≡ true)
   pub described : Each descriptors (λ at descriptor. is_some (map.get descriptions descriptor.desc) ≡ true)
 

@@ -3,6 +3,7 @@
 --     AreFiles, AreOpenFiles      a topic each, over the tables that it speaks of
 use Rattle.std.specs.Prelude.{◌≡◌, ℕ, ◌^◌, ◌<◌, ◌≤◌, true, List, length, sum_by, Some, is_some, All}
 use Rattle.std.specs.FinMap as map
+use Rattle.views.specs.Limits.{FILE_LIMIT, ALL_FILES_LIMIT, NAME_LIMIT}
 use Rattle.plain_process.specs.Valid.{IsByte, Each}
 use Rattle.plain_tables.specs.declared.description.Object.{Object}
 use Rattle.plain_tables.specs.declared.description.Object.TheVariants.{File}
@@ -12,13 +13,13 @@ use Rattle.plain_tables.specs.Objects.{is_kept}
 -- 1 to 255 bytes, none of them zero
 pub record IsName (name : List ℕ) : Type 0 where
   pub some : 1 ≤ length name
-  pub few : length name ≤ 255
+  pub few : length name ≤ NAME_LIMIT
   pub bytes : All (λ byte. (1 ≤ byte) × (byte < 2 ^ 8)) name
 
 -- at most 1,024 files of 67,108,864 bytes together, with one name each at most
 pub record AreFiles (next_file : ℕ) (names : Names) (files : Files) : Type 0 where
-  pub count : map.len files ≤ 1024
-  pub total : sum_by length (map.values files) ≤ 67108864
+  pub count : map.len files ≤ FILE_LIMIT
+  pub total : sum_by length (map.values files) ≤ ALL_FILES_LIMIT
   pub numbers : Each files (λ number bytes. (1 ≤ number) × (number < next_file))
   pub bytes : Each files (λ number bytes. All IsByte bytes)
   pub named : Each names (λ name number. IsName name × (is_some (map.get files number) ≡ true))

@@ -4,6 +4,7 @@
 use Rattle.std.specs.Prelude.{◌≡◌, ◌⊎◌, ℕ, ◌^◌, ◌<◌, ◌≤◌, true, is_some}
 use Rattle.std.specs.Ordering.{nat_cmp}
 use Rattle.std.specs.FinMap as map
+use Rattle.views.specs.Limits.{HOST_LIMIT, PROCESS_LIMIT, THREAD_LIMIT}
 use Rattle.sys_abi.specs.declared.identity.VPid.{VPid}
 use Rattle.sys_abi.specs.declared.life.Life.{Life}
 use Rattle.sys_abi.specs.declared.life.Life.TheVariants.{Live, Zombie}
@@ -21,7 +22,7 @@ IsGivenOut next_id number = (FIRST_PID ≤ number) × (number < next_id)
 
 -- a live process has 1 to 64 threads; a zombie has none, and no pending signals
 abbrev pub FitsLife : Life → map.FinMap nat_cmp ℕ → ℕ → Type 0
-FitsLife Live threads pending = (1 ≤ map.len threads) × (map.len threads ≤ 64)
+FitsLife Live threads pending = (1 ≤ map.len threads) × (map.len threads ≤ THREAD_LIMIT)
 FitsLife (Zombie status) threads pending = (map.len threads ≡ 0) × (pending ≡ 0)
 
 pub record IsProcess (next_id : ℕ) (p : VPid) (process : Process) : Type 0 where
@@ -39,7 +40,7 @@ pub record AreNumbers (next_id next_file : ℕ) : Type 0 where
 
 -- at most 128; no thread has the number of a thread or of a process of another process
 pub record AreProcesses (next_id : ℕ) (processes : Processes) : Type 0 where
-  pub count : map.len processes ≤ 128
+  pub count : map.len processes ≤ PROCESS_LIMIT
   pub each : Each processes (IsProcess next_id)
   pub threads_apart : (p q : VPid) (t : ℕ) → has_thread_in t (map.get processes p) ≡ true
       → has_thread_in t (map.get processes q) ≡ true → p ≡ q
@@ -49,7 +50,7 @@ pub record AreProcesses (next_id : ℕ) (processes : Processes) : Type 0 where
 -- each process has a maker, on one of 16 hosts, and nobody else has one
 pub record AreMakers (processes : Processes) (makers : Makers) : Type 0 where
   pub same : (p : VPid) → is_some (map.get makers p) ≡ is_some (map.get processes p)
-  pub hosts : Each makers (λ p maker. maker.host < 16)
+  pub hosts : Each makers (λ p maker. maker.host < HOST_LIMIT)
   pub counts : Each makers (λ p maker. maker.made < 2 ^ 32)
 
 -- a live process with a lower number, on the child's host

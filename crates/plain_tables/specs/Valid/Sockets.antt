@@ -5,6 +5,7 @@
 use Rattle.std.specs.Prelude.{◌≡◌, ◌≢◌, ℕ, ◌^◌, ◌==◌, ◌<◌, ◌≤◌, Bool, true, false, length, Option, Some, None, is_some, All, AllPairs}
 use Rattle.std.specs.List.{list_any}
 use Rattle.std.specs.FinMap as map
+use Rattle.views.specs.Limits.{HOST_LIMIT}
 use Rattle.sys_abi.specs.declared.identity.Slot.{Slot}
 use Rattle.sys_abi.specs.declared.identity.DescId.{DescId}
 use Rattle.sys_abi.specs.declared.identity.ConnId.{ConnId}
@@ -43,8 +44,8 @@ pub record AreListeners (descriptions : Descriptions) (listeners : Listeners)
 
 -- a socket's port is 0 while it is unbound
 abbrev pub IsAddressed : Object → Type 0
-IsAddressed (Socket address) = (address.host < 16) × (address.port < 65536)
-IsAddressed (Listener address) = (address.host < 16) × (1 ≤ address.port) × (address.port < 65536)
+IsAddressed (Socket address) = (address.host < HOST_LIMIT) × (address.port < 65536)
+IsAddressed (Listener address) = (address.host < HOST_LIMIT) × (1 ≤ address.port) × (address.port < 65536)
 IsAddressed _ = Unit {0}
 
 -- no two sockets or listeners of a host have one port

@@ -1,6 +1,6 @@
 use Rattle.std.proofs.Common.{◌<◌, ◌++◌, ◌∷◌, [], length, get_or, refl, ap, subst}
 use Rattle.std.specs.Prelude.{IfSome}
-use Rattle.plain_process.specs.Deliveries.{CONTEXT_LIMIT}
+use Rattle.views.specs.Limits.{CONTEXT_LIMIT}
 use Rattle.guest_threads.specs.Rows.{part_of}
 use Rattle.guest_threads.specs.Threads.{with_contexts}
 use Rattle.guest_threads.proofs.RowLaws.{part_at, changed_threads, changed_rising}
