@@ -6,6 +6,7 @@
 use Rattle.std.specs.Prelude.{◌≡◌, ◌⊎◌, ℕ, suc, ◌+◌, ◌-◌, ◌^◌, ◌<◌, ◌≤◌, Bool, true, false, List, Some, None, is_some, IfSome, Result, OnOk, OnErr}
 use Rattle.std.specs.List.{count_by, Contains}
 use Rattle.std.specs.Option.{ForSome}
+use Rattle.views.specs.Numbers.{Byte}
 use Rattle.sys_abi.specs.declared.record.Record.{Record}
 use Rattle.sys_abi.specs.declared.record.Record.TheVariants.{Complete, Refused}
 use Rattle.sys_abi.specs.declared.record.Cause.{Cause}
@@ -74,7 +75,7 @@ pub record IsSafe (g : Plain) (records : List Record) (old new : SeenFolder) : T
 -- a set of this generation was put, or tried, for the state
 pub record IsPut (state : Plain) (generation : ℕ) (result : Result Known Cause)
     (old new : SeenFolder) : Type 0 where
-  pub images : List (List ℕ)
+  pub images : List (List Byte)
   pub spelled : SpellsState images state
   pub crash : ForSome old.files (λ files. LeavesOnly old new (OldOrNew (last_set files) generation images))
   pub told : is_some new.files ≡ is_some old.files

@@ -8,6 +8,7 @@
 --     opening_of files                  the generation of the set that counts, 0 where none does
 use Rattle.std.specs.Prelude.{◌≡◌, ◌⊎◌, ℕ, ◌≤◌, List, Some}
 use Rattle.std.specs.Option.{option_map_or}
+use Rattle.views.specs.Numbers.{Byte}
 use Rattle.disk_folder.specs.Files.{FolderFiles}
 use Rattle.plain_machine.specs.declared.plain.Plain.{Plain}
 use Rattle.image_format.specs.declared.damage.Damage.{Damage}
@@ -19,14 +20,14 @@ use Rattle.image_store.specs.FoundSets.{FoundSet, last_set, HasSet, IsSet}
 use Rattle.image_store.specs.SetDamages.{IsFirstDamage}
 use Rattle.image_store.specs.declared.set_info.SetInfo.{SetInfo}
 
-pub record SpellsState (images : List (List ℕ)) (g : Plain) : Type 0 where
+pub record SpellsState (images : List (List Byte)) (g : Plain) : Type 0 where
   pub shared : Shared
   pub processes : List ProcImage
   pub spelled : SpellsFiles images shared processes
   pub stands : IsStateOf shared processes g
 
 pub record SpellsSet (files : FolderFiles) (generation : ℕ) (g : Plain) : Type 0 where
-  pub images : List (List ℕ)
+  pub images : List (List Byte)
   pub counts : HasSet (last_set files) generation images
   pub state : SpellsState images g
 

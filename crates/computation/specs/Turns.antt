@@ -13,6 +13,7 @@ use Rattle.std.specs.Prelude.{◌==◌, ◌-◌, ◌&&◌, ◌||◌, ℕ, Bool, 
 use Rattle.std.specs.List.{filter_map}
 use Rattle.std.specs.Option.{option_map, option_or}
 use Rattle.std.specs.FinMap as map
+use Rattle.views.specs.Numbers.{ThreadNumber, SignalNumber}
 use Rattle.sys_abi.specs.declared.identity.VPid.{VPid}
 use Rattle.sys_abi.specs.declared.identity.Tid.{Tid}
 use Rattle.sys_abi.specs.declared.identity.Dir.{Dir}
@@ -31,10 +32,10 @@ use Rattle.sys_abi.specs.Signals.{lowest_signal}
 -- its quantum
 pub record Place : Type 0 where
   pub p : VPid
-  pub t : ℕ
-  pub signal : Option ℕ
+  pub t : ThreadNumber
+  pub signal : Option SignalNumber
   pub has_run : Bool
-  pub threads : List ℕ  -- those of p whose turn is still to come
+  pub threads : List ThreadNumber  -- those of p whose turn is still to come
   pub processes : List VPid  -- those of this round whose turn is still to come
 
 -- what is due: all bytes that are missing of a direction arrive, and then those of the others; or a thread
@@ -43,32 +44,33 @@ pub data Due : Type 0 where
   Arrival : Dir → List Dir → Due
   InTurn : Place → Due
 
-abbrev pub threads_in : Option UserPart → List ℕ
+abbrev pub threads_in : Option UserPart → List ThreadNumber
 threads_in None = []
 threads_in (Some user) = map.keys user.threads
 
 -- the least of the pending signals that the thread's mask lets through
-abbrev pub signal_for : Plain → VPid → ℕ → Option ThreadPart → Option ℕ
+abbrev pub signal_for : Plain → VPid → ThreadNumber → Option ThreadPart → Option SignalNumber
 signal_for g p t None = None
 signal_for g p t (Some thread) = lowest_signal (deliverable g.kernel p t thread)
 
-unfoldable pub due_signal : Plain → VPid → ℕ → Option UserPart → Option ℕ
+unfoldable pub due_signal : Plain → VPid → ThreadNumber → Option UserPart → Option SignalNumber
 due_signal g p t None = None
 due_signal g p t (Some user) = signal_for g p t (map.get user.threads t)
 
 -- the thread can go on: its next instruction does, or it stands at a trap or at a call that is ready
-abbrev pub goes_on_at : Plain → VPid → ℕ → UserStep → Bool
+abbrev pub goes_on_at : Plain → VPid → ThreadNumber → UserStep → Bool
 goes_on_at g p t (Stepped user) = true
 goes_on_at g p t (Asks q) = is_some (step g (Call p (record { 0 = t })))
 goes_on_at g p t (Trapped s) = true
 goes_on_at g p t Waits = false
 goes_on_at g p t NoThread = false
 
-unfoldable pub goes_on : Plain → VPid → ℕ → Option UserPart → Bool
+unfoldable pub goes_on : Plain → VPid → ThreadNumber → Option UserPart → Bool
 goes_on g p t None = false
 goes_on g p t (Some user) = goes_on_at g p t (user_step user t)
 
-abbrev pub turn_with : VPid → ℕ → List ℕ → List VPid → Bool → Option ℕ → Option Place
+abbrev pub turn_with : VPid → ThreadNumber → List ThreadNumber → List VPid → Bool → Option SignalNumber
+    → Option Place
 turn_with p t threads processes can signal =
     if is_some signal || can then
     Some (record { p = p; t = t; signal = signal; has_run = false; threads = threads; processes = processes })
@@ -76,12 +78,12 @@ turn_with p t threads processes can signal =
     None
 
 -- a thread's turn, where a signal is to be delivered to it or it can go on
-abbrev pub turn_of : Plain → VPid → ℕ → List ℕ → List VPid → Option Place
+abbrev pub turn_of : Plain → VPid → ThreadNumber → List ThreadNumber → List VPid → Option Place
 turn_of g p t threads processes =
     turn_with p t threads processes (goes_on g p t (map.get g.users p)) (due_signal g p t (map.get g.users p))
 
 -- the turn of the first of these threads of a process that has one
-unfoldable pub first_thread : Plain → VPid → List VPid → List ℕ → Option Place
+unfoldable pub first_thread : Plain → VPid → List VPid → List ThreadNumber → Option Place
 first_thread g p processes [] = None
 first_thread g p processes (t ∷ threads) =
     option_or (turn_of g p t threads processes) (first_thread g p processes threads)
@@ -125,11 +127,11 @@ abbrev pub is_turn_of : Place → VPid → Tid → Bool
 is_turn_of here p t = (here.p.0 == p.0) && (here.t == t.0)
 
 -- a signal that is due is delivered first; later only that of the trap at which the thread stands is
-abbrev pub traps_in : Option UserPart → ℕ → ℕ → Bool
+abbrev pub traps_in : Option UserPart → ThreadNumber → SignalNumber → Bool
 traps_in None t s = false
 traps_in (Some user) t s = traps_with (user_step user t) s
 
-abbrev pub is_due_signal : Plain → Place → ℕ → Option ℕ → Bool
+abbrev pub is_due_signal : Plain → Place → SignalNumber → Option SignalNumber → Bool
 is_due_signal g here s (Some due) = due == s
 is_due_signal g here s None = traps_in (map.get g.users here.p) here.t s
 
@@ -159,7 +161,7 @@ is_due_at g None r = false
 is_due_at g (Some (Arrival dir dirs)) r = is_arrival g dir r
 is_due_at g (Some (InTurn here)) r = is_due_in g here r
 
-abbrev pub stands_in : Option UserPart → ℕ → Bool
+abbrev pub stands_in : Option UserPart → ThreadNumber → Bool
 stands_in None t = false
 stands_in (Some user) t = stands (user_step user t)
 

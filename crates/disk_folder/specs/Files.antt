@@ -8,6 +8,7 @@ use Rattle.std.specs.Option.{option_map_or}
 use Rattle.std.specs.declared.cmp.Ordering.{Ordering}
 use Rattle.std.specs.Ordering.{nat_cmp, ordering_then}
 use Rattle.std.specs.FinMap as map
+use Rattle.views.specs.Numbers.{Byte}
 use Rattle.disk_folder.specs.declared.file_name.FileName.{FileName}
 
 -- by slot, and then by index
@@ -17,14 +18,14 @@ file_name_cmp a b = ordering_then (nat_cmp a.slot b.slot) (nat_cmp a.index b.ind
 abbrev pub FolderFiles : Type 0
 FolderFiles = map.FinMap file_name_cmp (List ℕ)
 
-abbrev pub contents : FolderFiles → FileName → List ℕ
+abbrev pub contents : FolderFiles → FileName → List Byte
 contents files name = unwrap_or (map.get files name) []
 
-abbrev pub overwritten : ℕ → List ℕ → List ℕ → List ℕ
+abbrev pub overwritten : ℕ → List Byte → List Byte → List Byte
 overwritten at bytes old = take at old ++ bytes ++ drop (at + length bytes) old
 
 -- a write makes the file if it is not there
-abbrev pub with_write : FolderFiles → FileName → ℕ → List ℕ → FolderFiles
+abbrev pub with_write : FolderFiles → FileName → ℕ → List Byte → FolderFiles
 with_write files name at bytes = map.insert files name (overwritten at bytes (contents files name))
 
 -- a cut makes no file

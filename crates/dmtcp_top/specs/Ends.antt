@@ -8,6 +8,7 @@
 --     InputsDecide status given       what the inputs decide, where no input and no sink failed
 --     IsDecided status given          which status comes where nothing outside failed
 use Rattle.std.specs.Prelude.{◌≡◌, ◌≢◌, ℕ, ◌⊎◌, ◌↔◌, List, [], ◌++◌, take, Some, None, IfSome}
+use Rattle.views.specs.Numbers.{Byte}
 use Rattle.sys_abi.specs.declared.record.Record.{Record}
 use Rattle.elf32.specs.declared.fault.ElfFault.{ElfFault}
 use Rattle.edge_io.specs.Inputs.{NamedFiles}
@@ -42,7 +43,7 @@ pub record CameTo (There : Schedule → Plain → ℕ → List Record → Sunk �
       session.left.trace session.left.console
 
 -- the trace is full, somebody lives, and the console took what the run writes
-pub record Spent (session : Session) (last : List ℕ) : Type 0 where
+pub record Spent (session : Session) (last : List Byte) : Type 0 where
   pub begun : Begun session.given
   pub start : session.left.start ≡ Some (beginning begun)
   pub run : FilledUp (schedule_in begun) (origin begun) (settings_in begun).records
@@ -68,20 +69,20 @@ pub data NeedsStore (given : Given) : Type 0 where
   ToRestart : RestartAsked given → NeedsStore given
 
 -- the folder of sets failed before the run
-pub record Unopened (session : Session) (last : List ℕ) : Type 0 where
+pub record Unopened (session : Session) (last : List Byte) : Type 0 where
   pub nothing : NotBegun session
   pub needs : NeedsStore session.given
   pub line : last ≡ disk_fault_line
 
 -- a restart, and no set counts
-pub record Setless (session : Session) (last : List ℕ) : Type 0 where
+pub record Setless (session : Session) (last : List Byte) : Type 0 where
   pub nothing : NotBegun session
   pub asked : RestartAsked session.given
   pub none : IfSome session.given.folder (λ files. set_that_counts files ≡ None)
   pub line : last ≡ no_set_line
 
 -- a restart, and the set that counts spells no state
-pub record Spoilt (session : Session) (last : List ℕ) : Type 0 where
+pub record Spoilt (session : Session) (last : List Byte) : Type 0 where
   pub nothing : NotBegun session
   pub asked : RestartAsked session.given
   pub slot : ℕ
@@ -89,7 +90,7 @@ pub record Spoilt (session : Session) (last : List ℕ) : Type 0 where
   pub spoilt : IfSome session.given.folder (λ files. SpoilsSet files slot damage)
   pub line : last ≡ damaged_line slot damage
 
-abbrev pub Reaches : Status → Session → List ℕ → Type 0
+abbrev pub Reaches : Status → Session → List Byte → Type 0
 Reaches Done session last = CameTo RanOut session × (last ≡ done_line)
 Reaches Usage session last = NotBegun session × AskNothing session.given.words × (last ≡ usage_line)
 Reaches InputFault session last =
@@ -111,24 +112,24 @@ Reaches Memory session last =
 
 -- the log took the lines of the checkpoints, and the last line
 pub record Logged (status : Status) (session : Session) (log : Sunk) : Type 0 where
-  pub last : List ℕ
+  pub last : List Byte
   pub reached : Reaches status session last
   pub took : Took log (log_text session.left.trace ++ last)
 
 -- memory was wanted: the log took the lines of the checkpoints, which may be cut off so, and the last line
-pub record LoggedPart (IsCut : List ℕ → Type 0) (session : Session) (log : Sunk) : Type 0 where
-  pub last : List ℕ
+pub record LoggedPart (IsCut : List Byte → Type 0) (session : Session) (log : Sunk) : Type 0 where
+  pub last : List Byte
   pub reached : Reaches Memory session last
-  pub text : List ℕ
+  pub text : List Byte
   pub lines : text ≡ log_text session.left.trace ⊎ IsCut text
   pub took : Took log (text ++ last)
 
 -- the log failed at the last line, whatever the status was to be
-pub record LogFailed (IsCut : List ℕ → Type 0) (session : Session) (log : Sunk) : Type 0 where
+pub record LogFailed (IsCut : List Byte → Type 0) (session : Session) (log : Sunk) : Type 0 where
   pub status : Status
-  pub last : List ℕ
+  pub last : List Byte
   pub reached : Reaches status session last
-  pub text : List ℕ
+  pub text : List Byte
   pub lines : text ≡ log_text session.left.trace ⊎ (status ≡ Memory) × IsCut text
   pub took : TookThen log text last
 
@@ -137,7 +138,7 @@ abbrev pub SinkFailed : Session → Sunk → Type 0
 SinkFailed session log = CameTo ShownInPart session × TookFront log (log_text session.left.trace)
 
 -- a first part of the lines of a trace
-abbrev pub IsFrontOfLines : List Record → List ℕ → Type 0
+abbrev pub IsFrontOfLines : List Record → List Byte → Type 0
 IsFrontOfLines trace text = (n : ℕ) × (text ≡ take n (log_text trace))
 
 abbrev pub Ends : Status → Session → Sunk → Type 0

@@ -3,6 +3,7 @@
 --     schedule_in begun     when it asks for checkpoints
 --     beginning begun       both
 use Rattle.std.specs.Prelude.{◌≡◌, ℕ, List, Option, Some, None, IfSome}
+use Rattle.views.specs.Numbers.{Byte}
 use Rattle.plain_machine.specs.declared.plain.Plain.{Plain}
 use Rattle.plain_machine.specs.Valid.{IsValid}
 use Rattle.disk_folder.specs.Files.{FolderFiles as Folder}
@@ -46,7 +47,7 @@ pub record RestartedRun (given : Given) : Type 0 where
   pub generation : ℕ
   pub state : Plain
   pub valid : IsValid state
-  pub images : List (List ℕ)
+  pub images : List (List Byte)
   pub spelled : SpellsState images state
   pub counted : IfSome given.folder (λ files. SpellsSet files generation state)
 

@@ -8,6 +8,7 @@
 --     NotBoth, OneDamage                 a set that counts spells a state or is damaged, at one place
 use Rattle.std.specs.Prelude.{◌≡◌, ◌⊎◌, ℕ, List, Option, Some}
 use Rattle.std.specs.Option.{ForSome}
+use Rattle.views.specs.Numbers.{Byte}
 use Rattle.sys_abi.specs.declared.record.Record.{Record}
 use Rattle.disk_folder.specs.Files.{FolderFiles as Folder}
 use Rattle.disk_folder.specs.Moments.{LeavesOnly}
@@ -38,7 +39,7 @@ pub record StaysWhole (start : Option Beginning) (trace : List Record) (old new 
 
 -- the contract of a call with this status, from what is seen of what is outside before it to what is seen
 -- after it
-pub record IsPromised (status : Status) (words : List (List ℕ)) (trace : List Record)
+pub record IsPromised (status : Status) (words : List (List Byte)) (trace : List Record)
     (before after : Outside) : Type 0 where
   -- How a run began, if one did, what the status says of the trace, the console and the log, how far these
   -- came where the call broke off, and in which order the records come. A crash at any moment of the call

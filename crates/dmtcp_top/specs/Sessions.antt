@@ -14,7 +14,7 @@ use Rattle.computation.specs.Sinks.{Sunk, sunk}
 -- what a call was given: the words of the command line, and the files that the inputs hold and those that the
 -- folder of sets had at the start, where they tell them
 pub record Given : Type 0 where
-  pub words : List (List ℕ)
+  pub words : List (List Byte)
   pub files : Option NamedFiles
   pub folder : Option Folder
 
@@ -33,7 +33,7 @@ pub record Session : Type 0 where
   pub given : Given
   pub left : Left
 
-abbrev pub given : List (List ℕ) → Option NamedFiles → Option Folder → Given
+abbrev pub given : List (List Byte) → Option NamedFiles → Option Folder → Given
 given words files folder = record { words = words; files = files; folder = folder }
 
 abbrev pub session : Given → Option Beginning → List Record → Sunk → Session
@@ -52,11 +52,11 @@ abbrev pub outside : SeenInputs → SeenSink → SeenSink → SeenFolder → Out
 outside inputs console log folder = record { inputs = inputs; console = console; log = log; folder = folder }
 
 -- a call with these words that begins at a moment
-abbrev pub given_in : List (List ℕ) → Outside → Given
+abbrev pub given_in : List (List Byte) → Outside → Given
 given_in words before = given words before.inputs.files before.folder.files
 
 -- the call from one moment to the other
-abbrev pub session_in : List (List ℕ) → Option Beginning → List Record → Outside → Outside → Session
+abbrev pub session_in : List (List Byte) → Option Beginning → List Record → Outside → Outside → Session
 session_in words start trace before after =
     session (given_in words before) start trace (sunk before.console.taken after.console.taken)
 

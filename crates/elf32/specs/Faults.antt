@@ -5,6 +5,7 @@
 --     Reports result first      the result reports this first fault, or that there is none
 --     reason_text reason            the reason in lower case
 use Rattle.std.specs.Prelude.{◌≡◌, ℕ, ◌-◌, ◌^◌, Bool, if◌then◌else◌, List, [], ◌∷◌, ◌⊎◌, Option, Some, None, Result, Ok, Err, min, codes}
+use Rattle.views.specs.Numbers.{Byte}
 use Rattle.elf32.specs.declared.fault.ElfFault.{ElfFault}
 use Rattle.elf32.specs.declared.fault.ElfReason.{ElfReason}
 use Rattle.elf32.specs.declared.fault.ElfReason.TheVariants.{Short, Magic, Class, Machine, FileType, Flags, Dynamic, Segment, Overlap, TooLarge, Memory}
@@ -29,7 +30,7 @@ abbrev pub Reports : {A : Type 0} → Result A ElfFault → Option ElfFault → 
 Reports (Ok value) first = first ≡ None
 Reports (Err fault) first = (fault ≡ no_memory) ⊎ (first ≡ Some fault)
 
-abbrev pub reason_text : ElfReason → List ℕ
+abbrev pub reason_text : ElfReason → List Byte
 reason_text Short = codes "short"
 reason_text Magic = codes "magic"
 reason_text Class = codes "class"

@@ -6,6 +6,7 @@
 --     memory_of h              its addresses
 --     segments_before file n   the pieces that the first n headers describe, in their order
 use Rattle.std.specs.Prelude.{ℕ, ◌+◌, ◌*◌, ◌==◌, Bool, true, false, ◌&&◌, nat_lt, if◌then◌else◌, List, [], ◌∷◌, ◌++◌, slice_range, bit_and, zero, suc}
+use Rattle.views.specs.Numbers.{Byte}
 use Rattle.elf32.specs.declared.program.Segment.{Segment}
 use Rattle.elf32.specs.declared.program_header.ProgramHeader.{ProgramHeader}
 use Rattle.elf32.specs.declared.program_header.SegmentType.{SegmentType}
@@ -22,10 +23,10 @@ type_of p_type =
     else if p_type == 3 then Interpreter
     else Other
 
-abbrev pub place_of : List ℕ → ℕ → ℕ
+abbrev pub place_of : List Byte → ℕ → ℕ
 place_of file i = e_phoff file + 32 * i
 
-unfoldable pub header_at : List ℕ → ℕ → ProgramHeader
+unfoldable pub header_at : List Byte → ℕ → ProgramHeader
 header_at file place = record {
   kind = type_of (word_at file place);
   offset = word_at file (place + 4);
@@ -35,7 +36,7 @@ header_at file place = record {
   flags = word_at file (place + 24);
 }
 
-abbrev pub program_header : List ℕ → ℕ → ProgramHeader
+abbrev pub program_header : List Byte → ℕ → ProgramHeader
 program_header file i = header_at file (place_of file i)
 
 abbrev pub is_load : SegmentType → Bool
@@ -45,7 +46,7 @@ is_load _ = false
 abbrev pub describes_memory : ProgramHeader → Bool
 describes_memory h = is_load h.kind && nat_lt 0 h.memsz
 
-abbrev pub segment_of : List ℕ → ProgramHeader → Segment
+abbrev pub segment_of : List Byte → ProgramHeader → Segment
 segment_of file h = record {
   vaddr = h.vaddr;
   memsz = h.memsz;
@@ -56,9 +57,9 @@ segment_of file h = record {
 abbrev pub memory_of : ProgramHeader → AddressRange
 memory_of h = record { start = h.vaddr; end = h.vaddr + h.memsz }
 
-abbrev pub segments_of : List ℕ → ProgramHeader → List Segment
+abbrev pub segments_of : List Byte → ProgramHeader → List Segment
 segments_of file h = if describes_memory h then segment_of file h ∷ [] else []
 
-unfoldable pub segments_before : List ℕ → ℕ → List Segment
+unfoldable pub segments_before : List Byte → ℕ → List Segment
 segments_before file zero = []
 segments_before file (suc n) = segments_before file n ++ segments_of file (program_header file n)

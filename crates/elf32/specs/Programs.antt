@@ -2,7 +2,8 @@
 --     program_of file        its entry, and its segments in the order of their headers
 --     IsWellPlaced segment   its memory lies from 0x1000 to 0x40000000 and is not empty; its bytes fit into it
 --     IsApart a b            no address is in both segments
-use Rattle.std.specs.Prelude.{◌≡◌, ℕ, ◌+◌, ◌<◌, ◌≤◌, false, List, length}
+use Rattle.std.specs.Prelude.{◌≡◌, ◌+◌, ◌<◌, ◌≤◌, false, List, length}
+use Rattle.views.specs.Numbers.{Byte}
 use Rattle.elf32.specs.declared.program.Program.{Program}
 use Rattle.elf32.specs.declared.program.Segment.{Segment}
 use Rattle.elf32.specs.FileHeader.{e_entry, e_phnum}
@@ -10,7 +11,7 @@ use Rattle.elf32.specs.Pages.{range_of}
 use Rattle.elf32.specs.ProgramHeaders.{segments_before}
 use Rattle.elf32.specs.Ranges.{meets}
 
-abbrev pub program_of : List ℕ → Program
+abbrev pub program_of : List Byte → Program
 program_of file = record { entry = e_entry file; segments = segments_before file (e_phnum file) }
 
 pub record IsWellPlaced (segment : Segment) : Type 0 where

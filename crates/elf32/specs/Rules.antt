@@ -5,6 +5,7 @@
 --     first_fault file              the fault of the first rule that does not hold
 use Rattle.std.specs.Prelude.{ℕ, ◌+◌, ◌*◌, ◌/◌, ◌%◌, ◌==◌, Bool, true, false, not, ◌&&◌, nat_lt, nat_le, if◌then◌else◌, List, [], ◌∷◌, ◌++◌, length, slice_index, bit_and, codes, Option, None, zero, suc}
 use Rattle.std.specs.List.{list_any}
+use Rattle.views.specs.Numbers.{Byte}
 use Rattle.views.specs.Limits.{PROGRAM_PAGE_LIMIT}
 use Rattle.elf32.specs.declared.fault.ElfFault.{ElfFault}
 use Rattle.elf32.specs.declared.fault.ElfReason.{ElfReason}
@@ -20,7 +21,7 @@ use Rattle.elf32.specs.ProgramHeaders.{place_of, program_header, describes_memor
 use Rattle.elf32.specs.Ranges.{meets}
 
 -- the bytes from a place on are these; the fault is at the first that differs
-unfoldable pub bytes_are : List ℕ → ℕ → List ℕ → ElfReason → Option ElfFault
+unfoldable pub bytes_are : List Byte → ℕ → List Byte → ElfReason → Option ElfFault
 bytes_are file place [] reason = None
 bytes_are file place (byte ∷ bytes) reason =
     first_some
@@ -29,7 +30,7 @@ bytes_are file place (byte ∷ bytes) reason =
 -- e_ident begins with ELFMAG, 7F and "ELF". EI_CLASS is ELFCLASS32, EI_DATA ELFDATA2LSB and EI_VERSION EV_CURRENT, all 1.
 -- EM_RISCV is 243, ET_EXEC 2. Of e_flags the RISC-V ELF psABI gives bit 0 to RVC, bits 1 and 2 to the floating point ABI
 -- and bit 3 to RVE. An Elf32_Phdr has 32 bytes. The format has no limit of 64 program headers: that one is this crate's
-abbrev pub file_header_rules : List ℕ → List (Option ElfFault)
+abbrev pub file_header_rules : List Byte → List (Option ElfFault)
 file_header_rules file =
     needs (nat_le 52 (length file)) Short (length file)
     ∷ bytes_are file 0 (0x7F ∷ codes "ELF") Magic
@@ -50,7 +51,7 @@ is_dynamic Interpreter = true
 is_dynamic Other = false
 
 -- the segment's bytes stand in the file, fit into its memory, and that lies from 0x1000 to 0x40000000
-abbrev pub is_well_placed : List ℕ → ProgramHeader → Bool
+abbrev pub is_well_placed : List Byte → ProgramHeader → Bool
 is_well_placed file h =
     nat_le (h.offset + h.filesz) (length file)
     && nat_le h.filesz h.memsz
@@ -58,19 +59,19 @@ is_well_placed file h =
     && nat_le (h.vaddr + h.memsz) 0x4000_0000
 
 -- the rules of a header at this place that describes memory, after headers that describe the segments `before`
-unfoldable pub memory_rules : List ℕ → List MemorySegment → ℕ → ProgramHeader → List (Option ElfFault)
+unfoldable pub memory_rules : List Byte → List MemorySegment → ℕ → ProgramHeader → List (Option ElfFault)
 memory_rules file before place h =
     needs (is_well_placed file h) Segment place
     ∷ needs (not (list_any (λ s. meets (range_of s) (memory_of h)) before)) Overlap place
     ∷ needs (nat_le (page_count (before ++ segment_of file h ∷ [])) PROGRAM_PAGE_LIMIT) TooLarge place
     ∷ []
 
-unfoldable pub rules_at : List ℕ → List MemorySegment → ℕ → ProgramHeader → List (Option ElfFault)
+unfoldable pub rules_at : List Byte → List MemorySegment → ℕ → ProgramHeader → List (Option ElfFault)
 rules_at file before place h =
     needs (not (is_dynamic h.kind)) Dynamic place
     ∷ (if describes_memory h then memory_rules file before place h else [])
 
-unfoldable pub program_header_rules : List ℕ → ℕ → List (Option ElfFault)
+unfoldable pub program_header_rules : List Byte → ℕ → List (Option ElfFault)
 program_header_rules file zero = []
 program_header_rules file (suc n) =
     program_header_rules file n
@@ -80,10 +81,10 @@ program_header_rules file (suc n) =
 abbrev pub is_entry : ℕ → List MemorySegment → Bool
 is_entry entry segments = (entry % 4 == 0) && (bit_and (page_rights segments (entry / 4096)) 1 == 1)
 
-abbrev pub entry_rule : List ℕ → Option ElfFault
+abbrev pub entry_rule : List Byte → Option ElfFault
 entry_rule file = needs (is_entry (e_entry file) (segments_before file (e_phnum file))) Segment 24
 
-unfoldable pub first_fault : List ℕ → Option ElfFault
+unfoldable pub first_fault : List Byte → Option ElfFault
 first_fault file =
     first_some
     (file_header_rules file ++ program_header_rules file (e_phnum file) ++ entry_rule file ∷ [])

@@ -6,6 +6,7 @@ use Rattle.std.specs.Prelude.{map as each}
 use Rattle.std.specs.List.{flat_map, filter_map}
 use Rattle.std.specs.declared.cmp.Ordering.{Ordering}
 use Rattle.std.specs.FinMap as map
+use Rattle.views.specs.Numbers.{Byte}
 use Rattle.sys_abi.specs.declared.identity.VPid.{VPid}
 use Rattle.sys_abi.specs.declared.identity.Slot.{Slot}
 use Rattle.sys_abi.specs.declared.identity.DescId.{DescId}
@@ -90,11 +91,11 @@ listening_of _ = None
 abbrev pub file_entry : FileImage → ℕ × List ℕ
 file_entry image = (image.number, image.bytes)
 
-abbrev pub named_entry : List ℕ → ℕ → Option (List ℕ × ℕ)
+abbrev pub named_entry : List Byte → ℕ → Option (List Byte × ℕ)
 named_entry [] number = None
 named_entry (byte ∷ rest) number = Some (byte ∷ rest, number)
 
-abbrev pub name_entry : FileImage → Option (List ℕ × ℕ)
+abbrev pub name_entry : FileImage → Option (List Byte × ℕ)
 name_entry image = named_entry image.name image.number
 
 -- channels: a side that nothing names is closed

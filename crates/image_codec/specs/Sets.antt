@@ -13,6 +13,7 @@
 use Rattle.std.specs.Prelude.{◌≡◌, ◌≢◌, ℕ, ◌+◌, ◌^◌, ◌<◌, ◌⊎◌, List, [], ◌∷◌, length, slice_index, count_by, All}
 use Rattle.std.specs.Prelude.{map as each}
 use Rattle.std.specs.FinMap as map
+use Rattle.views.specs.Numbers.{Byte}
 use Rattle.sys_abi.specs.declared.identity.VPid.{VPid}
 use Rattle.plain_process.specs.declared.user_part.UserPart.{UserPart}
 use Rattle.plain_process.specs.Valid.{IsByte}
@@ -29,7 +30,7 @@ use Rattle.image_process.specs.UserParts.{user_of}
 use Rattle.sys_abi.specs.Lives.{lives}
 
 -- each file the image of the process of its place
-unfoldable pub SpellsImages : Shared → ℕ → List (List ℕ) → List ProcImage → Type 0
+unfoldable pub SpellsImages : Shared → ℕ → List (List Byte) → List ProcImage → Type 0
 SpellsImages shared file [] [] = Unit {0}
 SpellsImages shared file [] (image ∷ images) = ⊥
 SpellsImages shared file (text ∷ texts) [] = ⊥
@@ -37,7 +38,7 @@ SpellsImages shared file (text ∷ texts) (image ∷ images) =
     SpellsFileAt shared file text image × SpellsImages shared (file + 1) texts images
 
 -- the first file that is damaged, after those that are not
-unfoldable pub DamagedImages : Shared → ℕ → List (List ℕ) → ℕ → ℕ → Type 0
+unfoldable pub DamagedImages : Shared → ℕ → List (List Byte) → ℕ → ℕ → Type 0
 DamagedImages shared file [] damaged n = ⊥
 DamagedImages shared file (text ∷ texts) damaged n =
     ((damaged ≡ file) × DamagedFileAt shared file text n)
@@ -48,14 +49,14 @@ unfoldable pub live_count : Shared → ℕ
 live_count shared = count_by (λ process. lives process.life) shared.processes
 
 -- the shared image is file 1, and there is a file for each live process
-unfoldable pub SpellsFiles : List (List ℕ) → Shared → List ProcImage → Type 0
+unfoldable pub SpellsFiles : List (List Byte) → Shared → List ProcImage → Type 0
 SpellsFiles [] shared images = ⊥
 SpellsFiles (first ∷ texts) shared images =
     SpellsShared first shared × (length texts ≡ live_count shared) × SpellsImages shared 2 texts images
 
 -- a missing file is damaged at 0; a number of files that is not that of the live processes is a damage at the
 -- shared image's end
-unfoldable pub DamagedFiles : List (List ℕ) → ℕ → ℕ → Type 0
+unfoldable pub DamagedFiles : List (List Byte) → ℕ → ℕ → Type 0
 DamagedFiles [] damaged n = (damaged ≡ 1) × (n ≡ 0)
 DamagedFiles (first ∷ texts) damaged n =
     ((damaged ≡ 1) × DamagedShared first n)
@@ -72,7 +73,7 @@ pub record IsStateOf (shared : Shared) (images : List ProcImage) (state : Plain)
   pub kernel : state.kernel ≡ kernel_of shared
   pub users : state.users ≡ map.from_entries (each user_entry images)
 
-pub record SpellsSet (manifest : List ℕ) (files : List (List ℕ)) (g : ℕ) (state : Plain) : Type 0 where
+pub record SpellsSet (manifest : List Byte) (files : List (List Byte)) (g : ℕ) (state : Plain) : Type 0 where
   pub shared : Shared
   pub images : List ProcImage
   pub named : SpellsManifest manifest (record { generation = g; lengths = each length files })
@@ -92,8 +93,8 @@ OneSetOfState =
 
 -- some set of the generation spells the state
 pub record HasSet (state : Plain) (g : ℕ) : Type 0 where
-  pub manifest : List ℕ
-  pub files : List (List ℕ)
+  pub manifest : List Byte
+  pub files : List (List Byte)
   pub spells : SpellsSet manifest files g state
 
 -- each valid state has one, where no datagram end or event counter is open and all bytes have arrived
@@ -124,10 +125,10 @@ OneDamageOfFiles =
     → DamagedFiles files damaged n → DamagedFiles files other m → (damaged ≡ other) × (n ≡ m)
 
 -- files of bytes, however many, spell values or are damaged somewhere
-abbrev pub HasValues : List (List ℕ) → Type 0
+abbrev pub HasValues : List (List Byte) → Type 0
 HasValues files = (shared : Shared) × (images : List ProcImage) × SpellsFiles files shared images
 
-abbrev pub HasDamage : List (List ℕ) → Type 0
+abbrev pub HasDamage : List (List Byte) → Type 0
 HasDamage files = (damaged : ℕ) × (n : ℕ) × DamagedFiles files damaged n
 
 abbrev pub FilesEither : Type 0

@@ -4,8 +4,9 @@
 --     last_item front      the last of the items that stand before
 use Rattle.std.specs.Prelude.{ℕ, ◌-◌, ◌&&◌, nat_le, Bool, List, length, slice_get, Option}
 use Rattle.std.specs.Str.{bytes_eq}
+use Rattle.views.specs.Numbers.{Byte}
 
-abbrev pub is_bytes : List ℕ → List ℕ → Bool
+abbrev pub is_bytes : List Byte → List Byte → Bool
 is_bytes wanted bytes = bytes_eq bytes wanted
 
 abbrev pub is_within : ℕ → ℕ → ℕ → Bool

@@ -10,6 +10,7 @@
 use Rattle.std.specs.Prelude.{◌≡◌, ℕ, zero, suc, ◌+◌, ◌^◌, ◌<◌, ◌≤◌, ◌⊎◌, Bool, true, false, IsTrue}
 use Rattle.std.specs.Prelude.{List, [], ◌∷◌, ◌++◌, length, take, slice_index}
 use Rattle.std.specs.Int.{w16, w32, w64, to_le_bytes, from_le_bytes}
+use Rattle.views.specs.Numbers.{Byte}
 
 -- how many bytes a number has
 pub data Size : Type 0 where
@@ -25,14 +26,14 @@ byte_count n32 = 4
 byte_count n64 = 8
 
 -- a number as bytes
-unfoldable pub number_text : Size → ℕ → List ℕ
+unfoldable pub number_text : Size → ℕ → List Byte
 number_text n8 n = n ∷ []
 number_text n16 n = to_le_bytes w16 n
 number_text n32 n = to_le_bytes w32 n
 number_text n64 n = to_le_bytes w64 n
 
 -- the number in the first bytes
-unfoldable pub number_in : Size → List ℕ → ℕ
+unfoldable pub number_in : Size → List Byte → ℕ
 number_in n8 bytes = slice_index bytes 0
 number_in n16 bytes = from_le_bytes w16 bytes
 number_in n32 bytes = from_le_bytes w32 bytes
@@ -49,7 +50,7 @@ number_limit n64 = 2 ^ 64
 -- a: nothing more, and the value a next f k: first f, then what k says for the value of f
 pub data FormatOf : Type 0 → Type 1 where
   unsigned : Size → (ℕ → Bool) → FormatOf ℕ
-  raw : ℕ → (List ℕ → Bool) → FormatOf (List ℕ)
+  raw : ℕ → (List Byte → Bool) → FormatOf (List Byte)
   give : {A : Type 0} → A → FormatOf A
   next : {A B : Type 0} → FormatOf B → (B → FormatOf A) → FormatOf A
 
@@ -71,12 +72,12 @@ unfoldable pub counted : {X : Type 0} → (ℕ → Bool) → (List X → FormatO
 counted ok item = next (unsigned n32 ok) (λ n. each item n [])
 
 -- the bytes of a field are too few, or they are all there and not allowed
-abbrev pub BreaksField : ℕ → Bool → List ℕ → ℕ → Type 0
+abbrev pub BreaksField : ℕ → Bool → List Byte → ℕ → Type 0
 BreaksField size allowed text n =
     ((length text < size) × (n ≡ length text))
     ⊎ ((size ≤ length text) × (allowed ≡ false) × (n ≡ 0))
 
-unfoldable pub Spells : {A : Type 0} → FormatOf A → List ℕ → A → Type 0
+unfoldable pub Spells : {A : Type 0} → FormatOf A → List Byte → A → Type 0
 Spells (unsigned size ok) text n = (text ≡ number_text size n) × (n < number_limit size) × IsTrue (ok n)
 Spells (raw size ok) text bytes = (text ≡ bytes) × (length bytes ≡ size) × IsTrue (ok bytes)
 Spells (give a) text b = (text ≡ []) × (b ≡ a)
@@ -84,7 +85,7 @@ Spells (next {A} {B} f k) text a =
     (b : B) × (first : List ℕ) × (rest : List ℕ)
     × (text ≡ first ++ rest) × Spells f first b × Spells (k b) rest a
 
-unfoldable pub Breaks : {A : Type 0} → FormatOf A → List ℕ → ℕ → Type 0
+unfoldable pub Breaks : {A : Type 0} → FormatOf A → List Byte → ℕ → Type 0
 Breaks (unsigned size ok) text n =
     BreaksField (byte_count size) (ok (number_in size (take (byte_count size) text))) text n
 Breaks (raw size ok) text n = BreaksField size (ok (take size text)) text n
@@ -94,11 +95,11 @@ Breaks (next {A} {B} f k) text n =
     ⊎ ((b : B) × (first : List ℕ) × (rest : List ℕ) × (m : ℕ)
     × (text ≡ first ++ rest) × Spells f first b × Breaks (k b) rest m × (n ≡ length first + m))
 
-unfoldable pub SpellsFile : {A : Type 0} → FormatOf A → (A → Bool) → List ℕ → A → Type 0
+unfoldable pub SpellsFile : {A : Type 0} → FormatOf A → (A → Bool) → List Byte → A → Type 0
 SpellsFile f end text a = Spells f text a × IsTrue (end a)
 
 -- the file breaks its format, or bytes follow the value, or the whole value fails the test at the end
-unfoldable pub Damaged : {A : Type 0} → FormatOf A → (A → Bool) → List ℕ → ℕ → Type 0
+unfoldable pub Damaged : {A : Type 0} → FormatOf A → (A → Bool) → List Byte → ℕ → Type 0
 Damaged {A} f end text n =
     Breaks f text n
     ⊎ ((a : A) × (first : List ℕ) × (rest : List ℕ) × (text ≡ first ++ rest) × Spells f first a

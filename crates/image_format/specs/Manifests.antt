@@ -5,6 +5,7 @@
 --     DamagedManifest text n      the bytes are the file of no manifest, and n is the place where they break the format
 -- Source: docs/FORMATS.md, "Manifest".
 use Rattle.std.specs.Prelude.{ℕ, ◌==◌, Bool, List, codes}
+use Rattle.views.specs.Numbers.{Byte}
 use Rattle.image_format.specs.declared.manifest.Manifest.{Manifest}
 use Rattle.image_format.specs.Fields.{is_bytes, is_within}
 use Rattle.image_format.specs.Format.{FormatOf, unsigned, raw, give, ◌>>=◌, counted, any, n8, n64, SpellsFile}
@@ -13,7 +14,7 @@ use Rattle.image_format.specs.Format.{Damaged}
 abbrev pub COMPLETE : ℕ
 COMPLETE = 1
 
-abbrev pub MANIFEST_MAGIC : List ℕ
+abbrev pub MANIFEST_MAGIC : List Byte
 MANIFEST_MAGIC = codes "DMTSET1"
 
 abbrev pub is_gate : ℕ → Bool
@@ -33,8 +34,8 @@ manifest_format = do
   lengths ← counted is_image_count (λ _. length_format)
   give (record { generation = generation; lengths = lengths })
 
-abbrev pub SpellsManifest : List ℕ → Manifest → Type 0
+abbrev pub SpellsManifest : List Byte → Manifest → Type 0
 SpellsManifest = SpellsFile manifest_format any
 
-abbrev pub DamagedManifest : List ℕ → ℕ → Type 0
+abbrev pub DamagedManifest : List Byte → ℕ → Type 0
 DamagedManifest = Damaged manifest_format any

@@ -9,6 +9,7 @@
 use Rattle.std.specs.Prelude.{ℕ, ◌-◌, ◌&&◌, nat_lt, Bool, List, [], ◌∷◌, length, map as each_of}
 use Rattle.std.specs.Prelude.{filter, slice_get, codes, Option, Some, None, if◌then◌else◌}
 use Rattle.std.specs.Option.{option_map, option_map_or}
+use Rattle.views.specs.Numbers.{Address, ThreadNumber, Byte}
 use Rattle.sys_abi.specs.Lives.{lives}
 use Rattle.plain_process.specs.declared.user_part.Context.{Context}
 use Rattle.plain_process.specs.declared.user_part.SignalAction.{SignalAction}
@@ -27,12 +28,12 @@ use Rattle.image_process.specs.ProcessTests.{is_page_number, is_page_rights, is_
 use Rattle.image_process.specs.ProcessTests.{is_context_count, is_count_of_threads, is_thread_at}
 use Rattle.image_process.specs.ProcessTests.{has_heap, has_return_page}
 
-abbrev pub PROCESS_MAGIC : List ℕ
+abbrev pub PROCESS_MAGIC : List Byte
 PROCESS_MAGIC = codes "DMTPRC01"
 
 -- which process
 
-abbrev pub tids_of : List ThreadEntry → List ℕ
+abbrev pub tids_of : List ThreadEntry → List ThreadNumber
 tids_of threads = each_of (λ thread. thread.tid) threads
 
 abbrev pub live_processes : Shared → List ProcessEntry
@@ -44,7 +45,7 @@ process_at shared file = if nat_lt file 2 then None else slice_get (live_process
 abbrev pub pid_at : Shared → ℕ → Option ℕ
 pid_at shared file = option_map (λ process. process.pid.0) (process_at shared file)
 
-abbrev pub tids_at : Shared → ℕ → List ℕ
+abbrev pub tids_at : Shared → ℕ → List ThreadNumber
 tids_at shared file = option_map_or (λ process. tids_of process.threads) (process_at shared file) []
 
 -- the format
@@ -52,7 +53,7 @@ tids_at shared file = option_map_or (λ process. tids_of process.threads) (proce
 unfoldable pub word_format : FormatOf ℕ
 word_format = unsigned n32 any
 
-unfoldable pub page_format : ℕ → ℕ → List PageImage → FormatOf PageImage
+unfoldable pub page_format : Address → Address → List PageImage → FormatOf PageImage
 page_format start end front = do
   number ← unsigned n32 (is_page_number start end front)
   rights ← unsigned n8 (is_page_rights number)
@@ -66,7 +67,7 @@ action_format = do
   mask ← word_format
   give (record { handler = handler; flags = flags; mask = mask })
 
-unfoldable pub waiter_format : List ℕ → List Waiter → FormatOf Waiter
+unfoldable pub waiter_format : List ThreadNumber → List Waiter → FormatOf Waiter
 waiter_format tids front = do
   tid ← unsigned n32 (is_waiting tids (each_of (λ before. before.tid) front))
   address ← word_format
@@ -85,7 +86,7 @@ context_format = do
   mask ← word_format
   give (record { regs = record { x = x; pc = pc }; mask = mask })
 
-unfoldable pub thread_format : List ℕ → List ThreadImage → FormatOf ThreadImage
+unfoldable pub thread_format : List ThreadNumber → List ThreadImage → FormatOf ThreadImage
 thread_format tids front = do
   tid ← unsigned n32 (is_thread_at tids (length front))
   x ← registers_format
@@ -103,7 +104,7 @@ thread_format tids front = do
     };
   })
 
-unfoldable pub process_format : Option ℕ → List ℕ → FormatOf ProcImage
+unfoldable pub process_format : Option ℕ → List ThreadNumber → FormatOf ProcImage
 process_format pid tids = do
   magic ← raw 8 (is_bytes PROCESS_MAGIC)
   number ← unsigned n32 (is_number pid)
@@ -127,15 +128,15 @@ process_format pid tids = do
 unfoldable pub is_whole_process : ProcImage → Bool
 is_whole_process p = has_heap p.break_start p.break_end p.pages && has_return_page p.pages
 
-abbrev pub SpellsProcess : Option ℕ → List ℕ → List ℕ → ProcImage → Type 0
+abbrev pub SpellsProcess : Option ℕ → List ThreadNumber → List Byte → ProcImage → Type 0
 SpellsProcess pid tids = SpellsFile (process_format pid tids) is_whole_process
 
-abbrev pub DamagedProcess : Option ℕ → List ℕ → List ℕ → ℕ → Type 0
+abbrev pub DamagedProcess : Option ℕ → List ThreadNumber → List Byte → ℕ → Type 0
 DamagedProcess pid tids = Damaged (process_format pid tids) is_whole_process
 
 -- the same of the file of this index in a set
-abbrev pub SpellsFileAt : Shared → ℕ → List ℕ → ProcImage → Type 0
+abbrev pub SpellsFileAt : Shared → ℕ → List Byte → ProcImage → Type 0
 SpellsFileAt shared file = SpellsProcess (pid_at shared file) (tids_at shared file)
 
-abbrev pub DamagedFileAt : Shared → ℕ → List ℕ → ℕ → Type 0
+abbrev pub DamagedFileAt : Shared → ℕ → List Byte → ℕ → Type 0
 DamagedFileAt shared file = DamagedProcess (pid_at shared file) (tids_at shared file)

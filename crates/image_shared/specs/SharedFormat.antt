@@ -8,6 +8,7 @@
 -- Source: docs/FORMATS.md, "Shared image".
 use Rattle.std.specs.Prelude.{ℕ, ◌==◌, ◌%◌, nat_le, Bool, true, false, List, Option, Some, None, codes}
 use Rattle.std.specs.Prelude.{if◌then◌else◌}
+use Rattle.views.specs.Numbers.{Flags, Byte}
 use Rattle.sys_abi.specs.declared.identity.VirtAddr.{VirtAddr}
 use Rattle.sys_abi.specs.declared.identity.ConnId.{ConnId}
 use Rattle.sys_abi.specs.declared.identity.DescId.{DescId}
@@ -34,7 +35,7 @@ use Rattle.image_shared.specs.SharedTests as field
 use Rattle.image_shared.specs.SharedTests.{conn}
 use Rattle.image_shared.specs.WholeShared.{is_whole_shared}
 
-abbrev pub SHARED_MAGIC : List ℕ
+abbrev pub SHARED_MAGIC : List Byte
 SHARED_MAGIC = codes "DMTSHR01"
 
 -- the version that begins so
@@ -94,7 +95,7 @@ open_file files = do
   offset ← unsigned n32 any
   give (File number offset)
 
-unfoldable pub stream : List ChannelImage → List DescriptionImage → ℕ → FormatOf ObjectImage
+unfoldable pub stream : List ChannelImage → List DescriptionImage → Flags → FormatOf ObjectImage
 stream channels front flags = do
   maker ← unsigned n32 any
   number ← unsigned n32 (field.is_channel channels maker)
@@ -127,7 +128,7 @@ unfoldable pub choice : {A : Type 0} → Bool → FormatOf A → FormatOf A → 
 choice true first second = first
 choice false first second = second
 
-unfoldable pub object : ℕ → List FileImage → List ChannelImage → List DescriptionImage → ℕ → ℕ
+unfoldable pub object : ℕ → List FileImage → List ChannelImage → List DescriptionImage → ℕ → Flags
     → FormatOf ObjectImage
 object version files channels front kind flags =
     choice (kind == 0) (give Console)
@@ -209,8 +210,8 @@ shared = do
     processes = processes;
   })
 
-abbrev pub SpellsShared : List ℕ → Shared → Type 0
+abbrev pub SpellsShared : List Byte → Shared → Type 0
 SpellsShared = SpellsFile shared is_whole_shared
 
-abbrev pub DamagedShared : List ℕ → ℕ → Type 0
+abbrev pub DamagedShared : List Byte → ℕ → Type 0
 DamagedShared = Damaged shared is_whole_shared

@@ -6,6 +6,7 @@ use Rattle.std.specs.Prelude.{◌==◌, ◌&&◌, ◌||◌, ℕ, ◌+◌, ◌-�
 use Rattle.std.specs.Prelude.{false, not}
 use Rattle.std.specs.Prelude.{List, length, sum_by, Option, Some, None, option_map, if◌then◌else◌}
 use Rattle.std.specs.List.{list_any, list_all}
+use Rattle.views.specs.Numbers.{ThreadNumber, Flags, Byte}
 use Rattle.views.specs.Limits.{HOST_LIMIT, PROCESS_LIMIT, THREAD_LIMIT, DESCRIPTOR_LIMIT, CHANNEL_LIMIT, FILE_LIMIT, ALL_FILES_LIMIT, DIRECTION_LIMIT}
 use Rattle.sys_abi.specs.declared.identity.DescId.{DescId}
 use Rattle.sys_abi.specs.declared.identity.ConnId.{ConnId}
@@ -53,7 +54,7 @@ abbrev pub is_port : ℕ → Bool
 is_port n = nat_le n 65535
 
 -- each item of a file's text is one
-abbrev pub are_bytes : List ℕ → Bool
+abbrev pub are_bytes : List Byte → Bool
 are_bytes bytes = list_all (λ byte. nat_lt byte (2 ^ 8)) bytes
 
 -- files: a name holds no zero byte, and no two files have the same one
@@ -63,13 +64,13 @@ last_file front = option_map (λ file. file.number) (last_item front)
 abbrev pub is_file_number : ℕ → List FileImage → ℕ → Bool
 is_file_number next_file front n = is_above (last_file front) n && is_within 1 (next_file - 1) n
 
-abbrev pub file_has_name : List ℕ → FileImage → Bool
+abbrev pub file_has_name : List Byte → FileImage → Bool
 file_has_name name file = is_bytes name file.name
 
-abbrev pub is_new_name : List FileImage → List ℕ → Bool
+abbrev pub is_new_name : List FileImage → List Byte → Bool
 is_new_name front name = (length name == 0) || not (list_any (file_has_name name) front)
 
-abbrev pub is_file_name : List FileImage → List ℕ → Bool
+abbrev pub is_file_name : List FileImage → List Byte → Bool
 is_file_name front name = list_all (is_within 1 255) name && is_new_name front name
 
 abbrev pub is_file_size : List FileImage → ℕ → Bool
@@ -98,13 +99,13 @@ is_maker next_id before maker = is_maker_after before maker && nat_lt maker next
 abbrev pub is_channel_kind : ℕ → Bool
 is_channel_kind kind = nat_le kind 2
 
-abbrev pub is_side_flags : ℕ → Bool
+abbrev pub is_side_flags : Flags → Bool
 is_side_flags flags = nat_le flags 3
 
-abbrev pub may_hold_bytes : ℕ → ℕ → ℕ → Bool
+abbrev pub may_hold_bytes : ℕ → ℕ → Flags → Bool
 may_hold_bytes kind side flags = nat_lt flags 2 && not ((kind == 2) && (side == 1))
 
-abbrev pub is_left_count : ℕ → ℕ → ℕ → ℕ → Bool
+abbrev pub is_left_count : ℕ → ℕ → Flags → ℕ → Bool
 is_left_count kind side flags n = nat_le n DIRECTION_LIMIT && ((n == 0) || may_hold_bytes kind side flags)
 
 abbrev pub is_side_host : ℕ → ℕ → Bool
@@ -118,7 +119,7 @@ abbrev pub is_object_kind : ℕ → ℕ → Bool
 is_object_kind version kind = nat_le kind 4
 
 -- the access mode (0, 1 or 2), O_APPEND and O_NONBLOCK (`man 2 open`)
-abbrev pub is_status_flags : ℕ → Bool
+abbrev pub is_status_flags : Flags → Bool
 is_status_flags flags = (bit_and flags 0xC03 == flags) && not (bit_and flags 3 == 3)
 
 -- the file and the channel that a description names are there
@@ -132,15 +133,15 @@ abbrev pub is_channel : List ChannelImage → ℕ → ℕ → Bool
 is_channel channels maker n = list_any (λ channel. same_channel (conn maker n) channel.id) channels
 
 -- a pipe is written at side 0 and read at side 1
-abbrev pub fits_mode : ChannelKind → ℕ → ℕ → Bool
+abbrev pub fits_mode : ChannelKind → Flags → ℕ → Bool
 fits_mode Pipe flags side = flags % 4 == (if side == 0 then 1 else 0)
 fits_mode _ flags side = true
 
-abbrev pub has_end : ConnId → ℕ → ℕ → ChannelImage → Bool
+abbrev pub has_end : ConnId → Flags → ℕ → ChannelImage → Bool
 has_end name flags side channel = same_channel name channel.id && fits_mode channel.kind flags side
 
 -- a side of a stream's channel, which nothing names before
-abbrev pub is_stream_side : List ChannelImage → List DescriptionImage → ℕ → ConnId → ℕ → Bool
+abbrev pub is_stream_side : List ChannelImage → List DescriptionImage → Flags → ConnId → ℕ → Bool
 is_stream_side channels front flags name side =
     nat_le side 1 && list_any (has_end name flags side) channels && not (is_side_named front name side)
 
@@ -239,7 +240,7 @@ is_thread_count life n = if lives life then is_within 1 THREAD_LIMIT n else n ==
 abbrev pub is_number_of : ℕ → ProcessEntry → Bool
 is_number_of n process = (process.pid.0 == n) || lists_thread n process
 
-abbrev pub last_thread : List ThreadEntry → Option ℕ
+abbrev pub last_thread : List ThreadEntry → Option ThreadNumber
 last_thread front = option_map (λ thread. thread.tid) (last_item front)
 
 abbrev pub is_thread_number : ℕ → List ProcessEntry → List ThreadEntry → ℕ → Bool

@@ -7,17 +7,18 @@
 use Rattle.std.specs.Prelude.{◌≡◌, ◌⊎◌, ℕ, suc, min, if◌then◌else◌, ◌==◌, List, [], ◌∷◌, length, Option, Some}
 use Rattle.std.specs.Prelude.{None}
 use Rattle.std.specs.Option.{option_or}
+use Rattle.views.specs.Numbers.{Byte}
 use Rattle.image_format.specs.declared.damage.Damage.{Damage}
 use Rattle.image_format.specs.declared.manifest.Manifest.{Manifest}
 use Rattle.image_format.specs.Manifests.{SpellsManifest, DamagedManifest}
 use Rattle.image_store.specs.FoundSets.{FoundSet}
 
-unfoldable pub damage_at : ℕ → ℕ → Option (List ℕ) → Option Damage
+unfoldable pub damage_at : ℕ → ℕ → Option (List Byte) → Option Damage
 damage_at index n None = Some (record { file = index; offset = 0 })
 damage_at index n (Some bytes) =
     if length bytes == n then None else Some (record { file = index; offset = min (length bytes) n })
 
-abbrev pub damage_from : ℕ → List ℕ → List (Option (List ℕ)) → Option Damage
+abbrev pub damage_from : ℕ → List ℕ → List (Option (List Byte)) → Option Damage
 damage_from index [] files = None
 damage_from index (n ∷ lengths) [] = None
 damage_from index (n ∷ lengths) (file ∷ files) =

@@ -13,6 +13,7 @@
 use Rattle.std.specs.Prelude.{ℕ, Bool, ◌&&◌, if◌then◌else◌, ◌==◌, nat_lt, nat_le, List, length, take, drop}
 use Rattle.std.specs.Prelude.{slice_get, slice_index, Option, Some, None}
 use Rattle.std.specs.Int.{w32, w64, from_le_bytes}
+use Rattle.views.specs.Numbers.{Byte}
 use Rattle.disk_folder.specs.Files.{FolderFiles, contents}
 use Rattle.disk_folder.specs.declared.file_name.FileName.{FileName}
 use Rattle.image_store.specs.declared.set_info.SetInfo.{SetInfo}
@@ -20,22 +21,22 @@ use Rattle.image_store.specs.declared.set_info.SetInfo.{SetInfo}
 abbrev pub manifest_name : ℕ → FileName
 manifest_name slot = record { slot = slot; index = 0 }
 
-abbrev pub manifest_of : FolderFiles → ℕ → List ℕ
+abbrev pub manifest_of : FolderFiles → ℕ → List Byte
 manifest_of files slot = contents files (manifest_name slot)
 
-abbrev pub gate_of : List ℕ → Option ℕ
+abbrev pub gate_of : List Byte → Option ℕ
 gate_of manifest = slice_get manifest 0
 
-unfoldable pub has_open_gate : List ℕ → Bool
+unfoldable pub has_open_gate : List Byte → Bool
 has_open_gate manifest = nat_le 16 (length manifest) && (slice_index manifest 0 == 1)
 
-unfoldable pub generation_of : List ℕ → ℕ
+unfoldable pub generation_of : List Byte → ℕ
 generation_of manifest = from_le_bytes w64 (take 8 (drop 8 manifest))
 
-unfoldable pub file_count : List ℕ → ℕ
+unfoldable pub file_count : List Byte → ℕ
 file_count manifest = from_le_bytes w32 (take 4 (drop 16 manifest))
 
-unfoldable pub info_of : ℕ → List ℕ → Option SetInfo
+unfoldable pub info_of : ℕ → List Byte → Option SetInfo
 info_of slot manifest =
     if has_open_gate manifest then
     Some (record { slot = slot; generation = generation_of manifest })

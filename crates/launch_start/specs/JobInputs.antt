@@ -5,9 +5,10 @@
 --     IsFirstRefusal, AreLoaded              it is refused for this; it is not refused
 --     inputs_in held job                     what inputs that hold these files give
 --     loaded_job inputs                      the plain state of the job that was loaded
-use Rattle.std.specs.Prelude.{◌≡◌, ℕ, nat_lt, if◌then◌else◌, List, [], ◌∷◌, ◌++◌, length, map, fold, sum_by, All, Option, Some, None}
+use Rattle.std.specs.Prelude.{◌≡◌, nat_lt, if◌then◌else◌, List, [], ◌∷◌, ◌++◌, length, map, fold, sum_by, All, Option, Some, None}
 use Rattle.std.specs.Option.{option_map, option_or}
 use Rattle.std.specs.FinMap as map_of
+use Rattle.views.specs.Numbers.{Byte}
 use Rattle.views.specs.Limits.{ALL_FILES_LIMIT}
 use Rattle.elf32.specs.declared.fault.ElfFault.{ElfFault}
 use Rattle.elf32.specs.Programs.{program_of}
@@ -21,12 +22,12 @@ use Rattle.job_words.specs.declared.job.LaunchJob.{LaunchJob}
 use Rattle.job_words.specs.declared.job.NamedProgram.{NamedProgram}
 
 -- the inputs hold this under the name, or they don't tell
-abbrev pub IsInput : Option NamedFiles → Text → Option (List ℕ) → Type 0
+abbrev pub IsInput : Option NamedFiles → Text → Option (List Byte) → Type 0
 IsInput files name content = (held : NamedFiles) → files ≡ Some held → map_of.get held name ≡ content
 
 -- what the inputs gave under a name: the bytes of a file; nothing, since they hold none; or they failed
 pub data Content : Type 0 where
-  found : List ℕ → Content
+  found : List Byte → Content
   absent : Content
   failed : Content
 
@@ -64,7 +65,7 @@ pub data Refusal : Type 0 where
   bad : Text → ElfFault → Refusal
   too_big : Refusal
 
-abbrev pub refusal_by : (List ℕ → Option Refusal) → Text → Content → Option Refusal
+abbrev pub refusal_by : (List Byte → Option Refusal) → Text → Content → Option Refusal
 refusal_by tested name (found bytes) = tested bytes
 refusal_by tested name absent = Some (missing name)
 refusal_by tested name failed = Some (unread name)
@@ -78,7 +79,7 @@ program_refusal input =
     refusal_by (λ bytes. option_map (bad name) (first_fault bytes)) name input.content
 
 -- the bytes of what is there
-abbrev pub bytes_in : Content → List ℕ
+abbrev pub bytes_in : Content → List Byte
 bytes_in (found bytes) = bytes
 bytes_in absent = []
 bytes_in failed = []
@@ -115,7 +116,7 @@ pub record AreLoaded (files : Option NamedFiles) (job : LaunchJob) (inputs : Job
   pub are : AreInputs files job inputs
   pub none : first_refusal inputs ≡ None
 
-abbrev pub content_of : Option (List ℕ) → Content
+abbrev pub content_of : Option (List Byte) → Content
 content_of (Some bytes) = found bytes
 content_of None = absent
 

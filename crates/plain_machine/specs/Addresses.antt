@@ -7,6 +7,7 @@ use Rattle.std.specs.Prelude.{◌==◌, ◌&&◌, ◌||◌, ℕ, zero, suc, ◌+
 use Rattle.std.specs.List.{list_any}
 use Rattle.std.specs.Ordering.{eq_by_cmp}
 use Rattle.std.specs.FinMap as map
+use Rattle.views.specs.Numbers.{Byte}
 use Rattle.sys_abi.specs.declared.identity.VirtAddr.{VirtAddr}
 use Rattle.sys_abi.specs.Orders.{address_cmp}
 use Rattle.plain_process.specs.Memory.{little_endian, low_bytes}
@@ -29,7 +30,7 @@ pub record Endpoint : Type 0 where
   pub port : ℕ
   pub host : ℕ
 
-abbrev pub endpoint_of : List ℕ → Endpoint
+abbrev pub endpoint_of : List Byte → Endpoint
 endpoint_of bytes = record {
   family = slice_index bytes 0 + 256 * slice_index bytes 1;
   port = 256 * slice_index bytes 2 + slice_index bytes 3;
@@ -55,21 +56,21 @@ address_at host port = record { host = host; port = port }
 
 -- an address as bytes
 
-abbrev pub address_bytes : VirtAddr → List ℕ
+abbrev pub address_bytes : VirtAddr → List Byte
 address_bytes address =
     2 ∷ 0 ∷ (address.port / 256 % 256) ∷ (address.port % 256)
     ∷ 10 ∷ 0 ∷ 0 ∷ ((address.host + 1) % 256) ∷ replicate 8 0
 
 -- of a socket that isn't bound
-abbrev pub unbound_bytes : List ℕ
+abbrev pub unbound_bytes : List Byte
 unbound_bytes = 2 ∷ replicate 15 0
 
 -- of an end of a pair
-abbrev pub pair_bytes : List ℕ
+abbrev pub pair_bytes : List Byte
 pair_bytes = 1 ∷ 0 ∷ []
 
 -- a name cut to the room that a process has for it, which the bytes tell, and then its true length
-abbrev pub cut_to : List ℕ → List ℕ → List ℕ
+abbrev pub cut_to : List Byte → List Byte → List Byte
 cut_to given name = take (little_endian (take 4 given)) name ++ low_bytes 4 (length name)
 
 -- ports

@@ -3,6 +3,7 @@
 --     settled k m      what the row says of the kernel part k: an error leaves it as it is, and nothing where
 --                      the call waits
 use Rattle.std.specs.Prelude.{ℕ, List, [], Option, Some, None}
+use Rattle.views.specs.Numbers.{Byte}
 use Rattle.sys_abi.specs.declared.reply.Reply.{Reply}
 use Rattle.sys_abi.specs.declared.reply.Reply.TheVariants.{Value, Error}
 use Rattle.plain_machine.specs.declared.kernel.PlainKernel.{PlainKernel}
@@ -12,13 +13,13 @@ use Rattle.plain_process.specs.Attempts.{Try, Fails, NotReady, Gives}
 pub record Served : Type 0 where
   pub kernel : PlainKernel
   pub reply : Reply
-  pub bytes : List ℕ
-  pub console : List ℕ
+  pub bytes : List Byte
+  pub console : List Byte
 
 abbrev pub replied : PlainKernel → ℕ → Try Served
 replied k value = Gives (record { kernel = k; reply = Value value; bytes = []; console = [] })
 
-abbrev pub replied_on_console : PlainKernel → ℕ → List ℕ → Try Served
+abbrev pub replied_on_console : PlainKernel → ℕ → List Byte → Try Served
 replied_on_console k value console =
     Gives (record { kernel = k; reply = Value value; bytes = []; console = console })
 

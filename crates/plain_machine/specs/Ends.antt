@@ -8,6 +8,7 @@
 --     after_fork k p              a child more, with the next number and its parent's descriptors
 use Rattle.std.specs.Prelude.{ℕ, zero, suc, ◌+◌, ◌*◌, ◌%◌, nat_le, Option, Some, None, if◌then◌else◌}
 use Rattle.std.specs.FinMap as map
+use Rattle.views.specs.Numbers.{ThreadNumber}
 use Rattle.views.specs.Limits.{DESCRIPTOR_LIMIT}
 use Rattle.sys_abi.specs.declared.identity.VPid.{VPid}
 use Rattle.sys_abi.specs.declared.signals.TheConstants.{SIGCHLD}
@@ -54,7 +55,7 @@ after_end k p status = left_by (without_holds k p) p status (map.get k.processes
 abbrev pub exit_status : ℕ → ℕ
 exit_status code = code % 256 * 256
 
-unfoldable pub thread_ended : PlainKernel → VPid → ℕ → ℕ → PlainKernel
+unfoldable pub thread_ended : PlainKernel → VPid → ThreadNumber → ℕ → PlainKernel
 thread_ended k p t status =
     if nat_le (thread_count k p) 1 then after_end k p status else at_process k p (without_thread_entry t)
 

@@ -4,6 +4,7 @@
 use Rattle.std.specs.Prelude.{ℕ, zero, suc, ◌+◌, ◌-◌, ◌^◌, Bool, ◌&&◌, nat_lt, Option, Some, None, is_some, option_and_then, if◌then◌else◌}
 use Rattle.std.specs.Option.{option_map_or}
 use Rattle.std.specs.FinMap as map
+use Rattle.views.specs.Numbers.{ThreadNumber, SignalNumber, Flags}
 use Rattle.views.specs.Limits.{DESCRIPTOR_LIMIT}
 use Rattle.sys_abi.specs.declared.identity.VPid.{VPid}
 use Rattle.plain_machine.specs.declared.kernel.PlainKernel.{PlainKernel}
@@ -72,7 +73,7 @@ abbrev pub with_object : PlainKernel → Held → Object → PlainKernel
 with_object k h object = with_description k h.desc (record h.description { object = object })
 
 -- a new description behind a new descriptor
-abbrev pub placed : PlainKernel → VPid → ℕ → DescId → Bool → Object → ℕ → PlainKernel
+abbrev pub placed : PlainKernel → VPid → ℕ → DescId → Bool → Object → Flags → PlainKernel
 placed k p fd d cloexec object flags =
     with_description (with_descriptor k p fd (record { desc = d; cloexec = cloexec })) d
     (record { object = object; flags = flags; owner = 0 })
@@ -81,25 +82,25 @@ abbrev pub without_process : VPid → PlainKernel → PlainKernel
 without_process p k = record k { processes = map.remove k.processes p; makers = map.remove k.makers p }
 
 -- the signals that are pending for the thread or its process
-unfoldable pub pending : PlainKernel → VPid → ℕ → ℕ
+unfoldable pub pending : PlainKernel → VPid → ThreadNumber → ℕ
 pending k p t = pending_in t (map.get k.processes p)
 
 abbrev pub at_process : PlainKernel → VPid → (Process → Process) → PlainKernel
 at_process k p change = record k { processes = changed_at k.processes p change }
 
-unfoldable pub after_take : PlainKernel → VPid → ℕ → ℕ → PlainKernel
+unfoldable pub after_take : PlainKernel → VPid → ThreadNumber → SignalNumber → PlainKernel
 after_take k p t s = at_process k p (taken_from t s)
 
-unfoldable pub after_raise : PlainKernel → VPid → ℕ → ℕ → PlainKernel
+unfoldable pub after_raise : PlainKernel → VPid → ThreadNumber → SignalNumber → PlainKernel
 after_raise k p t s = at_process k p (raised_at t s)
 
-unfoldable pub after_raise_for_all : PlainKernel → VPid → ℕ → PlainKernel
+unfoldable pub after_raise_for_all : PlainKernel → VPid → SignalNumber → PlainKernel
 after_raise_for_all k p s = at_process k p (raised_for_all s)
 
 abbrev pub thread_count : PlainKernel → VPid → ℕ
 thread_count k p = thread_count_in (map.get k.processes p)
 
-abbrev pub has_thread : PlainKernel → VPid → ℕ → Bool
+abbrev pub has_thread : PlainKernel → VPid → ThreadNumber → Bool
 has_thread k p t = has_thread_in t (map.get k.processes p)
 
 -- a thread more, with the next number

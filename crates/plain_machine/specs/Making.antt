@@ -6,6 +6,7 @@
 --     with_ends, with_datagrams      a channel with both its ends, a pair of datagram ends
 use Rattle.std.specs.Prelude.{◌==◌, ◌&&◌, ℕ, ◌+◌, Bool, nat_lt, bit_and, List, [], if◌then◌else◌, None}
 use Rattle.std.specs.FinMap as map
+use Rattle.views.specs.Numbers.{Flags, Byte}
 use Rattle.views.specs.Limits.{CHANNEL_LIMIT}
 use Rattle.sys_abi.specs.declared.identity.VPid.{VPid}
 use Rattle.sys_abi.specs.declared.identity.DescId.{DescId}
@@ -19,10 +20,10 @@ use Rattle.plain_tables.specs.declared.description.Object.TheVariants.{Stream, D
 use Rattle.plain_machine.specs.Kernel.{made_of, has_numbers, numbered, placed}
 use Rattle.plain_machine.specs.Channels.{open_channel, with_channel}
 
-abbrev pub are_making_flags : ℕ → Bool
+abbrev pub are_making_flags : Flags → Bool
 are_making_flags flags = bit_and flags (O_NONBLOCK + O_CLOEXEC) == flags
 
-abbrev pub end_flags : ℕ → ℕ → ℕ
+abbrev pub end_flags : ℕ → Flags → Flags
 end_flags mode flags = if has_flag flags O_NONBLOCK then mode + O_NONBLOCK else mode
 
 abbrev pub has_channel_room : PlainKernel → VPid → Bool
@@ -50,16 +51,16 @@ with_ends k p kind cloexec first second =
     let joined = with_new_channel (numbered k p 3) conn kind in
     with_stream (with_stream joined p conn (made + 1) cloexec first) p conn (made + 2) cloexec second
 
-abbrev pub with_inbox : PlainKernel → DescId → List (List ℕ) → PlainKernel
+abbrev pub with_inbox : PlainKernel → DescId → List (List Byte) → PlainKernel
 with_inbox k d messages = record k { inboxes = map.insert k.inboxes d messages }
 
 -- an end of a datagram pair, at which no message waits
-abbrev pub with_datagram : PlainKernel → VPid → ℕ → ℕ → ℕ → Bool → ℕ → PlainKernel
+abbrev pub with_datagram : PlainKernel → VPid → ℕ → ℕ → ℕ → Bool → Flags → PlainKernel
 with_datagram k p fd num peer cloexec flags =
     with_inbox (placed k p fd (desc_id p num) cloexec (Datagram (desc_id p peer)) flags) (desc_id p num) []
 
 -- the next two numbers are those of the ends
-abbrev pub with_datagrams : PlainKernel → VPid → Bool → ℕ → ℕ → ℕ → PlainKernel
+abbrev pub with_datagrams : PlainKernel → VPid → Bool → Flags → ℕ → ℕ → PlainKernel
 with_datagrams k p cloexec flags fd other =
     let made = made_of k p in
     with_datagram (with_datagram (numbered k p 2) p fd made (made + 1) cloexec flags)

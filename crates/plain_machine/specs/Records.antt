@@ -4,6 +4,7 @@
 use Rattle.std.specs.Prelude.{◌==◌, ◌&&◌, ◌||◌, ℕ, ◌+◌, Bool, true, false, not, nat_le, List, [], length, Option, Some, None, is_some, option_and_then, if◌then◌else◌}
 use Rattle.std.specs.Option.{option_map}
 use Rattle.std.specs.FinMap as map
+use Rattle.views.specs.Numbers.{ThreadNumber, SignalNumber, Byte}
 use Rattle.sys_abi.specs.declared.identity.VPid.{VPid}
 use Rattle.sys_abi.specs.declared.identity.Dir.{Dir}
 use Rattle.sys_abi.specs.declared.record.Record.{Record}
@@ -35,7 +36,7 @@ QUANTUM = 4096
 
 pub record Outcome : Type 0 where
   pub state : Plain
-  pub console : List ℕ
+  pub console : List Byte
 
 abbrev pub quiet : Plain → Outcome
 quiet g = record { state = g; console = [] }
@@ -53,13 +54,13 @@ stands (Asks q) = true
 stands (Trapped s) = true
 stands _ = false
 
-abbrev pub user_ends : ℕ → ℕ → UserPart → Bool
+abbrev pub user_ends : ℕ → ThreadNumber → UserPart → Bool
 user_ends n t user = (n == QUANTUM) || stands (user_step user t)
 
-abbrev pub if_ends : Plain → VPid → ℕ → ℕ → UserPart → Option Outcome
+abbrev pub if_ends : Plain → VPid → ThreadNumber → ℕ → UserPart → Option Outcome
 if_ends g p t n user = if user_ends n t user then Some (quiet (with_user g p user)) else None
 
-abbrev pub outcome_of_user : Plain → VPid → ℕ → ℕ → Option UserPart → Option Outcome
+abbrev pub outcome_of_user : Plain → VPid → ThreadNumber → ℕ → Option UserPart → Option Outcome
 outcome_of_user g p t n None = None
 outcome_of_user g p t n (Some user) =
     if nat_le 1 n && nat_le n QUANTUM then option_and_then (if_ends g p t n) (user_steps n user t) else None
@@ -68,16 +69,17 @@ abbrev pub Users : Type 0
 Users = map.FinMap vpid_cmp UserPart
 
 -- with the child that an answer makes, under the next number: its part comes of the caller's before that
-abbrev pub with_child : Users → UserPart → ℕ → Request → ℕ → Option ℕ → Users
+abbrev pub with_child : Users → UserPart → ThreadNumber → Request → ℕ → Option ℕ → Users
 with_child users user t q next None = users
 with_child users user t q next (Some number) = map.insert users (pid next) (child_of user t next q)
 
-abbrev pub users_after : Plain → VPid → ℕ → UserPart → Request → Served → Users
+abbrev pub users_after : Plain → VPid → ThreadNumber → UserPart → Request → Served → Users
 users_after g p t user q served =
     with_child (map.insert g.users p (put user t q served.reply served.bytes)) user t q g.kernel.next_id
     (made_by q served.reply)
 
-abbrev pub outcome_of_serve : Plain → VPid → ℕ → UserPart → Request → Option Served → Option Outcome
+abbrev pub outcome_of_serve : Plain → VPid → ThreadNumber → UserPart → Request → Option Served
+    → Option Outcome
 outcome_of_serve g p t user q None = None
 outcome_of_serve g p t user q (Some served) =
     Some (record {
@@ -85,29 +87,30 @@ outcome_of_serve g p t user q (Some served) =
       console = served.console;
     })
 
-abbrev pub outcome_of_lent : Plain → VPid → ℕ → UserPart → Request → Option (List ℕ) → Option Outcome
+abbrev pub outcome_of_lent : Plain → VPid → ThreadNumber → UserPart → Request → Option (List Byte)
+    → Option Outcome
 outcome_of_lent g p t user q None = Some (quiet (with_user g p (put_fault user t q)))
 outcome_of_lent g p t user q (Some given) =
     if is_local q then Some (quiet (with_user g p (local_row user t q))) else
     outcome_of_serve g p t user q (serve g.kernel p t q given)
 
-abbrev pub outcome_of_ask : Plain → VPid → ℕ → UserPart → UserStep → Option Outcome
+abbrev pub outcome_of_ask : Plain → VPid → ThreadNumber → UserPart → UserStep → Option Outcome
 outcome_of_ask g p t user (Asks q) = outcome_of_lent g p t user q (lent user.memory q)
 outcome_of_ask g p t user _ = None
 
-abbrev pub outcome_of_call : Plain → VPid → ℕ → Option UserPart → Option Outcome
+abbrev pub outcome_of_call : Plain → VPid → ThreadNumber → Option UserPart → Option Outcome
 outcome_of_call g p t None = None
 outcome_of_call g p t (Some user) = outcome_of_ask g p t user (user_step user t)
 
 -- signals
 
 -- a call that waits
-abbrev pub waits_at : Plain → VPid → ℕ → Request → Option (List ℕ) → Bool
+abbrev pub waits_at : Plain → VPid → ThreadNumber → Request → Option (List Byte) → Bool
 waits_at g p t q None = false
 waits_at g p t q (Some given) = not (is_local q) && not (is_some (serve g.kernel p t q given))
 
 -- the thread waits on a word, or stands at a call that isn't ready
-abbrev pub is_unready : Plain → VPid → ℕ → UserPart → UserStep → Bool
+abbrev pub is_unready : Plain → VPid → ThreadNumber → UserPart → UserStep → Bool
 is_unready g p t user Waits = true
 is_unready g p t user (Asks q) = waits_at g p t q (lent user.memory q)
 is_unready g p t user _ = false
@@ -121,11 +124,12 @@ delivered g p Ignores = g
 delivered g p (Kills status) = ended_by_signal g p status
 
 -- the pending signals that the thread's mask lets through
-abbrev pub deliverable : PlainKernel → VPid → ℕ → ThreadPart → ℕ
+abbrev pub deliverable : PlainKernel → VPid → ThreadNumber → ThreadPart → ℕ
 deliverable k p t thread = without_signals (pending k p t) thread.mask
 
 -- a signal with which the thread traps is delivered for that, and stays pending where it is
-abbrev pub outcome_of_pending : Plain → VPid → ℕ → ℕ → UserPart → Option ThreadPart → Option Outcome
+abbrev pub outcome_of_pending : Plain → VPid → ThreadNumber → SignalNumber → UserPart → Option ThreadPart
+    → Option Outcome
 outcome_of_pending g p t s user None = None
 outcome_of_pending g p t s user (Some thread) =
     if traps_with (user_step user t) s then Some (quiet (delivered g p (deliver user t s false))) else
@@ -134,7 +138,7 @@ outcome_of_pending g p t s user (Some thread) =
     (deliver user t s (is_unready g p t user (user_step user t)))))
     else None
 
-abbrev pub outcome_of_signal : Plain → VPid → ℕ → ℕ → Option UserPart → Option Outcome
+abbrev pub outcome_of_signal : Plain → VPid → ThreadNumber → SignalNumber → Option UserPart → Option Outcome
 outcome_of_signal g p t s None = None
 outcome_of_signal g p t s (Some user) = outcome_of_pending g p t s user (map.get user.threads t)
 

@@ -2,7 +2,8 @@
 --     row k p t q given            the row of the call q of thread t of p, which reads the bytes given
 --     serve k p t q given          its answer: none where the call waits
 --     is_ready k p t q front       whether it doesn't wait, by the front of what it reads
-use Rattle.std.specs.Prelude.{ℕ, Bool, true, false, List, ◌++◌, take, replicate, Option, Some, None}
+use Rattle.std.specs.Prelude.{Bool, true, false, List, ◌++◌, take, replicate, Option, Some, None}
+use Rattle.views.specs.Numbers.{ThreadNumber, Byte}
 use Rattle.sys_abi.specs.declared.identity.VPid.{VPid}
 use Rattle.sys_abi.specs.declared.errors.TheConstants.{ENOSYS}
 use Rattle.sys_abi.specs.declared.request.Request.{Request}
@@ -27,7 +28,7 @@ use Rattle.plain_machine.specs.Rows.Sockets.{socket_row, bind_row, listen_row, g
 use Rattle.plain_machine.specs.Rows.Wait.{wait4_row, is_wait4_ready}
 use Rattle.plain_machine.specs.Rows.Write.{write_row, is_write_ready}
 
-unfoldable pub row : PlainKernel → VPid → ℕ → Request → List ℕ → Try Served
+unfoldable pub row : PlainKernel → VPid → ThreadNumber → Request → List Byte → Try Served
 row k p t (Eventfd2 value flags) given = eventfd2_row k p value flags
 row k p t (Dup fd) given = dup_row k p fd
 row k p t (Dup3 fd to flags) given = dup3_row k p fd to flags
@@ -59,15 +60,15 @@ row k p t (Clone flags stack parent_tid tls child_tid) given = clone_row k p fla
 row k p t (Wait4 number status options usage) given = wait4_row k p number options usage
 row k p t _ given = Fails ENOSYS
 
-unfoldable pub serve : PlainKernel → VPid → ℕ → Request → List ℕ → Option Served
+unfoldable pub serve : PlainKernel → VPid → ThreadNumber → Request → List Byte → Option Served
 serve k p t q given = settled k (row k p t q given)
 
 -- the first 16 bytes of what a call reads, with zeros where it reads fewer
-abbrev pub front_of : List ℕ → List ℕ
+abbrev pub front_of : List Byte → List Byte
 front_of given = take 16 (given ++ replicate 16 0)
 
 -- only these calls may wait
-unfoldable pub is_ready : PlainKernel → VPid → ℕ → Request → List ℕ → Bool
+unfoldable pub is_ready : PlainKernel → VPid → ThreadNumber → Request → List Byte → Bool
 is_ready k p t (Read fd buffer count) front = is_read_ready k p fd count
 is_ready k p t (Write fd buffer count) front = is_write_ready k p fd count front
 is_ready k p t (Accept fd address length) front = is_accept_ready k p fd

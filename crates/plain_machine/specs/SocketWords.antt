@@ -4,6 +4,7 @@
 --     is_settled attempt, unready flags     a call that doesn't wait, and one that isn't ready
 use Rattle.std.specs.Prelude.{◌==◌, ◌&&◌, ℕ, ◌+◌, ◌%◌, bit_and, Bool, true, false, not, List, [], ◌∷◌, ◌++◌, drop, Option, Some, None, if◌then◌else◌}
 use Rattle.std.specs.FinMap as map
+use Rattle.views.specs.Numbers.{Flags, Byte}
 use Rattle.sys_abi.specs.declared.identity.VPid.{VPid}
 use Rattle.sys_abi.specs.declared.identity.DescId.{DescId}
 use Rattle.sys_abi.specs.declared.identity.ConnId.{ConnId}
@@ -30,7 +31,7 @@ is_settled NotReady = false
 is_settled _ = true
 
 -- what isn't ready waits, and with O_NONBLOCK it fails
-abbrev pub unready : {A : Type 0} → ℕ → Try A
+abbrev pub unready : {A : Type 0} → Flags → Try A
 unready flags = if has_flag flags O_NONBLOCK then Fails EAGAIN else NotReady
 
 -- what a descriptor's socket is
@@ -74,11 +75,11 @@ bound_or k address e =
 
 -- names
 
-abbrev pub shown_as : List ℕ → Option VirtAddr → List ℕ
+abbrev pub shown_as : List Byte → Option VirtAddr → List Byte
 shown_as other None = other
 shown_as other (Some address) = address_bytes address
 
-abbrev pub end_name : Option Channel → ℕ → List ℕ
+abbrev pub end_name : Option Channel → ℕ → List Byte
 end_name None side = pair_bytes
 end_name (Some channel) side = shown_as pair_bytes (end_of channel side).address
 
@@ -89,7 +90,7 @@ abbrev pub is_stream_type : ℕ → Bool
 is_stream_type socket_type =
     (socket_type % 16 == 1) && (bit_and socket_type (1 + O_NONBLOCK + O_CLOEXEC) == socket_type)
 
-abbrev pub socket_flags : Bool → ℕ
+abbrev pub socket_flags : Bool → Flags
 socket_flags nonblocking = if nonblocking then O_RDWR + O_NONBLOCK else O_RDWR
 
 -- the next things that a process makes

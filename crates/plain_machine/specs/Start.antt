@@ -2,6 +2,7 @@
 --     start jobs files      the plain state of programs in the order of the words and of named files
 use Rattle.std.specs.Prelude.{ℕ, ◌+◌, false, List, [], ◌∷◌}
 use Rattle.std.specs.FinMap as map
+use Rattle.views.specs.Numbers.{Byte}
 use Rattle.sys_abi.specs.declared.identity.DescId.{DescId}
 use Rattle.sys_abi.specs.Orders.{vpid_cmp}
 use Rattle.sys_abi.specs.declared.flags.TheConstants.{O_RDWR}
@@ -18,8 +19,8 @@ use Rattle.plain_tables.specs.Tables.{pid, slot}
 use Rattle.plain_process.specs.Start.{Launched, start_user}
 
 pub record NamedFile : Type 0 where
-  pub name : List ℕ
-  pub bytes : List ℕ
+  pub name : List Byte
+  pub bytes : List Byte
 
 -- the console description of a process is number 0 of its own
 abbrev pub console_of : ℕ → DescId

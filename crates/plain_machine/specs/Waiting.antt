@@ -2,13 +2,14 @@
 -- Source: `man 2 open` (O_NONBLOCK).
 --     need_ready flags ready      where flags are the description's status flags
 --     waits attempt               the call isn't ready
-use Rattle.std.specs.Prelude.{ℕ, Bool, true, false, if◌then◌else◌}
+use Rattle.std.specs.Prelude.{Bool, true, false, if◌then◌else◌}
+use Rattle.views.specs.Numbers.{Flags}
 use Rattle.sys_abi.specs.declared.errors.TheConstants.{EAGAIN}
 use Rattle.sys_abi.specs.declared.flags.TheConstants.{O_NONBLOCK}
 use Rattle.sys_abi.specs.Flags.{has_flag}
 use Rattle.plain_process.specs.Attempts.{Try, Fails, NotReady, Gives}
 
-unfoldable pub need_ready : ℕ → Bool → Try (Unit {0})
+unfoldable pub need_ready : Flags → Bool → Try (Unit {0})
 need_ready flags true = Gives tt
 need_ready flags false = if has_flag flags O_NONBLOCK then Fails EAGAIN else NotReady
 

@@ -6,6 +6,7 @@
 use Rattle.std.specs.Prelude.{◌==◌, ◌||◌, ℕ, zero, suc, ◌+◌, ◌≤◌, min, Bool, List, [], ◌∷◌, ◌++◌, Option, Some, None, is_some, unwrap_or, option_and_then, if◌then◌else◌}
 use Rattle.std.specs.Option.{option_map}
 use Rattle.std.specs.List.{list_all}
+use Rattle.views.specs.Numbers.{Address, Flags, Byte}
 use Rattle.sys_abi.specs.declared.request.Request.{Request}
 use Rattle.sys_abi.specs.declared.request.Request.TheVariants.{Unlinkat, Openat, Pipe2, Read, Write, Futex, RtSigaction, RtSigprocmask, Socketpair, Bind, Accept, Connect, Getsockname, Getpeername, Clone, Wait4}
 use Rattle.sys_abi.specs.declared.flags.TheConstants.{CLONE_PARENT_SETTID, CLONE_CHILD_SETTID}
@@ -21,7 +22,7 @@ use Rattle.plain_process.specs.declared.buffers.Spans.{Spans}
 use Rattle.plain_process.specs.Memory.{Memory, byte_at, bytes_at, load}
 use Rattle.sys_abi.specs.Flags.{has_flag}
 
-abbrev pub span : ℕ → ℕ → Span
+abbrev pub span : Address → ℕ → Span
 span address length = record { address = address; length = min length TRANSFER_LIMIT }
 
 -- no more bytes than a call moves
@@ -30,7 +31,7 @@ IsShort Nothing = Unit {0}
 IsShort (Bytes at) = at.length ≤ TRANSFER_LIMIT
 IsShort (Text address) = Unit {0}
 
-abbrev pub unless_zero : ℕ → Source → Source
+abbrev pub unless_zero : Address → Source → Source
 unless_zero address source = if address == 0 then Nothing else source
 
 -- the futex operation without its private flag is WAIT (`man 2 futex`)
@@ -53,11 +54,11 @@ reads_of (Getpeername fd address length) = Bytes (span length 4)
 reads_of _ = Nothing
 
 -- the bytes of a text: those up to its first zero byte and that byte, at most so many
-abbrev pub text_from : Option (List ℕ) → Option ℕ → Option (List ℕ)
+abbrev pub text_from : Option (List Byte) → Option Byte → Option (List Byte)
 text_from rest None = None
 text_from rest (Some byte) = if byte == 0 then Some (0 ∷ []) else option_map (λ bytes. byte ∷ bytes) rest
 
-unfoldable pub text_at : Memory → ℕ → ℕ → Option (List ℕ)
+unfoldable pub text_at : Memory → Address → ℕ → Option (List Byte)
 text_at memory address zero = Some []
 text_at memory address (suc most) =
     text_from (text_at memory (address + 1) most) (byte_at memory ToRead address)
@@ -66,16 +67,16 @@ text_at memory address (suc most) =
 abbrev pub PATH_LIMIT : ℕ
 PATH_LIMIT = 256
 
-abbrev pub bytes_of : Memory → Source → Option (List ℕ)
+abbrev pub bytes_of : Memory → Source → Option (List Byte)
 bytes_of memory Nothing = Some []
 bytes_of memory (Bytes at) = bytes_at memory ToRead at.address at.length
 bytes_of memory (Text address) = text_at memory address PATH_LIMIT
 
-unfoldable pub given_of : Memory → Request → Option (List ℕ)
+unfoldable pub given_of : Memory → Request → Option (List Byte)
 given_of memory q = bytes_of memory (reads_of q)
 
 -- where a call finds the length of the address that it writes
-unfoldable pub length_place : Request → Option ℕ
+unfoldable pub length_place : Request → Option Address
 length_place (Accept fd address length) = Some length
 length_place (Getsockname fd address length) = Some length
 length_place (Getpeername fd address length) = Some length
@@ -89,18 +90,18 @@ length_at memory (Some place) = unwrap_or (load memory place 4) 0
 unfoldable pub size_of : Memory → Request → ℕ
 size_of memory q = length_at memory (length_place q)
 
-abbrev pub span_unless_zero : ℕ → ℕ → List Span
+abbrev pub span_unless_zero : Address → ℕ → List Span
 span_unless_zero address length = if address == 0 then [] else span address length ∷ []
 
 -- an address and its true length, which answers of accept and getsockname write
-abbrev pub address_spans : ℕ → ℕ → ℕ → List Span
+abbrev pub address_spans : Address → ℕ → ℕ → List Span
 address_spans address length size = span address size ∷ span length 4 ∷ []
 
-abbrev pub span_if : Bool → ℕ → List Span
+abbrev pub span_if : Bool → Address → List Span
 span_if wanted address = if wanted then span address 4 ∷ [] else []
 
 -- where clone writes the new number
-abbrev pub thread_spans : ℕ → ℕ → ℕ → List Span
+abbrev pub thread_spans : Flags → Address → Address → List Span
 thread_spans flags parent_tid child_tid =
     span_if (has_flag flags CLONE_PARENT_SETTID) parent_tid
     ++ span_if (has_flag flags CLONE_CHILD_SETTID) child_tid
@@ -119,7 +120,7 @@ writes_of (Wait4 pid status options usage) length = span_unless_zero status 4
 writes_of _ length = []
 
 -- a fork's answer fills the parent's place alone: the child's number stands in the child's memory
-abbrev pub clone_fills : ℕ → ℕ → ℕ → Option CloneForm → List Span
+abbrev pub clone_fills : Flags → Address → Address → Option CloneForm → List Span
 clone_fills flags parent_tid child_tid (Some Fork) = span_if (has_flag flags CLONE_PARENT_SETTID) parent_tid
 clone_fills flags parent_tid child_tid _ = thread_spans flags parent_tid child_tid
 
@@ -147,8 +148,8 @@ written_spans memory q = writes_of q (size_of memory q)
 abbrev pub filled_spans : Memory → Request → List Span
 filled_spans memory q = fills_of q (size_of memory q)
 
-abbrev pub if_writable : Memory → Request → List ℕ → Option (List ℕ)
+abbrev pub if_writable : Memory → Request → List Byte → Option (List Byte)
 if_writable memory q given = if list_all (can_write memory) (written_spans memory q) then Some given else None
 
-unfoldable pub lent : Memory → Request → Option (List ℕ)
+unfoldable pub lent : Memory → Request → Option (List Byte)
 lent memory q = option_and_then (if_writable memory q) (given_of memory q)

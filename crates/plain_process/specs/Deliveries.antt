@@ -5,6 +5,7 @@
 --     delivered_told                   the same without the part that it leaves
 use Rattle.std.specs.Prelude.{◌==◌, ◌&&◌, ◌||◌, ℕ, ◌-◌, ◌*◌, ◌/◌, Bool, true, false, nat_lt, bit_or, [], ◌∷◌, ◌++◌, length, slice_get, Option, Some, None, unwrap_or, if◌then◌else◌}
 use Rattle.std.specs.FinMap as map
+use Rattle.views.specs.Numbers.{ThreadNumber, SignalNumber, Flags}
 use Rattle.views.specs.Limits.{CONTEXT_LIMIT}
 use Rattle.sys_abi.specs.Signals.{has_signal, with_signal}
 use Rattle.sys_abi.specs.declared.delivery.Delivered.{Delivered}
@@ -29,17 +30,17 @@ pub data Delivery : Type 0 where
   Kills : ℕ → Delivery  -- the process ends with this status
 
 -- what the process does on a signal
-abbrev pub action_on : UserPart → ℕ → SignalAction
+abbrev pub action_on : UserPart → SignalNumber → SignalAction
 action_on user s = unwrap_or (slice_get user.actions (s - 1)) default_action
 
 -- handler 1 ignores it, and so does the default of the signals that tell of children, urgent data and windows
-abbrev pub is_ignored : SignalAction → ℕ → Bool
+abbrev pub is_ignored : SignalAction → SignalNumber → Bool
 is_ignored action s =
     (action.handler == 1)
     || ((action.handler == 0) && ((s == SIGCHLD) || (s == SIGURG) || (s == SIGWINCH)))
 
 -- a call that the handler interrupts answers EINTR, unless it is to begin again
-abbrev pub interrupted : Bool → ℕ → Regs → Regs
+abbrev pub interrupted : Bool → Flags → Regs → Regs
 interrupted is_unready flags regs =
     if is_unready && not_restarted flags then
     at_pc (with_reg regs A0 (word_of (error EINTR))) (next_pc regs)
@@ -52,17 +53,17 @@ interrupted is_unready flags regs =
 abbrev pub RETURN_ADDRESS : ℕ
 RETURN_ADDRESS = 0x80000000
 
-abbrev pub handler_regs : Regs → ℕ → ℕ → Regs
+abbrev pub handler_regs : Regs → SignalNumber → ℕ → Regs
 handler_regs regs s handler =
     let aligned = with_reg regs SP (16 * (reg regs SP / 16)) in
     at_pc (with_reg (with_reg (with_reg (with_reg aligned RA RETURN_ADDRESS) A0 s) A1 0) A2 0) handler
 
-abbrev pub handler_mask : ℕ → SignalAction → ℕ → ℕ
+abbrev pub handler_mask : ℕ → SignalAction → SignalNumber → ℕ
 handler_mask mask action s =
     let blocked = bit_or mask action.mask in
     if has_flag action.flags SA_NODEFER then blocked else with_signal blocked s
 
-abbrev pub entered : ThreadPart → SignalAction → ℕ → Bool → ThreadPart
+abbrev pub entered : ThreadPart → SignalAction → SignalNumber → Bool → ThreadPart
 entered thread action s is_unready = record {
   regs = handler_regs thread.regs s action.handler;
   mask = handler_mask thread.mask action s;
@@ -73,12 +74,12 @@ entered thread action s is_unready = record {
 }
 
 -- it waits no more
-abbrev pub with_entered : UserPart → ℕ → ThreadPart → SignalAction → ℕ → Bool → UserPart
+abbrev pub with_entered : UserPart → ThreadNumber → ThreadPart → SignalAction → SignalNumber → Bool → UserPart
 with_entered user t thread action s is_unready =
     with_waiters (with_thread user t (entered thread action s is_unready) user.memory)
     (without_waiter t user.waiters)
 
-abbrev pub handled : UserPart → ℕ → ThreadPart → SignalAction → ℕ → Bool → Delivery
+abbrev pub handled : UserPart → ThreadNumber → ThreadPart → SignalAction → SignalNumber → Bool → Delivery
 handled user t thread action s is_unready =
     if action.handler == 0 then Kills s else
     if nat_lt (length thread.contexts) CONTEXT_LIMIT then
@@ -86,21 +87,22 @@ handled user t thread action s is_unready =
     else Kills SIGSEGV
 
 -- a trap can't be put off: where its signal is masked or ignored it ends the process
-abbrev pub delivery : UserPart → ℕ → ThreadPart → SignalAction → ℕ → Bool → Bool → Delivery
+abbrev pub delivery : UserPart → ThreadNumber → ThreadPart → SignalAction → SignalNumber → Bool → Bool
+    → Delivery
 delivery user t thread action s is_trap is_unready =
     if (s == SIGKILL) || (is_trap && (has_signal thread.mask s || is_ignored action s)) then Kills s else
     if is_ignored action s then Ignores else handled user t thread action s is_unready
 
-abbrev pub traps_with : UserStep → ℕ → Bool
+abbrev pub traps_with : UserStep → SignalNumber → Bool
 traps_with (Trapped trap) s = trap == s
 traps_with _ s = false
 
-abbrev pub deliver_to : UserPart → ℕ → ℕ → Bool → Option ThreadPart → Delivery
+abbrev pub deliver_to : UserPart → ThreadNumber → SignalNumber → Bool → Option ThreadPart → Delivery
 deliver_to user t s is_unready None = Ignores
 deliver_to user t s is_unready (Some thread) =
     delivery user t thread (action_on user s) s (traps_with (user_step user t) s) is_unready
 
-unfoldable pub deliver : UserPart → ℕ → ℕ → Bool → Delivery
+unfoldable pub deliver : UserPart → ThreadNumber → SignalNumber → Bool → Delivery
 deliver user t s is_unready = deliver_to user t s is_unready (map.get user.threads t)
 
 -- what the delivery came to

@@ -6,6 +6,7 @@
 use Rattle.std.specs.Prelude.{◌==◌, ℕ, ◌+◌, ◌-◌, ◌*◌, ◌/◌, ◌%◌, ◌^◌, Bool, ℤ, pos, ◌*ℤ◌, bit_and, bit_or, bit_xor, int_lt, int_div, int_rem, nat_lt, not, List, [], ◌∷◌, find, Option, Some, None, true, false, if◌then◌else◌}
 use Rattle.std.specs.Option.{option_map}
 use Rattle.std.specs.Int.{w32, cast_signed, cast_unsigned, int_div_euclid}
+use Rattle.views.specs.Numbers.{Address}
 use Rattle.plain_process.specs.declared.instruction.Insn.{Insn}
 use Rattle.plain_process.specs.declared.instruction.Op.{Op}
 use Rattle.plain_process.specs.declared.instruction.Op.TheVariants.{Lui, Auipc, Jal, Jalr, Beq, Bne, Blt, Bge, Bltu, Bgeu, Lb, Lh, Lw, Lbu, Lhu, Sb, Sh, Sw, Addi, Slti, Sltiu, Xori, Ori, Andi, Slli, Srli, Srai, Add, Sub, Sll, Slt, Sltu, Xor, Srl, Sra, Or, And, Mul, Mulh, Mulhsu, Mulhu, Div, Divu, Rem, Remu, Fence, Ecall, Ebreak}
@@ -185,14 +186,14 @@ FAULT = 11
 abbrev pub writes : Regs → Memory → ℕ → ℕ → Effect
 writes regs memory rd value = Next (at_pc (with_reg regs rd value) (next_pc regs)) memory
 
-abbrev pub goes_to : Regs → Memory → ℕ → Effect
+abbrev pub goes_to : Regs → Memory → Address → Effect
 goes_to regs memory target = if target % 4 == 0 then Next (at_pc regs target) memory else Traps MISALIGNED
 
-abbrev pub jumps : Regs → Memory → ℕ → ℕ → Effect
+abbrev pub jumps : Regs → Memory → ℕ → Address → Effect
 jumps regs memory rd target =
     if target % 4 == 0 then Next (at_pc (with_reg regs rd (next_pc regs)) target) memory else Traps MISALIGNED
 
-abbrev pub branches : Regs → Memory → Bool → ℕ → Effect
+abbrev pub branches : Regs → Memory → Bool → Address → Effect
 branches regs memory taken target =
     if taken then goes_to regs memory target else Next (at_pc regs (next_pc regs)) memory
 

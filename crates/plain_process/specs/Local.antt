@@ -1,7 +1,8 @@
 -- What a call does that its process answers alone: one row a call.
 --     local_row user t q      the process's part after the call q of its thread t
-use Rattle.std.specs.Prelude.{ℕ, List, [], Option, Some, None}
+use Rattle.std.specs.Prelude.{List, [], Option, Some, None}
 use Rattle.std.specs.FinMap as map
+use Rattle.views.specs.Numbers.{Address, ThreadNumber, Byte}
 use Rattle.sys_abi.specs.declared.request.Request.{Request}
 use Rattle.sys_abi.specs.declared.request.Request.TheVariants.{SetTidAddress, Futex, SchedYield, RtSigaction, RtSigprocmask, RtSigreturn, Gettid, Brk, Munmap, Mmap}
 use Rattle.sys_abi.specs.declared.reply.Reply.TheVariants.{Value}
@@ -19,7 +20,7 @@ use Rattle.plain_process.specs.Rows.Handlers.{sigaction_row, sigprocmask_row, si
 use Rattle.plain_process.specs.Rows.Mappings.{brk_row, munmap_row, mmap_row}
 
 -- set_tid_address(place) (`man 2 set_tid_address`)
-abbrev pub with_clear_tid : ThreadPart → ℕ → ThreadPart
+abbrev pub with_clear_tid : ThreadPart → Address → ThreadPart
 with_clear_tid thread place = record {
   regs = thread.regs;
   mask = thread.mask;
@@ -27,11 +28,11 @@ with_clear_tid thread place = record {
   contexts = thread.contexts;
 }
 
-unfoldable pub set_tid_address_row : UserPart → ℕ → ThreadPart → ℕ → Try Local
+unfoldable pub set_tid_address_row : UserPart → ThreadNumber → ThreadPart → Address → Try Local
 set_tid_address_row user t thread place =
     local_reply (with_thread user t (with_clear_tid thread place) user.memory) t
 
-unfoldable pub local_by : UserPart → ℕ → ThreadPart → Request → List ℕ → Try Local
+unfoldable pub local_by : UserPart → ThreadNumber → ThreadPart → Request → List Byte → Try Local
 local_by user t thread (SetTidAddress place) given = set_tid_address_row user t thread place
 local_by user t thread (Futex address operation value timeout) given =
     futex_row user t given address operation value timeout
@@ -48,16 +49,16 @@ local_by user t thread (Mmap address length protection flags fd offset) given =
 local_by user t thread _ given = Fails ENOSYS
 
 -- an error changes nothing but the thread's registers
-abbrev pub local_settled : UserPart → ℕ → Request → Try Local → UserPart
+abbrev pub local_settled : UserPart → ThreadNumber → Request → Try Local → UserPart
 local_settled user t q (Fails e) = put user t q (error e) []
 local_settled user t q NotReady = user
 local_settled user t q (Gives (Replies after value bytes)) = put after t q (Value value) bytes
 local_settled user t q (Gives (Stays after)) = after
 
-abbrev pub local_lent : UserPart → ℕ → Request → Option ThreadPart → Option (List ℕ) → UserPart
+abbrev pub local_lent : UserPart → ThreadNumber → Request → Option ThreadPart → Option (List Byte) → UserPart
 local_lent user t q None given = user
 local_lent user t q (Some thread) None = put_fault user t q
 local_lent user t q (Some thread) (Some given) = local_settled user t q (local_by user t thread q given)
 
-unfoldable pub local_row : UserPart → ℕ → Request → UserPart
+unfoldable pub local_row : UserPart → ThreadNumber → Request → UserPart
 local_row user t q = local_lent user t q (map.get user.threads t) (lent user.memory q)

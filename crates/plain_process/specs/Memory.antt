@@ -7,6 +7,7 @@ use Rattle.std.specs.Prelude.{◌==◌, ℕ, zero, suc, ◌+◌, ◌*◌, ◌/�
 use Rattle.std.specs.Option.{option_map}
 use Rattle.std.specs.Ordering.{nat_cmp}
 use Rattle.std.specs.FinMap as map
+use Rattle.views.specs.Numbers.{Address, Byte}
 use Rattle.plain_process.specs.declared.memory.Right.{Right}
 use Rattle.plain_process.specs.declared.memory.Right.TheVariants.{Read, Write, Execute}
 use Rattle.plain_process.specs.declared.memory.Frame.{Frame}
@@ -20,58 +21,58 @@ allows Read rights = rights / 4 % 2 == 1
 allows Write rights = rights / 2 % 2 == 1
 allows Execute rights = rights % 2 == 1
 
-abbrev pub byte_in : Right → ℕ → Option Frame → Option ℕ
+abbrev pub byte_in : Right → ℕ → Option Frame → Option Byte
 byte_in right offset None = None
 byte_in right offset (Some frame) =
     if allows right frame.rights then Some (slice_index frame.page offset) else None
 
-unfoldable pub byte_at : Memory → Right → ℕ → Option ℕ
+unfoldable pub byte_at : Memory → Right → Address → Option Byte
 byte_at memory right address = byte_in right (address % 4096) (map.get memory (address / 4096))
 
-abbrev pub followed_by : Option (List ℕ) → Option ℕ → Option (List ℕ)
+abbrev pub followed_by : Option (List Byte) → Option Byte → Option (List Byte)
 followed_by (Some front) (Some byte) = Some (front ++ byte ∷ [])
 followed_by _ _ = None
 
-unfoldable pub bytes_at : Memory → Right → ℕ → ℕ → Option (List ℕ)
+unfoldable pub bytes_at : Memory → Right → Address → ℕ → Option (List Byte)
 bytes_at memory right address zero = Some []
 bytes_at memory right address (suc n) =
     followed_by (bytes_at memory right address n) (byte_at memory right (address + n))
 
-abbrev pub with_byte_in : Memory → ℕ → ℕ → ℕ → Option Frame → Memory
+abbrev pub with_byte_in : Memory → ℕ → ℕ → Byte → Option Frame → Memory
 with_byte_in memory page offset byte None = memory
 with_byte_in memory page offset byte (Some frame) =
     map.insert memory page (record { rights = frame.rights; page = slice_set frame.page offset byte })
 
-unfoldable pub with_byte : Memory → ℕ → ℕ → Memory
+unfoldable pub with_byte : Memory → Address → Byte → Memory
 with_byte memory address byte =
     with_byte_in memory (address / 4096) (address % 4096) byte (map.get memory (address / 4096))
 
-unfoldable pub with_bytes : Memory → ℕ → List ℕ → Memory
+unfoldable pub with_bytes : Memory → Address → List Byte → Memory
 with_bytes memory address [] = memory
 with_bytes memory address (byte ∷ rest) = with_bytes (with_byte memory address byte) (address + 1) rest
 
 -- the number that bytes spell, the least significant first
-abbrev pub little_endian : List ℕ → ℕ
+abbrev pub little_endian : List Byte → ℕ
 little_endian [] = 0
 little_endian (byte ∷ rest) = byte + 256 * little_endian rest
 
 -- the first n bytes of a number, the least significant first
-abbrev pub low_bytes : ℕ → ℕ → List ℕ
+abbrev pub low_bytes : ℕ → ℕ → List Byte
 low_bytes zero value = []
 low_bytes (suc n) value = (value % 256) ∷ low_bytes n (value / 256)
 
-abbrev pub load : Memory → ℕ → ℕ → Option ℕ
+abbrev pub load : Memory → Address → ℕ → Option ℕ
 load memory address size = option_map little_endian (bytes_at memory Read address size)
 
-abbrev pub fetch : Memory → ℕ → Option ℕ
+abbrev pub fetch : Memory → Address → Option ℕ
 fetch memory address = option_map little_endian (bytes_at memory Execute address 4)
 
 -- the bytes are written where each of them may be, and else none is
-abbrev pub store_bytes : Memory → ℕ → List ℕ → Option Memory
+abbrev pub store_bytes : Memory → Address → List Byte → Option Memory
 store_bytes memory address bytes =
     if is_some (bytes_at memory Write address (length bytes)) then
     Some (with_bytes memory address bytes)
     else None
 
-abbrev pub store : Memory → ℕ → ℕ → ℕ → Option Memory
+abbrev pub store : Memory → Address → ℕ → ℕ → Option Memory
 store memory address size value = store_bytes memory address (low_bytes size value)

@@ -6,6 +6,7 @@
 use Rattle.std.specs.Prelude.{◌≡◌, ℕ, zero, suc, ◌+◌, ◌-◌, ◌/◌, ◌<◌, ◌≤◌, ◌&&◌, not, nat_le, nat_lt, Bool, true, find, Option, None, is_some}
 use Rattle.std.specs.List.{range_with_len}
 use Rattle.std.specs.FinMap as map
+use Rattle.views.specs.Numbers.{Address}
 use Rattle.plain_process.specs.Memory.{Memory}
 
 -- so many bytes from a page's start on touch so many pages
@@ -26,10 +27,10 @@ is_free memory page zero = true
 is_free memory page (suc n) = is_free memory page n && not (is_some (map.get memory (page + n)))
 
 -- mappings lie from 0x40000000 to below 0x70000000
-abbrev pub MAPPING_START : ℕ
+abbrev pub MAPPING_START : Address
 MAPPING_START = 0x40000000
 
-abbrev pub MAPPING_END : ℕ
+abbrev pub MAPPING_END : Address
 MAPPING_END = 0x70000000
 
 abbrev pub first_free : Memory → ℕ → ℕ → ℕ → Option ℕ

@@ -6,6 +6,7 @@
 --     CanTake memory spans bytes    the bytes can be written where an answer puts them
 use Rattle.std.specs.Prelude.{◌≡◌, ℕ, ◌-◌, List, [], ◌∷◌, length, take, drop, Option, Some, None, is_some, true}
 use Rattle.std.specs.FinMap as map
+use Rattle.views.specs.Numbers.{Address, ThreadNumber, Flags, Byte}
 use Rattle.sys_abi.specs.declared.request.Request.{Request}
 use Rattle.sys_abi.specs.declared.request.Request.TheVariants.{Exit, Clone}
 use Rattle.sys_abi.specs.declared.reply.Reply.{Reply}
@@ -27,17 +28,17 @@ pub use Rattle.plain_process.specs.Replies.{word_of, error}
 pub use Rattle.plain_process.specs.Threads.{after_call}
 
 -- the bytes in the first span; where there are two, the last ones fill the second
-abbrev pub with_spans : Memory → List Span → List ℕ → Memory
+abbrev pub with_spans : Memory → List Span → List Byte → Memory
 with_spans memory [] bytes = memory
 with_spans memory (at ∷ []) bytes = with_bytes memory at.address bytes
 with_spans memory (at ∷ next ∷ rest) bytes =
     let front = length bytes - next.length in
     with_bytes (with_bytes memory at.address (take front bytes)) next.address (drop front bytes)
 
-abbrev pub CanHold : Memory → ℕ → List ℕ → Type 0
+abbrev pub CanHold : Memory → Address → List Byte → Type 0
 CanHold memory address bytes = is_some (bytes_at memory ToWrite address (length bytes)) ≡ true
 
-abbrev pub CanTake : Memory → List Span → List ℕ → Type 0
+abbrev pub CanTake : Memory → List Span → List Byte → Type 0
 CanTake memory [] bytes = Unit {0}
 CanTake memory (at ∷ []) bytes = CanHold memory at.address bytes
 CanTake memory (at ∷ next ∷ rest) bytes =
@@ -46,11 +47,11 @@ CanTake memory (at ∷ next ∷ rest) bytes =
     × CanHold (with_bytes memory at.address (take front bytes)) next.address (drop front bytes)
 
 -- the number of the thread that an answer adds: that which a clone of this form answers
-abbrev pub added_by : Reply → Option CloneForm → Option ℕ
+abbrev pub added_by : Reply → Option CloneForm → Option ThreadNumber
 added_by (Value new) (Some Thread) = Some new
 added_by _ _ = None
 
-unfoldable pub added_thread : Request → Reply → Option ℕ
+unfoldable pub added_thread : Request → Reply → Option ThreadNumber
 added_thread (Clone flags stack parent_tid tls child_tid) reply = added_by reply (clone_form flags)
 added_thread q reply = None
 
@@ -64,27 +65,28 @@ made_by (Clone flags stack parent_tid tls child_tid) reply = made_as reply (clon
 made_by q reply = None
 
 -- what an answer does to the threads: an exit ends the caller, and a clone may add one
-abbrev pub with_added : UserPart → ℕ → ℕ → ℕ → ℕ → ℕ → Option ℕ → UserPart
+abbrev pub with_added : UserPart → ThreadNumber → Flags → Address → Address → Address → Option ThreadNumber
+    → UserPart
 with_added user t flags stack tls child_tid None = user
 with_added user t flags stack tls child_tid (Some new) = with_new_thread user t new flags stack tls child_tid
 
-unfoldable pub after_threads : UserPart → ℕ → Request → Reply → UserPart
+unfoldable pub after_threads : UserPart → ThreadNumber → Request → Reply → UserPart
 after_threads user t (Exit code) reply = after_thread_end user t
 after_threads user t (Clone flags stack parent_tid tls child_tid) reply =
     with_added user t flags stack tls child_tid
     (added_thread (Clone flags stack parent_tid tls child_tid) reply)
 after_threads user t _ reply = user
 
-abbrev pub put_by : UserPart → ℕ → Request → Reply → Memory → Option ThreadPart → UserPart
+abbrev pub put_by : UserPart → ThreadNumber → Request → Reply → Memory → Option ThreadPart → UserPart
 put_by user t q reply memory None = user
 put_by user t q reply memory (Some thread) =
     after_threads (with_thread user t (after_call thread (word_of reply)) memory) t q reply
 
-unfoldable pub put : UserPart → ℕ → Request → Reply → List ℕ → UserPart
+unfoldable pub put : UserPart → ThreadNumber → Request → Reply → List Byte → UserPart
 put user t q reply bytes =
     put_by user t q reply (with_spans user.memory (filled_spans user.memory q) bytes)
     (map.get user.threads t)
 
 -- the answer of a call with a buffer that isn't readable or writable as needed
-abbrev pub put_fault : UserPart → ℕ → Request → UserPart
+abbrev pub put_fault : UserPart → ThreadNumber → Request → UserPart
 put_fault user t q = put user t q (error EFAULT) []

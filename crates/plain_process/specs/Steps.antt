@@ -3,6 +3,7 @@
 use Rattle.std.specs.Prelude.{◌==◌, ℕ, zero, suc, Bool, Option, Some, None, option_and_then, if◌then◌else◌}
 use Rattle.std.specs.List.{list_any}
 use Rattle.std.specs.FinMap as map
+use Rattle.views.specs.Numbers.{ThreadNumber}
 use Rattle.sys_abi.specs.declared.request.Request.{Request}
 use Rattle.sys_abi.specs.Requests.{request_of}
 use Rattle.plain_process.specs.declared.instruction.Insn.{Insn}
@@ -48,7 +49,7 @@ pub data UserStep : Type 0 where
   Waits : UserStep
   NoThread : UserStep
 
-abbrev pub waits : UserPart → ℕ → Bool
+abbrev pub waits : UserPart → ThreadNumber → Bool
 waits user t = list_any (λ waiter. waiter.tid == t) user.waiters
 
 abbrev pub with_regs : ThreadPart → Regs → ThreadPart
@@ -59,7 +60,7 @@ with_regs thread regs = record {
   contexts = thread.contexts;
 }
 
-abbrev pub with_thread : UserPart → ℕ → ThreadPart → Memory → UserPart
+abbrev pub with_thread : UserPart → ThreadNumber → ThreadPart → Memory → UserPart
 with_thread user t thread memory = record {
   memory = memory;
   break_start = user.break_start;
@@ -69,17 +70,17 @@ with_thread user t thread memory = record {
   waiters = user.waiters;
 }
 
-abbrev pub step_by : UserPart → ℕ → ThreadPart → Effect → UserStep
+abbrev pub step_by : UserPart → ThreadNumber → ThreadPart → Effect → UserStep
 step_by user t thread (Next regs memory) = Stepped (with_thread user t (with_regs thread regs) memory)
 step_by user t thread Calls = Asks (request_of thread.regs.x)
 step_by user t thread (Traps s) = Trapped s
 
-abbrev pub step_of : UserPart → ℕ → Option ThreadPart → UserStep
+abbrev pub step_of : UserPart → ThreadNumber → Option ThreadPart → UserStep
 step_of user t None = NoThread
 step_of user t (Some thread) =
     if waits user t then Waits else step_by user t thread (effect_at thread.regs user.memory)
 
-unfoldable pub user_step : UserPart → ℕ → UserStep
+unfoldable pub user_step : UserPart → ThreadNumber → UserStep
 user_step user t = step_of user t (map.get user.threads t)
 
 abbrev pub stepped : UserStep → Option UserPart
@@ -87,6 +88,6 @@ stepped (Stepped user) = Some user
 stepped _ = None
 
 -- the part after n steps of a thread in a row
-unfoldable pub user_steps : ℕ → UserPart → ℕ → Option UserPart
+unfoldable pub user_steps : ℕ → UserPart → ThreadNumber → Option UserPart
 user_steps zero user t = Some user
 user_steps (suc n) user t = option_and_then (λ before. stepped (user_step before t)) (user_steps n user t)

@@ -11,6 +11,7 @@
 --     child_of user t new q             the part of the child that the call q makes of a process whose thread t stands there
 use Rattle.std.specs.Prelude.{◌==◌, ℕ, zero, suc, ◌+◌, Bool, not, List, [], ◌∷◌, ◌++◌, filter, find, Option, Some, None, unwrap_or, if◌then◌else◌}
 use Rattle.std.specs.FinMap as map
+use Rattle.views.specs.Numbers.{Address, ThreadNumber, Flags}
 use Rattle.sys_abi.specs.declared.flags.TheConstants.{CLONE_CHILD_CLEARTID, CLONE_CHILD_SETTID, CLONE_SETTLS}
 use Rattle.sys_abi.specs.declared.request.Request.{Request}
 use Rattle.sys_abi.specs.declared.request.Request.TheVariants.{Clone}
@@ -31,20 +32,20 @@ after_call thread value = with_regs thread (at_pc (with_reg thread.regs A0 value
 abbrev pub with_waiters : UserPart → List Waiter → UserPart
 with_waiters user waiters = record user { waiters = waiters }
 
-abbrev pub without_waiter : ℕ → List Waiter → List Waiter
+abbrev pub without_waiter : ThreadNumber → List Waiter → List Waiter
 without_waiter t waiters = filter (λ waiter. not (waiter.tid == t)) waiters
 
-abbrev pub waiting : UserPart → ℕ → ℕ → UserPart
+abbrev pub waiting : UserPart → ThreadNumber → Address → UserPart
 waiting user t address = with_waiters user (user.waiters ++ record { tid = t; address = address } ∷ [])
 
-abbrev pub awake_by : UserPart → ℕ → Option ThreadPart → UserPart
+abbrev pub awake_by : UserPart → ThreadNumber → Option ThreadPart → UserPart
 awake_by user t None = user
 awake_by user t (Some thread) = with_thread user t (after_call thread 0) user.memory
 
-unfoldable pub awake : UserPart → ℕ → UserPart
+unfoldable pub awake : UserPart → ThreadNumber → UserPart
 awake user t = awake_by (with_waiters user (without_waiter t user.waiters)) t (map.get user.threads t)
 
-abbrev pub first_waiter : ℕ → List Waiter → Option Waiter
+abbrev pub first_waiter : Address → List Waiter → Option Waiter
 first_waiter address waiters = find (λ waiter. waiter.address == address) waiters
 
 pub record Woken : Type 0 where
@@ -55,31 +56,31 @@ abbrev pub woken_by : Woken → Option Waiter → Woken
 woken_by woken None = woken
 woken_by woken (Some waiter) = record { user = awake woken.user waiter.tid; count = woken.count + 1 }
 
-unfoldable pub wake_one : ℕ → Woken → Woken
+unfoldable pub wake_one : Address → Woken → Woken
 wake_one address woken = woken_by woken (first_waiter address woken.user.waiters)
 
-unfoldable pub wake : ℕ → ℕ → UserPart → Woken
+unfoldable pub wake : ℕ → Address → UserPart → Woken
 wake zero address user = record { user = user; count = 0 }
 wake (suc n) address user = wake_one address (wake n address user)
 
 -- the end of a thread
 
-abbrev pub without_thread : UserPart → ℕ → UserPart
+abbrev pub without_thread : UserPart → ThreadNumber → UserPart
 without_thread user t =
     record user { threads = map.remove user.threads t; waiters = without_waiter t user.waiters }
 
 -- a word that can't be written stays
-abbrev pub with_cleared : UserPart → ℕ → UserPart
+abbrev pub with_cleared : UserPart → Address → UserPart
 with_cleared user address = record user { memory = unwrap_or (store user.memory address 4 0) user.memory }
 
-abbrev pub after_clearing : UserPart → ℕ → UserPart
+abbrev pub after_clearing : UserPart → Address → UserPart
 after_clearing user address = if address == 0 then user else (wake 1 address (with_cleared user address)).user
 
-abbrev pub thread_end_by : UserPart → ℕ → Option ThreadPart → UserPart
+abbrev pub thread_end_by : UserPart → ThreadNumber → Option ThreadPart → UserPart
 thread_end_by user t None = user
 thread_end_by user t (Some thread) = after_clearing (without_thread user t) thread.clear_tid
 
-unfoldable pub after_thread_end : UserPart → ℕ → UserPart
+unfoldable pub after_thread_end : UserPart → ThreadNumber → UserPart
 after_thread_end user t = thread_end_by user t (map.get user.threads t)
 
 -- a new thread: the caller's registers after the call, but a0 is 0, the stack and the thread pointer are those that the call names; the caller's mask
@@ -87,13 +88,13 @@ after_thread_end user t = thread_end_by user t (map.get user.threads t)
 abbrev pub with_reg_if : Bool → Regs → ℕ → ℕ → Regs
 with_reg_if wanted regs i value = if wanted then with_reg regs i value else regs
 
-abbrev pub new_regs : Regs → ℕ → ℕ → ℕ → Regs
+abbrev pub new_regs : Regs → Flags → Address → Address → Regs
 new_regs regs flags stack tls =
     with_reg
     (with_reg_if (has_flag flags CLONE_SETTLS) (with_reg_if (not (stack == 0)) regs SP stack) TP tls)
     A0 0
 
-abbrev pub new_thread : ThreadPart → ℕ → ℕ → ℕ → ℕ → ThreadPart
+abbrev pub new_thread : ThreadPart → Flags → Address → Address → Address → ThreadPart
 new_thread caller flags stack tls child_tid = record {
   regs = new_regs caller.regs flags stack tls;
   mask = caller.mask;
@@ -101,29 +102,32 @@ new_thread caller flags stack tls child_tid = record {
   contexts = [];
 }
 
-abbrev pub with_new_thread_by : UserPart → ℕ → ℕ → ℕ → ℕ → ℕ → Option ThreadPart → UserPart
+abbrev pub with_new_thread_by : UserPart → ThreadNumber → Flags → Address → Address → Address
+    → Option ThreadPart → UserPart
 with_new_thread_by user new flags stack tls child_tid None = user
 with_new_thread_by user new flags stack tls child_tid (Some caller) =
     with_thread user new (new_thread caller flags stack tls child_tid) user.memory
 
-unfoldable pub with_new_thread : UserPart → ℕ → ℕ → ℕ → ℕ → ℕ → ℕ → UserPart
+unfoldable pub with_new_thread : UserPart → ThreadNumber → ThreadNumber → Flags → Address → Address
+    → Address → UserPart
 with_new_thread user t new flags stack tls child_tid =
     with_new_thread_by user new flags stack tls child_tid (map.get user.threads t)
 
 -- the same, where the caller still stands at the call
-abbrev pub with_called_thread_by : UserPart → ℕ → ℕ → ℕ → ℕ → ℕ → Option ThreadPart → UserPart
+abbrev pub with_called_thread_by : UserPart → ThreadNumber → Flags → Address → Address → Address
+    → Option ThreadPart → UserPart
 with_called_thread_by user new flags stack tls child_tid None = user
 with_called_thread_by user new flags stack tls child_tid (Some caller) =
     with_thread user new (new_thread (after_call caller 0) flags stack tls child_tid) user.memory
 
-unfoldable pub with_called_thread : UserPart → ℕ → ℕ → Request → UserPart
+unfoldable pub with_called_thread : UserPart → ThreadNumber → ThreadNumber → Request → UserPart
 with_called_thread user t new (Clone flags stack parent_tid tls child_tid) =
     with_called_thread_by user new flags stack tls child_tid (map.get user.threads t)
 with_called_thread user t new _ = user
 
 -- a fork's child: its one thread goes on as its caller would, but with the answer 0, with the caller's mask and contexts; no thread waits; its number stands
 -- in its memory where the flags ask for that
-abbrev pub child_thread : ThreadPart → ℕ → ℕ → ℕ → ℕ → ThreadPart
+abbrev pub child_thread : ThreadPart → Flags → Address → Address → Address → ThreadPart
 child_thread caller flags stack tls child_tid = record {
   regs = new_regs (after_call caller 0).regs flags stack tls;
   mask = caller.mask;
@@ -131,11 +135,12 @@ child_thread caller flags stack tls child_tid = record {
   contexts = caller.contexts;
 }
 
-abbrev pub child_memory : Memory → ℕ → ℕ → ℕ → Memory
+abbrev pub child_memory : Memory → Flags → Address → ThreadNumber → Memory
 child_memory memory flags child_tid new =
     if has_flag flags CLONE_CHILD_SETTID then with_bytes memory child_tid (low_bytes 4 new) else memory
 
-abbrev pub child_by : UserPart → ℕ → ℕ → ℕ → ℕ → ℕ → Option ThreadPart → UserPart
+abbrev pub child_by : UserPart → ThreadNumber → Flags → Address → Address → Address → Option ThreadPart
+    → UserPart
 child_by user new flags stack tls child_tid None = user
 child_by user new flags stack tls child_tid (Some caller) = record user {
   memory = child_memory user.memory flags child_tid new;
@@ -143,7 +148,7 @@ child_by user new flags stack tls child_tid (Some caller) = record user {
   waiters = [];
 }
 
-unfoldable pub child_of : UserPart → ℕ → ℕ → Request → UserPart
+unfoldable pub child_of : UserPart → ThreadNumber → ThreadNumber → Request → UserPart
 child_of user t new (Clone flags stack parent_tid tls child_tid) =
     child_by user new flags stack tls child_tid (map.get user.threads t)
 child_of user t new _ = user

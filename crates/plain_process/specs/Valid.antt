@@ -6,6 +6,7 @@ use Rattle.std.specs.Prelude.{◌≡◌, ◌≢◌, ℕ, ◌*◌, ◌%◌, ◌^�
 use Rattle.std.specs.Ordering.{nat_cmp}
 use Rattle.std.specs.declared.cmp.Ordering.{Ordering}
 use Rattle.std.specs.FinMap as map
+use Rattle.views.specs.Numbers.{Address}
 use Rattle.views.specs.Limits.{THREAD_LIMIT, CONTEXT_LIMIT, PAGE_LIMIT, BREAK_LIMIT}
 use Rattle.sys_abi.specs.declared.request.Request.{Request}
 use Rattle.sys_abi.specs.declared.request.Request.TheVariants.{Eventfd2, Dup, Dup3, Fcntl, Unlinkat, Openat, Close, Pipe2, Lseek, Read, Write, Exit, ExitGroup, SetTidAddress, Futex, Kill, Tgkill, RtSigaction, RtSigprocmask, Socket, Socketpair, Bind, Listen, Accept, Connect, Getsockname, Getpeername, Setsockopt, Shutdown, Brk, Munmap, Clone, Mmap, Wait4, Unknown}
@@ -61,7 +62,7 @@ pub record IsWaiter (threads : map.FinMap nat_cmp ThreadPart) (waiter : Waiter) 
   pub address : IsWord waiter.address
 
 -- of the pages from the break's start to below 0x40000000 those are there that hold a byte below the break, and no others
-abbrev pub IsHeap : Memory → ℕ → ℕ → Type 0
+abbrev pub IsHeap : Memory → Address → Address → Type 0
 IsHeap memory break_start break_end =
     (place : ℕ) → break_start ≤ 4096 * place → place < 0x40000
     → is_some (map.get memory place) ≡ nat_lt (4096 * place) break_end

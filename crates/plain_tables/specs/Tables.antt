@@ -6,6 +6,7 @@ use Rattle.std.specs.List.{list_any}
 use Rattle.std.specs.Ordering.{nat_cmp, eq_by_cmp}
 use Rattle.std.specs.declared.cmp.Ordering.{Ordering}
 use Rattle.std.specs.FinMap as map
+use Rattle.views.specs.Numbers.{ThreadNumber, SignalNumber, Flags}
 use Rattle.sys_abi.specs.declared.identity.VPid.{VPid}
 use Rattle.sys_abi.specs.declared.identity.DescId.{DescId}
 use Rattle.sys_abi.specs.declared.identity.Slot.{Slot}
@@ -40,7 +41,7 @@ is_live_process None = false
 is_live_process (Some process) = lives process.life
 
 -- access modes: 0 reads, 1 writes, 2 both
-abbrev pub may_write : ℕ → Bool
+abbrev pub may_write : Flags → Bool
 may_write flags = (flags % 4 == 1) || (flags % 4 == 2)
 
 abbrev pub refers_to : DescId → Descriptor → Bool
@@ -55,27 +56,27 @@ is_slot_of p at = at.pid.0 == p.0
 
 -- pending signals: those of a thread are taken before those of its process
 
-abbrev pub signals_of : ℕ → Process → ℕ
+abbrev pub signals_of : ThreadNumber → Process → ℕ
 signals_of t process = unwrap_or (map.get process.threads t) 0
 
-abbrev pub pending_in : ℕ → Option Process → ℕ
+abbrev pub pending_in : ThreadNumber → Option Process → ℕ
 pending_in t None = 0
 pending_in t (Some process) = bit_or (signals_of t process) process.pending
 
-abbrev pub with_signals : Process → ℕ → ℕ → Process
+abbrev pub with_signals : Process → ThreadNumber → ℕ → Process
 with_signals process t signals = record process { threads = map.insert process.threads t signals }
 
-abbrev pub taken_from : ℕ → ℕ → Process → Process
+abbrev pub taken_from : ThreadNumber → SignalNumber → Process → Process
 taken_from t s process =
     if has_signal (signals_of t process) s
     then with_signals process t (without_signal (signals_of t process) s) else
     record process { pending = without_signal process.pending s }
 
-abbrev pub raised_at : ℕ → ℕ → Process → Process
+abbrev pub raised_at : ThreadNumber → SignalNumber → Process → Process
 raised_at t s process = with_signals process t (with_signal (signals_of t process) s)
 
 -- for all threads of the process
-abbrev pub raised_for_all : ℕ → Process → Process
+abbrev pub raised_for_all : SignalNumber → Process → Process
 raised_for_all s process = record process { pending = with_signal process.pending s }
 
 abbrev pub Processes : Type 0
@@ -129,14 +130,14 @@ abbrev pub thread_count_in : Option Process → ℕ
 thread_count_in None = 0
 thread_count_in (Some process) = map.len process.threads
 
-abbrev pub has_thread_in : ℕ → Option Process → Bool
+abbrev pub has_thread_in : ThreadNumber → Option Process → Bool
 has_thread_in t None = false
 has_thread_in t (Some process) = is_some (map.get process.threads t)
 
-abbrev pub without_thread_entry : ℕ → Process → Process
+abbrev pub without_thread_entry : ThreadNumber → Process → Process
 without_thread_entry t process = record process { threads = map.remove process.threads t }
 
-abbrev pub with_thread_entry : ℕ → Process → Process
+abbrev pub with_thread_entry : ThreadNumber → Process → Process
 with_thread_entry t process = with_signals process t 0
 
 -- both are there, and on one host (`man 2 kill`)

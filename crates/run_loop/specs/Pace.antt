@@ -5,6 +5,7 @@
 --     LinesOf trace lines                  the lines of a trace, all of them or cut off in that of its last record
 --     KeepsPace end g trace sink log       what this says of a run by how it ended
 use Rattle.std.specs.Prelude.{◌≡◌, ◌⊎◌, ℕ, true, List, [], ◌∷◌, ◌++◌, Some}
+use Rattle.views.specs.Numbers.{Byte}
 use Rattle.sys_abi.specs.declared.record.Record.{Record}
 use Rattle.plain_machine.specs.declared.plain.Plain.{Plain}
 use Rattle.plain_machine.specs.Runs.{run, console}
@@ -34,7 +35,7 @@ StopsAtRecord g trace sink log =
     ⊎ (Took sink (console g trace) × ((lines : List ℕ) × (CutLines trace lines × Took log lines)))
 
 -- the lines of a trace, all of them or cut off in that of its last record
-abbrev pub LinesOf : List Record → List ℕ → Type 0
+abbrev pub LinesOf : List Record → List Byte → Type 0
 LinesOf trace lines = (lines ≡ log_text trace) ⊎ CutLines trace lines
 
 abbrev pub KeepsPace : RunEnd → Plain → List Record → Sunk → Sunk → Type 0

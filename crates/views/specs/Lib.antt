@@ -5,3 +5,4 @@ pub mod Bytes
 pub mod Seen
 pub mod Leasts
 pub mod Limits
+pub mod Numbers

@@ -1,6 +1,7 @@
 -- pipe2(fds, flags), socketpair(domain, type, protocol, fds) (`man 2 pipe2`, `man 2 socketpair`): two ends
 -- behind the free descriptor and the next one, whose numbers are answered.
 use Rattle.std.specs.Prelude.{◌==◌, ◌&&◌, ◌||◌, ℕ, ◌+◌, ◌-◌, ◌%◌, not, Bool, [], ◌++◌, if◌then◌else◌}
+use Rattle.views.specs.Numbers.{Flags}
 use Rattle.sys_abi.specs.declared.identity.VPid.{VPid}
 use Rattle.sys_abi.specs.declared.errors.TheConstants.{EINVAL, ENFILE, EOPNOTSUPP, EAFNOSUPPORT}
 use Rattle.sys_abi.specs.declared.flags.TheConstants.{O_WRONLY, O_RDWR, O_CLOEXEC}
@@ -31,16 +32,16 @@ numbers_answered k first second = record {
   console = [];
 }
 
-abbrev pub new_end : ℕ → ℕ → ℕ → NewEnd
+abbrev pub new_end : ℕ → ℕ → Flags → NewEnd
 new_end fd side flags = record { fd = fd; side = side; flags = flags }
 
 -- the first descriptor reads from side 1, the second one writes at side 0
-abbrev pub with_pipe : PlainKernel → VPid → ℕ → ℕ → ℕ → PlainKernel
+abbrev pub with_pipe : PlainKernel → VPid → Flags → ℕ → ℕ → PlainKernel
 with_pipe k p flags reader writer =
     with_ends k p Pipe (has_flag flags O_CLOEXEC) (new_end reader 1 (end_flags 0 flags))
     (new_end writer 0 (end_flags O_WRONLY flags))
 
-unfoldable pub pipe2_row : PlainKernel → VPid → ℕ → Try Served
+unfoldable pub pipe2_row : PlainKernel → VPid → Flags → Try Served
 pipe2_row k p flags = do
   need (are_making_flags flags) EINVAL
   need (has_channel_room k p) ENFILE
@@ -59,22 +60,22 @@ is_pair_type socket_type =
     ((socket_type % 16 == STREAMS) || (socket_type % 16 == DATAGRAMS))
     && are_making_flags (socket_type - socket_type % 16)
 
-abbrev pub with_stream_pair : PlainKernel → VPid → ℕ → ℕ → ℕ → PlainKernel
+abbrev pub with_stream_pair : PlainKernel → VPid → Flags → ℕ → ℕ → PlainKernel
 with_stream_pair k p flags first second =
     with_ends k p Pair (has_flag flags O_CLOEXEC) (new_end first 0 (end_flags O_RDWR flags))
     (new_end second 1 (end_flags O_RDWR flags))
 
-unfoldable pub stream_pair : PlainKernel → VPid → ℕ → Try Served
+unfoldable pub stream_pair : PlainKernel → VPid → Flags → Try Served
 stream_pair k p flags = do
   need (has_channel_room k p) ENFILE
   fds ← two_free k p
   Gives (numbers_answered (with_stream_pair k p flags fds.0 fds.1) fds.0 fds.1)
 
-abbrev pub with_datagram_pair : PlainKernel → VPid → ℕ → ℕ → ℕ → PlainKernel
+abbrev pub with_datagram_pair : PlainKernel → VPid → Flags → ℕ → ℕ → PlainKernel
 with_datagram_pair k p flags first second =
     with_datagrams k p (has_flag flags O_CLOEXEC) (end_flags O_RDWR flags) first second
 
-unfoldable pub datagram_pair : PlainKernel → VPid → ℕ → Try Served
+unfoldable pub datagram_pair : PlainKernel → VPid → Flags → Try Served
 datagram_pair k p flags = do
   need (has_numbers k p) ENFILE
   fds ← two_free k p

@@ -3,6 +3,7 @@
 -- is the child's own.
 use Rattle.std.specs.Prelude.{◌&&◌, ℕ, ◌-◌, ◌^◌, nat_lt, List, [], ◌++◌, Option, Some, None, Bool, if◌then◌else◌}
 use Rattle.std.specs.FinMap as map
+use Rattle.views.specs.Numbers.{Flags, Byte}
 use Rattle.views.specs.Limits.{PROCESS_LIMIT, THREAD_LIMIT}
 use Rattle.sys_abi.specs.declared.identity.VPid.{VPid}
 use Rattle.sys_abi.specs.declared.reply.Reply.TheVariants.{Value}
@@ -23,16 +24,16 @@ use Rattle.sys_abi.specs.Flags.{has_flag}
 abbrev pub LAST_ID : ℕ
 LAST_ID = 2 ^ 31 - 1
 
-abbrev pub number_if : Bool → ℕ → List ℕ
+abbrev pub number_if : Bool → ℕ → List Byte
 number_if wanted number = if wanted then low_bytes 4 number else []
 
 -- the new number, for each place that the flags name
-abbrev pub number_bytes : ℕ → ℕ → List ℕ
+abbrev pub number_bytes : Flags → ℕ → List Byte
 number_bytes flags number =
     number_if (has_flag flags CLONE_PARENT_SETTID) number
     ++ number_if (has_flag flags CLONE_CHILD_SETTID) number
 
-abbrev pub cloned : PlainKernel → VPid → ℕ → Served
+abbrev pub cloned : PlainKernel → VPid → Flags → Served
 cloned k p flags = record {
   kernel = with_next_thread k p;
   reply = Value k.next_id;
@@ -40,12 +41,12 @@ cloned k p flags = record {
   console = [];
 }
 
-unfoldable pub clone_thread : PlainKernel → VPid → ℕ → Try Served
+unfoldable pub clone_thread : PlainKernel → VPid → Flags → Try Served
 clone_thread k p flags = do
   need (nat_lt (thread_count k p) THREAD_LIMIT && nat_lt k.next_id LAST_ID) EAGAIN
   Gives (cloned k p flags)
 
-abbrev pub forked : PlainKernel → VPid → ℕ → Served
+abbrev pub forked : PlainKernel → VPid → Flags → Served
 forked k p flags = record {
   kernel = after_fork k p;
   reply = Value k.next_id;
@@ -53,15 +54,15 @@ forked k p flags = record {
   console = [];
 }
 
-unfoldable pub clone_process : PlainKernel → VPid → ℕ → Try Served
+unfoldable pub clone_process : PlainKernel → VPid → Flags → Try Served
 clone_process k p flags = do
   need (nat_lt (map.len k.processes) PROCESS_LIMIT && nat_lt k.next_id LAST_ID) EAGAIN
   Gives (forked k p flags)
 
-abbrev pub clone_by : PlainKernel → VPid → ℕ → Option CloneForm → Try Served
+abbrev pub clone_by : PlainKernel → VPid → Flags → Option CloneForm → Try Served
 clone_by k p flags None = Fails EINVAL
 clone_by k p flags (Some Fork) = clone_process k p flags
 clone_by k p flags (Some Thread) = clone_thread k p flags
 
-unfoldable pub clone_row : PlainKernel → VPid → ℕ → Try Served
+unfoldable pub clone_row : PlainKernel → VPid → Flags → Try Served
 clone_row k p flags = clone_by k p flags (clone_form flags)

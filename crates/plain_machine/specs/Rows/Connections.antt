@@ -4,6 +4,7 @@
 --     accepted, connected              the kernel part after it
 use Rattle.std.specs.Prelude.{◌==◌, ◌&&◌, ℕ, nat_le, nat_lt, Bool, false, List, [], ◌∷◌, length, Some, if◌then◌else◌}
 use Rattle.std.specs.FinMap as map
+use Rattle.views.specs.Numbers.{Address, Flags, Byte}
 use Rattle.views.specs.Limits.{CHANNEL_LIMIT}
 use Rattle.sys_abi.specs.declared.identity.VPid.{VPid}
 use Rattle.sys_abi.specs.declared.identity.ConnId.{ConnId}
@@ -32,7 +33,7 @@ pub record Accepting : Type 0 where
   pub address : VirtAddr
   pub conn : ConnId
 
-abbrev pub first_waiting : ℕ → VirtAddr → ℕ → List ConnId → Try Accepting
+abbrev pub first_waiting : Flags → VirtAddr → ℕ → List ConnId → Try Accepting
 first_waiting flags address fd [] = unready flags
 first_waiting flags address fd (conn ∷ rest) = Gives (record { fd = fd; address = address; conn = conn })
 
@@ -54,11 +55,11 @@ accepted k p a =
     (Stream a.conn 1) O_RDWR
 
 -- the name of the client, where it is asked for
-abbrev pub client_name : PlainKernel → ℕ → List ℕ → ConnId → List ℕ
+abbrev pub client_name : PlainKernel → Address → List Byte → ConnId → List Byte
 client_name k address given conn =
     if address == 0 then [] else cut_to given (end_name (map.get k.channels conn) 0)
 
-abbrev pub accept_served : PlainKernel → VPid → ℕ → List ℕ → Accepting → Served
+abbrev pub accept_served : PlainKernel → VPid → Address → List Byte → Accepting → Served
 accept_served k p address given a = record {
   kernel = accepted k p a;
   reply = Value a.fd;
@@ -66,7 +67,7 @@ accept_served k p address given a = record {
   console = [];
 }
 
-unfoldable pub accept_row : PlainKernel → VPid → ℕ → ℕ → List ℕ → Try Served
+unfoldable pub accept_row : PlainKernel → VPid → ℕ → Address → List Byte → Try Served
 accept_row k p fd address given = do
   a ← accepting_of k p fd
   Gives (accept_served k p address given a)
@@ -87,7 +88,7 @@ may_connect (Socket address) = Gives address
 may_connect (Datagram peer) = Fails EOPNOTSUPP
 may_connect _ = Fails EISCONN
 
-abbrev pub if_room : ℕ → Listening → Connecting → Try Connecting
+abbrev pub if_room : Flags → Listening → Connecting → Try Connecting
 if_room flags listening c =
     if nat_lt (length listening.queue) listening.backlog then Gives c else unready flags
 
@@ -115,10 +116,10 @@ connected k p c =
     c.to (next_channel k p))
     c.held (Stream (next_channel k p) 0)
 
-unfoldable pub connect_row : PlainKernel → VPid → ℕ → ℕ → List ℕ → Try Served
+unfoldable pub connect_row : PlainKernel → VPid → ℕ → ℕ → List Byte → Try Served
 connect_row k p fd length given = do
   c ← connecting_of k p fd length (endpoint_of given)
   replied (connected k p c) 0
 
-unfoldable pub is_connect_ready : PlainKernel → VPid → ℕ → ℕ → List ℕ → Bool
+unfoldable pub is_connect_ready : PlainKernel → VPid → ℕ → ℕ → List Byte → Bool
 is_connect_ready k p fd length front = is_settled (connecting_of k p fd length (endpoint_of front))

@@ -1,5 +1,6 @@
 -- eventfd2(value, flags) (`man 2 eventfd`): a counter behind the free descriptor.
 use Rattle.std.specs.Prelude.{ℕ}
+use Rattle.views.specs.Numbers.{Flags}
 use Rattle.sys_abi.specs.declared.identity.VPid.{VPid}
 use Rattle.sys_abi.specs.declared.errors.TheConstants.{EINVAL, ENFILE}
 use Rattle.sys_abi.specs.declared.flags.TheConstants.{O_RDWR, O_CLOEXEC}
@@ -12,12 +13,12 @@ use Rattle.plain_machine.specs.Kernel.{free_from, has_numbers, made_of, numbered
 use Rattle.plain_machine.specs.Making.{are_making_flags, end_flags, desc_id}
 
 -- with the process's next number
-abbrev pub with_counter : PlainKernel → VPid → ℕ → ℕ → ℕ → PlainKernel
+abbrev pub with_counter : PlainKernel → VPid → ℕ → ℕ → Flags → PlainKernel
 with_counter k p fd value flags =
     placed (numbered k p 1) p fd (desc_id p (made_of k p)) (has_flag flags O_CLOEXEC) (Counter value)
     (end_flags O_RDWR flags)
 
-unfoldable pub eventfd2_row : PlainKernel → VPid → ℕ → ℕ → Try Served
+unfoldable pub eventfd2_row : PlainKernel → VPid → ℕ → Flags → Try Served
 eventfd2_row k p value flags = do
   need (are_making_flags flags) EINVAL
   need (has_numbers k p) ENFILE

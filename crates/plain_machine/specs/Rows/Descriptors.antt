@@ -1,6 +1,7 @@
 -- dup(fd), dup3(fd, to, flags), fcntl(fd, command, argument), close(fd) (`man 2 dup`, `man 2 fcntl`,
 -- `man 2 close`).
 use Rattle.std.specs.Prelude.{◌==◌, ◌%◌, ◌||◌, ℕ, Bool, true, false, not, ◌&&◌, bit_and, bit_or, nat_lt, Option, Some, None, if◌then◌else◌}
+use Rattle.views.specs.Numbers.{Flags}
 use Rattle.views.specs.Limits.{DESCRIPTOR_LIMIT}
 use Rattle.sys_abi.specs.declared.identity.VPid.{VPid}
 use Rattle.sys_abi.specs.declared.errors.TheConstants.{EBADF, EINVAL, ESRCH}
@@ -27,7 +28,7 @@ dup_row k p fd = do
   dup_from k p h 0 false
 
 -- no flag but O_CLOEXEC
-abbrev pub is_cloexec_at_most : ℕ → Bool
+abbrev pub is_cloexec_at_most : Flags → Bool
 is_cloexec_at_most flags = (flags == 0) || (flags == O_CLOEXEC)
 
 -- a descriptor closes, and then refers to the description
@@ -35,7 +36,7 @@ abbrev pub moved_to : PlainKernel → VPid → Held → ℕ → Bool → PlainKe
 moved_to k p h to cloexec =
     with_descriptor (close_fd k p to) p to (record { desc = h.desc; cloexec = cloexec })
 
-unfoldable pub dup3_row : PlainKernel → VPid → ℕ → ℕ → ℕ → Try Served
+unfoldable pub dup3_row : PlainKernel → VPid → ℕ → ℕ → Flags → Try Served
 dup3_row k p fd to flags = do
   h ← held k p fd
   need (not (to == fd) && is_cloexec_at_most flags) EINVAL
@@ -54,10 +55,10 @@ abbrev pub SETTABLE_FLAGS : ℕ
 SETTABLE_FLAGS = 0xC00
 
 -- O_APPEND and O_NONBLOCK as the argument has them
-abbrev pub set_flags : ℕ → ℕ → ℕ
+abbrev pub set_flags : Flags → ℕ → Flags
 set_flags flags argument = bit_or (without_bits flags SETTABLE_FLAGS) (bit_and argument SETTABLE_FLAGS)
 
-abbrev pub with_flags : PlainKernel → Held → ℕ → PlainKernel
+abbrev pub with_flags : PlainKernel → Held → Flags → PlainKernel
 with_flags k h flags = with_description k h.desc (record h.description { flags = flags })
 
 abbrev pub with_owner : PlainKernel → Held → ℕ → PlainKernel

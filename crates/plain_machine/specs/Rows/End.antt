@@ -1,6 +1,7 @@
 -- exit_group(code), exit(code) (`man 2 exit_group`, `man 2 exit`): the process ends with the status that the
 -- code gives, or the thread does.
 use Rattle.std.specs.Prelude.{ℕ}
+use Rattle.views.specs.Numbers.{ThreadNumber}
 use Rattle.sys_abi.specs.declared.identity.VPid.{VPid}
 use Rattle.plain_machine.specs.declared.kernel.PlainKernel.{PlainKernel}
 use Rattle.plain_process.specs.Attempts.{Try}
@@ -10,5 +11,5 @@ use Rattle.plain_machine.specs.Ends.{exit_status, after_end, thread_ended}
 unfoldable pub exit_group_row : PlainKernel → VPid → ℕ → Try Served
 exit_group_row k p code = replied (after_end k p (exit_status code)) 0
 
-unfoldable pub exit_row : PlainKernel → VPid → ℕ → ℕ → Try Served
+unfoldable pub exit_row : PlainKernel → VPid → ThreadNumber → ℕ → Try Served
 exit_row k p t code = replied (thread_ended k p t (exit_status code)) 0

@@ -4,6 +4,7 @@
 use Rattle.std.specs.Prelude.{◌==◌, ◌+◌, ◌-◌, ◌%◌, ◌^◌, ℕ, ◌&&◌, bit_and, nat_lt, List, [], length, take, position, Option, Some, None, if◌then◌else◌}
 use Rattle.std.specs.Option.{option_map_or}
 use Rattle.std.specs.FinMap as map
+use Rattle.views.specs.Numbers.{Flags, Byte}
 use Rattle.views.specs.Limits.{FILE_LIMIT}
 use Rattle.sys_abi.specs.declared.identity.VPid.{VPid}
 use Rattle.sys_abi.specs.declared.errors.TheConstants.{ENOENT, EBADF, EEXIST, EINVAL, ENFILE, ENOSPC, ESPIPE, ENAMETOOLONG}
@@ -20,20 +21,20 @@ use Rattle.plain_machine.specs.Kernel.{Held, held, free_from, made_of, has_numbe
 use Rattle.plain_machine.specs.Start.{with_file}
 
 -- the bytes before the first zero
-unfoldable pub path_of : List ℕ → Try (List ℕ)
+unfoldable pub path_of : List Byte → Try (List Byte)
 path_of given = do
   end ← found (position (λ byte. byte == 0) given) ENAMETOOLONG
   need (nat_lt end PATH_LIMIT) ENAMETOOLONG
   Gives (take end given)
 
 -- a name is gone, and its file too where no description has that open
-abbrev pub without_name : PlainKernel → List ℕ → ℕ → PlainKernel
+abbrev pub without_name : PlainKernel → List Byte → ℕ → PlainKernel
 without_name k name number = record k {
   names = map.remove k.names name;
   files = without_unkept (map.remove k.names name) k.descriptions k.files number;
 }
 
-unfoldable pub unlinkat_row : PlainKernel → VPid → ℕ → ℕ → List ℕ → Try Served
+unfoldable pub unlinkat_row : PlainKernel → VPid → ℕ → Flags → List Byte → Try Served
 unlinkat_row k p directory flags given = do
   need (directory == AT_FDCWD) EBADF
   need (flags == 0) EINVAL
@@ -46,13 +47,13 @@ abbrev pub LAST_FILE : ℕ
 LAST_FILE = 2 ^ 32 - 1
 
 -- whether the file that has the name may be opened, or one made
-unfoldable pub may_open : PlainKernel → ℕ → Option ℕ → Try (Unit {0})
+unfoldable pub may_open : PlainKernel → Flags → Option ℕ → Try (Unit {0})
 may_open k flags None = do
   need (has_flag flags O_CREAT) ENOENT
   need (nat_lt (map.len k.files) FILE_LIMIT && nat_lt k.next_file LAST_FILE) ENOSPC
 may_open k flags (Some number) = refuse_if (has_flag flags O_CREAT && has_flag flags O_EXCL) EEXIST
 
-abbrev pub with_file_bytes : PlainKernel → ℕ → List ℕ → PlainKernel
+abbrev pub with_file_bytes : PlainKernel → ℕ → List Byte → PlainKernel
 with_file_bytes k number bytes = record k { files = map.insert k.files number bytes }
 
 -- the file of the name, made where there is none, and empty with O_TRUNC
@@ -60,26 +61,26 @@ abbrev pub opened_number : PlainKernel → Option ℕ → ℕ
 opened_number k None = k.next_file
 opened_number k (Some number) = number
 
-abbrev pub with_opened : PlainKernel → List ℕ → ℕ → Option ℕ → PlainKernel
+abbrev pub with_opened : PlainKernel → List Byte → Flags → Option ℕ → PlainKernel
 with_opened k name flags None = with_file k (record { name = name; bytes = [] })
 with_opened k name flags (Some number) = if has_flag flags O_TRUNC then with_file_bytes k number [] else k
 
 -- the access mode, O_APPEND and O_NONBLOCK
-abbrev pub status_flags : ℕ → ℕ
+abbrev pub status_flags : Flags → Flags
 status_flags flags = bit_and flags 0xC03
 
 -- a new description of a file at its start
-abbrev pub with_open_file : PlainKernel → VPid → ℕ → ℕ → ℕ → PlainKernel
+abbrev pub with_open_file : PlainKernel → VPid → ℕ → Flags → ℕ → PlainKernel
 with_open_file k p fd flags number =
     placed (numbered k p 1) p fd (record { pid = p; num = made_of k p }) (has_flag flags O_CLOEXEC)
     (File number 0) (status_flags flags)
 
-unfoldable pub open_at : PlainKernel → VPid → List ℕ → ℕ → ℕ → Option ℕ → Try Served
+unfoldable pub open_at : PlainKernel → VPid → List Byte → Flags → ℕ → Option ℕ → Try Served
 open_at k p name flags fd file = do
   may_open k flags file
   replied (with_open_file (with_opened k name flags file) p fd flags (opened_number k file)) fd
 
-unfoldable pub openat_row : PlainKernel → VPid → ℕ → ℕ → List ℕ → Try Served
+unfoldable pub openat_row : PlainKernel → VPid → ℕ → Flags → List Byte → Try Served
 openat_row k p directory flags given = do
   need (directory == AT_FDCWD) EBADF
   name ← path_of given

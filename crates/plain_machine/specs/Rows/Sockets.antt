@@ -2,6 +2,7 @@
 -- address, or the length of the room for one.
 use Rattle.std.specs.Prelude.{◌==◌, ◌&&◌, ◌||◌, ℕ, ◌-◌, nat_le, min, max, Bool, false, not, List, [], Option, Some, None, if◌then◌else◌}
 use Rattle.std.specs.FinMap as map
+use Rattle.views.specs.Numbers.{Byte}
 use Rattle.sys_abi.specs.declared.identity.VPid.{VPid}
 use Rattle.sys_abi.specs.declared.identity.ConnId.{ConnId}
 use Rattle.sys_abi.specs.declared.identity.VirtAddr.{VirtAddr}
@@ -42,7 +43,7 @@ port_for k host port =
     if port == 0 then found (automatic_port k host) EADDRINUSE else
     need (not (is_port_used k (address_at host port))) EADDRINUSE >> Gives port
 
-unfoldable pub bind_row : PlainKernel → VPid → ℕ → ℕ → List ℕ → Try Served
+unfoldable pub bind_row : PlainKernel → VPid → ℕ → ℕ → List Byte → Try Served
 bind_row k p fd length given = do
   h ← socket_at k p fd
   need (nat_le ADDRESS_SIZE length) EINVAL
@@ -73,25 +74,25 @@ listen_row k p fd backlog = do
 
 -- names
 
-abbrev pub own_name : PlainKernel → Object → List ℕ
+abbrev pub own_name : PlainKernel → Object → List Byte
 own_name k (Stream conn side) = end_name (map.get k.channels conn) side
 own_name k (Datagram peer) = pair_bytes
 own_name k object = shown_as unbound_bytes (bound_at object)
 
-abbrev pub peer_name : PlainKernel → Object → Try (List ℕ)
+abbrev pub peer_name : PlainKernel → Object → Try (List Byte)
 peer_name k (Stream conn side) = Gives (end_name (map.get k.channels conn) (1 - side))
 peer_name k (Datagram peer) = Gives pair_bytes
 peer_name k _ = Fails ENOTCONN
 
-abbrev pub named : PlainKernel → List ℕ → List ℕ → Served
+abbrev pub named : PlainKernel → List Byte → List Byte → Served
 named k given name = record { kernel = k; reply = Value 0; bytes = cut_to given name; console = [] }
 
-unfoldable pub getsockname_row : PlainKernel → VPid → ℕ → List ℕ → Try Served
+unfoldable pub getsockname_row : PlainKernel → VPid → ℕ → List Byte → Try Served
 getsockname_row k p fd given = do
   h ← socket_at k p fd
   Gives (named k given (own_name k h.description.object))
 
-unfoldable pub getpeername_row : PlainKernel → VPid → ℕ → List ℕ → Try Served
+unfoldable pub getpeername_row : PlainKernel → VPid → ℕ → List Byte → Try Served
 getpeername_row k p fd given = do
   h ← socket_at k p fd
   name ← peer_name k h.description.object

@@ -2,6 +2,7 @@
 -- ended is gone, and its status is told; of several the least one. Where none has ended the call waits, or
 -- answers 0 with WNOHANG. usage is the place for what it used, which this machine does not tell.
 use Rattle.std.specs.Prelude.{◌==◌, ◌&&◌, ◌||◌, ℕ, ◌-◌, ◌^◌, not, nat_le, Bool, [], Option, Some, None, if◌then◌else◌}
+use Rattle.views.specs.Numbers.{Address}
 use Rattle.sys_abi.specs.declared.identity.VPid.{VPid}
 use Rattle.sys_abi.specs.declared.reply.Reply.TheVariants.{Value}
 use Rattle.sys_abi.specs.declared.errors.TheConstants.{ECHILD, EINVAL}
@@ -24,7 +25,7 @@ ANY_CHILD = 2 ^ 32 - 1
 abbrev pub WNOHANG : ℕ
 WNOHANG = 1
 
-abbrev pub may_be_asked : ℕ → ℕ → ℕ → Bool
+abbrev pub may_be_asked : ℕ → ℕ → Address → Bool
 may_be_asked number options usage =
     (usage == 0) && nat_le options WNOHANG && ((number == ANY_CHILD) || is_above_zero number)
 
@@ -44,12 +45,12 @@ wait4_by k options found.NoChild = Fails ECHILD
 wait4_by k options found.NotReady = if options == WNOHANG then replied k 0 else NotReady
 wait4_by k options (found.Ended q status) = Gives (reaped k q status)
 
-unfoldable pub wait4_row : PlainKernel → VPid → ℕ → ℕ → ℕ → Try Served
+unfoldable pub wait4_row : PlainKernel → VPid → ℕ → ℕ → Address → Try Served
 wait4_row k p number options usage = do
   need (may_be_asked number options usage) EINVAL
   wait4_by k options (wait_for k.processes p (child_of_number number))
 
-unfoldable pub is_wait4_ready : PlainKernel → VPid → ℕ → ℕ → ℕ → Bool
+unfoldable pub is_wait4_ready : PlainKernel → VPid → ℕ → ℕ → Address → Bool
 is_wait4_ready k p number options usage =
     not (may_be_asked number options usage) || (options == WNOHANG)
     || is_answered (wait_for k.processes p (child_of_number number))

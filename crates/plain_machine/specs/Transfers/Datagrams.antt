@@ -7,6 +7,7 @@
 --     write_message k peer count given
 use Rattle.std.specs.Prelude.{◌||◌, ℕ, not, nat_lt, nat_le, Bool, List, [], ◌∷◌, ◌++◌, take, length, is_some, unwrap_or}
 use Rattle.std.specs.FinMap as map
+use Rattle.views.specs.Numbers.{Byte}
 use Rattle.views.specs.Limits.{INBOX_LIMIT, MESSAGE_LIMIT}
 use Rattle.sys_abi.specs.declared.identity.DescId.{DescId}
 use Rattle.sys_abi.specs.declared.errors.TheConstants.{EMSGSIZE, ECONNREFUSED}
@@ -19,7 +20,7 @@ use Rattle.plain_machine.specs.Transfers.Answers.{gave}
 abbrev pub is_open_end : PlainKernel → DescId → Bool
 is_open_end k d = is_some (map.get k.inboxes d)
 
-abbrev pub messages_at : PlainKernel → DescId → List (List ℕ)
+abbrev pub messages_at : PlainKernel → DescId → List (List Byte)
 messages_at k d = unwrap_or (map.get k.inboxes d) []
 
 -- a message waits, or none will come
@@ -31,14 +32,14 @@ abbrev pub takes_message : PlainKernel → DescId → ℕ → Bool
 takes_message k peer count =
     nat_lt MESSAGE_LIMIT count || not (is_open_end k peer) || nat_lt (length (messages_at k peer)) INBOX_LIMIT
 
-abbrev pub read_first : PlainKernel → DescId → ℕ → List (List ℕ) → Try Served
+abbrev pub read_first : PlainKernel → DescId → ℕ → List (List Byte) → Try Served
 read_first k d count [] = gave k []
 read_first k d count (message ∷ rest) = gave (with_inbox k d rest) (take count message)
 
 unfoldable pub read_message : PlainKernel → DescId → ℕ → Try Served
 read_message k d count = read_first k d count (messages_at k d)
 
-unfoldable pub write_message : PlainKernel → DescId → ℕ → List ℕ → Try Served
+unfoldable pub write_message : PlainKernel → DescId → ℕ → List Byte → Try Served
 write_message k peer count given = do
   need (nat_le count MESSAGE_LIMIT) EMSGSIZE
   messages ← found (map.get k.inboxes peer) ECONNREFUSED

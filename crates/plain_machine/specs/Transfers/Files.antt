@@ -5,6 +5,7 @@
 --     write_file k h number offset given
 use Rattle.std.specs.Prelude.{◌==◌, ℕ, ◌+◌, ◌-◌, ◌^◌, min, nat_lt, nat_le, List, ◌++◌, take, drop, length, replicate, sum_by, if◌then◌else◌}
 use Rattle.std.specs.FinMap as map
+use Rattle.views.specs.Numbers.{Flags, Byte}
 use Rattle.views.specs.Limits.{ALL_FILES_LIMIT}
 use Rattle.sys_abi.specs.declared.errors.TheConstants.{EBADF, EFBIG, ENOSPC}
 use Rattle.sys_abi.specs.declared.flags.TheConstants.{O_APPEND}
@@ -27,22 +28,22 @@ abbrev pub read_room : ℕ → ℕ → ℕ
 read_room offset count = min count (LAST_OFFSET - offset)
 
 -- the bytes from a place on, at most so many
-abbrev pub bytes_from : List ℕ → ℕ → ℕ → List ℕ
+abbrev pub bytes_from : List Byte → ℕ → ℕ → List Byte
 bytes_from bytes offset count = take count (drop offset bytes)
 
 -- zeros after the bytes, up to a place
-abbrev pub filled : ℕ → List ℕ → List ℕ
+abbrev pub filled : ℕ → List Byte → List Byte
 filled place bytes = bytes ++ replicate (place - length bytes) 0
 
 -- a piece over what is there, and past the end
-abbrev pub overwritten : ℕ → List ℕ → List ℕ → List ℕ
+abbrev pub overwritten : ℕ → List Byte → List Byte → List Byte
 overwritten place piece bytes = take place bytes ++ piece ++ drop (place + length piece) bytes
 
-abbrev pub with_piece : List ℕ → ℕ → List ℕ → List ℕ
+abbrev pub with_piece : List Byte → ℕ → List Byte → List Byte
 with_piece bytes place piece = overwritten place piece (filled place bytes)
 
 -- where a write begins
-abbrev pub write_place : ℕ → ℕ → List ℕ → ℕ
+abbrev pub write_place : Flags → ℕ → List Byte → ℕ
 write_place flags offset bytes = if has_flag flags O_APPEND then length bytes else offset
 
 abbrev pub moved_behind : PlainKernel → Held → ℕ → ℕ → PlainKernel
@@ -58,14 +59,14 @@ abbrev pub total_bytes : Files → ℕ
 total_bytes files = sum_by length (map.values files)
 
 -- a piece that isn't empty
-unfoldable pub write_piece : PlainKernel → Held → ℕ → ℕ → List ℕ → List ℕ → Try Served
+unfoldable pub write_piece : PlainKernel → Held → ℕ → ℕ → List Byte → List Byte → Try Served
 write_piece k h number place bytes piece = do
   let end = place + length piece
   need (nat_lt end OFFSET_LIMIT) EFBIG
   need (nat_le (total_bytes k.files + (end - length bytes)) ALL_FILES_LIMIT) ENOSPC
   replied (moved_behind (with_file_bytes k number (with_piece bytes place piece)) h number end) (length piece)
 
-unfoldable pub write_file : PlainKernel → Held → ℕ → ℕ → List ℕ → Try Served
+unfoldable pub write_file : PlainKernel → Held → ℕ → ℕ → List Byte → Try Served
 write_file k h number offset given = do
   bytes ← found (map.get k.files number) EBADF
   if length given == 0 then replied k 0 else (

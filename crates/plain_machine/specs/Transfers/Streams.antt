@@ -4,6 +4,7 @@
 --     read_stream k from count        from the direction to the end
 --     write_stream k p t to count given      into the direction from it
 use Rattle.std.specs.Prelude.{◌==◌, ◌||◌, ◌&&◌, ℕ, ◌-◌, min, nat_lt, Bool, true, List, ◌++◌, take, drop, length, Option, Some, None, if◌then◌else◌}
+use Rattle.views.specs.Numbers.{ThreadNumber, Byte}
 use Rattle.views.specs.Limits.{DIRECTION_LIMIT}
 use Rattle.sys_abi.specs.declared.identity.VPid.{VPid}
 use Rattle.sys_abi.specs.declared.identity.Dir.{Dir}
@@ -32,7 +33,7 @@ is_sendable count (Some direction) =
     (count == 0) || is_broken direction || nat_lt (length direction.left) DIRECTION_LIMIT
 
 -- the first bytes that have arrived, at most so many
-abbrev pub taken_bytes : ℕ → Direction → List ℕ
+abbrev pub taken_bytes : ℕ → Direction → List Byte
 taken_bytes count direction = take (min count direction.arrived) direction.left
 
 abbrev pub without_front : ℕ → Direction → Direction
@@ -41,11 +42,11 @@ without_front n direction = record direction {
   arrived = direction.arrived - n;
 }
 
-abbrev pub with_sent : List ℕ → Direction → Direction
+abbrev pub with_sent : List Byte → Direction → Direction
 with_sent bytes direction = record direction { left = direction.left ++ bytes }
 
 -- as many of the first bytes as have room
-abbrev pub fitting_bytes : List ℕ → Direction → List ℕ
+abbrev pub fitting_bytes : List Byte → Direction → List Byte
 fitting_bytes bytes direction = take (DIRECTION_LIMIT - length direction.left) bytes
 
 unfoldable pub read_stream : PlainKernel → Dir → ℕ → Try Served
@@ -54,17 +55,17 @@ read_stream k from count = do
   gave (with_direction k from (without_front (min count direction.arrived) direction))
       (taken_bytes count direction)
 
-abbrev pub sent : PlainKernel → Dir → Direction → List ℕ → Try Served
+abbrev pub sent : PlainKernel → Dir → Direction → List Byte → Try Served
 sent k to direction bytes = replied (with_direction k to (with_sent bytes direction)) (length bytes)
 
-abbrev pub write_direction : PlainKernel → VPid → ℕ → Dir → ℕ → List ℕ → Direction
+abbrev pub write_direction : PlainKernel → VPid → ThreadNumber → Dir → ℕ → List Byte → Direction
     → Try Served
 write_direction k p t to count given direction =
     if count == 0 then replied k 0 else
     if is_broken direction then broken_pipe k p t else
     sent k to direction (fitting_bytes given direction)
 
-unfoldable pub write_stream : PlainKernel → VPid → ℕ → Dir → ℕ → List ℕ → Try Served
+unfoldable pub write_stream : PlainKernel → VPid → ThreadNumber → Dir → ℕ → List Byte → Try Served
 write_stream k p t to count given = do
   direction ← found (direction_at k to) EPIPE
   write_direction k p t to count given direction

@@ -2,6 +2,7 @@
 -- `man 2 sigreturn`). An action in memory is its handler, its flags (4 bytes each) and its mask (8 bytes), a set 8 bytes, of which the first 4 are kept.
 -- The signals SIGKILL and SIGSTOP, and those above 31, are dropped from masks.
 use Rattle.std.specs.Prelude.{◌==◌, ◌&&◌, ◌||◌, ℕ, ◌-◌, nat_le, bit_or, Bool, not, List, ◌++◌, length, take, drop, slice_get, slice_set, Option, if◌then◌else◌}
+use Rattle.views.specs.Numbers.{Address, ThreadNumber, SignalNumber, Byte}
 use Rattle.sys_abi.specs.Signals.{is_signal, blockable, without_signals}
 use Rattle.sys_abi.specs.declared.signals.TheConstants.{SIGKILL, SIGSTOP}
 use Rattle.sys_abi.specs.declared.errors.TheConstants.{EINVAL}
@@ -16,24 +17,24 @@ use Rattle.plain_process.specs.Deliveries.{action_on}
 use Rattle.plain_process.specs.Rows.Locals.{Local, Stays, local_reply_with}
 
 -- the word at a place of the bytes that a call reads
-abbrev pub word_in : List ℕ → ℕ → ℕ
+abbrev pub word_in : List Byte → ℕ → ℕ
 word_in given place = little_endian (take 4 (drop place given))
 
-abbrev pub is_uncatchable : ℕ → Bool
+abbrev pub is_uncatchable : SignalNumber → Bool
 is_uncatchable s = (s == SIGKILL) || (s == SIGSTOP)
 
-abbrev pub action_in : List ℕ → SignalAction
+abbrev pub action_in : List Byte → SignalAction
 action_in given =
     record { handler = word_in given 0; flags = word_in given 4; mask = blockable (word_in given 8) }
 
-abbrev pub action_bytes : SignalAction → List ℕ
+abbrev pub action_bytes : SignalAction → List Byte
 action_bytes action =
     low_bytes 4 action.handler ++ low_bytes 4 action.flags ++ low_bytes 4 action.mask ++ low_bytes 4 0
 
-abbrev pub with_action : UserPart → ℕ → SignalAction → UserPart
+abbrev pub with_action : UserPart → SignalNumber → SignalAction → UserPart
 with_action user s action = record user { actions = slice_set user.actions (s - 1) action }
 
-unfoldable pub sigaction_row : UserPart → List ℕ → ℕ → ℕ → ℕ → Try Local
+unfoldable pub sigaction_row : UserPart → List Byte → SignalNumber → Address → ℕ → Try Local
 sigaction_row user given s action size = do
   need ((size == 8) && is_signal s && ((action == 0) || not (is_uncatchable s))) EINVAL
   local_reply_with
@@ -54,7 +55,8 @@ with_mask thread mask = record {
   contexts = thread.contexts;
 }
 
-unfoldable pub sigprocmask_row : UserPart → ℕ → ThreadPart → List ℕ → ℕ → ℕ → ℕ → Try Local
+unfoldable pub sigprocmask_row : UserPart → ThreadNumber → ThreadPart → List Byte → ℕ → Address → ℕ
+    → Try Local
 sigprocmask_row user t thread given how set size = do
   need ((size == 8) && nat_le how 2) EINVAL
   local_reply_with
@@ -73,7 +75,7 @@ returned thread context = record {
   contexts = take (length thread.contexts - 1) thread.contexts;
 }
 
-unfoldable pub sigreturn_row : UserPart → ℕ → ThreadPart → Try Local
+unfoldable pub sigreturn_row : UserPart → ThreadNumber → ThreadPart → Try Local
 sigreturn_row user t thread = do
   context ← found (last_context thread.contexts) EINVAL
   Gives (Stays (with_thread user t (returned thread context) user.memory))

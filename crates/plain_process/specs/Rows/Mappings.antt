@@ -2,6 +2,7 @@
 -- and its pages can be read and written. A mapping is anonymous and private, at the lowest place where it fits.
 use Rattle.std.specs.Prelude.{◌==◌, ◌&&◌, ℕ, ◌+◌, ◌-◌, ◌*◌, ◌/◌, ◌%◌, nat_le, nat_lt, Bool, not, [], Option, None, if◌then◌else◌}
 use Rattle.std.specs.FinMap as map
+use Rattle.views.specs.Numbers.{Address, Flags}
 use Rattle.views.specs.Limits.{PAGE_LIMIT, BREAK_LIMIT}
 use Rattle.sys_abi.specs.declared.errors.TheConstants.{EINVAL, ENOMEM}
 use Rattle.plain_process.specs.declared.user_part.UserPart.{UserPart}
@@ -19,25 +20,25 @@ abbrev pub heap_to : Memory → ℕ → ℕ → Memory
 heap_to memory old new =
     if nat_le old new then with_pages memory old (new - old) 6 [] else without_pages memory new (old - new)
 
-abbrev pub is_break : UserPart → ℕ → Bool
+abbrev pub is_break : UserPart → Address → Bool
 is_break user address =
     nat_le user.break_start address && nat_le address BREAK_LIMIT
     && nat_le (map.len user.memory + pages_of address - pages_of user.break_end) PAGE_LIMIT
 
-abbrev pub with_break : UserPart → ℕ → UserPart
+abbrev pub with_break : UserPart → Address → UserPart
 with_break user address =
     record user {
       memory = heap_to user.memory (pages_of user.break_end) (pages_of address);
       break_end = address;
     }
 
-unfoldable pub brk_row : UserPart → ℕ → Try Local
+unfoldable pub brk_row : UserPart → Address → Try Local
 brk_row user address =
     if is_break user address then
     local_reply (with_break user address) address
     else local_reply user user.break_end
 
-unfoldable pub munmap_row : UserPart → ℕ → ℕ → Try Local
+unfoldable pub munmap_row : UserPart → Address → ℕ → Try Local
 munmap_row user address length = do
   need
       ((address % 4096 == 0) && not (length == 0)
@@ -56,7 +57,7 @@ MAP_FLAGS = 0x22
 abbrev pub room_for : Memory → ℕ → Option ℕ
 room_for memory count = if nat_le (map.len memory + count) PAGE_LIMIT then free_run memory count else None
 
-unfoldable pub mmap_row : UserPart → ℕ → ℕ → ℕ → Try Local
+unfoldable pub mmap_row : UserPart → ℕ → ℕ → Flags → Try Local
 mmap_row user length protection flags = do
   need ((flags == MAP_FLAGS) && not (length == 0) && nat_lt protection 8) EINVAL
   page ← found (room_for user.memory (pages_of length)) ENOMEM

@@ -3,6 +3,7 @@
 --     AreChannels, AreStreams      a topic each, over the tables that it speaks of
 use Rattle.std.specs.Prelude.{◌≡◌, ℕ, ◌-◌, ◌==◌, ◌&&◌, ◌||◌, ◌<◌, ◌≤◌, ◌%◌, nat_lt, true, false, [], length, Option, Some, None, is_some, All, if◌then◌else◌}
 use Rattle.std.specs.FinMap as map
+use Rattle.views.specs.Numbers.{Flags}
 use Rattle.views.specs.Limits.{HOST_LIMIT, CHANNEL_LIMIT, DIRECTION_LIMIT}
 use Rattle.sys_abi.specs.declared.identity.DescId.{DescId}
 use Rattle.sys_abi.specs.declared.identity.ConnId.{ConnId}
@@ -60,7 +61,7 @@ pub record MayBeEnd (channel : Channel) (flags side : ℕ) : Type 0 where
   pub is_side : side < 2
   pub mode : channel.kind ≡ Pipe → flags % 4 ≡ (if side == 0 then 1 else 0)
 
-abbrev pub IsStream : Channels → ℕ → Object → Type 0
+abbrev pub IsStream : Channels → Flags → Object → Type 0
 IsStream channels flags (Stream conn side) =
     (channel : Channel) × (map.get channels conn ≡ Some channel) × MayBeEnd channel flags side
 IsStream channels flags _ = Unit {0}

@@ -1,8 +1,9 @@
 -- What holds of the datagram ends and event counters of every kernel part.
 -- Source: the limits of docs/MACHINE.md; `man 2 socketpair`, `man 2 eventfd`.
 --     AreInboxes, AreCounters      a topic each, over the tables that it speaks of
-use Rattle.std.specs.Prelude.{◌≡◌, ℕ, ◌-◌, ◌^◌, ◌<◌, ◌≤◌, Bool, true, false, List, length, Option, Some, None, is_some, All}
+use Rattle.std.specs.Prelude.{◌≡◌, ◌-◌, ◌^◌, ◌<◌, ◌≤◌, Bool, true, false, List, length, Option, Some, None, is_some, All}
 use Rattle.std.specs.FinMap as map
+use Rattle.views.specs.Numbers.{Byte}
 use Rattle.views.specs.Limits.{INBOX_LIMIT, MESSAGE_LIMIT}
 use Rattle.sys_abi.specs.declared.identity.DescId.{DescId}
 use Rattle.plain_process.specs.Valid.{IsByte, Each}
@@ -17,7 +18,7 @@ is_datagram_in None = false
 is_datagram_in (Some description) = is_datagram description.object
 
 -- at most 64 messages of 4,096 bytes
-pub record IsInbox (messages : List (List ℕ)) : Type 0 where
+pub record IsInbox (messages : List (List Byte)) : Type 0 where
   pub count : length messages ≤ INBOX_LIMIT
   pub sizes : All (λ message. length message ≤ MESSAGE_LIMIT) messages
   pub bytes : All (All IsByte) messages

@@ -4,6 +4,7 @@
 --     AreDescriptors, AreDescriptions, AreHolders, AreMade      a topic each, over its tables
 use Rattle.std.specs.Prelude.{◌≡◌, ◌≢◌, ◌⊎◌, ℕ, ◌^◌, ◌<◌, ◌%◌, bit_and, true, Some, is_some}
 use Rattle.std.specs.FinMap as map
+use Rattle.views.specs.Numbers.{Flags}
 use Rattle.views.specs.Limits.{DESCRIPTOR_LIMIT}
 use Rattle.sys_abi.specs.declared.identity.VPid.{VPid}
 use Rattle.sys_abi.specs.declared.identity.Slot.{Slot}
@@ -23,7 +24,7 @@ pub record AreDescriptors (processes : Processes) (descriptions : Descriptions)
   pub described : Each descriptors (λ at descriptor. is_some (map.get descriptions descriptor.desc) ≡ true)
 
 -- access mode, O_APPEND and O_NONBLOCK
-pub record AreFlags (flags : ℕ) : Type 0 where
+pub record AreFlags (flags : Flags) : Type 0 where
   pub known : bit_and flags 0xC03 ≡ flags
   pub mode : flags % 4 ≢ 3
 

@@ -3,6 +3,7 @@
 --     AreFiles, AreOpenFiles      a topic each, over the tables that it speaks of
 use Rattle.std.specs.Prelude.{◌≡◌, ℕ, ◌^◌, ◌<◌, ◌≤◌, true, List, length, sum_by, Some, is_some, All}
 use Rattle.std.specs.FinMap as map
+use Rattle.views.specs.Numbers.{Byte}
 use Rattle.views.specs.Limits.{FILE_LIMIT, ALL_FILES_LIMIT, NAME_LIMIT}
 use Rattle.plain_process.specs.Valid.{IsByte, Each}
 use Rattle.plain_tables.specs.declared.description.Object.{Object}
@@ -11,7 +12,7 @@ use Rattle.plain_tables.specs.Tables.{Names, Files, Descriptions}
 use Rattle.plain_tables.specs.Objects.{is_kept}
 
 -- 1 to 255 bytes, none of them zero
-pub record IsName (name : List ℕ) : Type 0 where
+pub record IsName (name : List Byte) : Type 0 where
   pub some : 1 ≤ length name
   pub few : length name ≤ NAME_LIMIT
   pub bytes : All (λ byte. (1 ≤ byte) × (byte < 2 ^ 8)) name
@@ -23,7 +24,7 @@ pub record AreFiles (next_file : ℕ) (names : Names) (files : Files) : Type 0 w
   pub numbers : Each files (λ number bytes. (1 ≤ number) × (number < next_file))
   pub bytes : Each files (λ number bytes. All IsByte bytes)
   pub named : Each names (λ name number. IsName name × (is_some (map.get files number) ≡ true))
-  pub one_name : (a b : List ℕ) (number : ℕ) → map.get names a ≡ Some number
+  pub one_name : (a b : List Byte) (number : ℕ) → map.get names a ≡ Some number
       → map.get names b ≡ Some number → a ≡ b
 
 abbrev pub IsOpenFile : Files → Object → Type 0

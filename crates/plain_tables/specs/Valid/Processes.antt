@@ -4,6 +4,7 @@
 use Rattle.std.specs.Prelude.{◌≡◌, ◌⊎◌, ℕ, ◌^◌, ◌<◌, ◌≤◌, true, is_some}
 use Rattle.std.specs.Ordering.{nat_cmp}
 use Rattle.std.specs.FinMap as map
+use Rattle.views.specs.Numbers.{ThreadNumber}
 use Rattle.views.specs.Limits.{HOST_LIMIT, PROCESS_LIMIT, THREAD_LIMIT}
 use Rattle.sys_abi.specs.declared.identity.VPid.{VPid}
 use Rattle.sys_abi.specs.declared.life.Life.{Life}
@@ -42,7 +43,7 @@ pub record AreNumbers (next_id next_file : ℕ) : Type 0 where
 pub record AreProcesses (next_id : ℕ) (processes : Processes) : Type 0 where
   pub count : map.len processes ≤ PROCESS_LIMIT
   pub each : Each processes (IsProcess next_id)
-  pub threads_apart : (p q : VPid) (t : ℕ) → has_thread_in t (map.get processes p) ≡ true
+  pub threads_apart : (p q : VPid) (t : ThreadNumber) → has_thread_in t (map.get processes p) ≡ true
       → has_thread_in t (map.get processes q) ≡ true → p ≡ q
   pub own_number : (p q : VPid) → has_thread_in q.0 (map.get processes p) ≡ true
       → is_some (map.get processes q) ≡ true → p ≡ q
