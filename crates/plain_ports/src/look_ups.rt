@@ -1,17 +1,14 @@
-ghost use Rattle.std.specs.Prelude.{◌≡◌, ◌<◌, ◌-◌, ◌^◌};
+ghost use Rattle.std.specs.Prelude.{◌≡◌, ◌-◌};
 ghost use Rattle.std.specs.FinMap as map;
-ghost use Rattle.plain_process.specs.Attempts.{found};
 ghost use Rattle.plain_machine.specs.Kernel as kernels;
 ghost use Rattle.plain_machine.specs.SocketWords as words;
 ghost use Rattle.plain_tables.specs.Objects as objects;
 ghost use Rattle.plain_ports.specs.Told.{told, held_told};
-ghost use Rattle.sys_abi.specs.declared.errors.TheConstants.{EMFILE as NO_DESCRIPTOR};
 
 use plain_machine::PlainKernel;
-use plain_machine::end::DESCRIPTOR_LIMIT;
 use plain_tables::{Channel, ChannelKind, Description, Object};
 use sys_abi::errors::{EBADF, ENOTSOCK};
-use sys_abi::{ConnId, DescId, Errno, Slot, VPid, VirtAddr};
+use sys_abi::{ConnId, DescId, Errno, VPid, VirtAddr};
 
 /// A descriptor, and the description to which it refers.
 #[derive(Clone, Copy)]
@@ -22,14 +19,10 @@ pub struct Held {
 }
 
 /// What a descriptor of a process refers to; EBADF.
-#[tactic(auto, unfolding(plain_machine::specs::Kernel::held, plain_process::specs::Attempts::and_then, plain_process::specs::Attempts::found))]
 fn look_up(kernel: &PlainKernel, p: VPid, fd: u32) -> Result<Held, Errno>
     ensures { kernels.held kernel.now p fd ≡ told held_told result }
 {
-    let Some(descriptor) = kernel.descriptors.get(Slot { pid: p, fd }).copied() else {
-        return Err(Errno(EBADF));
-    };
-    let Some(description) = kernel.descriptions.get(descriptor.desc).copied() else {
+    let Some((descriptor, description)) = kernel.held_at(p, fd) else {
         return Err(Errno(EBADF));
     };
     Ok(Held {
@@ -81,29 +74,6 @@ pub fn socket_at(kernel: &PlainKernel, p: VPid, fd: u32) -> Result<Held, Errno>
     Ok(held)
 }
 
-/// The least descriptor that a process doesn't use.
-#[tactic(auto, using(crate::proofs::Searches::free_more, crate::proofs::Searches::free_none), unfolding(plain_machine::specs::Kernel::free_from))]
-pub fn free_descriptor(kernel: &PlainKernel, p: VPid) -> Option<u32>
-    ensures { kernels.free_from kernel.now p 0 ≡ found result NO_DESCRIPTOR }
-{
-    for fd in 0..DESCRIPTOR_LIMIT {
-        if !kernel.descriptors.contains_key(Slot { pid: p, fd }) {
-            return Some(fd);
-        }
-    }
-    None
-}
-
-/// The running number for what a process makes.
-fn made_of(kernel: &PlainKernel, p: VPid) -> u32
-    ensures { result ≡ kernels.made_of kernel.now p }
-{
-    match kernel.makers.get(p) {
-        Some(maker) => maker.made,
-        None => 0,
-    }
-}
-
 /// The host of a process.
 pub fn host_of(kernel: &PlainKernel, p: VPid) -> u32
     ensures { result ≡ kernels.host_of kernel.now p }
@@ -114,20 +84,13 @@ pub fn host_of(kernel: &PlainKernel, p: VPid) -> u32
     }
 }
 
-/// Whether there is room for the numbers that one call takes.
-pub fn has_numbers(kernel: &PlainKernel, p: VPid) -> bool
-    ensures { result ≡ kernels.has_numbers kernel.now p }
-{
-    made_of(kernel, p) < 0xFFFF_FFFC
-}
-
 /// The name of the next description that a process makes.
 pub fn next_description(kernel: &PlainKernel, p: VPid) -> DescId
     ensures { result ≡ words.next_description kernel.now p }
 {
     DescId {
         pid: p,
-        num: made_of(kernel, p),
+        num: kernel.made_of(p),
     }
 }
 
@@ -137,7 +100,7 @@ pub fn next_channel(kernel: &PlainKernel, p: VPid) -> ConnId
 {
     ConnId {
         pid: p,
-        num: made_of(kernel, p),
+        num: kernel.made_of(p),
     }
 }
 

@@ -15,7 +15,7 @@ use plain_machine::answer::{Answer, Attempt, RowResult};
 use plain_ports::addresses::{
     ADDRESS_SIZE, AF_INET, cut_to, end_name, family_of, named_host, port_of,
 };
-use plain_ports::look_ups::{Held, free_descriptor, has_numbers, next_channel, socket_at};
+use plain_ports::look_ups::{Held, next_channel, socket_at};
 use plain_ports::ports::bound_or;
 use plain_tables::{Channel, ChannelEnd, ChannelKind, Listening, Object};
 use std::alloc::{AllocError, Global};
@@ -93,10 +93,10 @@ fn find_waiting(kernel: &PlainKernel, p: VPid, fd: u32) -> Result<Option<Accepti
     let Some(listening) = kernel.listeners.get(address) else {
         return Err(Errno(EINVAL));
     };
-    if !has_numbers(kernel, p) {
+    if !kernel.has_numbers(p) {
         return Err(Errno(ENFILE));
     }
-    let Some(new) = free_descriptor(kernel, p) else {
+    let Some(new) = kernel.free_from(p, 0) else {
         return Err(Errno(EMFILE));
     };
     first_waiting(
@@ -233,7 +233,7 @@ fn find_listener(
     let Some(listening) = kernel.listeners.get(to) else {
         return Err(Errno(ECONNREFUSED));
     };
-    if !has_numbers(kernel, p) || kernel.channels.len() >= CHANNEL_LIMIT {
+    if !kernel.has_numbers(p) || kernel.channels.len() >= CHANNEL_LIMIT {
         return Err(Errno(ENFILE));
     }
     let own = bound_or(kernel, socket, EADDRNOTAVAIL)?;

@@ -13,7 +13,7 @@ use plain_machine::answer::{Answer, Attempt, RowResult};
 use plain_ports::addresses::{
     ADDRESS_SIZE, AF_INET, PAIR_BYTES, cut_to, end_name, family_of, named_host, own_name, port_of,
 };
-use plain_ports::look_ups::{Held, across, free_descriptor, has_numbers, host_of, socket_at};
+use plain_ports::look_ups::{Held, across, host_of, socket_at};
 use plain_ports::ports::{bound_or, port_for};
 use plain_tables::closing::{end_at, quiet, stop_reading_at};
 use plain_tables::{Direction, Listening, Object};
@@ -61,10 +61,10 @@ pub fn socket(
     if !is_stream_type(socket_type) || !(protocol == 0 || protocol == 6) {
         return Ok(Attempt::fails(EINVAL));
     }
-    if !has_numbers(kernel, p) {
+    if !kernel.has_numbers(p) {
         return Ok(Attempt::fails(ENFILE));
     }
-    let Some(fd) = free_descriptor(kernel, p) else {
+    let Some(fd) = kernel.free_from(p, 0) else {
         return Ok(Attempt::fails(EMFILE));
     };
     let address = VirtAddr {
