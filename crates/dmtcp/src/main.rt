@@ -68,7 +68,13 @@ fn main(rt: HostRuntime) -> ExitCode {
 }
 
 /// The top call. Its promise is `dmtcp_top`'s, and nothing here rests on it.
-fn carried_out<R: Wait + Threads + Sync + Alloc<A = Global>, I: Inputs, O: Sink, L: Sink, F: Folder>(
+fn carried_out<
+    R: Wait + Threads + Sync + Alloc<A = Global>,
+    I: Inputs,
+    O: Sink,
+    L: Sink,
+    F: Folder,
+>(
     rt: &R,
     words: &[String],
     inputs: &mut I,

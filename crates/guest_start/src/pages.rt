@@ -5,8 +5,8 @@ ghost use Rattle.plain_process.specs.Start as start;
 ghost use Rattle.elf32.specs.Pages.{page_count};
 ghost use Rattle.guest_start.specs.declared.pages.TheConstants.{PROGRAM_PAGES};
 
-use elf32::page::{is_touched, page_rights};
 use elf32::Segment;
+use elf32::page::{is_touched, page_rights};
 use guest_mem::{MemFault, Space};
 use plain_process::Frame;
 use std::alloc::{AllocError, Global};

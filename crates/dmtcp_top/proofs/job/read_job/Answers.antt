@@ -13,8 +13,9 @@ not_usage : {A : Type 0} (result : Result A WordFault) (fault : WordFault) → r
 not_usage result fault is memory usage = let told : fault ≡ Usage = subst (λ r. IfErr r (λ f. f ≡ Usage)) is usage in cc
 
 pub returns-in-Err-Memory-clause-refused : goal.returns-in-Err-Memory-clause-refused
-returns-in-Err-Memory-clause-refused c =
-    (some_asked (map string_bytes c.args.words.now)
-    (λ nothing. apart c.read_words.result c.in-Err-Memory.field-0 c.in-Err-Memory.is c.in-Err-Memory.field-0-is (c.read_words.ensures.usage.1 nothing))
-    (λ job is. (c.is_built.ensures job (c.outline_words.ensures job is)).0 c.if-not-is_built.false),
-    λ asks. not_usage c.read_words.result c.in-Err-Memory.field-0 c.in-Err-Memory.is c.in-Err-Memory.field-0-is (c.read_words.ensures.help (help_words (map string_bytes c.args.words.now) asks.is)))
+returns-in-Err-Memory-clause-refused c = (
+  some_asked (map string_bytes c.args.words.now)
+      (λ nothing. apart c.read_words.result c.in-Err-Memory.field-0 c.in-Err-Memory.is c.in-Err-Memory.field-0-is (c.read_words.ensures.usage.1 nothing))
+      (λ job is. (c.is_built.ensures job (c.outline_words.ensures job is)).0 c.if-not-is_built.false),
+  λ asks. not_usage c.read_words.result c.in-Err-Memory.field-0 c.in-Err-Memory.is c.in-Err-Memory.field-0-is (c.read_words.ensures.help (help_words (map string_bytes c.args.words.now) asks.is)),
+)
