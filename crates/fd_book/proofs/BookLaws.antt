@@ -13,14 +13,16 @@ use Rattle.views.proofs.MapValues.{get-map_values, map_values-insert, map_values
 use Rattle.sys_abi.specs.declared.identity.DescId.{DescId}
 use Rattle.sys_abi.specs.Orders.{desc_cmp}
 use Rattle.sys_abi.proofs.OrderLaws.{desc_total, desc_exact}
-use Rattle.fd_book.specs.declared.real_slot.RealSlot.{RealSlot}
-use Rattle.fd_book.specs.declared.description.Desc.{Desc}
+use Rattle.fd_tables.specs.declared.real_slot.RealSlot.{RealSlot}
+use Rattle.fd_tables.specs.declared.description.Desc.{Desc}
 use Rattle.sys_abi.specs.declared.descriptor.Descriptor.{Descriptor}
-use Rattle.fd_book.specs.declared.open.Open.{Open}
-use Rattle.fd_book.specs.Orders.{real_slot_cmp}
-use Rattle.fd_book.specs.Books.{Books, refers_to, is_held, lost, held_of}
-use Rattle.fd_book.specs.Counts.{holders_of, with_holders, retained, after_retain, released, after_release, lost_of, lost_by_release, desc_of, IsCounted, IsBook}
-use Rattle.fd_book.proofs.OrderLaws.{real_slot_total, real_slot_exact}
+use Rattle.fd_tables.specs.declared.open.Open.{Open}
+use Rattle.fd_tables.specs.Orders.{real_slot_cmp}
+use Rattle.fd_book.specs.Books.{Books, is_held, lost, held_of}
+use Rattle.fd_tables.specs.Slots.{refers_to}
+use Rattle.fd_tables.specs.Counts.{holders_of, with_holders, retained, after_retain, released, after_release, lost_of, lost_by_release}
+use Rattle.fd_book.specs.Counted.{desc_of, IsCounted, IsBook}
+use Rattle.fd_tables.proofs.OrderLaws.{real_slot_total, real_slot_exact}
 use Rattle.fd_book.proofs.CountLaws.{some_counted, none_counted, count-insert_new, count-remove, count-le-len}
 
 abbrev pub Slots : Type 0

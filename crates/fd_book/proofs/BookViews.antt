@@ -5,13 +5,14 @@ use Rattle.std.specs.Option.{option_map, unwrap_or}
 use Rattle.std.specs.FinMap as map
 use Rattle.views.proofs.MapLaws.{true_false, insert_remove, get_remove_same}
 use Rattle.sys_abi.specs.declared.identity.DescId.{DescId}
-use Rattle.fd_book.specs.declared.real_slot.RealSlot.{RealSlot}
-use Rattle.fd_book.specs.declared.description.Desc.{Desc}
+use Rattle.fd_tables.specs.declared.real_slot.RealSlot.{RealSlot}
+use Rattle.fd_tables.specs.declared.description.Desc.{Desc}
 use Rattle.sys_abi.specs.declared.descriptor.Descriptor.{Descriptor}
-use Rattle.fd_book.specs.declared.open.Open.{Open}
+use Rattle.fd_tables.specs.declared.open.Open.{Open}
 use Rattle.fd_book.specs.Books.{Books, is_held, with_descriptor, without_descriptor, lost_without, after_close, lost_by_close, changed_or_same, with_changed, new_or_same, with_new}
-use Rattle.fd_book.specs.Counts.{after_retain, after_release, lost_by_release, desc_of, IsCounted, IsBook}
-use Rattle.fd_book.proofs.OrderLaws.{real_slot_total, real_slot_exact}
+use Rattle.fd_tables.specs.Counts.{after_retain, after_release, lost_by_release}
+use Rattle.fd_book.specs.Counted.{desc_of, IsCounted, IsBook}
+use Rattle.fd_tables.proofs.OrderLaws.{real_slot_total, real_slot_exact}
 use Rattle.fd_book.proofs.BookLaws.{Slots, Opens, descs, is_there, held_there, released_book, lost-released, descs-released, after_retain_book, descs-after_retain, descs-insert, get-descs, holders_few, not_empty, described_there}
 
 abbrev pub seen : Slots → Opens → Books

@@ -7,14 +7,15 @@ use Rattle.views.proofs.MapLaws.{same_or_other, get_insert_same, get_insert_othe
 use Rattle.sys_abi.specs.declared.identity.RealPid.{RealPid}
 use Rattle.sys_abi.specs.declared.identity.DescId.{DescId}
 use Rattle.sys_abi.proofs.OrderLaws.{desc_total, desc_exact, real_pid_total, real_pid_exact}
-use Rattle.fd_book.specs.declared.real_slot.RealSlot.{RealSlot}
+use Rattle.fd_tables.specs.declared.real_slot.RealSlot.{RealSlot}
 use Rattle.sys_abi.specs.declared.descriptor.Descriptor.{Descriptor}
-use Rattle.fd_book.specs.declared.open.Open.{Open}
-use Rattle.fd_book.specs.Books.{slot}
-use Rattle.fd_book.specs.Numbers.{NoneOpen}
-use Rattle.fd_book.specs.Tables.{at_place}
-use Rattle.fd_book.specs.Counts.{with_holders, retained, after_retain, after_place, after_retains, IsBook}
-use Rattle.fd_book.proofs.OrderLaws.{real_slot_total, real_slot_exact}
+use Rattle.fd_tables.specs.declared.open.Open.{Open}
+use Rattle.fd_tables.specs.Slots.{slot}
+use Rattle.fd_tables.specs.Numbers.{NoneOpen}
+use Rattle.fd_tables.specs.Tables.{at_place}
+use Rattle.fd_tables.specs.Counts.{with_holders, retained, after_retain, after_place, after_retains}
+use Rattle.fd_book.specs.Counted.{IsBook}
+use Rattle.fd_tables.proofs.OrderLaws.{real_slot_total, real_slot_exact}
 use Rattle.fd_book.proofs.CountLaws.{count-cons}
 use Rattle.fd_book.proofs.BookLaws.{Slots, Opens, descs, is_there, after_retain_book, descs-after_retain}
 

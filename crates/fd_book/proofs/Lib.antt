@@ -1,15 +1,5 @@
-pub mod OrderLaws
-pub mod Places
-pub mod TableLaws
-pub mod TableViews
-pub mod InRange
-pub mod Ranges
-pub mod IndexLaws
-pub mod DescriptionViews
-pub mod RetainLaws
 pub mod CountLaws
 pub mod BookLaws
 pub mod BookViews
 pub mod ForkLaws
-pub mod Holders
 pub mod UseLaws

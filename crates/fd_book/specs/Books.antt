@@ -1,39 +1,26 @@
 -- What contracts see of a book, and what its calls leave.
--- Source: `man 2 open` (descriptors and open descriptions), `man 2 dup`, `man 2 close`, `man 2 fcntl` (F_DUPFD, F_SETOWN).
+-- Source: `man 2 open` (descriptors and open descriptions), `man 2 dup`, `man 2 close`, `man 2 fcntl` (F_DUPFD).
 --     Books                       descriptions by their names, and descriptors by process and number
---     slot p fd                   the descriptor of that number of a process
 --     is_held, lost               whether a descriptor refers to a description;  the description, where none does
 --     with_descriptor             a descriptor put at a number
 --     after_close, lost_by_close  what a close leaves, and which description it makes nobody's
---     with_object, with_flags, with_owner      a description with another part
 --     with_cloexec                a descriptor with another flag
 --     with_new, with_changed      a description where there is none of that name;  one description changed
---     is_of_file number d         the description is of the file of that number
---     disowned p d                the description, of which the process is not the owner any more
---     IsHolder                    the process has a descriptor of the description
---     is_after above id           a description that comes after this one; each does after none
---     bound_above above           the start of the range of these names
---     AreInRange descriptors      each has one of the 256 numbers
 --     IsWhole b                   what is always true of a book
-use Rattle.std.specs.Prelude.{◌≡◌, ◌==◌, ◌<◌, ℕ, Bool, true, false, cond, Option, Some, None, IsSome, IsTrue, refl}
+use Rattle.std.specs.Prelude.{◌≡◌, Bool, cond, Option, Some, None, IsSome, IsTrue, refl}
 use Rattle.std.specs.List.{list_any}
-use Rattle.std.specs.Ordering.{eq_by_cmp, is_lt}
-use Rattle.std.specs.declared.ops.Bound.{Bound}
-use Rattle.std.specs.declared.ops.Bound.TheVariants.{Excluded, Unbounded}
 use Rattle.std.specs.FinMap as map
 use Rattle.std.specs.FinMap.{FinMap}
 use Rattle.std.specs.Coded.{Coded, code_by, coded×}
 use Rattle.sys_abi.specs.declared.identity.DescId.{DescId}
-use Rattle.sys_abi.specs.declared.identity.RealPid.{RealPid}
-use Rattle.sys_abi.specs.Orders.{desc_cmp, real_pid_cmp, coded_desc}
-use Rattle.fd_book.specs.declared.real_slot.RealSlot.{RealSlot}
-use Rattle.fd_book.specs.declared.description.Object.{Object}
-use Rattle.fd_book.specs.declared.description.Object.TheVariants.{Console, File, Stream, Socket, Listener, Datagram, Counter}
-use Rattle.fd_book.specs.declared.description.Desc.{Desc}
+use Rattle.sys_abi.specs.Orders.{desc_cmp, coded_desc}
+use Rattle.fd_tables.specs.declared.real_slot.RealSlot.{RealSlot}
+use Rattle.fd_tables.specs.declared.description.Desc.{Desc}
 use Rattle.sys_abi.specs.declared.descriptor.Descriptor.{Descriptor}
-use Rattle.fd_book.specs.contracts.description.Desc as desc
+use Rattle.fd_tables.specs.contracts.description.Desc as desc
 use Rattle.sys_abi.specs.contracts.descriptor.Descriptor as descriptor
-use Rattle.fd_book.specs.Orders.{real_slot_cmp, coded_real_slot}
+use Rattle.fd_tables.specs.Orders.{real_slot_cmp, coded_real_slot}
+use Rattle.fd_tables.specs.Slots.{refers_to, AreInRange}
 
 pub record Books : Type 0 where
   pub descriptions : FinMap desc_cmp Desc
@@ -48,12 +35,6 @@ coded_books =
     (λ b. (b.descriptions, b.descriptors))
     (λ p. record { descriptions = p.0; descriptors = p.1 })
     (λ _. refl)
-
-abbrev pub slot : RealPid → ℕ → RealSlot
-slot p fd = record { pid = p; fd = fd }
-
-abbrev pub refers_to : DescId → Descriptor → Bool
-refers_to id descriptor = eq_by_cmp desc_cmp id descriptor.desc
 
 -- some descriptor refers to the description
 unfoldable pub is_held : FinMap real_slot_cmp Descriptor → DescId → Bool
@@ -103,34 +84,6 @@ changed_or_same f b id (Some d) = record { descriptions = map.insert b.descripti
 unfoldable pub with_changed : (Desc → Desc) → Books → DescId → Books
 with_changed f b id = changed_or_same f b id (map.get b.descriptions id)
 
-abbrev pub with_object : Object → Desc → Desc
-with_object object d = record { object = object; flags = d.flags; owner = d.owner }
-
-abbrev pub with_flags : ℕ → Desc → Desc
-with_flags flags d = record { object = d.object; flags = flags; owner = d.owner }
-
-abbrev pub with_owner : Option RealPid → Desc → Desc
-with_owner owner d = record { object = d.object; flags = d.flags; owner = owner }
-
-abbrev pub is_file : ℕ → Object → Bool
-is_file number Console = false
-is_file number (File own offset) = own == number
-is_file number (Stream conn side) = false
-is_file number Socket = false
-is_file number (Listener at) = false
-is_file number (Datagram queue side) = false
-is_file number (Counter value) = false
-
-abbrev pub is_of_file : ℕ → Desc → Bool
-is_of_file number d = is_file number d.object
-
-abbrev pub without_owner : RealPid → Option RealPid → Option RealPid
-without_owner p None = None
-without_owner p (Some owner) = cond (eq_by_cmp real_pid_cmp p owner) None (Some owner)
-
-abbrev pub disowned : RealPid → Desc → Desc
-disowned p d = with_owner (without_owner p d.owner) d
-
 abbrev pub same_with_cloexec : Books → RealSlot → Bool → Option Descriptor → Books
 same_with_cloexec b at on None = b
 same_with_cloexec b at on (Some d) = with_descriptor b at d.desc on
@@ -138,23 +91,6 @@ same_with_cloexec b at on (Some d) = with_descriptor b at d.desc on
 -- the descriptor, if it is open, has this close-on-exec flag
 unfoldable pub with_cloexec : Books → RealSlot → Bool → Books
 with_cloexec b at on = same_with_cloexec b at on (map.get b.descriptors at)
-
--- some descriptor of the process refers to the description
-abbrev pub IsHolder : FinMap real_slot_cmp Descriptor → DescId → RealPid → Type 0
-IsHolder descriptors id p = (fd : ℕ) × (d : Descriptor) × (map.get descriptors (slot p fd) ≡ Some d) × (d.desc ≡ id)
-
-abbrev pub is_after : Option DescId → DescId → Bool
-is_after None id = true
-is_after (Some above) id = is_lt (desc_cmp above id)
-
--- the start of the range of these names
-abbrev pub bound_above : Option DescId → Bound DescId
-bound_above None = Unbounded
-bound_above (Some above) = Excluded above
-
--- each descriptor has one of the 256 numbers
-abbrev pub AreInRange : FinMap real_slot_cmp Descriptor → Type 0
-AreInRange descriptors = (at : RealSlot) (d : Descriptor) → map.get descriptors at ≡ Some d → at.fd < 256
 
 -- each descriptor has one of the 256 numbers and refers to a description that is there, and each description has a descriptor
 pub record IsWhole (b : Books) : Type 0 where

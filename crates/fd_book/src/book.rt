@@ -1,12 +1,11 @@
 ghost use Rattle.std.specs.Prelude.{◌≡◌};
 ghost use Rattle.std.specs.FinMap as map;
 ghost use Rattle.views.specs.Maps.{map_values};
-ghost use Rattle.fd_book.specs.Books.{with_changed, with_object, with_flags, with_owner, disowned, with_cloexec, slot};
+ghost use Rattle.fd_book.specs.Books.{with_changed, with_cloexec};
+ghost use Rattle.fd_tables.specs.Parts.{with_object, with_flags, with_owner, disowned};
+ghost use Rattle.fd_tables.specs.Slots.{slot};
 
-use crate::description::{Desc, Object};
-use crate::descriptions::Descriptions;
-use crate::open::Open;
-use crate::tables::Tables;
+use fd_tables::{Desc, Descriptions, Object, Open, Tables};
 use std::alloc::Global;
 use std::marker::Model;
 use sys_abi::{DescId, Descriptor, Fd, RealPid};
@@ -23,7 +22,7 @@ pub struct Book {
 
 impl Model for Book {
     ghost use Rattle.fd_book.specs.Books.{Books, coded_books};
-    ghost use Rattle.fd_book.specs.Counts.{IsBook, desc_of};
+    ghost use Rattle.fd_book.specs.Counted.{IsBook, desc_of};
     ghost use Rattle.views.specs.Maps.{map_values};
 
     ghost Value = { Books };

@@ -1,9 +1,10 @@
 ghost use Rattle.std.specs.Prelude.{◌≡◌, ◌≢◌, ◌<◌, ℕ, Some, None, IfSome, IfNone, OnOk, OnErr, MatchOption, option_map};
 ghost use Rattle.std.specs.Option.{ok_or};
 ghost use Rattle.std.specs.FinMap as map;
-ghost use Rattle.fd_book.specs.declared.real_slot.RealSlot.{RealSlot};
-ghost use Rattle.fd_book.specs.Books.{slot, after_close, lost_by_close};
-ghost use Rattle.fd_book.specs.Numbers.{NoneOpen, IsLowestOpen};
+ghost use Rattle.fd_tables.specs.declared.real_slot.RealSlot.{RealSlot};
+ghost use Rattle.fd_tables.specs.Slots.{slot};
+ghost use Rattle.fd_book.specs.Books.{after_close, lost_by_close};
+ghost use Rattle.fd_tables.specs.Numbers.{NoneOpen, IsLowestOpen};
 
 use crate::book::Book;
 use crate::book_fault::BookFault;

@@ -6,7 +6,7 @@
 //!
 //! A contract sees a `Book` as two finite maps, whole after every call: descriptions by their names, and descriptors
 //! by process and number. New descriptors take the lowest free number. Each refusal comes exactly where its call says,
-//! and leaves all as it was.
+//! and leaves all as it was. The two tables stand in `fd_tables`, each by itself.
 //!
 //! Proved: all of that. To look up, to close and to change a description or a flag takes no memory: none of these calls
 //! has an answer for want of it. Not proved: how long a call takes; a look-up goes down a tree to the process's table
@@ -17,16 +17,9 @@
 pub mod book;
 pub mod book_fault;
 mod closing;
-pub mod description;
-mod descriptions;
-mod open;
 mod placing;
 mod readers;
-pub mod real_slot;
-mod table;
-mod tables;
 
 pub use book::Book;
 pub use book_fault::BookFault;
-pub use description::{Desc, Object};
-pub use real_slot::RealSlot;
+pub use fd_tables::{Desc, Object, RealSlot};

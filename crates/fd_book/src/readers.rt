@@ -5,11 +5,13 @@ ghost use Rattle.std.specs.List.Sorted.{IsStrictlySortedBy};
 ghost use Rattle.std.specs.FinMap as map;
 ghost use Rattle.sys_abi.specs.declared.identity.RealPid.{RealPid};
 ghost use Rattle.sys_abi.specs.Orders.{real_pid_cmp};
-ghost use Rattle.fd_book.specs.Books.{slot, is_after, is_held, is_of_file, IsHolder, IsWhole};
-ghost use Rattle.fd_book.specs.Numbers.{NoneOpen, IsLowestOpen, free_below, first_above};
+ghost use Rattle.fd_tables.specs.Slots.{slot, IsHolder};
+ghost use Rattle.fd_tables.specs.Parts.{is_after, is_of_file};
+ghost use Rattle.fd_book.specs.Books.{is_held, IsWhole};
+ghost use Rattle.fd_tables.specs.Numbers.{NoneOpen, IsLowestOpen, free_below, first_above};
 
 use crate::book::Book;
-use crate::description::Desc;
+use fd_tables::Desc;
 use std::alloc::{AllocError, Global};
 use sys_abi::{DescId, Fd, RealPid};
 

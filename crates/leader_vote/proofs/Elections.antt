@@ -14,8 +14,10 @@ use Rattle.sys_abi.specs.declared.identity.ConnId.{ConnId}
 use Rattle.sys_abi.specs.declared.identity.DescId.{DescId}
 use Rattle.sys_abi.specs.declared.identity.RealPid.{RealPid}
 use Rattle.sys_abi.proofs.OrderLaws.{desc_total, desc_exact}
-use Rattle.fd_book.specs.declared.description.Desc.{Desc}
-use Rattle.fd_book.specs.Books.{Books, with_owner, IsHolder}
+use Rattle.fd_tables.specs.declared.description.Desc.{Desc}
+use Rattle.fd_book.specs.Books.{Books}
+use Rattle.fd_tables.specs.Parts.{with_owner}
+use Rattle.fd_tables.specs.Slots.{IsHolder}
 use Rattle.leader_vote.specs.Elections.{leader_of, is_holder, after_vote_of, after_vote, after_votes, IsHeld, HasOneLeader, Pending, HasOneActor, IsPendingAt, NoneOwned, HaveVoted, LastVoterLeads, NoneWithoutVote, VotesGiveLeaders, OwnersAlone, OneMoreVote}
 use Rattle.leader_vote.proofs.Entries.{get-map_entries}
 use Rattle.leader_vote.proofs.Holders.{is_holder-from_IsHolder, IsHolder-from_is_holder}

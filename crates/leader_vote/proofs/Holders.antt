@@ -9,11 +9,11 @@ use Rattle.sys_abi.specs.declared.identity.DescId.{DescId}
 use Rattle.sys_abi.specs.declared.identity.RealPid.{RealPid}
 use Rattle.sys_abi.specs.Orders.{desc_cmp, real_pid_cmp}
 use Rattle.sys_abi.proofs.OrderLaws.{desc_total, desc_exact, real_pid_total, real_pid_exact}
-use Rattle.fd_book.specs.declared.real_slot.RealSlot.{RealSlot}
+use Rattle.fd_tables.specs.declared.real_slot.RealSlot.{RealSlot}
 use Rattle.sys_abi.specs.declared.descriptor.Descriptor.{Descriptor}
-use Rattle.fd_book.specs.Orders.{real_slot_cmp}
-use Rattle.fd_book.specs.Books.{slot, refers_to, IsHolder}
-use Rattle.fd_book.proofs.OrderLaws.{real_slot_total, real_slot_exact}
+use Rattle.fd_tables.specs.Orders.{real_slot_cmp}
+use Rattle.fd_tables.specs.Slots.{slot, refers_to, IsHolder}
+use Rattle.fd_tables.proofs.OrderLaws.{real_slot_total, real_slot_exact}
 use Rattle.leader_vote.specs.Elections.{is_holder, TestsHolders}
 use Rattle.leader_vote.proofs.Entries.{some_entry, entry_that_passes}
 

@@ -12,10 +12,12 @@ use Rattle.sys_abi.specs.declared.identity.DescId.{DescId}
 use Rattle.sys_abi.specs.declared.identity.RealPid.{RealPid}
 use Rattle.sys_abi.specs.Orders.{desc_cmp}
 use Rattle.sys_abi.proofs.OrderLaws.{desc_total, desc_exact}
-use Rattle.fd_book.specs.declared.description.Desc.{Desc}
+use Rattle.fd_tables.specs.declared.description.Desc.{Desc}
 use Rattle.sys_abi.specs.declared.descriptor.Descriptor.{Descriptor}
-use Rattle.fd_book.specs.Books.{Books, slot, refers_to, with_owner, changed_or_same, with_changed, IsHolder}
-use Rattle.fd_book.specs.Numbers.{NoneOpen, IsLowestOpen}
+use Rattle.fd_book.specs.Books.{Books, changed_or_same, with_changed}
+use Rattle.fd_tables.specs.Slots.{slot, refers_to, IsHolder}
+use Rattle.fd_tables.specs.Parts.{with_owner}
+use Rattle.fd_tables.specs.Numbers.{NoneOpen, IsLowestOpen}
 use Rattle.leader_vote.specs.Elections.{leader_of, is_holder, after_vote_of, after_vote, after_vote_by}
 use Rattle.leader_vote.proofs.Entries.{get-map_entries}
 use Rattle.leader_vote.proofs.Holders.{refers-same, same-refers, is_holder-from_IsHolder, IsHolder-from_is_holder}

@@ -24,10 +24,12 @@ use Rattle.sys_abi.specs.declared.identity.ConnId.{ConnId}
 use Rattle.sys_abi.specs.declared.identity.DescId.{DescId}
 use Rattle.sys_abi.specs.declared.identity.RealPid.{RealPid}
 use Rattle.sys_abi.specs.Orders.{real_pid_cmp}
-use Rattle.fd_book.specs.declared.description.Desc.{Desc}
+use Rattle.fd_tables.specs.declared.description.Desc.{Desc}
 use Rattle.sys_abi.specs.declared.descriptor.Descriptor.{Descriptor}
-use Rattle.fd_book.specs.Orders.{real_slot_cmp}
-use Rattle.fd_book.specs.Books.{Books, refers_to, with_owner, with_changed, IsHolder}
+use Rattle.fd_tables.specs.Orders.{real_slot_cmp}
+use Rattle.fd_book.specs.Books.{Books, with_changed}
+use Rattle.fd_tables.specs.Slots.{refers_to, IsHolder}
+use Rattle.fd_tables.specs.Parts.{with_owner}
 
 abbrev pub leader_of : Books → DescId → Option RealPid
 leader_of b id = option_and_then (λ d. d.owner) (map.get b.descriptions id)

@@ -1,7 +1,7 @@
 ghost use Rattle.std.specs.Prelude.{◌≡◌, Some, IsSome, IfSome};
 ghost use Rattle.std.specs.FinMap as map;
 ghost use Rattle.sys_abi.specs.declared.identity.DescId.{DescId};
-ghost use Rattle.fd_book.specs.Books.{slot, IsHolder};
+ghost use Rattle.fd_tables.specs.Slots.{slot, IsHolder};
 ghost use Rattle.leader_vote.specs.Elections.{leader_of, after_vote, after_vote_by};
 
 use fd_book::Book;

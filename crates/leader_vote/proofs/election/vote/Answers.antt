@@ -1,5 +1,5 @@
 use Rattle.std.proofs.Common.{◌<◌, ◌≤◌, arith}
-use Rattle.fd_book.specs.Numbers.{first_above}
+use Rattle.fd_tables.specs.Numbers.{first_above}
 use Rattle.leader_vote.proofs.Voting.{voting_begun, voting_goes_on, voting_done, voter_leads}
 use Rattle.leader_vote.proofs.election.vote.Goals as goal
 

@@ -1,5 +1,5 @@
 use Rattle.std.proofs.Common.{◌-◌}
-use Rattle.fd_book.specs.Numbers.{first_above}
+use Rattle.fd_tables.specs.Numbers.{first_above}
 use Rattle.leader_vote.proofs.Voting.{IsVoting}
 use Rattle.leader_vote.proofs.election.vote.Given as goal
 

@@ -1,6 +1,6 @@
 use Rattle.std.proofs.Common.{sym, ap, ◌∙◌}
 use Rattle.std.specs.FinMap as map
-use Rattle.fd_book.specs.Books.{slot}
+use Rattle.fd_tables.specs.Slots.{slot}
 use Rattle.fd_book.proofs.BookViews.{close_none}
 use Rattle.fd_book.proofs.book.Book.close.Goals as goal
 

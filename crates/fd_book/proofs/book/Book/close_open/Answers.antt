@@ -1,7 +1,8 @@
 use Rattle.std.proofs.Common.{◌-◌, ap, ◌∙◌}
 use Rattle.std.specs.FinMap as map
-use Rattle.fd_book.specs.Books.{slot, after_close, lost_by_close}
-use Rattle.fd_book.specs.Counts.{after_release}
+use Rattle.fd_tables.specs.Slots.{slot}
+use Rattle.fd_book.specs.Books.{after_close, lost_by_close}
+use Rattle.fd_tables.specs.Counts.{after_release}
 use Rattle.fd_book.proofs.BookLaws.{released_book, moved_book, not_empty}
 use Rattle.fd_book.proofs.BookViews.{seen, close_seen, lost_seen}
 use Rattle.fd_book.proofs.book.Book.close_open.Goals as goal

@@ -1,4 +1,4 @@
-use Rattle.fd_book.specs.Books.{slot}
+use Rattle.fd_tables.specs.Slots.{slot}
 use Rattle.fd_book.proofs.BookViews.{refers_there}
 use Rattle.fd_book.proofs.book.Book.dup_from.Goals as goal
 

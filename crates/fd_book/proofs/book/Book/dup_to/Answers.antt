@@ -1,7 +1,8 @@
 use Rattle.std.proofs.Common.{◌≡◌, sym, ap, ◌∙◌}
 use Rattle.std.specs.FinMap as map
 use Rattle.sys_abi.specs.declared.descriptor.Descriptor.{Descriptor}
-use Rattle.fd_book.specs.Books.{slot, with_descriptor, after_close}
+use Rattle.fd_tables.specs.Slots.{slot}
+use Rattle.fd_book.specs.Books.{with_descriptor, after_close}
 use Rattle.fd_book.proofs.BookLaws.{other_held}
 use Rattle.fd_book.proofs.BookViews.{refers_there, close_none, lost_none, the_descriptor}
 use Rattle.fd_book.proofs.book.Book.dup_to.Goals as goal

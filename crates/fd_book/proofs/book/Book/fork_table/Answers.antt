@@ -1,8 +1,8 @@
 use Rattle.std.proofs.Common.{◌+◌, refl, ap, ◌∙◌, arith}
 use Rattle.std.specs.FinMap as map
-use Rattle.fd_book.specs.Books.{slot}
-use Rattle.fd_book.specs.Numbers.{NoneOpen}
-use Rattle.fd_book.specs.Counts.{after_retains}
+use Rattle.fd_tables.specs.Slots.{slot}
+use Rattle.fd_tables.specs.Numbers.{NoneOpen}
+use Rattle.fd_tables.specs.Counts.{after_retains}
 use Rattle.fd_book.proofs.BookLaws.{descs, holders_few, moved_book}
 use Rattle.fd_book.proofs.ForkLaws.{forked_book, forked_none, forked_descs}
 use Rattle.fd_book.proofs.book.Book.fork_table.Goals as goal

@@ -1,7 +1,7 @@
 use Rattle.std.proofs.Common.{refl, sym, ap, ◌∙◌}
 use Rattle.std.specs.Prelude.{is_some}
 use Rattle.std.specs.FinMap as map
-use Rattle.fd_book.specs.Books.{slot}
+use Rattle.fd_tables.specs.Slots.{slot}
 use Rattle.fd_book.proofs.BookLaws.{is_there, described_there}
 use Rattle.fd_book.proofs.book.Book.get.Goals as goal
 

@@ -1,5 +1,6 @@
 use Rattle.std.proofs.Common.{ap, ◌∙◌}
-use Rattle.fd_book.specs.Books.{Books, is_of_file}
+use Rattle.fd_book.specs.Books.{Books}
+use Rattle.fd_tables.specs.Parts.{is_of_file}
 use Rattle.fd_book.proofs.UseLaws.{any-descs}
 use Rattle.fd_book.proofs.book.Book.has_file.Goals as goal
 

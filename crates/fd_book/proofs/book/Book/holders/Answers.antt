@@ -1,7 +1,8 @@
 use Rattle.std.proofs.Common.{◌↔◌, Contains, subst}
 use Rattle.std.specs.Prelude.{IfOk}
 use Rattle.sys_abi.specs.declared.identity.RealPid.{RealPid}
-use Rattle.fd_book.specs.Books.{Books, IsHolder}
+use Rattle.fd_book.specs.Books.{Books}
+use Rattle.fd_tables.specs.Slots.{IsHolder}
 use Rattle.fd_book.proofs.book.Book.holders.Goals as goal
 
 pub returns-clause-listed : goal.returns-clause-listed

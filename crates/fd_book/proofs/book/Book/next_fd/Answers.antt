@@ -1,7 +1,7 @@
 use Rattle.std.proofs.Common.{Some, None, subst, arith}
 use Rattle.fd_book.specs.Books.{Books}
-use Rattle.fd_book.specs.Numbers.{NoneOpen, IsLowestOpen, first_above}
-use Rattle.fd_book.proofs.Ranges.{none_above, open_above}
+use Rattle.fd_tables.specs.Numbers.{NoneOpen, IsLowestOpen, first_above}
+use Rattle.fd_tables.proofs.Ranges.{none_above, open_above}
 use Rattle.fd_book.proofs.book.Book.next_fd.Goals as goal
 
 pub returns-in-Some : goal.returns-in-Some

@@ -1,7 +1,8 @@
 use Rattle.std.proofs.Common.{refl, sym, ap, ◌∙◌}
 use Rattle.std.specs.Prelude.{is_some}
 use Rattle.std.specs.FinMap as map
-use Rattle.fd_book.specs.Books.{slot, with_descriptor}
+use Rattle.fd_tables.specs.Slots.{slot}
+use Rattle.fd_book.specs.Books.{with_descriptor}
 use Rattle.fd_book.proofs.BookLaws.{described_there, described_none}
 use Rattle.fd_book.proofs.BookViews.{same_there, new_there, on_ok_along}
 use Rattle.fd_book.proofs.book.Book.place_at.Goals as goal

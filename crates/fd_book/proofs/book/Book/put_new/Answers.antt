@@ -1,9 +1,10 @@
 use Rattle.std.proofs.Common.{◌+◌, refl, sym, ap, ◌∙◌}
 use Rattle.std.specs.FinMap as map
 use Rattle.views.proofs.MapLaws.{remove_insert_new}
-use Rattle.fd_book.specs.Books.{Books, slot, with_descriptor}
-use Rattle.fd_book.specs.Counts.{holders_of}
-use Rattle.fd_book.proofs.OrderLaws.{real_slot_total, real_slot_exact}
+use Rattle.fd_book.specs.Books.{Books, with_descriptor}
+use Rattle.fd_tables.specs.Slots.{slot}
+use Rattle.fd_tables.specs.Counts.{holders_of}
+use Rattle.fd_tables.proofs.OrderLaws.{real_slot_total, real_slot_exact}
 use Rattle.fd_book.proofs.BookLaws.{added_book, moved_book, undescribed}
 use Rattle.fd_book.proofs.BookViews.{seen, put_new_seen}
 use Rattle.fd_book.proofs.book.Book.put_new.Goals as goal

@@ -1,7 +1,8 @@
 use Rattle.std.proofs.Common.{sym, ap, ◌∙◌, arith}
 use Rattle.std.specs.FinMap as map
-use Rattle.fd_book.specs.Books.{slot, is_held, with_descriptor, after_close, lost_by_close}
-use Rattle.fd_book.specs.Counts.{after_retain, after_release}
+use Rattle.fd_tables.specs.Slots.{slot}
+use Rattle.fd_book.specs.Books.{is_held, with_descriptor, after_close, lost_by_close}
+use Rattle.fd_tables.specs.Counts.{after_retain, after_release}
 use Rattle.fd_book.proofs.BookLaws.{moved_book, not_empty}
 use Rattle.fd_book.proofs.BookViews.{seen, over_room, over_book, over_seen, lost_seen}
 use Rattle.fd_book.proofs.book.Book.put_over.Goals as goal

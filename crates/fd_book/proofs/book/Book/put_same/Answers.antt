@@ -1,8 +1,9 @@
 use Rattle.std.proofs.Common.{◌+◌, sym, ap, ◌∙◌, arith}
 use Rattle.std.specs.Prelude.{is_some}
 use Rattle.std.specs.FinMap as map
-use Rattle.fd_book.specs.Books.{slot, with_descriptor}
-use Rattle.fd_book.specs.Counts.{after_retain}
+use Rattle.fd_tables.specs.Slots.{slot}
+use Rattle.fd_book.specs.Books.{with_descriptor}
+use Rattle.fd_tables.specs.Counts.{after_retain}
 use Rattle.fd_book.proofs.BookLaws.{after_retain_book, moved_book, described_there, holders_few}
 use Rattle.fd_book.proofs.BookViews.{seen, put_same_seen}
 use Rattle.fd_book.proofs.book.Book.put_same.Goals as goal

@@ -1,7 +1,8 @@
 use Rattle.std.proofs.Common.{refl, sym, ap, ◌∙◌}
 use Rattle.std.specs.FinMap as map
-use Rattle.fd_book.specs.Books.{with_owner, with_changed}
-use Rattle.fd_book.specs.declared.open.Open.{Open}
+use Rattle.fd_tables.specs.Parts.{with_owner}
+use Rattle.fd_book.specs.Books.{with_changed}
+use Rattle.fd_tables.specs.declared.open.Open.{Open}
 use Rattle.fd_book.proofs.BookLaws.{changed_book, moved_book}
 use Rattle.fd_book.proofs.BookViews.{seen, changed_seen, changed_none}
 use Rattle.fd_book.proofs.book.Book.set_owner.Goals as goal

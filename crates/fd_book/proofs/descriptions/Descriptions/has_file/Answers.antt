@@ -1,9 +1,0 @@
-use Rattle.std.proofs.Common.{◌∙◌}
-use Rattle.views.proofs.TreeMaps.{view}
-use Rattle.sys_abi.specs.Orders.{desc_cmp}
-use Rattle.fd_book.specs.Books.{is_of_file}
-use Rattle.fd_book.proofs.UseLaws.{any-described}
-use Rattle.fd_book.proofs.descriptions.Descriptions.has_file.Goals as goal
-
-pub returns : goal.returns
-returns c = c.has_file_among.ensures ∙ any-described (λ o. is_of_file c.args.number o.desc) (view desc_cmp c.self.inside.index) c.self.inside.slab c.args.self.now c.self.view_is

@@ -1,7 +1,0 @@
-use Rattle.std.proofs.Common.{rules}
-use Rattle.fd_book.specs.Counts.{disowned_open}
-use Rattle.fd_book.proofs.UseLaws.{retained_slots}
-use Rattle.fd_book.proofs.descriptions.disown_all.Goals as goal
-
-pub returns : goal.returns
-returns c = retained_slots _ (disowned_open c.args.p) _ (λ key v b w next t. search rules) 0 _ _ c.retain.ensures.retained

@@ -1,7 +1,0 @@
-use Rattle.std.proofs.Common.{sym, ◌∙◌}
-use Rattle.views.proofs.TreeMaps.{values-view}
-use Rattle.sys_abi.proofs.OrderLaws.{desc_total}
-use Rattle.fd_book.proofs.descriptions.slab_keys.Goals as goal
-
-pub returns : goal.returns
-returns c = c.values.ensures.rest ∙ sym (values-view desc_total c.args.index.now c.values.ensures.ordered)

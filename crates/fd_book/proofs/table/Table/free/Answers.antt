@@ -1,6 +1,0 @@
-use Rattle.std.proofs.Common.{◌≡◌, ap, ◌∙◌, arith}
-use Rattle.fd_book.specs.Tables.{free_places}
-use Rattle.fd_book.proofs.table.Table.free.Goals as goal
-
-pub returns : goal.returns
-returns c = let end : c.loop-fd.fd ≡ 256 = omega arith in c.loop-fd.invariant.0 ∙ ap (λ n. free_places c.args.self.now n) end
