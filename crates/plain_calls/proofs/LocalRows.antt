@@ -6,11 +6,11 @@ use Rattle.sys_abi.specs.declared.request.Request.{Request}
 use Rattle.sys_abi.specs.declared.reply.Errno.{Errno}
 use Rattle.plain_process.specs.declared.user_part.UserPart.{UserPart}
 use Rattle.plain_process.specs.declared.user_part.ThreadPart.{ThreadPart}
-use Rattle.plain_calls.specs.declared.local_answer.LocalAnswer.{LocalAnswer}
+use Rattle.plain_memory.specs.declared.local_answer.LocalAnswer.{LocalAnswer}
 use Rattle.plain_process.specs.Attempts.{Gives}
 use Rattle.plain_process.specs.Buffers.{lent}
 use Rattle.plain_process.specs.Local.{local_by, local_settled, local_lent, local_row}
-use Rattle.plain_calls.specs.LocalAnswers.{DoesRow, answer_told}
+use Rattle.plain_memory.specs.LocalAnswers.{DoesRow, answer_told}
 
 module _ (user after new : UserPart) (t : ℕ) (q : Request) (thread : ThreadPart) (given : List ℕ) (answer : LocalAnswer) where
   settled : map.get user.threads t ≡ Some thread → lent user.memory q ≡ Some given → DoesRow user after (local_by user t thread q given) (Ok answer)

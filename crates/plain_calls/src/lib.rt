@@ -9,9 +9,7 @@
 pub mod delivering;
 pub mod forking;
 pub mod local;
-pub mod local_answer;
 pub mod local_handlers;
-pub mod local_memory;
 pub mod local_threads;
 pub mod putting;
 pub mod waking;

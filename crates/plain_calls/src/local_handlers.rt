@@ -2,11 +2,11 @@ ghost use Rattle.std.specs.Prelude.{◌≡◌, ◌==◌, ◌&&◌, ◌||◌, ◌
 ghost use Rattle.std.specs.Option.{option_map};
 ghost use Rattle.std.specs.FinMap as map;
 ghost use Rattle.sys_abi.specs.Signals.{is_signal as is_number};
-ghost use Rattle.plain_calls.specs.LocalAnswers.{DoesRow};
+ghost use Rattle.plain_memory.specs.LocalAnswers.{DoesRow};
 ghost use Rattle.plain_process.specs.Rows.Handlers as rows;
 ghost use Rattle.plain_process.specs.declared.user_part.ThreadPart.{ThreadPart};
 
-use crate::local_answer::LocalAnswer;
+use plain_memory::local_answer::LocalAnswer;
 use plain_process::deliveries::action_on;
 use plain_process::handlers::{action_in, is_uncatchable, mask_by, word_in};
 use plain_process::user_part::{SignalAction, ThreadPart, UserPart};

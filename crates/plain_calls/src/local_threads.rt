@@ -2,14 +2,14 @@ ghost use Rattle.std.specs.Prelude.{◌≡◌, ◌==◌, Some, IfOk, IfSome};
 ghost use Rattle.std.specs.FinMap as map;
 ghost use Rattle.plain_process.specs.Buffers.{is_wait as waits};
 ghost use Rattle.plain_process.specs.Local.{set_tid_address_row, with_clear_tid};
-ghost use Rattle.plain_calls.specs.LocalAnswers.{DoesRow};
+ghost use Rattle.plain_memory.specs.LocalAnswers.{DoesRow};
 ghost use Rattle.plain_process.specs.Memory.{little_endian};
 ghost use Rattle.plain_process.specs.Rows.Futex as rows;
 ghost use Rattle.plain_process.specs.Threads as words;
 ghost use Rattle.plain_process.specs.declared.user_part.ThreadPart.{ThreadPart};
 
-use crate::local_answer::LocalAnswer;
 use crate::waking::awake;
+use plain_memory::local_answer::LocalAnswer;
 use plain_process::threads::first_waiter;
 use plain_process::user_part::{ThreadPart, UserPart, Waiter};
 use std::alloc::{AllocError, Global};

@@ -4,8 +4,8 @@
 use Rattle.std.specs.Prelude.{◌≡◌, ◌++◌, [], Result, Ok, Err}
 use Rattle.sys_abi.specs.declared.reply.Errno.{Errno}
 use Rattle.plain_process.specs.declared.user_part.UserPart.{UserPart}
-use Rattle.plain_calls.specs.declared.local_answer.LocalAnswer.{LocalAnswer}
-use Rattle.plain_calls.specs.declared.local_answer.LocalAnswer.TheVariants as of_answer
+use Rattle.plain_memory.specs.declared.local_answer.LocalAnswer.{LocalAnswer}
+use Rattle.plain_memory.specs.declared.local_answer.LocalAnswer.TheVariants as of_answer
 use Rattle.plain_process.specs.Memory.{low_bytes}
 use Rattle.plain_process.specs.Attempts.{Try, Fails, Gives}
 use Rattle.plain_process.specs.Rows.Locals.{Local, Replies, Stays}

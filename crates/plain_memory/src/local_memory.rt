@@ -1,10 +1,10 @@
 ghost use Rattle.std.specs.Prelude.{◌≡◌, ◌+◌, ◌≤◌, ◌^◌, ◌==◌, ◌&&◌, ◌%◌, not, nat_le, nat_lt, IfOk, IfSome};
 ghost use Rattle.plain_process.specs.Pages.{MAPPING_START as START, MAPPING_END as END};
 ghost use Rattle.plain_process.specs.Rows.Mappings as rows;
-ghost use Rattle.plain_calls.specs.LocalAnswers.{DoesRow};
+ghost use Rattle.plain_memory.specs.LocalAnswers.{DoesRow};
 
 use crate::local_answer::LocalAnswer;
-use plain_memory::pages::{free_run, has_room, put_pages, remove_pages};
+use crate::pages::{free_run, has_room, put_pages, remove_pages};
 use plain_process::mappings::{pages_of, rights_of};
 use plain_process::memory::Frame;
 use plain_process::user_part::UserPart;
