@@ -19,9 +19,9 @@ use Rattle.sys_abi.specs.Orders.{dir_cmp}
 use Rattle.sys_abi.proofs.OrderLaws.{dir_total, dir_exact}
 use Rattle.wire_net.specs.declared.cut_room.DirNotes.{DirNotes}
 use Rattle.wire_net.specs.AgentSteps.{GrowsBy}
-use Rattle.wire_net.specs.Channels.{Channels, direction_at}
+use Rattle.wire_channels.specs.Channels.{Channels, direction_at}
 use Rattle.wire_net.specs.CutRooms.{Named, name_of, names_of}
-use Rattle.wire_net.specs.Directions.{Direction, after_send}
+use Rattle.wire_channels.specs.Directions.{Direction, after_send}
 use Rattle.wire_net.specs.Reserves.{Reserve}
 use Rattle.drain_core.specs.Drains.{Notes, Fits, has_notes, notes_after, channels_after}
 use Rattle.drain_core.specs.Laws.{IsStepOf}

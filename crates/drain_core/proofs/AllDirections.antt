@@ -11,12 +11,12 @@ use Rattle.std.proofs.lemmas.List.Sums.{fold-append}
 use Rattle.sys_abi.specs.declared.identity.Dir.{Dir}
 use Rattle.sys_abi.specs.declared.identity.RealPid.{RealPid}
 use Rattle.wire_net.specs.declared.cut_room.DirNotes.{DirNotes}
-use Rattle.wire_net.specs.Directions.{Direction, after_receive}
-use Rattle.wire_net.specs.Channels.{Channels, direction_at, at_direction, is_live_at}
+use Rattle.wire_channels.specs.Directions.{Direction, after_receive}
+use Rattle.wire_channels.specs.Channels.{Channels, direction_at, at_direction, is_live_at}
 use Rattle.wire_net.specs.Whereabouts.{stream_on}
 use Rattle.drain_core.specs.Tasks.{is_agent, readable, sendable, with_sent, noted_read, noted_sent, note_after, direction_after}
 use Rattle.drain_core.specs.Drains.{Notes, IsNoted, IsDraining, IsInStep, dirs_of, Apart, Fits, notes_after, channels_after}
-use Rattle.wire_net.proofs.OneDirection.{direction_changed}
+use Rattle.wire_channels.proofs.OneDirection.{direction_changed}
 pub use Rattle.wire_net.proofs.Items.{for_each, one_of}
 use Rattle.drain_core.proofs.OneDrain.{step_kept}
 use Rattle.drain_core.proofs.LiveChannels.{live_after}

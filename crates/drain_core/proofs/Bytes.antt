@@ -18,14 +18,14 @@ use Rattle.sys_abi.specs.declared.identity.RealPid.{RealPid}
 use Rattle.sys_abi.specs.Orders.{dir_cmp}
 use Rattle.sys_abi.proofs.OrderLaws.{dir_total, dir_exact}
 use Rattle.wire_net.specs.declared.cut_room.DirNotes.{DirNotes}
-use Rattle.wire_net.specs.Directions.{Direction}
-use Rattle.wire_net.specs.Channels.{Channels, direction_at, at_direction}
+use Rattle.wire_channels.specs.Directions.{Direction}
+use Rattle.wire_channels.specs.Channels.{Channels, direction_at, at_direction}
 use Rattle.wire_net.specs.Networks.{Network}
 use Rattle.wire_net.specs.Whereabouts.{Held, stream_on, reverse, placed, whereabouts}
 use Rattle.drain_core.specs.Tasks.{note_after, direction_after}
 use Rattle.drain_core.specs.Drains.{Notes, IsNoted, IsInStep, Fits, notes_after, channels_after}
 use Rattle.drain_core.specs.Holding.{held_of, agents_of}
-use Rattle.wire_net.proofs.OneDirection.{unchanged_direction, direction_beside}
+use Rattle.wire_channels.proofs.OneDirection.{unchanged_direction, direction_beside}
 use Rattle.drain_core.proofs.OneStep.{with_channels}
 use Rattle.drain_core.proofs.OneDrain.{own, step_kept}
 use Rattle.drain_core.proofs.AllDirections.{one_of, note_dir, note_sender, aside_direction, own_after}

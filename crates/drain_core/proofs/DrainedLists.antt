@@ -16,12 +16,13 @@ use Rattle.sys_abi.specs.Orders.{dir_cmp}
 use Rattle.sys_abi.proofs.OrderLaws.{dir_total, dir_exact}
 use Rattle.wire_net.specs.declared.cut_room.DirBytes.{DirBytes}
 use Rattle.wire_net.specs.declared.cut_room.DirNotes.{DirNotes}
-use Rattle.wire_net.specs.declared.limits.TheConstants.{QUEUE_LIMIT}
-use Rattle.wire_net.specs.Directions.{Direction}
-use Rattle.wire_net.specs.Channels.{Channels, direction_at, is_live_at}
+use Rattle.wire_channels.specs.declared.limits.TheConstants.{QUEUE_LIMIT}
+use Rattle.wire_channels.specs.Directions.{Direction}
+use Rattle.wire_channels.specs.Channels.{Channels, direction_at, is_live_at}
 use Rattle.wire_net.specs.CutRooms.{Named, name_of, names_of}
 use Rattle.wire_net.specs.DrainedNets.{list_on, IsListOf, IsDrained, IsNamingLists}
-use Rattle.wire_net.specs.Networks.{Network, received_on}
+use Rattle.wire_net.specs.Networks.{Network}
+use Rattle.wire_channels.specs.Answers.{received_on}
 use Rattle.wire_net.specs.Whereabouts.{stream_on}
 use Rattle.drain_core.specs.Drains.{Notes, IsNoted, Apart, dirs_of, Fits, has_notes}
 use Rattle.drain_core.specs.Openings.{read_list, readable_list, list_of, lists_of, IsQuiet, IsQuietIf, IsGiven}

@@ -19,10 +19,11 @@ use Rattle.sys_abi.specs.Orders.{dir_cmp}
 use Rattle.sys_abi.proofs.OrderLaws.{dir_total, dir_exact}
 use Rattle.wire_net.specs.declared.cut_room.DirBytes.{DirBytes}
 use Rattle.wire_net.specs.declared.cut_room.DirNotes.{DirNotes}
-use Rattle.wire_net.specs.declared.limits.TheConstants.{QUEUE_LIMIT}
-use Rattle.wire_net.specs.Directions.{Direction}
-use Rattle.wire_net.specs.Channels.{Channels, direction_at, is_live_at}
-use Rattle.wire_net.specs.Networks.{Network, received_on}
+use Rattle.wire_channels.specs.declared.limits.TheConstants.{QUEUE_LIMIT}
+use Rattle.wire_channels.specs.Directions.{Direction}
+use Rattle.wire_channels.specs.Channels.{Channels, direction_at, is_live_at}
+use Rattle.wire_net.specs.Networks.{Network}
+use Rattle.wire_channels.specs.Answers.{received_on}
 use Rattle.wire_net.specs.Whereabouts.{stream, stream_on, whereabouts}
 use Rattle.drain_core.specs.Tasks.{has_sent}
 use Rattle.drain_core.specs.Drains.{Notes, IsNoted, IsInStep, Apart, dirs_of, Fits, reads_on, has_arrived, is_finished, is_done}

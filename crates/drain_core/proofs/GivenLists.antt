@@ -10,7 +10,7 @@ use Rattle.std.proofs.lemmas.List.{length-take-le}
 use Rattle.std.proofs.lemmas.List.Elements.{filter_map-append}
 use Rattle.wire_net.specs.declared.cut_room.DirBytes.{DirBytes}
 use Rattle.wire_net.specs.declared.cut_room.DirNotes.{DirNotes}
-use Rattle.wire_net.specs.Channels.{Channels}
+use Rattle.wire_channels.specs.Channels.{Channels}
 use Rattle.wire_net.specs.CutRooms.{Named, names_of}
 use Rattle.wire_net.specs.Reserves.{Reserve, reserve}
 use Rattle.drain_core.specs.Drains.{Notes}

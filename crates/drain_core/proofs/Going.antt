@@ -15,11 +15,11 @@ use Rattle.sys_abi.specs.declared.identity.RealPid.{RealPid}
 use Rattle.sys_abi.specs.Orders.{dir_cmp}
 use Rattle.sys_abi.proofs.OrderLaws.{dir_total, dir_exact}
 use Rattle.wire_net.specs.declared.cut_room.DirNotes.{DirNotes}
-use Rattle.wire_net.specs.declared.place.Place.{Place}
-use Rattle.wire_net.specs.declared.place.Place.TheVariants.{Send, Wire}
-use Rattle.wire_net.specs.Directions.{Direction, bytes_at}
-use Rattle.wire_net.specs.Channels.{Channels, direction_at}
-use Rattle.wire_net.specs.Networks.{bytes_on}
+use Rattle.wire_channels.specs.declared.place.Place.{Place}
+use Rattle.wire_channels.specs.declared.place.Place.TheVariants.{Send, Wire}
+use Rattle.wire_channels.specs.Directions.{Direction, bytes_at}
+use Rattle.wire_channels.specs.Channels.{Channels, direction_at}
+use Rattle.wire_channels.specs.Answers.{bytes_on}
 use Rattle.wire_net.specs.Whereabouts.{stream}
 use Rattle.drain_core.specs.Tasks.{is_agent, has_sent, unsent, readable, sendable, reads, sends, moves}
 use Rattle.drain_core.specs.Drains.{Notes, IsNoted, IsDraining, IsInStep, Fits, has_notes, reads_on, has_arrived, is_finished, is_done, answer_of, is_left, has_work, moves_on, moves_any}

@@ -12,9 +12,9 @@ use Rattle.std.proofs.lemmas.List.Folds.{list_any_none}
 use Rattle.sys_abi.specs.declared.identity.RealPid.{RealPid}
 use Rattle.wire_net.specs.declared.agents.Stepped.TheVariants as answer
 use Rattle.wire_net.specs.declared.cut_room.DirNotes.{DirNotes}
-use Rattle.wire_net.specs.declared.limits.TheConstants.{QUEUE_LIMIT}
-use Rattle.wire_net.specs.Directions.{Direction, standing}
-use Rattle.wire_net.specs.Channels.{Channels, direction_at}
+use Rattle.wire_channels.specs.declared.limits.TheConstants.{QUEUE_LIMIT}
+use Rattle.wire_channels.specs.Directions.{Direction, standing}
+use Rattle.wire_channels.specs.Channels.{Channels, direction_at}
 use Rattle.drain_core.specs.Tasks.{is_agent, has_sent, readable, sendable, reads, sends, moves}
 use Rattle.drain_core.specs.Drains.{Notes, IsNoted, reads_on, has_work, moves_on, moves_any, answer_of, step_answer, IsBlocked, IsHeldUp}
 use Rattle.drain_core.proofs.OneDrain.{unsent_length}

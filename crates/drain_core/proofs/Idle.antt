@@ -12,12 +12,12 @@ use Rattle.views.proofs.MapLaws.{true_false}
 use Rattle.sys_abi.specs.declared.identity.RealPid.{RealPid}
 use Rattle.wire_net.specs.declared.agents.Stepped.TheVariants.{Moved}
 use Rattle.wire_net.specs.declared.cut_room.DirNotes.{DirNotes}
-use Rattle.wire_net.specs.Directions.{Direction, after_receive}
-use Rattle.wire_net.specs.Channels.{Channels, direction_at, at_direction}
+use Rattle.wire_channels.specs.Directions.{Direction, after_receive}
+use Rattle.wire_channels.specs.Channels.{Channels, direction_at, at_direction}
 use Rattle.drain_core.specs.Tasks.{is_agent, has_sent, readable, sendable, reads, sends, moves, noted_read, noted_sent, with_sent, note_after, direction_after}
 use Rattle.drain_core.specs.Drains.{Notes, IsNoted, reads_on, is_left, has_work, moves_on, moves_any, step_answer, notes_after, channels_after}
 use Rattle.wire_net.proofs.Gains.{not_moved}
-use Rattle.wire_net.proofs.OneDirection.{agreeing_changes, unchanged_direction}
+use Rattle.wire_channels.proofs.OneDirection.{agreeing_changes, unchanged_direction}
 use Rattle.drain_core.proofs.OneDrain.{unsent_length}
 
 nothing_read : (p : RealPid) (x : DirNotes) (direction : Direction) → IsNoted x → (is_agent p x.reader && reads_on x) ≡ false → reads p x direction ≡ 0

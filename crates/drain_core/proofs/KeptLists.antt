@@ -12,9 +12,10 @@ use Rattle.sys_abi.specs.Orders.{dir_cmp}
 use Rattle.sys_abi.proofs.OrderLaws.{dir_total, dir_exact}
 use Rattle.wire_net.specs.declared.cut_room.DirBytes.{DirBytes}
 use Rattle.wire_net.specs.declared.cut_room.DirNotes.{DirNotes}
-use Rattle.wire_net.specs.Channels.{direction_at}
+use Rattle.wire_channels.specs.Channels.{direction_at}
 use Rattle.wire_net.specs.DrainedNets.{list_on, StandsIf, IsListOf, IsDrained, agents_of_lists}
-use Rattle.wire_net.specs.Networks.{Network, received_on}
+use Rattle.wire_net.specs.Networks.{Network}
+use Rattle.wire_channels.specs.Answers.{received_on}
 use Rattle.wire_net.specs.Whereabouts.{stream_on, whereabouts}
 use Rattle.wire_net.proofs.HeldLists.{own_of, bytes_drained}
 use Rattle.drain_core.specs.Drains.{Notes, IsInStep, Fits, has_notes}

@@ -5,8 +5,8 @@ use Rattle.std.specs.Prelude.{if◌then◌else◌}
 use Rattle.sys_abi.specs.declared.identity.ConnId.{ConnId}
 use Rattle.sys_abi.specs.declared.identity.RealPid.{RealPid}
 use Rattle.wire_net.specs.declared.cut_room.DirNotes.{DirNotes}
-use Rattle.wire_net.specs.Directions.{is_flowing, after_receive, after_send}
-use Rattle.wire_net.specs.Channels.{Channels, at_direction, is_live_at}
+use Rattle.wire_channels.specs.Directions.{is_flowing, after_receive, after_send}
+use Rattle.wire_channels.specs.Channels.{Channels, at_direction, is_live_at}
 use Rattle.drain_core.specs.Tasks.{unsent, reads, sends, direction_after}
 use Rattle.drain_core.specs.Drains.{Notes, channels_after}
 use Rattle.wire_net.proofs.LiveChannels.{KeepsFlow, live_kept}

@@ -12,16 +12,17 @@ use Rattle.sys_abi.specs.declared.identity.Dir.{Dir}
 use Rattle.sys_abi.specs.Orders.{dir_cmp}
 use Rattle.sys_abi.proofs.OrderLaws.{dir_total, dir_exact}
 use Rattle.wire_net.specs.declared.cut_room.DirNotes.{DirNotes}
-use Rattle.wire_net.specs.declared.place.Place.{Place}
-use Rattle.wire_net.specs.declared.place.Place.TheVariants.{Send, Wire}
-use Rattle.wire_net.specs.Directions.{Direction, bytes_at, after_move}
-use Rattle.wire_net.specs.Channels.{Channels, direction_at, at_direction, is_live_at}
-use Rattle.wire_net.specs.Networks.{Network, bytes_on}
+use Rattle.wire_channels.specs.declared.place.Place.{Place}
+use Rattle.wire_channels.specs.declared.place.Place.TheVariants.{Send, Wire}
+use Rattle.wire_channels.specs.Directions.{Direction, bytes_at, after_move}
+use Rattle.wire_channels.specs.Channels.{Channels, direction_at, at_direction, is_live_at}
+use Rattle.wire_net.specs.Networks.{Network}
+use Rattle.wire_channels.specs.Answers.{bytes_on}
 use Rattle.wire_net.specs.Whereabouts.{stream, stream_on}
 use Rattle.wire_net.proofs.Streams.{stream-move}
 use Rattle.drain_core.specs.Drains.{Notes, IsNoted, IsInStep, Fits, has_notes}
 use Rattle.drain_core.specs.Work.{work_on, work_aside, work_of, work_at, work_left}
-use Rattle.wire_net.proofs.OneDirection.{direction_changed, direction_beside}
+use Rattle.wire_channels.proofs.OneDirection.{direction_changed, direction_beside}
 use Rattle.drain_core.proofs.OneStep.{with_channels}
 use Rattle.drain_core.proofs.AllDirections.{for_each, one_of}
 use Rattle.wire_net.proofs.LiveChannels.{KeepsFlow, live_kept, move_flows}

@@ -10,7 +10,7 @@ use Rattle.std.proofs.lemmas.List.{length-take, length-drop, take-append-le, dro
 use Rattle.sys_abi.specs.declared.identity.ConnId.{ConnId}
 use Rattle.sys_abi.specs.declared.identity.RealPid.{RealPid}
 use Rattle.wire_net.specs.declared.cut_room.DirNotes.{DirNotes}
-use Rattle.wire_net.specs.Directions.{Direction, after_receive, after_send}
+use Rattle.wire_channels.specs.Directions.{Direction, after_receive, after_send}
 use Rattle.wire_net.specs.Whereabouts.{stream}
 use Rattle.drain_core.specs.Tasks.{cookie, is_agent, unread, unsent, readable, sendable, reads, sends, with_piece, noted_read, noted_sent, with_sent, direction_after, note_after_on}
 use Rattle.drain_core.specs.Drains.{IsNoted, IsDraining}

@@ -14,13 +14,14 @@ use Rattle.views.proofs.MapLaws.{true_false}
 use Rattle.sys_abi.specs.declared.identity.Dir.{Dir}
 use Rattle.sys_abi.specs.declared.identity.RealPid.{RealPid}
 use Rattle.wire_net.specs.declared.cut_room.DirNotes.{DirNotes}
-use Rattle.wire_net.specs.Directions.{Direction, after_receive, after_send}
-use Rattle.wire_net.specs.Channels.{Channels, direction_at, at_direction}
-use Rattle.wire_net.specs.Networks.{Network, received_on}
+use Rattle.wire_channels.specs.Directions.{Direction, after_receive, after_send}
+use Rattle.wire_channels.specs.Channels.{Channels, direction_at, at_direction}
+use Rattle.wire_net.specs.Networks.{Network}
+use Rattle.wire_channels.specs.Answers.{received_on}
 use Rattle.drain_core.specs.Tasks.{unsent, reads, sends, moves, noted_read, noted_sent, with_sent, after_reading, direction_after, note_after}
 use Rattle.drain_core.specs.Drains.{IsFlowing}
 pub use Rattle.wire_net.proofs.OneCall.{with_channels, nothing_received, some_sent}
-use Rattle.wire_net.proofs.OneDirection.{unchanged_direction, agreeing_changes, changed_twice, direction_changed}
+use Rattle.wire_channels.proofs.OneDirection.{unchanged_direction, agreeing_changes, changed_twice, direction_changed}
 
 pub nothing_sent : (t : Network) (d : Dir) (x : DirNotes) → t ≡ with_channels t (at_direction t.channels d (with_sent 0 x))
 nothing_sent t d x = ap (with_channels t) (sym (unchanged_direction t.channels d (with_sent 0 x) (λ direction. refl)))

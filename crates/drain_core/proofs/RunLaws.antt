@@ -11,12 +11,13 @@ use Rattle.sys_abi.specs.declared.identity.Dir.{Dir}
 use Rattle.wire_net.specs.declared.agents.AgentEnd.{AgentEnd}
 use Rattle.wire_net.specs.declared.cut_room.DirBytes.{DirBytes}
 use Rattle.wire_net.specs.CutRooms.{Named}
-use Rattle.wire_net.specs.Directions.{after_move}
-use Rattle.wire_net.specs.Channels.{direction_at, at_direction}
-use Rattle.wire_net.specs.Networks.{Network, bytes_on}
+use Rattle.wire_channels.specs.Directions.{after_move}
+use Rattle.wire_channels.specs.Channels.{direction_at, at_direction}
+use Rattle.wire_net.specs.Networks.{Network}
+use Rattle.wire_channels.specs.Answers.{bytes_on}
 use Rattle.wire_net.specs.Runs.{Event, Step, Move, UnderWay, after, run, IsAllowed, moving, moves_made}
 use Rattle.wire_net.specs.Whereabouts.{stream_on, whereabouts}
-use Rattle.wire_net.proofs.KeptFrames.{direction_framed}
+use Rattle.wire_channels.proofs.KeptFrames.{direction_framed}
 use Rattle.wire_net.proofs.NotedAgents.{noted_named}
 use Rattle.wire_net.proofs.Streams.{whereabouts-move}
 use Rattle.drain_core.specs.Drains.{Fits, has_notes, is_done}

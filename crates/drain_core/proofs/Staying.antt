@@ -6,12 +6,12 @@ use Rattle.std.proofs.Common.{◌≡◌, ◌==◌, Bool, true, false, List, [], 
 use Rattle.std.specs.Prelude.{if◌then◌else◌}
 use Rattle.sys_abi.specs.declared.identity.RealPid.{RealPid}
 use Rattle.wire_net.specs.declared.cut_room.DirNotes.{DirNotes}
-use Rattle.wire_net.specs.Channels.{Channels, direction_at, at_direction}
-use Rattle.wire_net.specs.Directions.{Direction, after_receive, after_send, after_move}
-use Rattle.wire_net.specs.Frames.{flags_of, SameFrames}
+use Rattle.wire_channels.specs.Channels.{Channels, direction_at, at_direction}
+use Rattle.wire_channels.specs.Directions.{Direction, after_receive, after_send, after_move}
+use Rattle.wire_channels.specs.Frames.{flags_of, SameFrames}
 use Rattle.wire_net.specs.Noted.{NamedAgents}
 use Rattle.wire_net.specs.Runs.{Event, Step, Move, UnderWay, after, run}
-use Rattle.wire_net.proofs.KeptFrames.{KeepsFlags, frames_kept, same_frames, then_same, moves_keep}
+use Rattle.wire_channels.proofs.KeptFrames.{KeepsFlags, frames_kept, same_frames, then_same, moves_keep}
 use Rattle.wire_net.proofs.NotedAgents.{agents_same}
 use Rattle.drain_core.specs.Drains.{Notes, named_agents, notes_after, channels_after}
 use Rattle.drain_core.specs.Runs.{step}

@@ -13,14 +13,14 @@ use Rattle.views.proofs.MapLaws.{true_false}
 use Rattle.sys_abi.specs.declared.identity.Dir.{Dir}
 use Rattle.sys_abi.specs.declared.identity.RealPid.{RealPid}
 use Rattle.wire_net.specs.declared.cut_room.DirNotes.{DirNotes}
-use Rattle.wire_net.specs.Directions.{Direction}
-use Rattle.wire_net.specs.Channels.{Channels, direction_at, at_direction}
+use Rattle.wire_channels.specs.Directions.{Direction}
+use Rattle.wire_channels.specs.Channels.{Channels, direction_at, at_direction}
 use Rattle.wire_net.specs.Networks.{Network}
 use Rattle.drain_core.specs.Tasks.{is_agent, moves, direction_after, note_after}
 use Rattle.drain_core.specs.Drains.{Notes, IsFlowing, IsNoted, IsInStep, dirs_of, Apart, Fits, notes_after, channels_after, moves_on, moves_any}
 use Rattle.drain_core.proofs.OneStep.{with_channels}
 use Rattle.wire_net.proofs.EachItem.{At, place, turn_item}
-use Rattle.wire_net.proofs.OneDirection.{direction_beside}
+use Rattle.wire_channels.proofs.OneDirection.{direction_beside}
 
 pub untouched : (p : RealPid) (front : Notes) (m : Channels) (d : Dir) → d.side < 2 → All (λ y. y.dir ≢ d) front → All IsNoted front → direction_at (channels_after p front m) d ≡ direction_at m d
 untouched p [] m d side apart noted = refl

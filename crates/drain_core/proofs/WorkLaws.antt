@@ -10,8 +10,8 @@ use Rattle.views.proofs.MapLaws.{true_false}
 use Rattle.sys_abi.specs.declared.identity.RealPid.{RealPid}
 use Rattle.wire_net.specs.declared.agents.Stepped.TheVariants as answer
 use Rattle.wire_net.specs.declared.cut_room.DirNotes.{DirNotes}
-use Rattle.wire_net.specs.Directions.{Direction, after_receive, after_send}
-use Rattle.wire_net.specs.Channels.{Channels, direction_at}
+use Rattle.wire_channels.specs.Directions.{Direction, after_receive, after_send}
+use Rattle.wire_channels.specs.Channels.{Channels, direction_at}
 use Rattle.drain_core.specs.Tasks.{is_agent, has_sent, unsent, readable, sendable, reads, sends, moves, noted_read, noted_sent, with_sent, note_after, note_after_on, direction_after}
 use Rattle.drain_core.specs.Drains.{Notes, IsNoted, IsInStep, Fits, reads_on, moves_on, moves_any, answer_of, notes_after, channels_after}
 use Rattle.drain_core.specs.Work.{work_on, work_aside, work_of, work_at, work_left}

@@ -18,9 +18,9 @@ use Rattle.std.specs.List.{list_any, list_all}
 use Rattle.sys_abi.specs.declared.identity.RealPid.{RealPid}
 use Rattle.wire_net.specs.declared.agents.Stepped.{Stepped}
 use Rattle.wire_net.specs.declared.cut_room.DirNotes.{DirNotes}
-use Rattle.wire_net.specs.declared.limits.TheConstants.{QUEUE_LIMIT}
-use Rattle.wire_net.specs.Directions.{Direction, standing}
-use Rattle.wire_net.specs.Channels.{Channels, direction_at, at_direction, is_live_at}
+use Rattle.wire_channels.specs.declared.limits.TheConstants.{QUEUE_LIMIT}
+use Rattle.wire_channels.specs.Directions.{Direction, standing}
+use Rattle.wire_channels.specs.Channels.{Channels, direction_at, at_direction, is_live_at}
 use Rattle.wire_net.specs.Whereabouts.{stream, stream_on}
 pub use Rattle.wire_net.specs.Noted.{Notes, IsFlowing, dirs_of, Apart, has_notes, named_agents, answer_of}
 use Rattle.drain_core.specs.declared.limits.TheConstants.{COOKIE_LENGTH}

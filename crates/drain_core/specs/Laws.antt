@@ -10,11 +10,11 @@ use Rattle.std.specs.Prelude.{◌≡◌, ◌<◌, ℕ, length, take, true, false
 use Rattle.sys_abi.specs.declared.identity.Dir.{Dir}
 use Rattle.sys_abi.specs.declared.identity.RealPid.{RealPid}
 use Rattle.wire_net.specs.declared.cut_room.DirNotes.{DirNotes}
-use Rattle.wire_net.specs.declared.place.Place.{Place}
+use Rattle.wire_channels.specs.declared.place.Place.{Place}
 use Rattle.wire_net.specs.AgentSteps.{IsStepOn, GrowsBy}
-use Rattle.wire_net.specs.Directions.{Direction, after_move}
-use Rattle.wire_net.specs.Channels.{Channels, direction_at, at_direction}
-use Rattle.wire_net.specs.Networks.{bytes_on}
+use Rattle.wire_channels.specs.Directions.{Direction, after_move}
+use Rattle.wire_channels.specs.Channels.{Channels, direction_at, at_direction}
+use Rattle.wire_channels.specs.Answers.{bytes_on}
 use Rattle.drain_core.specs.Tasks.{is_agent, note_after}
 use Rattle.drain_core.specs.Drains.{Notes, Fits, has_notes, channels_after}
 use Rattle.drain_core.specs.Work.{work_left}

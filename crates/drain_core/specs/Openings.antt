@@ -16,12 +16,13 @@ use Rattle.sys_abi.specs.Orders.{dir_cmp}
 use Rattle.wire_net.specs.declared.agents.AgentEnd.{AgentEnd}
 use Rattle.wire_net.specs.declared.cut_room.DirBytes.{DirBytes}
 use Rattle.wire_net.specs.declared.cut_room.DirNotes.{DirNotes}
-use Rattle.wire_net.specs.declared.limits.TheConstants.{QUEUE_LIMIT}
+use Rattle.wire_channels.specs.declared.limits.TheConstants.{QUEUE_LIMIT}
 use Rattle.wire_net.specs.CutRooms.{Named, all_notes}
-use Rattle.wire_net.specs.Directions.{Direction, standing}
-use Rattle.wire_net.specs.Channels.{Channels, direction_at, is_live_at}
+use Rattle.wire_channels.specs.Directions.{Direction, standing}
+use Rattle.wire_channels.specs.Channels.{Channels, direction_at, is_live_at}
 use Rattle.wire_net.specs.Ends.{agent_of}
-use Rattle.wire_net.specs.Networks.{Network, received_on}
+use Rattle.wire_net.specs.Networks.{Network}
+use Rattle.wire_channels.specs.Answers.{received_on}
 use Rattle.wire_net.specs.Reserves.{reserve}
 use Rattle.wire_net.specs.Whereabouts.{stream_on, whereabouts}
 use Rattle.drain_core.specs.Drains.{Notes, Apart}

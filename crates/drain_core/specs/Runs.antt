@@ -9,7 +9,7 @@ use Rattle.sys_abi.specs.declared.identity.RealPid.{RealPid}
 use Rattle.wire_net.specs.declared.agents.AgentEnd.{AgentEnd}
 use Rattle.wire_net.specs.declared.cut_room.DirBytes.{DirBytes}
 use Rattle.wire_net.specs.CutRooms.{Named}
-use Rattle.wire_net.specs.Channels.{Channels, direction_at}
+use Rattle.wire_channels.specs.Channels.{Channels, direction_at}
 use Rattle.wire_net.specs.DrainedNets.{HasLists}
 use Rattle.wire_net.specs.Networks.{Network}
 use Rattle.wire_net.specs.Runs.{Event, IsAllowed, UnderWay, Steps, run, moves_made}

@@ -15,7 +15,7 @@ use Rattle.sys_abi.specs.declared.transfer.TheConstants.{TRANSFER_LIMIT}
 use Rattle.wire_net.specs.declared.cut_room.DirNotes.{DirNotes}
 use Rattle.wire_net.specs.Reserves.{reserve}
 pub use Rattle.wire_net.specs.Noted.{is_agent}
-use Rattle.wire_net.specs.Directions.{Direction, room, after_receive, after_send}
+use Rattle.wire_channels.specs.Directions.{Direction, room, after_receive, after_send}
 use Rattle.drain_core.specs.declared.limits.TheConstants.{COOKIE_LENGTH}
 
 abbrev pub cookie : ConnId → List ℕ

@@ -11,9 +11,9 @@ use Rattle.std.specs.List.{sum_by}
 use Rattle.sys_abi.specs.declared.identity.RealPid.{RealPid}
 use Rattle.wire_net.specs.declared.agents.Stepped.TheVariants as answer
 use Rattle.wire_net.specs.declared.cut_room.DirNotes.{DirNotes}
-use Rattle.wire_net.specs.Directions.{Direction}
+use Rattle.wire_channels.specs.Directions.{Direction}
 pub use Rattle.wire_net.specs.Noted.{CanMove}
-use Rattle.wire_net.specs.Channels.{Channels, direction_at}
+use Rattle.wire_channels.specs.Channels.{Channels, direction_at}
 use Rattle.drain_core.specs.declared.limits.TheConstants.{COOKIE_LENGTH}
 use Rattle.drain_core.specs.Tasks.{has_sent}
 use Rattle.drain_core.specs.Drains.{Notes, reads_on, step_answer}

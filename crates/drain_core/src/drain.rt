@@ -2,10 +2,10 @@ ghost use Rattle.std.specs.Prelude.{◌≡◌, ◌≢◌, ◌==◌, ◌<◌, ◌
 ghost use Rattle.sys_abi.specs.declared.identity.Dir.{Dir};
 ghost use Rattle.wire_net.specs.declared.agents.Stepped.TheVariants.{Moved, Again};
 ghost use Rattle.wire_net.specs.CutRooms.{names_of};
-ghost use Rattle.wire_net.specs.Channels.{direction_at};
+ghost use Rattle.wire_channels.specs.Channels.{direction_at};
 ghost use Rattle.wire_net.specs.DrainedNets.{list_on, IsDrained, IsNamingLists, agents_of_lists};
 ghost use Rattle.wire_net.specs.Ends.{IsFor};
-ghost use Rattle.wire_net.specs.Frames.{SameFrames};
+ghost use Rattle.wire_channels.specs.Frames.{SameFrames};
 ghost use Rattle.wire_net.specs.Whereabouts.{stream_on};
 ghost use Rattle.drain_core.specs.Drains as words;
 ghost use Rattle.drain_core.specs.Holding.{agents_of, whereabouts};

@@ -1,9 +1,9 @@
 //! What an agent does with one direction of a live channel.
 ghost use Rattle.std.specs.Prelude.{◌≡◌, ◌≤◌, true, false, length, take, drop, IfSome};
 ghost use Rattle.std.specs.Option.{option_map_or};
-ghost use Rattle.wire_net.specs.Channels.{direction_at, at_direction};
-ghost use Rattle.wire_net.specs.Directions as directions;
-ghost use Rattle.wire_net.specs.Networks.{received_on};
+ghost use Rattle.wire_channels.specs.Channels.{direction_at, at_direction};
+ghost use Rattle.wire_channels.specs.Directions as directions;
+ghost use Rattle.wire_channels.specs.Answers.{received_on};
 ghost use Rattle.drain_core.specs.Tasks as words;
 ghost use Rattle.drain_core.specs.Drains.{IsNoted, IsFlowing};
 

@@ -1,9 +1,9 @@
 //! How the notes on each direction begin.
 ghost use Rattle.std.specs.Prelude.{◌≡◌, ◌<◌, ◌≤◌, map as each, All};
 ghost use Rattle.std.specs.Option.{option_map_or};
-ghost use Rattle.wire_net.specs.declared.limits.TheConstants.{QUEUE_LIMIT};
-ghost use Rattle.wire_net.specs.Channels.{direction_at};
-ghost use Rattle.wire_net.specs.Directions.{standing};
+ghost use Rattle.wire_channels.specs.declared.limits.TheConstants.{QUEUE_LIMIT};
+ghost use Rattle.wire_channels.specs.Channels.{direction_at};
+ghost use Rattle.wire_channels.specs.Directions.{standing};
 ghost use Rattle.drain_core.specs.Openings.{opened};
 
 use wire_net::{AgentEnd, DirNotes, Net, agent_of};

@@ -17,13 +17,14 @@ use Rattle.sys_abi.proofs.OrderLaws.{dir_total, dir_exact}
 use Rattle.wire_net.specs.declared.agents.AgentEnd.{AgentEnd}
 use Rattle.wire_net.specs.declared.cut_room.DirBytes.{DirBytes}
 use Rattle.wire_net.specs.declared.cut_room.DirNotes.{DirNotes}
-use Rattle.wire_net.specs.declared.limits.TheConstants.{QUEUE_LIMIT}
-use Rattle.wire_net.specs.Directions.{Direction}
-use Rattle.wire_net.specs.Channels.{Channels, direction_at, is_live_at}
+use Rattle.wire_channels.specs.declared.limits.TheConstants.{QUEUE_LIMIT}
+use Rattle.wire_channels.specs.Directions.{Direction}
+use Rattle.wire_channels.specs.Channels.{Channels, direction_at, is_live_at}
 use Rattle.wire_net.specs.CutRooms.{Named}
 use Rattle.wire_net.specs.DrainedNets.{StandsIf, IsListOf, IsDrained, HasLists, IsNamingLists, list_on, agents_of_lists}
 use Rattle.wire_net.specs.Ends.{agent_of, IsFor}
-use Rattle.wire_net.specs.Networks.{Network, received_on}
+use Rattle.wire_net.specs.Networks.{Network}
+use Rattle.wire_channels.specs.Answers.{received_on}
 use Rattle.wire_net.specs.Whereabouts.{stream_on, reverse, whereabouts}
 use Rattle.wire_net.proofs.HeldLists.{bytes_drained, own_of}
 use Rattle.wire_net.proofs.ListsOn.{one_listed, list_dir, each_listed}

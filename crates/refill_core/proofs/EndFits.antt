@@ -15,14 +15,14 @@ use Rattle.sys_abi.specs.declared.identity.Dir.{Dir}
 use Rattle.sys_abi.specs.declared.identity.RealPid.{RealPid}
 use Rattle.sys_abi.proofs.OrderLaws.{dir_total, dir_exact}
 use Rattle.wire_net.specs.declared.cut_room.DirNotes.{DirNotes}
-use Rattle.wire_net.specs.Directions.{Direction, is_flowing, room, after_receive, after_send}
-use Rattle.wire_net.specs.Channels.{Channels, direction_at, at_direction, is_live_at}
-use Rattle.wire_net.specs.Networks.{received_on}
+use Rattle.wire_channels.specs.Directions.{Direction, is_flowing, room, after_receive, after_send}
+use Rattle.wire_channels.specs.Channels.{Channels, direction_at, at_direction, is_live_at}
+use Rattle.wire_channels.specs.Answers.{received_on}
 use Rattle.wire_net.specs.Whereabouts.{stream_on, reverse}
 use Rattle.refill_core.specs.declared.limits.TheConstants.{HEADER_LENGTH}
 use Rattle.refill_core.specs.Tasks.{is_agent, frame_length, part, wanted, reads, sends, with_piece, with_sent, read_count, note_read, channels_read, send_count, sent_on, turn_note, turn_channels}
 use Rattle.refill_core.specs.Refills.{Notes, Apart, notes_at, put_notes, IsNoted, IsRefilling, IsUnderWay, IsInStep, Fits}
-use Rattle.wire_net.proofs.OneDirection.{direction_changed, direction_beside}
+use Rattle.wire_channels.proofs.OneDirection.{direction_changed, direction_beside}
 use Rattle.wire_net.proofs.LiveChannels.{KeepsFlow, live_kept}
 use Rattle.refill_core.proofs.OneRefill.{read_noted, read_own, read_other, sent_own, sent_other, sent_noted}
 use Rattle.refill_core.proofs.Pairs.{other_way, twice_around, found_dir, put_found, put_beside, same_dirs, all_put, all_found}

@@ -14,9 +14,10 @@ use Rattle.views.proofs.MapLaws.{true_false}
 use Rattle.sys_abi.specs.declared.identity.Dir.{Dir}
 use Rattle.sys_abi.specs.declared.identity.RealPid.{RealPid}
 use Rattle.wire_net.specs.declared.cut_room.DirNotes.{DirNotes}
-use Rattle.wire_net.specs.Directions.{Direction}
-use Rattle.wire_net.specs.Channels.{Channels, direction_at}
-use Rattle.wire_net.specs.Networks.{Network, received_on}
+use Rattle.wire_channels.specs.Directions.{Direction}
+use Rattle.wire_channels.specs.Channels.{Channels, direction_at}
+use Rattle.wire_net.specs.Networks.{Network}
+use Rattle.wire_channels.specs.Answers.{received_on}
 use Rattle.wire_net.specs.Whereabouts.{stream, stream_on, reverse, whereabouts}
 use Rattle.refill_core.specs.Holding.{agents_of, own_bytes}
 use Rattle.refill_core.specs.Tasks.{frame, frame_length, sent_in_all, has_back}

@@ -20,15 +20,15 @@ use Rattle.sys_abi.specs.declared.identity.RealPid.{RealPid}
 use Rattle.sys_abi.specs.Orders.{dir_cmp}
 use Rattle.wire_net.specs.declared.agents.Stepped.TheVariants as answer
 use Rattle.wire_net.specs.declared.cut_room.DirNotes.{DirNotes}
-use Rattle.wire_net.specs.declared.place.Place.TheVariants.{Send, Wire}
-use Rattle.wire_net.specs.Directions.{Direction, room, after_receive}
-use Rattle.wire_net.specs.Channels.{Channels, direction_at, at_direction}
-use Rattle.wire_net.specs.Networks.{bytes_on, received_on}
+use Rattle.wire_channels.specs.declared.place.Place.TheVariants.{Send, Wire}
+use Rattle.wire_channels.specs.Directions.{Direction, room, after_receive}
+use Rattle.wire_channels.specs.Channels.{Channels, direction_at, at_direction}
+use Rattle.wire_channels.specs.Answers.{bytes_on, received_on}
 use Rattle.wire_net.specs.Whereabouts.{reverse}
 use Rattle.refill_core.specs.Tasks.{is_agent, header, frame_length, has_back, part, with_piece, wanted, reads, sends, read_count, note_read, channels_read, send_count}
 use Rattle.refill_core.specs.Refills.{Notes, Refilling, dirs_of, has_notes, notes_at, IsNoted}
 use Rattle.refill_core.specs.Work.{has_sent_all, moves_found, moves_of, moved_by, moved_any, is_left, has_work, has_arrived, finished_of, is_finished, is_done, answer_of, step_answer, GoesOn}
-use Rattle.wire_net.proofs.OneDirection.{unchanged_direction}
+use Rattle.wire_channels.proofs.OneDirection.{unchanged_direction}
 use Rattle.refill_core.proofs.OneRefill.{stands, all_size}
 use Rattle.refill_core.proofs.EndFits.{Pair, pair_of}
 use Rattle.wire_net.proofs.Items.{one_of}

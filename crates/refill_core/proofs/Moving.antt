@@ -12,17 +12,18 @@ use Rattle.sys_abi.specs.declared.identity.Dir.{Dir}
 use Rattle.sys_abi.specs.Orders.{dir_cmp}
 use Rattle.sys_abi.proofs.OrderLaws.{dir_total, dir_exact}
 use Rattle.wire_net.specs.declared.cut_room.DirNotes.{DirNotes}
-use Rattle.wire_net.specs.declared.place.Place.{Place}
-use Rattle.wire_net.specs.declared.place.Place.TheVariants.{Send, Wire}
-use Rattle.wire_net.specs.Directions.{Direction, bytes_at, after_move}
-use Rattle.wire_net.specs.Channels.{Channels, direction_at, at_direction, is_live_at}
-use Rattle.wire_net.specs.Networks.{Network, bytes_on, received_on}
+use Rattle.wire_channels.specs.declared.place.Place.{Place}
+use Rattle.wire_channels.specs.declared.place.Place.TheVariants.{Send, Wire}
+use Rattle.wire_channels.specs.Directions.{Direction, bytes_at, after_move}
+use Rattle.wire_channels.specs.Channels.{Channels, direction_at, at_direction, is_live_at}
+use Rattle.wire_net.specs.Networks.{Network}
+use Rattle.wire_channels.specs.Answers.{bytes_on, received_on}
 use Rattle.wire_net.specs.Whereabouts.{stream, stream_on, reverse}
 use Rattle.wire_net.proofs.Streams.{stream-move}
 use Rattle.refill_core.specs.Refills.{Notes, IsFlowing, IsNoted, IsRefilling, IsInStep, Fits, has_notes, notes_at}
 use Rattle.refill_core.specs.Work.{way, work_live, work_of, work_at, work_left}
 use Rattle.refill_core.proofs.OneCall.{with_channels}
-use Rattle.wire_net.proofs.OneDirection.{direction_changed, direction_beside}
+use Rattle.wire_channels.proofs.OneDirection.{direction_changed, direction_beside}
 use Rattle.wire_net.proofs.LiveChannels.{live_kept, move_flows}
 use Rattle.wire_net.proofs.Items.{for_each, one_of}
 use Rattle.wire_net.proofs.Gains.{gain, sums, cut_down, stream_length}

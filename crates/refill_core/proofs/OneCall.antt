@@ -5,11 +5,11 @@ use Rattle.std.specs.Prelude.{if◌then◌else◌}
 use Rattle.std.proofs.lemmas.Bool.Decides.{nat_tests}
 use Rattle.views.proofs.MapLaws.{true_false}
 use Rattle.sys_abi.specs.declared.identity.Dir.{Dir}
-use Rattle.wire_net.specs.Directions.{Direction, after_send}
-use Rattle.wire_net.specs.Channels.{at_direction}
+use Rattle.wire_channels.specs.Directions.{Direction, after_send}
+use Rattle.wire_channels.specs.Channels.{at_direction}
 use Rattle.wire_net.specs.Networks.{Network}
 use Rattle.refill_core.specs.Tasks.{sent_on}
-use Rattle.wire_net.proofs.OneDirection.{unchanged_direction}
+use Rattle.wire_channels.proofs.OneDirection.{unchanged_direction}
 pub use Rattle.wire_net.proofs.OneCall.{with_channels, nothing_received, some_sent}
 
 pub nothing_sent : (t : Network) (d : Dir) (piece : List ℕ) → t ≡ with_channels t (at_direction t.channels d (sent_on 0 piece))

@@ -7,7 +7,7 @@ use Rattle.std.proofs.Math.Seq.{take-add, take-nil, drop-append-add}
 use Rattle.std.proofs.lemmas.Bool.Decides.{nat_tests}
 use Rattle.std.proofs.lemmas.List.{length-take, length-drop, take_all, drop_all, take-take, drop-take, take-append-le, drop-append-le}
 use Rattle.wire_net.specs.declared.cut_room.DirNotes.{DirNotes}
-use Rattle.wire_net.specs.Directions.{Direction, after_receive, after_send}
+use Rattle.wire_channels.specs.Directions.{Direction, after_receive, after_send}
 use Rattle.wire_net.specs.Whereabouts.{stream}
 use Rattle.refill_core.specs.Tasks.{header, frame, frame_length, sent_in_all, has_back, part, with_piece, with_sent}
 use Rattle.refill_core.specs.Refills.{IsNoted, IsRefilling}

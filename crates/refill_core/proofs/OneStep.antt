@@ -10,9 +10,9 @@ use Rattle.views.proofs.MapLaws.{true_false}
 use Rattle.sys_abi.specs.declared.identity.Dir.{Dir}
 use Rattle.sys_abi.specs.declared.identity.RealPid.{RealPid}
 use Rattle.wire_net.specs.declared.cut_room.DirNotes.{DirNotes}
-use Rattle.wire_net.specs.declared.limits.TheConstants.{QUEUE_LIMIT}
-use Rattle.wire_net.specs.Directions.{Direction, after_receive}
-use Rattle.wire_net.specs.Channels.{Channels, direction_at}
+use Rattle.wire_channels.specs.declared.limits.TheConstants.{QUEUE_LIMIT}
+use Rattle.wire_channels.specs.Directions.{Direction, after_receive}
+use Rattle.wire_channels.specs.Channels.{Channels, direction_at}
 use Rattle.wire_net.specs.Networks.{Network}
 use Rattle.wire_net.specs.Whereabouts.{reverse}
 use Rattle.refill_core.specs.declared.limits.TheConstants.{HEADER_LENGTH}
@@ -20,7 +20,7 @@ use Rattle.refill_core.specs.Tasks.{is_agent, frame_length, with_sent, read_coun
 use Rattle.refill_core.specs.Refills.{Notes, Refilling, notes_at, put_notes, IsNoted, IsFlowing, Fits, turn_found, turn_of, turn_after}
 use Rattle.refill_core.specs.Work.{moves_found, moves_of, moved_by}
 use Rattle.refill_core.specs.Stepping.{state, dir_at, no_dir}
-use Rattle.wire_net.proofs.OneDirection.{direction_beside}
+use Rattle.wire_channels.proofs.OneDirection.{direction_beside}
 use Rattle.refill_core.proofs.OneRefill.{all_size}
 use Rattle.refill_core.proofs.EndFits.{Pair, pair_of, ended}
 use Rattle.refill_core.proofs.Pairs.{other_way}

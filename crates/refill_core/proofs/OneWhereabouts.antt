@@ -8,7 +8,7 @@ use Rattle.std.proofs.Math.Seq.{take-add, drop-append-add}
 use Rattle.std.proofs.lemmas.Bool.Decides.{nat_tests}
 use Rattle.std.proofs.lemmas.List.{length-drop, take_all, take_min, take-take, take-append-le, drop-append-le, take-append-drop}
 use Rattle.wire_net.specs.declared.cut_room.DirNotes.{DirNotes}
-use Rattle.wire_net.specs.Directions.{Direction}
+use Rattle.wire_channels.specs.Directions.{Direction}
 use Rattle.wire_net.specs.Whereabouts.{stream, placed}
 use Rattle.refill_core.specs.Tasks.{header, frame, frame_length, sent_in_all}
 use Rattle.refill_core.specs.Refills.{IsNoted, IsRefilling}

@@ -16,11 +16,12 @@ use Rattle.wire_net.specs.declared.agents.AgentEnd.{AgentEnd}
 use Rattle.wire_net.specs.declared.cut_room.DirBytes.{DirBytes}
 use Rattle.wire_net.specs.declared.cut_room.DirNotes.{DirNotes}
 use Rattle.wire_net.specs.CutRooms.{Named}
-use Rattle.wire_net.specs.Directions.{after_move}
-use Rattle.wire_net.specs.Channels.{direction_at, at_direction}
+use Rattle.wire_channels.specs.Directions.{after_move}
+use Rattle.wire_channels.specs.Channels.{direction_at, at_direction}
 use Rattle.wire_net.specs.DrainedNets.{IsListOf, IsDrained, HasLists, IsNamingLists, list_on}
 use Rattle.wire_net.specs.Ends.{IsFor}
-use Rattle.wire_net.specs.Networks.{Network, bytes_on, received_on}
+use Rattle.wire_net.specs.Networks.{Network}
+use Rattle.wire_channels.specs.Answers.{bytes_on, received_on}
 use Rattle.wire_net.specs.Runs.{Event, Step, Move, IsAllowed, UnderWay, after, run, moving, moves_made}
 use Rattle.wire_net.specs.Whereabouts.{stream_on, whereabouts}
 use Rattle.wire_net.proofs.ListsOn.{one_listed, each_listed}

@@ -10,10 +10,10 @@ use Rattle.views.proofs.MapLaws.{key_tied, other_key}
 use Rattle.sys_abi.specs.declared.identity.ConnId.{ConnId}
 use Rattle.sys_abi.specs.declared.identity.Dir.{Dir}
 use Rattle.sys_abi.proofs.OrderLaws.{dir_total, dir_exact}
-use Rattle.wire_net.specs.declared.channel.Channel.{Channel}
+use Rattle.wire_channels.specs.declared.channel.Channel.{Channel}
 use Rattle.wire_net.specs.declared.cut_room.DirNotes.{DirNotes}
-use Rattle.wire_net.specs.Directions.{Direction, unused}
-use Rattle.wire_net.specs.Channels.{Channels, new_channel, direction_of, direction_at, is_live, is_live_at}
+use Rattle.wire_channels.specs.Directions.{Direction, unused}
+use Rattle.wire_channels.specs.Channels.{Channels, new_channel, direction_of, direction_at, is_live, is_live_at}
 use Rattle.wire_net.specs.Whereabouts.{stream, reverse}
 use Rattle.refill_core.specs.Tasks.{sent_in_all}
 use Rattle.refill_core.specs.Refills.{Notes, notes_at, IsNoted, IsRefilling, IsFlowing, IsAside, IsInStep, Fits}

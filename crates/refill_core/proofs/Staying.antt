@@ -11,13 +11,13 @@ use Rattle.sys_abi.specs.declared.identity.RealPid.{RealPid}
 use Rattle.sys_abi.specs.Orders.{dir_cmp}
 use Rattle.sys_abi.proofs.OrderLaws.{dir_total, dir_exact}
 use Rattle.wire_net.specs.declared.cut_room.DirNotes.{DirNotes}
-use Rattle.wire_net.specs.Channels.{Channels}
-use Rattle.wire_net.specs.Directions.{after_receive, after_send}
-use Rattle.wire_net.specs.Frames.{flags_of, SameFrames}
+use Rattle.wire_channels.specs.Channels.{Channels}
+use Rattle.wire_channels.specs.Directions.{after_receive, after_send}
+use Rattle.wire_channels.specs.Frames.{flags_of, SameFrames}
 use Rattle.wire_net.specs.Networks.{Network}
 use Rattle.wire_net.specs.Noted.{NamedAgents, agents_in}
 use Rattle.wire_net.specs.Whereabouts.{reverse}
-use Rattle.wire_net.proofs.KeptFrames.{KeepsFlags, frames_kept, same_frames, then_same}
+use Rattle.wire_channels.proofs.KeptFrames.{KeepsFlags, frames_kept, same_frames, then_same}
 use Rattle.refill_core.specs.Refills.{Notes, Refilling, Fits, dirs_of, named_agents, notes_at, put_notes, turn_found, turn_of, turn_after, turns_after}
 use Rattle.refill_core.specs.Stepping.{state}
 use Rattle.refill_core.specs.Tasks.{is_agent, part, read_count, note_read, channels_read, send_count, sent_on, turn_note, turn_channels}

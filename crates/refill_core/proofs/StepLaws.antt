@@ -12,9 +12,9 @@ use Rattle.sys_abi.specs.declared.identity.Dir.{Dir}
 use Rattle.sys_abi.specs.declared.identity.RealPid.{RealPid}
 use Rattle.wire_net.specs.declared.cut_room.DirNotes.{DirNotes}
 use Rattle.wire_net.specs.AgentSteps.{IsStepOn}
-use Rattle.wire_net.specs.Directions.{Direction}
-use Rattle.wire_net.specs.Channels.{direction_at}
-use Rattle.wire_net.specs.Networks.{received_on}
+use Rattle.wire_channels.specs.Directions.{Direction}
+use Rattle.wire_channels.specs.Channels.{direction_at}
+use Rattle.wire_channels.specs.Answers.{received_on}
 use Rattle.wire_net.specs.Whereabouts.{reverse}
 use Rattle.refill_core.specs.declared.limits.TheConstants.{HEADER_LENGTH}
 use Rattle.refill_core.specs.Laws.{acts, IsNotedStep}

@@ -10,8 +10,8 @@ use Rattle.std.proofs.lemmas.Option.{slice_get-get_or, get_or_from_slice_get}
 use Rattle.sys_abi.specs.declared.identity.Dir.{Dir}
 use Rattle.sys_abi.specs.declared.identity.RealPid.{RealPid}
 use Rattle.wire_net.specs.declared.cut_room.DirNotes.{DirNotes}
-use Rattle.wire_net.specs.declared.limits.TheConstants.{QUEUE_LIMIT}
-use Rattle.wire_net.specs.Channels.{Channels, direction_at}
+use Rattle.wire_channels.specs.declared.limits.TheConstants.{QUEUE_LIMIT}
+use Rattle.wire_channels.specs.Channels.{Channels, direction_at}
 use Rattle.wire_net.specs.Networks.{Network}
 use Rattle.wire_net.specs.Whereabouts.{reverse}
 use Rattle.refill_core.specs.declared.limits.TheConstants.{HEADER_LENGTH}

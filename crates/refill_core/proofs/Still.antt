@@ -18,15 +18,15 @@ use Rattle.sys_abi.specs.declared.identity.RealPid.{RealPid}
 use Rattle.sys_abi.specs.Orders.{dir_cmp}
 use Rattle.sys_abi.proofs.OrderLaws.{dir_total, dir_exact}
 use Rattle.wire_net.specs.declared.cut_room.DirNotes.{DirNotes}
-use Rattle.wire_net.specs.Directions.{after_receive}
-use Rattle.wire_net.specs.Channels.{Channels, direction_at, at_direction}
-use Rattle.wire_net.specs.Networks.{received_on}
+use Rattle.wire_channels.specs.Directions.{after_receive}
+use Rattle.wire_channels.specs.Channels.{Channels, direction_at, at_direction}
+use Rattle.wire_channels.specs.Answers.{received_on}
 use Rattle.wire_net.specs.Reserves.{reserve}
 use Rattle.wire_net.specs.Whereabouts.{reverse}
 use Rattle.refill_core.specs.Tasks.{part, with_piece, with_sent, read_count, note_read, channels_read, send_count, sent_on, turn_note, turn_channels}
 use Rattle.refill_core.specs.Refills.{Notes, Refilling, dirs_of, put_notes, turn_after, turns_after}
 use Rattle.refill_core.specs.Work.{moved_by, moved_any}
-use Rattle.wire_net.proofs.OneDirection.{unchanged_direction}
+use Rattle.wire_channels.proofs.OneDirection.{unchanged_direction}
 use Rattle.refill_core.proofs.WorkLaws.{only_one}
 use Rattle.refill_core.proofs.Whole.{FitsNow, Turn, end_cases, result_of}
 

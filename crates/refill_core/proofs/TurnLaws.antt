@@ -12,11 +12,11 @@ use Rattle.sys_abi.specs.declared.identity.RealPid.{RealPid}
 use Rattle.sys_abi.proofs.OrderLaws.{dir_total, dir_exact}
 use Rattle.wire_net.specs.declared.cut_room.DirNotes.{DirNotes}
 use Rattle.wire_net.specs.AgentSteps.{IsStepOn}
-use Rattle.wire_net.specs.Directions.{Direction, after_receive, after_send}
-use Rattle.wire_net.specs.Channels.{Channels, direction_at}
-use Rattle.wire_net.specs.Networks.{received_on}
+use Rattle.wire_channels.specs.Directions.{Direction, after_receive, after_send}
+use Rattle.wire_channels.specs.Channels.{Channels, direction_at}
+use Rattle.wire_channels.specs.Answers.{received_on}
 use Rattle.wire_net.specs.Whereabouts.{reverse}
-use Rattle.wire_net.proofs.KeptFrames.{direction_framed}
+use Rattle.wire_channels.proofs.KeptFrames.{direction_framed}
 use Rattle.refill_core.specs.declared.limits.TheConstants.{HEADER_LENGTH}
 use Rattle.refill_core.specs.Laws.{acts, IsNotedStep, IsStepAt}
 use Rattle.refill_core.specs.Refills.{Refilling, notes_at, put_notes, turn_after}

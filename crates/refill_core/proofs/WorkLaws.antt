@@ -14,7 +14,7 @@ use Rattle.sys_abi.specs.declared.identity.RealPid.{RealPid}
 use Rattle.sys_abi.specs.Orders.{dir_cmp}
 use Rattle.sys_abi.proofs.OrderLaws.{dir_total, dir_exact}
 use Rattle.wire_net.specs.declared.cut_room.DirNotes.{DirNotes}
-use Rattle.wire_net.specs.Channels.{Channels, direction_at}
+use Rattle.wire_channels.specs.Channels.{Channels, direction_at}
 use Rattle.wire_net.specs.Whereabouts.{reverse}
 use Rattle.refill_core.specs.Tasks.{frame_length, has_back, turn_channels, read_count, send_count, note_read, channels_read}
 use Rattle.refill_core.specs.Refills.{Notes, Refilling, Apart, dirs_of, notes_at, put_notes, IsNoted, turn_after, turns_after}

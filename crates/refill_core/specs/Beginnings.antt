@@ -10,13 +10,13 @@ use Rattle.std.specs.Prelude.{◌≡◌, ◌<◌, ◌≤◌, ◌⊎◌, ℕ, tru
 use Rattle.wire_net.specs.declared.agents.AgentEnd.{AgentEnd}
 use Rattle.wire_net.specs.declared.cut_room.DirBytes.{DirBytes}
 use Rattle.wire_net.specs.declared.cut_room.DirNotes.{DirNotes}
-use Rattle.wire_net.specs.declared.limits.TheConstants.{QUEUE_LIMIT}
-use Rattle.wire_net.specs.Directions.{Direction}
-use Rattle.wire_net.specs.Channels.{Channels, direction_at, is_live_at}
+use Rattle.wire_channels.specs.declared.limits.TheConstants.{QUEUE_LIMIT}
+use Rattle.wire_channels.specs.Directions.{Direction}
+use Rattle.wire_channels.specs.Channels.{Channels, direction_at, is_live_at}
 use Rattle.wire_net.specs.CutRooms.{Named, new_notes}
 use Rattle.wire_net.specs.DrainedNets.{StandsIf, list_on}
 use Rattle.wire_net.specs.Ends.{agent_of}
-use Rattle.wire_net.specs.Networks.{received_on}
+use Rattle.wire_channels.specs.Answers.{received_on}
 use Rattle.wire_net.specs.Reserves.{reserve}
 use Rattle.wire_net.specs.Whereabouts.{stream, stream_on, reverse}
 use Rattle.refill_core.specs.Refills.{Notes, dirs_of, Apart, notes_at, IsFlowing, IsAside}

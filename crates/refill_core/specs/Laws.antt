@@ -20,11 +20,12 @@ use Rattle.std.specs.Option.{option_map_or}
 use Rattle.sys_abi.specs.declared.identity.Dir.{Dir}
 use Rattle.sys_abi.specs.declared.identity.RealPid.{RealPid}
 use Rattle.wire_net.specs.declared.cut_room.DirNotes.{DirNotes}
-use Rattle.wire_net.specs.declared.place.Place.{Place}
+use Rattle.wire_channels.specs.declared.place.Place.{Place}
 use Rattle.wire_net.specs.AgentSteps.{IsStepOn}
-use Rattle.wire_net.specs.Directions.{Direction, after_move}
-use Rattle.wire_net.specs.Channels.{Channels, direction_at, at_direction}
-use Rattle.wire_net.specs.Networks.{Network, bytes_on, received_on}
+use Rattle.wire_channels.specs.Directions.{Direction, after_move}
+use Rattle.wire_channels.specs.Channels.{Channels, direction_at, at_direction}
+use Rattle.wire_net.specs.Networks.{Network}
+use Rattle.wire_channels.specs.Answers.{bytes_on, received_on}
 use Rattle.wire_net.specs.Whereabouts.{stream_on, reverse}
 use Rattle.refill_core.specs.declared.limits.TheConstants.{HEADER_LENGTH}
 use Rattle.refill_core.specs.Tasks.{is_agent}

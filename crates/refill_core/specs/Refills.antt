@@ -18,10 +18,10 @@ use Rattle.sys_abi.specs.declared.identity.Dir.{Dir}
 use Rattle.sys_abi.specs.declared.identity.RealPid.{RealPid}
 use Rattle.sys_abi.specs.Orders.{dir_cmp}
 use Rattle.wire_net.specs.declared.cut_room.DirNotes.{DirNotes}
-use Rattle.wire_net.specs.declared.limits.TheConstants.{QUEUE_LIMIT}
-use Rattle.wire_net.specs.Directions.{Direction}
-use Rattle.wire_net.specs.Channels.{Channels, direction_at, is_live_at}
-use Rattle.wire_net.specs.Networks.{received_on}
+use Rattle.wire_channels.specs.declared.limits.TheConstants.{QUEUE_LIMIT}
+use Rattle.wire_channels.specs.Directions.{Direction}
+use Rattle.wire_channels.specs.Channels.{Channels, direction_at, is_live_at}
+use Rattle.wire_channels.specs.Answers.{received_on}
 use Rattle.wire_net.specs.Whereabouts.{stream, stream_on, reverse}
 pub use Rattle.wire_net.specs.Noted.{Notes, IsFlowing, dirs_of, Apart, has_notes, named_agents}
 use Rattle.refill_core.specs.declared.limits.TheConstants.{HEADER_LENGTH}

@@ -19,9 +19,9 @@ use Rattle.sys_abi.specs.declared.transfer.TheConstants.{TRANSFER_LIMIT}
 use Rattle.wire_net.specs.declared.cut_room.DirNotes.{DirNotes}
 use Rattle.wire_net.specs.Reserves.{reserve}
 pub use Rattle.wire_net.specs.Noted.{is_agent}
-use Rattle.wire_net.specs.Directions.{Direction, room, after_receive, after_send}
-use Rattle.wire_net.specs.Channels.{Channels, direction_at, at_direction}
-use Rattle.wire_net.specs.Networks.{received_on}
+use Rattle.wire_channels.specs.Directions.{Direction, room, after_receive, after_send}
+use Rattle.wire_channels.specs.Channels.{Channels, direction_at, at_direction}
+use Rattle.wire_channels.specs.Answers.{received_on}
 use Rattle.wire_net.specs.Whereabouts.{reverse}
 use Rattle.refill_core.specs.declared.limits.TheConstants.{HEADER_LENGTH}
 

@@ -19,11 +19,11 @@ use Rattle.sys_abi.specs.declared.identity.RealPid.{RealPid}
 use Rattle.wire_net.specs.declared.agents.Stepped.{Stepped}
 use Rattle.wire_net.specs.declared.agents.Stepped.TheVariants as answer
 use Rattle.wire_net.specs.declared.cut_room.DirNotes.{DirNotes}
-use Rattle.wire_net.specs.declared.limits.TheConstants.{QUEUE_LIMIT}
-use Rattle.wire_net.specs.Directions.{Direction, standing}
+use Rattle.wire_channels.specs.declared.limits.TheConstants.{QUEUE_LIMIT}
+use Rattle.wire_channels.specs.Directions.{Direction, standing}
 pub use Rattle.wire_net.specs.Noted.{answer_of, CanMove}
-use Rattle.wire_net.specs.Channels.{Channels, direction_at}
-use Rattle.wire_net.specs.Networks.{received_on}
+use Rattle.wire_channels.specs.Channels.{Channels, direction_at}
+use Rattle.wire_channels.specs.Answers.{received_on}
 use Rattle.wire_net.specs.Whereabouts.{reverse}
 use Rattle.refill_core.specs.Tasks.{frame_length, has_back, read_count, note_read, channels_read, send_count, is_agent}
 use Rattle.refill_core.specs.Refills.{Notes, Refilling, dirs_of, notes_at, turn_after}

@@ -1,7 +1,7 @@
 //! How the notes on each direction begin: what was drained of a live one goes back.
 ghost use Rattle.std.specs.Prelude.{◌≡◌, ◌≢◌, ◌<◌, ◌≤◌, length, slice_get, option_and_then, IfSome, All};
 ghost use Rattle.sys_abi.specs.declared.identity.Dir.{Dir};
-ghost use Rattle.wire_net.specs.declared.limits.TheConstants.{QUEUE_LIMIT};
+ghost use Rattle.wire_channels.specs.declared.limits.TheConstants.{QUEUE_LIMIT};
 ghost use Rattle.wire_net.specs.CutRooms.{name_of, names_of, HasRoom};
 ghost use Rattle.wire_net.specs.DrainedNets.{list_on};
 ghost use Rattle.wire_net.specs.Noted.{Apart, dirs_of};

@@ -1,9 +1,9 @@
 //! Reading and sending as far as the network goes.
 ghost use Rattle.std.specs.Prelude.{◌≡◌, ◌<◌, ◌≤◌, min, take, length, IfSome};
 ghost use Rattle.std.specs.Option.{option_map_or};
-ghost use Rattle.wire_net.specs.Channels.{direction_at, at_direction};
-ghost use Rattle.wire_net.specs.Directions.{room, after_receive};
-ghost use Rattle.wire_net.specs.Networks.{received_on};
+ghost use Rattle.wire_channels.specs.Channels.{direction_at, at_direction};
+ghost use Rattle.wire_channels.specs.Directions.{room, after_receive};
+ghost use Rattle.wire_channels.specs.Answers.{received_on};
 ghost use Rattle.refill_core.specs.Refills.{IsFlowing};
 ghost use Rattle.refill_core.specs.Tasks as words;
 

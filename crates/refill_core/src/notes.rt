@@ -1,6 +1,6 @@
 //! What an agent does with the two directions of a live channel.
 ghost use Rattle.std.specs.Prelude.{◌≡◌, ◌≤◌, ◌+◌, true, length, take, drop, IfSome};
-ghost use Rattle.wire_net.specs.Channels.{direction_at};
+ghost use Rattle.wire_channels.specs.Channels.{direction_at};
 ghost use Rattle.wire_net.specs.Whereabouts.{reverse};
 ghost use Rattle.refill_core.specs.Refills.{IsNoted, IsFlowing};
 ghost use Rattle.refill_core.specs.Tasks as words;

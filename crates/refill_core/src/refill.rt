@@ -1,11 +1,11 @@
 ghost use Rattle.std.specs.Prelude.{◌≡◌, ◌≢◌, ◌==◌, ◌<◌, ◌≤◌, ◌↔◌, true, false, length, map as each, IsSome, All};
 ghost use Rattle.sys_abi.specs.declared.identity.Dir.{Dir};
 ghost use Rattle.wire_net.specs.declared.agents.Stepped.TheVariants.{Moved, Again};
-ghost use Rattle.wire_net.specs.declared.limits.TheConstants.{QUEUE_LIMIT};
-ghost use Rattle.wire_net.specs.Channels.{Channels, direction_at};
+ghost use Rattle.wire_channels.specs.declared.limits.TheConstants.{QUEUE_LIMIT};
+ghost use Rattle.wire_channels.specs.Channels.{Channels, direction_at};
 ghost use Rattle.wire_net.specs.DrainedNets.{IsDrained, HasLists, IsNamingLists, agents_of_lists};
 ghost use Rattle.wire_net.specs.Ends.{IsFor};
-ghost use Rattle.wire_net.specs.Frames.{SameFrames};
+ghost use Rattle.wire_channels.specs.Frames.{SameFrames};
 ghost use Rattle.wire_net.specs.Networks.{Network};
 ghost use Rattle.refill_core.specs.Beginnings as beginnings;
 ghost use Rattle.refill_core.specs.Refills as words;

@@ -15,7 +15,7 @@ use Rattle.std.proofs.lemmas.List.Sums.{sum_by-cons}
 use Rattle.views.proofs.MapLaws.{true_false}
 use Rattle.wire_net.specs.declared.agents.Stepped.TheVariants.{Moved, Finished, Again}
 use Rattle.wire_net.specs.declared.cut_room.DirNotes.{DirNotes}
-use Rattle.wire_net.specs.Directions.{Direction}
+use Rattle.wire_channels.specs.Directions.{Direction}
 use Rattle.wire_net.specs.Noted.{Notes, answer_of}
 use Rattle.wire_net.specs.Whereabouts.{stream}
 

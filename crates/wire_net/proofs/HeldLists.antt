@@ -11,7 +11,7 @@ use Rattle.sys_abi.specs.declared.identity.Dir.{Dir}
 use Rattle.sys_abi.specs.Orders.{dir_cmp}
 use Rattle.sys_abi.proofs.OrderLaws.{dir_total, dir_exact}
 use Rattle.wire_net.specs.declared.cut_room.DirBytes.{DirBytes}
-use Rattle.wire_net.specs.Channels.{direction_at}
+use Rattle.wire_channels.specs.Channels.{direction_at}
 use Rattle.wire_net.specs.DrainedNets.{list_on, taken_off, agents_of_lists}
 use Rattle.wire_net.specs.Networks.{Network}
 use Rattle.wire_net.specs.Noted.{Apart}

@@ -1,4 +1,3 @@
-pub mod ClosedEnds
 pub mod NetworkParts
 pub mod PortsInUse
 pub mod RoomLaws
@@ -8,11 +7,10 @@ pub mod Finding
 pub mod Gains
 pub mod HeldLists
 pub mod Items
-pub mod KeptFrames
+pub mod FramedEnds
 pub mod ListsOn
 pub mod LiveAgents
 pub mod LiveChannels
 pub mod NotedAgents
 pub mod OneCall
-pub mod OneDirection
 pub mod Pieces

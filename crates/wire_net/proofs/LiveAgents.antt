@@ -13,9 +13,9 @@ use Rattle.sys_abi.specs.declared.identity.ConnId.{ConnId}
 use Rattle.sys_abi.specs.declared.identity.Dir.{Dir}
 use Rattle.sys_abi.specs.declared.identity.RealPid.{RealPid}
 use Rattle.wire_net.specs.declared.agents.AgentEnd.{AgentEnd}
-use Rattle.wire_net.specs.declared.channel.Channel.{Channel}
-use Rattle.wire_net.specs.Directions.{Direction, is_flowing}
-use Rattle.wire_net.specs.Channels.{Channels, direction_of, direction_at, is_live, is_live_at}
+use Rattle.wire_channels.specs.declared.channel.Channel.{Channel}
+use Rattle.wire_channels.specs.Directions.{Direction, is_flowing}
+use Rattle.wire_channels.specs.Channels.{Channels, direction_of, direction_at, is_live, is_live_at}
 use Rattle.wire_net.specs.Ends.{agent_of, IsFor}
 use Rattle.wire_net.specs.Noted.{IsFlowing}
 

@@ -9,11 +9,11 @@ use Rattle.views.proofs.MapLaws.{same_or_other, get_insert_same, get_insert_othe
 use Rattle.sys_abi.specs.declared.identity.ConnId.{ConnId}
 use Rattle.sys_abi.specs.declared.identity.Dir.{Dir}
 use Rattle.sys_abi.proofs.OrderLaws.{conn_total, conn_exact}
-use Rattle.wire_net.specs.declared.channel.Channel.{Channel}
-use Rattle.wire_net.specs.declared.place.Place.{Place}
-use Rattle.wire_net.specs.declared.place.Place.TheVariants.{Send, Wire}
-use Rattle.wire_net.specs.Directions.{Direction, is_flowing, after_move}
-use Rattle.wire_net.specs.Channels.{Channels, at_direction, is_live, is_live_at}
+use Rattle.wire_channels.specs.declared.channel.Channel.{Channel}
+use Rattle.wire_channels.specs.declared.place.Place.{Place}
+use Rattle.wire_channels.specs.declared.place.Place.TheVariants.{Send, Wire}
+use Rattle.wire_channels.specs.Directions.{Direction, is_flowing, after_move}
+use Rattle.wire_channels.specs.Channels.{Channels, at_direction, is_live, is_live_at}
 
 abbrev pub KeepsFlow : (Direction → Direction) → Type 0
 KeepsFlow f = (direction : Direction) → is_flowing (f direction) ≡ is_flowing direction

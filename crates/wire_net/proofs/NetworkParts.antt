@@ -1,7 +1,7 @@
 -- A network by its parts.
 use Rattle.std.proofs.Common.{◌≡◌, ℕ, ap, ◌∙◌}
-use Rattle.wire_net.specs.Listeners.{Listeners}
-use Rattle.wire_net.specs.Channels.{Channels}
+use Rattle.wire_channels.specs.Listeners.{Listeners}
+use Rattle.wire_channels.specs.Channels.{Channels}
 use Rattle.wire_net.specs.Networks.{Network}
 
 abbrev pub network : ℕ → ℕ → Listeners → Channels → Network

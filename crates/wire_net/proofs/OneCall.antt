@@ -7,13 +7,14 @@ use Rattle.std.specs.Prelude.{Option, Some, None, Ok, Err, IfSome, not, ◌&&◌
 use Rattle.std.proofs.lemmas.Bool.Decides.{nat_tests}
 use Rattle.views.proofs.MapLaws.{true_false}
 use Rattle.sys_abi.specs.declared.identity.Dir.{Dir}
-use Rattle.wire_net.specs.declared.net_fault.NetFault.{NetFault}
-use Rattle.wire_net.specs.declared.net_fault.NetFault.TheVariants as fault
-use Rattle.wire_net.specs.Directions.{Direction, room, after_receive}
-use Rattle.wire_net.specs.Channels.{Channels, at_direction}
-use Rattle.wire_net.specs.Networks.{Network, send_answer_on}
+use Rattle.wire_channels.specs.declared.net_fault.NetFault.{NetFault}
+use Rattle.wire_channels.specs.declared.net_fault.NetFault.TheVariants as fault
+use Rattle.wire_channels.specs.Directions.{Direction, room, after_receive}
+use Rattle.wire_channels.specs.Channels.{Channels, at_direction}
+use Rattle.wire_net.specs.Networks.{Network}
+use Rattle.wire_channels.specs.Answers.{send_answer_on}
 use Rattle.wire_net.specs.Noted.{IsFlowing}
-use Rattle.wire_net.proofs.OneDirection.{unchanged_direction}
+use Rattle.wire_channels.proofs.OneDirection.{unchanged_direction}
 
 abbrev pub with_channels : Network → Channels → Network
 with_channels t m = record { nodes = t.nodes; port_base = t.port_base; listeners = t.listeners; channels = m }

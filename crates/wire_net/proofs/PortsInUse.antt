@@ -9,8 +9,8 @@ use Rattle.views.proofs.MapLaws.{true_false, same_or_other}
 use Rattle.views.proofs.Counting.{at_keys}
 use Rattle.sys_abi.specs.declared.identity.RealAddr.{RealAddr}
 use Rattle.sys_abi.proofs.OrderLaws.{real_address_total, real_address_exact}
-use Rattle.wire_net.specs.Listeners.{Listeners, real, AreUsed, AllPortsUsed, IsNextPort}
-use Rattle.wire_net.specs.declared.limits.TheConstants.{PORT_COUNT}
+use Rattle.wire_channels.specs.Listeners.{Listeners, real, AreUsed, AllPortsUsed, IsNextPort}
+use Rattle.wire_channels.specs.declared.limits.TheConstants.{PORT_COUNT}
 
 pub none_there : {A : Type 0} (found : Option A) → is_some found ≡ false → found ≡ None
 none_there None is = refl

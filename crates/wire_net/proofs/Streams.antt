@@ -15,11 +15,11 @@ use Rattle.sys_abi.specs.declared.identity.ConnId.{ConnId}
 use Rattle.sys_abi.specs.declared.identity.Dir.{Dir}
 use Rattle.sys_abi.specs.Orders.{dir_cmp}
 use Rattle.sys_abi.proofs.OrderLaws.{conn_total, conn_exact}
-use Rattle.wire_net.specs.declared.channel.Channel.{Channel}
-use Rattle.wire_net.specs.declared.place.Place.{Place}
-use Rattle.wire_net.specs.declared.place.Place.TheVariants.{Send, Wire}
-use Rattle.wire_net.specs.Directions.{Direction, after_send, after_receive, after_move}
-use Rattle.wire_net.specs.Channels.{Channels, direction_of, at_side, direction_at, at_direction}
+use Rattle.wire_channels.specs.declared.channel.Channel.{Channel}
+use Rattle.wire_channels.specs.declared.place.Place.{Place}
+use Rattle.wire_channels.specs.declared.place.Place.TheVariants.{Send, Wire}
+use Rattle.wire_channels.specs.Directions.{Direction, after_send, after_receive, after_move}
+use Rattle.wire_channels.specs.Channels.{Channels, direction_of, at_side, direction_at, at_direction}
 use Rattle.wire_net.specs.Networks.{Network}
 use Rattle.wire_net.specs.Whereabouts.{Agents, stream, stream_on, reverse, placed, whereabouts}
 

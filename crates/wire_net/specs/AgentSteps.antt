@@ -4,7 +4,7 @@
 --                                            the back of the sender's, if it acts for the sending end
 --     GrowsBy taken before after             a list grew at its end, by a stretch of what was taken
 use Rattle.std.specs.Prelude.{◌≡◌, ℕ, Bool, false, List, [], ◌++◌, take, drop}
-use Rattle.wire_net.specs.Directions.{Direction}
+use Rattle.wire_channels.specs.Directions.{Direction}
 
 pub record IsStepOn (reads sends : Bool) (before after : Direction) : Type 0 where
   pub taken : ℕ

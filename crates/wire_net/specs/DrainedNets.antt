@@ -14,10 +14,10 @@ use Rattle.std.specs.Ordering.{eq_by_cmp}
 use Rattle.sys_abi.specs.declared.identity.Dir.{Dir}
 use Rattle.sys_abi.specs.Orders.{dir_cmp}
 use Rattle.wire_net.specs.declared.cut_room.DirBytes.{DirBytes}
-use Rattle.wire_net.specs.declared.limits.TheConstants.{QUEUE_LIMIT}
-use Rattle.wire_net.specs.Channels.{Channels, direction_at, is_live_at}
+use Rattle.wire_channels.specs.declared.limits.TheConstants.{QUEUE_LIMIT}
+use Rattle.wire_channels.specs.Channels.{Channels, direction_at, is_live_at}
 use Rattle.wire_net.specs.CutRooms.{Named}
-use Rattle.wire_net.specs.Networks.{received_on}
+use Rattle.wire_channels.specs.Answers.{received_on}
 use Rattle.wire_net.specs.Noted.{Apart}
 use Rattle.wire_net.specs.Whereabouts.{Held, Agents, stream_on}
 

@@ -9,8 +9,8 @@ use Rattle.std.specs.FinMap as map
 use Rattle.sys_abi.specs.declared.identity.ConnId.{ConnId}
 use Rattle.sys_abi.specs.declared.identity.RealPid.{RealPid}
 use Rattle.wire_net.specs.declared.agents.AgentEnd.{AgentEnd}
-use Rattle.wire_net.specs.declared.channel.Channel.{Channel}
-use Rattle.wire_net.specs.Channels.{Channels, direction_of}
+use Rattle.wire_channels.specs.declared.channel.Channel.{Channel}
+use Rattle.wire_channels.specs.Channels.{Channels, direction_of}
 
 abbrev pub is_end_at : ConnId → ℕ → AgentEnd → Bool
 is_end_at id side e = (e.conn.pid.0 == id.pid.0) && (e.conn.num == id.num) && (e.side == side)

@@ -7,9 +7,9 @@
 use Rattle.std.specs.Prelude.{◌≡◌, ℕ, List, ◌++◌, take}
 use Rattle.std.specs.FinMap as map
 use Rattle.sys_abi.specs.declared.identity.Dir.{Dir}
-use Rattle.wire_net.specs.declared.place.Place.{Place}
-use Rattle.wire_net.specs.Directions.{Direction, after_send, after_receive, after_move}
-use Rattle.wire_net.specs.Channels.{direction_at, at_direction}
+use Rattle.wire_channels.specs.declared.place.Place.{Place}
+use Rattle.wire_channels.specs.Directions.{Direction, after_send, after_receive, after_move}
+use Rattle.wire_channels.specs.Channels.{direction_at, at_direction}
 use Rattle.wire_net.specs.Networks.{Network}
 use Rattle.wire_net.specs.Whereabouts.{Agents, stream, stream_on, whereabouts}
 

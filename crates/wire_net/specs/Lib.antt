@@ -1,12 +1,8 @@
 pub mod AgentSteps
-pub mod Channels
 pub mod CutRooms
-pub mod Directions
 pub mod DrainedNets
 pub mod Ends
-pub mod Frames
 pub mod Laws
-pub mod Listeners
 pub mod Networks
 pub mod Noted
 pub mod Reserves

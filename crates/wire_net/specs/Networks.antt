@@ -1,27 +1,22 @@
 -- The whole network, and what its calls answer.
--- Source: `man 2 connect`, `man 2 accept`, `man 2 send`, `man 2 recv`.
+-- Source: `man 2 connect`, `man 2 accept`.
 --     connect_refusal t to           why nobody can connect there now, if so
 --     accept_answer listener         the oldest connection that waits, or that none does
---     send_answer_on, receive_answer_on      what a call on a direction answers, where its channel may not be there
---     received_on, bytes_on          what stands in a queue of a direction, nothing where its channel is not there
---     counts_of direction            the lengths of its three queues
-use Rattle.std.specs.Prelude.{ℕ, nat_le, length, List, [], ◌∷◌, slice_get, Option, Some, None, Result, Err, refl, if◌then◌else◌}
+use Rattle.std.specs.Prelude.{ℕ, nat_le, length, List, [], slice_get, Option, Some, None, Result, Err, refl, if◌then◌else◌}
 use Rattle.std.specs.Option.{ok_or}
 use Rattle.std.specs.Coded.{Coded, code_by, coded×, coded_ℕ}
 use Rattle.std.specs.FinMap as map
 use Rattle.sys_abi.specs.declared.identity.ConnId.{ConnId}
 use Rattle.sys_abi.specs.declared.identity.RealAddr.{RealAddr}
 use Rattle.sys_abi.specs.Orders.{coded_conn, coded_real_address}
-use Rattle.wire_net.specs.declared.limits.TheConstants.{CHANNEL_LIMIT}
-use Rattle.wire_net.specs.declared.net_fault.NetFault.{NetFault}
-use Rattle.wire_net.specs.declared.net_fault.NetFault.TheVariants as fault
-use Rattle.wire_net.specs.declared.place.Place.{Place}
-use Rattle.wire_net.specs.declared.listener.Listener.{Listener}
-use Rattle.wire_net.specs.contracts.listener.Listener as listener
-use Rattle.wire_net.specs.contracts.channel.Channel as channel
-use Rattle.wire_net.specs.Listeners.{Listeners}
-use Rattle.wire_net.specs.Channels.{Channels}
-use Rattle.wire_net.specs.Directions.{Direction, send_answer, receive_answer, bytes_at}
+use Rattle.wire_channels.specs.declared.limits.TheConstants.{CHANNEL_LIMIT}
+use Rattle.wire_channels.specs.declared.net_fault.NetFault.{NetFault}
+use Rattle.wire_channels.specs.declared.net_fault.NetFault.TheVariants as fault
+use Rattle.wire_channels.specs.declared.listener.Listener.{Listener}
+use Rattle.wire_channels.specs.contracts.listener.Listener as listener
+use Rattle.wire_channels.specs.contracts.channel.Channel as channel
+use Rattle.wire_channels.specs.Listeners.{Listeners}
+use Rattle.wire_channels.specs.Channels.{Channels}
 
 pub record Network : Type 0 where
   pub nodes : ℕ
@@ -42,25 +37,6 @@ connect_refusal t to = connect_refusal_at (map.get t.listeners to) (map.len t.ch
 abbrev pub accept_answer : Option Listener → Result ConnId NetFault
 accept_answer None = Err fault.NotReady
 accept_answer (Some listener) = ok_or (slice_get listener.queue 0) fault.NotReady
-
-abbrev pub send_answer_on : Option Direction → ℕ → Result ℕ NetFault
-send_answer_on None n = Err fault.NotConnected
-send_answer_on (Some direction) n = send_answer direction n
-
-abbrev pub receive_answer_on : Option Direction → ℕ → Result ℕ NetFault
-receive_answer_on None n = Err fault.NotConnected
-receive_answer_on (Some direction) n = receive_answer direction n
-
-abbrev pub counts_of : Direction → List ℕ
-counts_of direction = length direction.sent ∷ length direction.wire ∷ length direction.received ∷ []
-
-abbrev pub received_on : Option Direction → List ℕ
-received_on None = []
-received_on (Some direction) = direction.received
-
-abbrev pub bytes_on : Place → Option Direction → List ℕ
-bytes_on place None = []
-bytes_on place (Some direction) = bytes_at place direction
 
 -- the connections that wait at a listener, if it is there
 abbrev pub waiting_at : Option Listener → List ConnId

@@ -16,10 +16,10 @@ use Rattle.sys_abi.specs.Orders.{dir_cmp}
 use Rattle.wire_net.specs.declared.agents.Stepped.{Stepped}
 use Rattle.wire_net.specs.declared.agents.Stepped.TheVariants as answer
 use Rattle.wire_net.specs.declared.cut_room.DirNotes.{DirNotes}
-use Rattle.wire_net.specs.declared.place.Place.{Place}
-use Rattle.wire_net.specs.Directions.{Direction}
-use Rattle.wire_net.specs.Channels.{Channels, direction_at}
-use Rattle.wire_net.specs.Networks.{bytes_on}
+use Rattle.wire_channels.specs.declared.place.Place.{Place}
+use Rattle.wire_channels.specs.Directions.{Direction}
+use Rattle.wire_channels.specs.Channels.{Channels, direction_at}
+use Rattle.wire_channels.specs.Answers.{bytes_on}
 
 abbrev pub is_agent : RealPid → Option RealPid → Bool
 is_agent p None = false

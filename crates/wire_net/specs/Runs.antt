@@ -10,10 +10,11 @@
 use Rattle.std.specs.Prelude.{◌<◌, ℕ, ◌+◌, nat_lt, Bool, ◌&&◌, List, [], ◌∷◌, length, if◌then◌else◌}
 use Rattle.sys_abi.specs.declared.identity.Dir.{Dir}
 use Rattle.sys_abi.specs.declared.identity.RealPid.{RealPid}
-use Rattle.wire_net.specs.declared.place.Place.{Place}
-use Rattle.wire_net.specs.Directions.{after_move}
-use Rattle.wire_net.specs.Channels.{direction_at, at_direction}
-use Rattle.wire_net.specs.Networks.{Network, bytes_on}
+use Rattle.wire_channels.specs.declared.place.Place.{Place}
+use Rattle.wire_channels.specs.Directions.{after_move}
+use Rattle.wire_channels.specs.Channels.{direction_at, at_direction}
+use Rattle.wire_net.specs.Networks.{Network}
+use Rattle.wire_channels.specs.Answers.{bytes_on}
 use Rattle.wire_net.specs.Noted.{Notes, has_notes}
 
 pub data Event : Type 0 where

@@ -1,14 +1,14 @@
 //! Whether a connection can be made, asked before one is.
 ghost use Rattle.std.specs.Prelude.{◌≡◌, nat_le};
 ghost use Rattle.std.specs.FinMap as map;
-ghost use Rattle.wire_net.specs.declared.limits.TheConstants.{CHANNEL_LIMIT};
+ghost use Rattle.wire_channels.specs.declared.limits.TheConstants.{CHANNEL_LIMIT};
 ghost use Rattle.wire_net.specs.Networks as words;
 
-use crate::limits::CHANNEL_LIMIT;
 use crate::listening::has_room;
 use crate::net::Net;
-use crate::net_fault::NetFault;
 use sys_abi::RealAddr;
+use wire_channels::NetFault;
+use wire_channels::limits::CHANNEL_LIMIT;
 
 impl Net {
     /// Whether as many channels stand as may.

@@ -5,7 +5,8 @@
 //! direction of a channel is its three byte lists, which hold at most 65,536 bytes together, whether its sender has ended
 //! it, whether its receiver reads no more, and how many bytes it has taken so far. A channel knows which of its ends are
 //! open, and goes with the last one. A [`CutRoom`] is all room that a checkpoint's agents need to empty the queues and to
-//! fill them again; `whereabouts` says where the bytes of a direction are meanwhile.
+//! fill them again; `whereabouts` says where the bytes of a direction are meanwhile. Channels and listeners, each alone,
+//! stand in `wire_channels`.
 //!
 //! Proved: each call does to the maps what its clause says and leaves the rest as it was; each refusal comes exactly
 //! where its call says, and changes nothing; bytes come out of a direction as they went in, and a move from queue to
@@ -17,30 +18,17 @@
 #![tactic(auto)]
 
 mod agents;
-mod channel;
-mod closing;
 mod connecting;
 mod cut_room;
-mod lane;
 mod laws;
-pub mod limits;
-mod listener;
 mod listening;
-mod moving;
 mod net;
-mod net_fault;
-mod place;
 mod readers;
-mod rings;
 mod room;
 
 pub use agents::{AgentEnd, Stepped, agent_of, is_agent};
-pub use channel::Channel;
 pub use cut_room::{CutRoom, DirBytes, DirNotes, DrainedNet, RoomParts};
-pub use lane::Lane;
 pub use laws::net_laws;
-pub use listener::{ConnQueue, Listener};
 pub use net::Net;
-pub use net_fault::NetFault;
-pub use place::Place;
 pub use room::Room;
+pub use wire_channels::{Channel, ConnQueue, Lane, Listener, NetFault, Place, limits};

@@ -1,17 +1,16 @@
 //! Listeners, and the connections that wait at them.
 ghost use Rattle.std.specs.Prelude.{◌≡◌, ◌≤◌, not, nat_le, length, OnOk, OnErr, MatchOption, option_map};
 ghost use Rattle.std.specs.FinMap as map;
-ghost use Rattle.wire_net.specs.declared.limits.TheConstants.{PORT_BASE_LIMIT};
+ghost use Rattle.wire_channels.specs.declared.limits.TheConstants.{PORT_BASE_LIMIT};
 ghost use Rattle.real_maps.specs.Changes.{at_key};
-ghost use Rattle.wire_net.specs.Listeners as words;
+ghost use Rattle.wire_channels.specs.Listeners as words;
 ghost use Rattle.wire_net.specs.Networks.{accept_answer};
 
-use crate::limits::PORT_COUNT;
-use crate::listener::{ConnQueue, Listener};
-use crate::net_fault::NetFault;
 use real_maps::ByRealAddress;
 use std::alloc::{AllocError, Global};
 use sys_abi::{ConnId, RealAddr};
+use wire_channels::limits::PORT_COUNT;
+use wire_channels::{ConnQueue, Listener, NetFault};
 
 /// A listener at which nobody waits yet.
 pub(crate) fn new_listener(alloc: Global, backlog: u32) -> Listener

@@ -1,26 +1,25 @@
 ghost use Rattle.std.specs.Prelude.{◌≡◌, ◌↔◌, ◌<◌, ◌≤◌, ◌⊎◌, min, take, length, Ok, Err, IsSome, IsNone, IfSome, IfNone, IfOk, IfErr, OnOk, OnErr, IsOkUnless};
 ghost use Rattle.std.specs.FinMap as map;
-ghost use Rattle.wire_net.specs.declared.limits.TheConstants.{ACCEPTING_SIDE, CHANNEL_LIMIT, NODE_LIMIT, PORT_BASE_LIMIT};
+ghost use Rattle.wire_channels.specs.declared.limits.TheConstants.{ACCEPTING_SIDE, CHANNEL_LIMIT, NODE_LIMIT, PORT_BASE_LIMIT};
 ghost use Rattle.real_maps.specs.Changes.{at_key};
-ghost use Rattle.wire_net.specs.Channels as channels;
-ghost use Rattle.wire_net.specs.Directions as directions;
-ghost use Rattle.wire_net.specs.Frames.{SameFrames};
-ghost use Rattle.wire_net.specs.Listeners as listeners;
+ghost use Rattle.wire_channels.specs.Channels as channels;
+ghost use Rattle.wire_channels.specs.Directions as directions;
+ghost use Rattle.wire_channels.specs.Frames.{SameFrames};
+ghost use Rattle.wire_channels.specs.Listeners as listeners;
+ghost use Rattle.wire_channels.specs.Answers as answers;
 ghost use Rattle.wire_net.specs.Networks as words;
 
-use crate::channel::Channel;
-use crate::closing::{drop_end, drop_pending};
-use crate::limits::CHANNEL_LIMIT;
-use crate::listener::Listener;
 use crate::listening::{accept_at, has_room, new_listener, next_port, wait_at};
-use crate::moving::{end_on, move_on, receive_on, send_on, stop_reading_on};
-use crate::net_fault::NetFault;
-use crate::place::Place;
 use id_maps::ByConn;
 use real_maps::ByRealAddress;
 use std::alloc::{AllocError, Global};
 use std::marker::Model;
 use sys_abi::{ConnId, Dir, RealAddr, Transfer};
+use wire_channels::limits::CHANNEL_LIMIT;
+use wire_channels::{
+    Channel, Listener, NetFault, Place, drop_end, drop_pending, end_on, move_on, receive_on,
+    send_on, stop_reading_on,
+};
 
 /// The network between the nodes: listeners by their ports, and channels by their names.
 #[derive(Drop)]
@@ -34,7 +33,7 @@ pub struct Net {
 
 impl Model for Net {
     ghost use Rattle.std.specs.Prelude.{◌≤◌};
-    ghost use Rattle.wire_net.specs.declared.limits.TheConstants.{PORT_BASE_LIMIT};
+    ghost use Rattle.wire_channels.specs.declared.limits.TheConstants.{PORT_BASE_LIMIT};
     ghost use Rattle.wire_net.specs.Networks.{Network, coded_network};
 
     ghost Value = { Network };
@@ -154,7 +153,7 @@ impl Net {
     /// where there is no room and the piece is not empty.
     pub fn send(&mut self, d: Dir, piece: &[u8]) -> Result<u32, NetFault>
         requires { d.side < 2 }
-        ensures answer { result ≡ words.send_answer_on (channels.direction_at self.old.channels d) (length piece.now) }
+        ensures answer { result ≡ answers.send_answer_on (channels.direction_at self.old.channels d) (length piece.now) }
         ensures ok { IfOk result (λ count. self.new ≡ record self.old {
           channels = channels.at_direction self.old.channels d (directions.after_send (take count piece.now));
         }) }
@@ -171,11 +170,11 @@ impl Net {
     pub fn receive(&mut self, d: Dir, n: u32, xfer: &mut Transfer) -> Result<u32, NetFault>
         requires side { d.side < 2 }
         requires fits { n ≤ 65536 }
-        ensures answer { result ≡ words.receive_answer_on (channels.direction_at self.old.channels d) n }
+        ensures answer { result ≡ answers.receive_answer_on (channels.direction_at self.old.channels d) n }
         ensures ok { IfOk result (λ count. self.new ≡ record self.old {
           channels = channels.at_direction self.old.channels d (directions.after_receive count);
         }) }
-        ensures taken { IfOk result (λ count. xfer.new ≡ take count (words.received_on (channels.direction_at self.old.channels d))) }
+        ensures taken { IfOk result (λ count. xfer.new ≡ take count (answers.received_on (channels.direction_at self.old.channels d))) }
         ensures err { OnErr result (self.new ≡ self.old) }
         ensures kept { OnErr result (xfer.new ≡ xfer.old) }
     {
@@ -223,7 +222,7 @@ impl Net {
     /// Moves the first bytes of a queue of the direction, at most `n`, to the next queue. Answers how many. Takes no memory.
     pub fn move_bytes(&mut self, d: Dir, from: Place, n: u32) -> u32
         requires { d.side < 2 }
-        ensures moved { result ≡ min n (length (words.bytes_on from (channels.direction_at self.old.channels d))) }
+        ensures moved { result ≡ min n (length (answers.bytes_on from (channels.direction_at self.old.channels d))) }
         ensures after { self.new ≡ record self.old { channels = channels.at_direction self.old.channels d (directions.after_move from n) } }
 
         // The same channels are there, with the same directions ended or unread and the same ends open. Where no byte

@@ -2,10 +2,10 @@
 ghost use Rattle.std.specs.Prelude.{◌≡◌, ◌<◌, ◌≤◌, slice_get, is_some, false, [], ◌∷◌, IsSome, IfSome, option_map, option_and_then};
 ghost use Rattle.std.specs.Option.{option_map_or};
 ghost use Rattle.std.specs.FinMap as map;
-ghost use Rattle.wire_net.specs.declared.limits.TheConstants.{QUEUE_LIMIT};
-ghost use Rattle.wire_net.specs.Channels as channels;
-ghost use Rattle.wire_net.specs.Directions as directions;
-ghost use Rattle.wire_net.specs.Networks as words;
+ghost use Rattle.wire_channels.specs.declared.limits.TheConstants.{QUEUE_LIMIT};
+ghost use Rattle.wire_channels.specs.Channels as channels;
+ghost use Rattle.wire_channels.specs.Directions as directions;
+ghost use Rattle.wire_channels.specs.Answers as answers;
 
 use crate::net::Net;
 use sys_abi::{ConnId, Dir, RealAddr, Transfer};
@@ -22,7 +22,7 @@ impl Net {
     pub fn peek(&self, d: Dir, xfer: &mut Transfer)
         requires side { d.side < 2 }
         requires there { IsSome (map.get self.now.channels d.conn) }
-        ensures { xfer.new ≡ words.received_on (channels.direction_at self.now.channels d) }
+        ensures { xfer.new ≡ answers.received_on (channels.direction_at self.now.channels d) }
     {
         match self.channels.get(d.conn) {
             None => xfer.clear(),
@@ -65,7 +65,7 @@ impl Net {
     /// How many bytes stand in the sender's queue, on the wire and in the receiver's queue.
     pub fn counts(&self, d: Dir) -> [u32; 3]
         requires { d.side < 2 }
-        ensures counts { result ≡ option_map_or words.counts_of (channels.direction_at self.now.channels d) (0 ∷ 0 ∷ 0 ∷ []) }
+        ensures counts { result ≡ option_map_or answers.counts_of (channels.direction_at self.now.channels d) (0 ∷ 0 ∷ 0 ∷ []) }
         ensures within { IfSome (channels.direction_at self.now.channels d) (λ direction. directions.standing direction ≤ QUEUE_LIMIT) }
     {
         match self.channels.get(d.conn) {

@@ -11,10 +11,10 @@ use Rattle.sys_abi.specs.declared.identity.ConnId.{ConnId}
 use Rattle.sys_abi.specs.declared.identity.Dir.{Dir}
 use Rattle.sys_abi.specs.Orders.{conn_cmp}
 use Rattle.sys_abi.proofs.OrderLaws.{conn_total, conn_exact}
-use Rattle.wire_net.specs.declared.channel.Channel.{Channel}
-use Rattle.wire_net.specs.declared.net_fault.NetFault.{NetFault}
-use Rattle.wire_net.specs.Directions.{Direction, after_send}
-use Rattle.wire_net.specs.Channels.{Channels, at_side, at_direction}
+use Rattle.wire_channels.specs.declared.channel.Channel.{Channel}
+use Rattle.wire_channels.specs.declared.net_fault.NetFault.{NetFault}
+use Rattle.wire_channels.specs.Directions.{Direction, after_send}
+use Rattle.wire_channels.specs.Channels.{Channels, at_side, at_direction}
 use Rattle.wire_net.specs.Networks.{Network}
 use Rattle.worked_nets.specs.Alone.{IsAlone}
 use Rattle.wire_net.proofs.OneCall.{with_channels}

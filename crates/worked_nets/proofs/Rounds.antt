@@ -5,14 +5,15 @@
 use Rattle.std.proofs.Common.{◌≡◌, ℕ, ◌<◌, List, sym, subst, ◌∙◌}
 use Rattle.sys_abi.specs.declared.identity.Dir.{Dir}
 use Rattle.wire_net.specs.declared.agents.AgentEnd.{AgentEnd}
-use Rattle.wire_net.specs.declared.place.Place.{Place}
-use Rattle.wire_net.specs.declared.place.Place.TheVariants.{Send, Wire}
-use Rattle.wire_net.specs.Channels.{Channels}
-use Rattle.wire_net.specs.Directions.{after_move}
-use Rattle.wire_net.specs.Frames.{SameFrames}
+use Rattle.wire_channels.specs.declared.place.Place.{Place}
+use Rattle.wire_channels.specs.declared.place.Place.TheVariants.{Send, Wire}
+use Rattle.wire_channels.specs.Channels.{Channels}
+use Rattle.wire_channels.specs.Directions.{after_move}
+use Rattle.wire_channels.specs.Frames.{SameFrames}
 use Rattle.wire_net.specs.Networks.{Network}
 use Rattle.wire_net.specs.Noted.{Notes, named_agents}
-use Rattle.wire_net.proofs.KeptFrames.{frames_kept, moves_keep, for_framed, direction_framed}
+use Rattle.wire_channels.proofs.KeptFrames.{frames_kept, moves_keep, direction_framed}
+use Rattle.wire_net.proofs.FramedEnds.{for_framed}
 use Rattle.wire_net.proofs.NotedAgents.{noted_named}
 use Rattle.drain_core.specs.Drains as drains
 use Rattle.drain_core.specs.Laws as drain_laws

@@ -6,7 +6,7 @@ use Rattle.std.specs.Prelude.{◌≡◌, ◌<◌, true, List, IsSome}
 use Rattle.sys_abi.specs.declared.identity.Dir.{Dir}
 use Rattle.wire_net.specs.declared.agents.AgentEnd.{AgentEnd}
 use Rattle.wire_net.specs.declared.cut_room.DrainedNet.{DrainedNet}
-use Rattle.wire_net.specs.Channels.{Channels, direction_at}
+use Rattle.wire_channels.specs.Channels.{Channels, direction_at}
 use Rattle.wire_net.specs.CutRooms.{RoomView}
 use Rattle.wire_net.specs.DrainedNets.{IsDrained, HasLists, IsNamingLists}
 use Rattle.wire_net.specs.Ends.{IsFor}

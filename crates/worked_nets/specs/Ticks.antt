@@ -3,10 +3,10 @@
 --     ticked first second t      what it leaves that both directions of a channel move on, at most nine bytes from each queue
 use Rattle.std.specs.Prelude.{ℕ}
 use Rattle.sys_abi.specs.declared.identity.Dir.{Dir}
-use Rattle.wire_net.specs.declared.place.Place.{Place}
-use Rattle.wire_net.specs.declared.place.Place.TheVariants.{Send, Wire}
-use Rattle.wire_net.specs.Channels.{at_direction}
-use Rattle.wire_net.specs.Directions.{after_move}
+use Rattle.wire_channels.specs.declared.place.Place.{Place}
+use Rattle.wire_channels.specs.declared.place.Place.TheVariants.{Send, Wire}
+use Rattle.wire_channels.specs.Channels.{at_direction}
+use Rattle.wire_channels.specs.Directions.{after_move}
 use Rattle.wire_net.specs.Networks.{Network}
 
 abbrev pub moved : Dir → Place → ℕ → Network → Network

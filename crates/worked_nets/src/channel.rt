@@ -2,8 +2,8 @@
 ghost use Rattle.std.specs.Prelude.{◌≡◌, ◌<◌, ◌≤◌, length, IfOk};
 ghost use Rattle.std.specs.FinMap as map;
 ghost use Rattle.std.specs.Option.{option_map_or};
-ghost use Rattle.wire_net.specs.Channels.{direction_at, new_channel};
-ghost use Rattle.wire_net.specs.Directions.{standing};
+ghost use Rattle.wire_channels.specs.Channels.{direction_at, new_channel};
+ghost use Rattle.wire_channels.specs.Directions.{standing};
 ghost use Rattle.worked_nets.specs.Alone.{IsAlone};
 ghost use Rattle.worked_nets.specs.Ticks.{ticked};
 

@@ -1,7 +1,7 @@
 //! Refills of one channel between two processes, with what was drained of it.
 ghost use Rattle.std.specs.Prelude.{◌≡◌, ◌≤◌, false, length, IfOk};
 ghost use Rattle.std.specs.FinMap as map;
-ghost use Rattle.wire_net.specs.Channels.{new_channel};
+ghost use Rattle.wire_channels.specs.Channels.{new_channel};
 ghost use Rattle.refill_core.specs.Refills.{Fits};
 
 use crate::channel::{CLIENT, CONN, ENDS, FIRST, SECOND, SERVER, STRANGER, one_channel, tick};

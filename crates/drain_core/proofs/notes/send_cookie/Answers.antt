@@ -1,7 +1,7 @@
 use Rattle.std.proofs.Common.{◌≡◌, ◌≢◌, ◌∙◌, ap, List, ℕ, drop, take, length, arith}
 use Rattle.std.proofs.lemmas.Bool.Decides.{nat_tests}
-use Rattle.wire_net.specs.Directions.{after_send}
-use Rattle.wire_net.specs.Channels.{direction_at, at_direction}
+use Rattle.wire_channels.specs.Directions.{after_send}
+use Rattle.wire_channels.specs.Channels.{direction_at, at_direction}
 use Rattle.drain_core.specs.Tasks.{unsent}
 use Rattle.drain_core.proofs.OneStep.{with_channels, nothing_sent, some_sent, sent_some}
 use Rattle.drain_core.proofs.notes.send_cookie.Goals as goal

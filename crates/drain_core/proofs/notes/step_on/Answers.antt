@@ -1,5 +1,5 @@
 use Rattle.std.proofs.Common.{◌∙◌, ap, sym}
-use Rattle.wire_net.specs.Channels.{direction_at}
+use Rattle.wire_channels.specs.Channels.{direction_at}
 use Rattle.drain_core.specs.Tasks.{is_agent}
 use Rattle.drain_core.proofs.OneStep.{flows_on, dir_same, sender_same, stepped, step_notes, step_moves, step_net}
 use Rattle.drain_core.proofs.notes.step_on.Goals as goal

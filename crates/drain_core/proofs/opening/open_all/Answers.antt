@@ -1,6 +1,6 @@
 use Rattle.wire_net.specs.declared.cut_room.DirNotes.{DirNotes}
 use Rattle.std.proofs.Common.{◌≤◌}
-use Rattle.wire_net.specs.declared.limits.TheConstants.{QUEUE_LIMIT}
+use Rattle.wire_channels.specs.declared.limits.TheConstants.{QUEUE_LIMIT}
 use Rattle.drain_core.specs.Openings.{opened}
 use Rattle.wire_net.proofs.EachItem.{item_changed, all_changed}
 use Rattle.drain_core.proofs.opening.open_all.Goals as goal

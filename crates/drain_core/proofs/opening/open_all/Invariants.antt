@@ -1,6 +1,6 @@
 use Rattle.std.proofs.Common.{◌≡◌, ◌≤◌, ◌++◌, map as each, take, drop}
 use Rattle.std.specs.Prelude.{All}
-use Rattle.wire_net.specs.declared.limits.TheConstants.{QUEUE_LIMIT}
+use Rattle.wire_channels.specs.declared.limits.TheConstants.{QUEUE_LIMIT}
 use Rattle.drain_core.specs.Openings.{opened}
 use Rattle.drain_core.proofs.opening.open_all.Given as goal
 

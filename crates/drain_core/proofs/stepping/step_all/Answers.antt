@@ -1,5 +1,5 @@
 use Rattle.std.proofs.Common.{ap}
-use Rattle.wire_net.specs.Channels.{direction_at}
+use Rattle.wire_channels.specs.Channels.{direction_at}
 use Rattle.drain_core.specs.Tasks.{note_after}
 use Rattle.wire_net.proofs.EachItem.{turn_notes}
 use Rattle.drain_core.proofs.Walk.{finds, sends_there, noted_there, net_there, moved_there, turn_moved}

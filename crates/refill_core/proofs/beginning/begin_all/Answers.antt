@@ -1,5 +1,5 @@
 use Rattle.std.proofs.Common.{◌≤◌, length}
-use Rattle.wire_net.specs.declared.limits.TheConstants.{QUEUE_LIMIT}
+use Rattle.wire_channels.specs.declared.limits.TheConstants.{QUEUE_LIMIT}
 use Rattle.refill_core.proofs.Turns.{begun_note, few_now, one_begun, others_later, all_begun}
 use Rattle.refill_core.proofs.beginning.begin_all.Goals as goal
 

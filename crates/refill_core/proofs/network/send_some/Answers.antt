@@ -1,6 +1,6 @@
 use Rattle.std.proofs.Common.{◌≢◌, ◌∙◌, length, arith}
 use Rattle.std.proofs.lemmas.Bool.Decides.{nat_tests}
-use Rattle.wire_net.specs.Channels.{direction_at}
+use Rattle.wire_channels.specs.Channels.{direction_at}
 use Rattle.refill_core.proofs.OneCall.{nothing_sent, some_sent, sent_some}
 use Rattle.refill_core.proofs.network.send_some.Goals as goal
 

@@ -1,4 +1,4 @@
-use Rattle.wire_net.specs.Listeners.{AreUsed}
+use Rattle.wire_channels.specs.Listeners.{AreUsed}
 use Rattle.wire_net.proofs.listening.next_port.Given as goal
 
 abbrev pub invariant-loop-port : goal.invariant-loop-port

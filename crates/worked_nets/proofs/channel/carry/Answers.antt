@@ -1,6 +1,6 @@
 use Rattle.std.proofs.Common.{ap}
-use Rattle.wire_net.specs.declared.place.Place.TheVariants.{Send, Wire}
-use Rattle.wire_net.specs.Directions.{after_move}
+use Rattle.wire_channels.specs.declared.place.Place.TheVariants.{Send, Wire}
+use Rattle.wire_channels.specs.Directions.{after_move}
 use Rattle.wire_net.specs.Networks.{Network}
 use Rattle.worked_nets.specs.declared.channel.TheConstants.{CONN, FIRST}
 use Rattle.worked_nets.proofs.OneChannel.{alone_kept}

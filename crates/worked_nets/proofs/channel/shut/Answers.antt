@@ -1,5 +1,5 @@
 use Rattle.std.proofs.Common.{ap}
-use Rattle.wire_net.specs.Directions.{after_end}
+use Rattle.wire_channels.specs.Directions.{after_end}
 use Rattle.worked_nets.specs.declared.channel.TheConstants.{CONN}
 use Rattle.worked_nets.proofs.OneChannel.{alone_kept}
 use Rattle.worked_nets.proofs.channel.shut.Goals as goal

@@ -1,5 +1,5 @@
 use Rattle.std.proofs.Common.{ap, ◌∙◌}
-use Rattle.wire_net.specs.declared.place.Place.TheVariants.{Send, Wire}
+use Rattle.wire_channels.specs.declared.place.Place.TheVariants.{Send, Wire}
 use Rattle.worked_nets.specs.Ticks.{moved}
 use Rattle.worked_nets.specs.declared.channel.TheConstants.{FIRST, SECOND}
 use Rattle.worked_nets.proofs.channel.tick.Goals as goal

@@ -1,6 +1,6 @@
 use Rattle.std.proofs.Common.{ap, ◌∙◌}
 use Rattle.std.specs.FinMap as map
-use Rattle.wire_net.specs.Channels.{new_channel}
+use Rattle.wire_channels.specs.Channels.{new_channel}
 use Rattle.wire_net.specs.Networks.{Network}
 use Rattle.worked_nets.specs.declared.channel.TheConstants.{CONN}
 use Rattle.worked_nets.proofs.OneChannel.{alone_made}

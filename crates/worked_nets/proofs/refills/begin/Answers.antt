@@ -10,11 +10,11 @@ use Rattle.sys_abi.specs.declared.identity.ConnId.{ConnId}
 use Rattle.sys_abi.specs.declared.identity.Dir.{Dir}
 use Rattle.sys_abi.specs.Orders.{conn_cmp}
 use Rattle.sys_abi.proofs.OrderLaws.{conn_total, conn_exact}
-use Rattle.wire_net.specs.declared.channel.Channel.{Channel}
+use Rattle.wire_channels.specs.declared.channel.Channel.{Channel}
 use Rattle.wire_net.specs.declared.cut_room.DirBytes.{DirBytes}
-use Rattle.wire_net.specs.declared.limits.TheConstants.{QUEUE_LIMIT}
-use Rattle.wire_net.specs.Directions.{unused}
-use Rattle.wire_net.specs.Channels.{Channels, new_channel, direction_of, is_live, is_live_at}
+use Rattle.wire_channels.specs.declared.limits.TheConstants.{QUEUE_LIMIT}
+use Rattle.wire_channels.specs.Directions.{unused}
+use Rattle.wire_channels.specs.Channels.{Channels, new_channel, direction_of, is_live, is_live_at}
 use Rattle.wire_net.specs.DrainedNets.{IsListOf, IsDrained, HasLists, list_on}
 use Rattle.wire_net.specs.Ends.{end_of, agent_of, IsFor}
 use Rattle.wire_net.specs.Whereabouts.{stream_on}

@@ -2,7 +2,7 @@ use Rattle.std.proofs.Common.{◌<◌, ◌≤◌, map as each, ap, sym, subst, �
 use Rattle.std.specs.Prelude.{All}
 use Rattle.wire_net.specs.declared.cut_room.DirNotes.{DirNotes}
 use Rattle.wire_net.specs.declared.cut_room.RoomParts.{RoomParts}
-use Rattle.wire_net.specs.declared.limits.TheConstants.{QUEUE_LIMIT}
+use Rattle.wire_channels.specs.declared.limits.TheConstants.{QUEUE_LIMIT}
 use Rattle.wire_net.specs.CutRooms.{all_notes}
 use Rattle.wire_net.specs.Whereabouts.{whereabouts}
 use Rattle.drain_core.specs.Drains.{Notes, Fits, dirs_of, has_notes}

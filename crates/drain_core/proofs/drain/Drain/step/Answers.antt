@@ -1,9 +1,9 @@
 use Rattle.std.proofs.Common.{◌≡◌, ◌<◌, ◌↔◌, ap, ap₂, sym, subst, ◌∙◌}
 use Rattle.wire_net.specs.declared.agents.Stepped.{Stepped}
 use Rattle.wire_net.specs.declared.agents.Stepped.TheVariants.{Again}
-use Rattle.wire_net.specs.Channels.{Channels, direction_at}
+use Rattle.wire_channels.specs.Channels.{Channels, direction_at}
 use Rattle.wire_net.specs.CutRooms.{names_of}
-use Rattle.wire_net.specs.Frames.{SameFrames}
+use Rattle.wire_channels.specs.Frames.{SameFrames}
 use Rattle.wire_net.specs.Networks.{Network}
 use Rattle.wire_net.specs.Whereabouts.{whereabouts}
 use Rattle.drain_core.specs.Tasks.{note_after}

@@ -3,7 +3,7 @@ use Rattle.std.specs.Prelude.{None, is_some}
 use Rattle.std.specs.FinMap as map
 use Rattle.views.proofs.MapLaws.{remove_insert_new}
 use Rattle.sys_abi.proofs.OrderLaws.{conn_total, conn_exact}
-use Rattle.wire_net.specs.Channels.{Channels}
+use Rattle.wire_channels.specs.Channels.{Channels}
 use Rattle.wire_net.specs.Networks.{Network}
 use Rattle.wire_net.proofs.NetworkParts.{same_network}
 use Rattle.wire_net.proofs.PortsInUse.{none_there}

@@ -1,0 +1,3 @@
+pub mod ClosedEnds
+pub mod OneDirection
+pub mod KeptFrames

@@ -1,0 +1,12 @@
+use Rattle.std.proofs.Common.{ap, ◌∙◌}
+use Rattle.std.specs.FinMap as map
+use Rattle.views.proofs.Outcomes.{on_some}
+use Rattle.wire_channels.specs.Directions.{after_end}
+use Rattle.wire_channels.specs.Channels.{at_side}
+use Rattle.real_maps.proofs.Lends.{changed-found}
+use Rattle.wire_channels.proofs.moving.end_on.Goals as goal
+
+pub returns-in-Some : goal.returns-in-Some
+returns-in-Some c =
+    on_some c.in-Some.is (c.get_mut.follows.holds c.end.new.self) ∙ ap (map.insert c.args.channels.now c.args.d.conn) c.end.ensures
+    ∙ changed-found c.args.channels.now c.args.d.conn (at_side c.args.d.side after_end) c.in-Some.channel.now c.in-Some.ensures.value

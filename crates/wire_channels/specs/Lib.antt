@@ -1,0 +1,5 @@
+pub mod Answers
+pub mod Channels
+pub mod Directions
+pub mod Frames
+pub mod Listeners
