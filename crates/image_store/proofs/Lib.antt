@@ -13,4 +13,3 @@ pub mod Readings
 pub mod SetReadings
 pub mod Gets
 pub mod SetLaws
-pub mod RunSteps

@@ -1,33 +1,20 @@
 -- A set is whole in one way or damaged at one place, and not both.
---     last_info          the set that counts has the slot and the generation of `last`
 --     one_set, apart, one_damage      what a folder's set is, is so in one way
 --     broken_answer      a set that is damaged is read as that damage
 use Rattle.std.proofs.Common.{◌≡◌, ℕ, inl, inr, List, length, refl, sym, ap, subst, ◌∙◌}
-use Rattle.std.specs.Prelude.{Option, Some, None, map, option_map, Result, Ok, Err, IfOk, IfErr}
+use Rattle.std.specs.Prelude.{Option, Some, None, map, Result, Ok, Err, IfOk, IfErr}
 use Rattle.std.proofs.lemmas.Option.{same_Some}
-use Rattle.disk_folder.specs.Files.{FolderFiles}
 use Rattle.image_format.specs.declared.damage.Damage.{Damage as Place}
 use Rattle.image_format.specs.declared.manifest.Manifest.{Manifest}
 use Rattle.image_format.specs.declared.set_bytes.SetBytes.{SetBytes}
 use Rattle.image_format.specs.Manifests.{SpellsManifest}
 use Rattle.image_format.proofs.ManifestLaws.{laws}
-use Rattle.image_store.specs.Slots.{last}
-use Rattle.image_store.specs.FoundSets.{FoundSet, IsSet, HasSet, set_of, last_set}
+use Rattle.image_store.specs.FoundSets.{FoundSet, IsSet, HasSet}
 use Rattle.image_store.specs.SetDamages.{damage_from, IsFirstDamage, HasDamage}
 use Rattle.image_store.specs.StoreCauses.{IsOfReading, IsDamageOrOutside}
-use Rattle.image_store.specs.StoreLaws.{info_in}
-use Rattle.image_store.specs.declared.set_info.SetInfo.{SetInfo}
 use Rattle.image_store.specs.declared.store_fault.StoreFault.{StoreFault}
 use Rattle.image_store.specs.declared.store_fault.StoreFault.TheVariants.{DiskFault, NoSet, Damaged, Memory}
 use Rattle.image_store.proofs.SetReadings.{same_somes, whole_none}
-
-pub last_info : (files : FolderFiles) → last files ≡ option_map info_in (last_set files)
-unfolding last_set set_of
-last_info files = at_found (last files)
-  where
-    at_found : (found : Option SetInfo) → found ≡ option_map info_in (option_map (set_of files) found)
-    at_found None = refl
-    at_found (Some info) = refl
 
 module _ (found : FoundSet) where
   pub same_set : (g h : ℕ) (bytes others : List (List ℕ)) → IsSet found g bytes → IsSet found h others → (g ≡ h) × (bytes ≡ others)

@@ -7,5 +7,3 @@ pub mod SetDamages
 pub mod StoreCauses
 pub mod SlotWrites
 pub mod SlotImages
-pub mod StoreLaws
-pub mod StoreRuns

@@ -4,7 +4,7 @@
 //! A set lies in slot 0 or 1 of a folder, its manifest as file 0 and its images behind it. It counts
 //! where the first byte of its manifest, its gate, is 1. A [`Store`] closes the gate of the slot that
 //! does not count, writes the images and the manifest, and opens the gate, with a sync after each of
-//! the three.
+//! the three. What holds of a run of puts stands in `store_runs`.
 //!
 //! Proved: for every `Folder` that tells its content, a crash at any moment of `put_set` leaves the
 //! set that counted before or the new one, and after Ok the new one alone; `get_set` gives the very
@@ -15,17 +15,13 @@
 
 mod gate;
 mod head;
-pub mod laws;
 mod reading;
-mod runs;
 pub mod set_info;
 pub mod store;
 pub mod store_fault;
 mod writing;
 
 pub use image_format::{Damage, SetBytes};
-pub use laws::store_laws;
-pub use runs::put_all;
 pub use set_info::SetInfo;
 pub use store::Store;
 pub use store_fault::StoreFault;

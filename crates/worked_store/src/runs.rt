@@ -1,11 +1,12 @@
 ghost use Rattle.std.specs.Prelude.{◌≡◌, All, IfOk, length};
-ghost use Rattle.image_store.specs.StoreRuns.{IsSmall};
+ghost use Rattle.store_runs.specs.StoreRuns.{IsSmall};
 
-use image_store::{SetBytes, Store, StoreFault, put_all};
+use image_store::{SetBytes, Store, StoreFault};
 use set_disk::MemFolder;
 use std::alloc::{AllocError, Global};
 use std::process::Abort;
 use std::test::Fail;
+use store_runs::put_all;
 use views::list_of::ListOf;
 
 const FIRST: &str = "first";

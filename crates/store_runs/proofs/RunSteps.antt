@@ -12,7 +12,7 @@ use Rattle.image_store.specs.Slots.{last}
 use Rattle.image_store.specs.FoundSets.{FoundSet, HasSet, last_set, set_of}
 use Rattle.image_store.specs.StoreStates.{Known, FitsFiles, NoneAbove, generation_after, next_generation}
 use Rattle.image_store.specs.StoreCrashes.{OldOrNew}
-use Rattle.image_store.specs.StoreRuns.{IsOneOf}
+use Rattle.store_runs.specs.StoreRuns.{IsOneOf}
 use Rattle.image_store.specs.declared.set_info.SetInfo.{SetInfo}
 
 -- one more set is put over one of those

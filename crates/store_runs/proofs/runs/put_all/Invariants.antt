@@ -2,11 +2,11 @@ use Rattle.std.proofs.Common.{◌≡◌, ◌+◌}
 use Rattle.std.specs.Option.{ForSome}
 use Rattle.disk_folder.specs.Moments.{LeavesOnly}
 use Rattle.image_store.specs.FoundSets.{last_set}
-use Rattle.image_store.specs.StoreRuns.{IsOneOf}
+use Rattle.store_runs.specs.StoreRuns.{IsOneOf}
 use Rattle.image_store.specs.StoreStates.{FitsFolder, next_generation}
 use Rattle.image_store.specs.StoreCrashes.{SameTold}
 use Rattle.image_store.proofs.Causes.{Counts}
-use Rattle.image_store.proofs.runs.put_all.Given as goal
+use Rattle.store_runs.proofs.runs.put_all.Given as goal
 
 -- the sets so far, and the store that fits after them
 abbrev pub invariant-loop-set : goal.invariant-loop-set

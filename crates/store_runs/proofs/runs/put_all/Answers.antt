@@ -4,13 +4,13 @@ use Rattle.disk_folder.specs.Files.{FolderFiles}
 use Rattle.disk_folder.specs.Crash.{Same}
 use Rattle.disk_folder.proofs.Stretches.{joins, weakens}
 use Rattle.image_store.specs.FoundSets.{last_set}
-use Rattle.image_store.specs.StoreRuns.{IsOneOf}
+use Rattle.store_runs.specs.StoreRuns.{IsOneOf}
 use Rattle.image_store.specs.StoreStates.{next_generation}
 use Rattle.image_store.specs.StoreCrashes.{OldOrNew}
 use Rattle.image_store.proofs.Causes.{counts, counts_none, counts_then}
 use Rattle.image_store.proofs.Passing.{leaves_only, passes_none, told_still, told_then}
-use Rattle.image_store.proofs.RunSteps.{one_more}
-use Rattle.image_store.proofs.runs.put_all.Goals as goal
+use Rattle.store_runs.proofs.RunSteps.{one_more}
+use Rattle.store_runs.proofs.runs.put_all.Goals as goal
 
 pub loop-set-init : goal.loop-set-init
 loop-set-init g c = record {

@@ -2,15 +2,13 @@ ghost use Rattle.std.specs.Prelude.{◌≡◌, ◌+◌, suc, ◌-◌, ◌^◌, �
 ghost use Rattle.std.specs.Option.{ForSome};
 ghost use Rattle.disk_folder.specs.Moments.{LeavesOnly};
 ghost use Rattle.image_store.specs.FoundSets.{last_set};
-ghost use Rattle.image_store.specs.StoreRuns.{IsOneOf, IsSmall};
+ghost use Rattle.store_runs.specs.StoreRuns.{IsOneOf, IsSmall};
 ghost use Rattle.image_store.specs.StoreStates.{FitsFolder, next_generation};
 ghost use Rattle.image_store.specs.StoreCrashes.{OldOrNew, SameTold};
 ghost use Rattle.image_store.specs.StoreCauses.{HasCause, IsOutside};
 
-use crate::store::Store;
-use crate::store_fault::StoreFault;
 use disk_folder::Folder;
-use image_format::SetBytes;
+use image_store::{SetBytes, Store, StoreFault};
 use std::alloc::Global;
 
 /// Puts a set. Where it is refused the folder is opened again, and the set may be there or not.

@@ -2,7 +2,7 @@ ghost use Rattle.std.specs.Prelude.{◌≡◌, Option, option_map};
 ghost use Rattle.disk_folder.specs.Files.{FolderFiles};
 ghost use Rattle.image_store.specs.Slots.{last};
 ghost use Rattle.image_store.specs.FoundSets.{FoundSet, last_set};
-ghost use Rattle.image_store.specs.StoreLaws.{info_in, IsOneSet, IsApart, IsOnePlace};
+ghost use Rattle.store_runs.specs.StoreLaws.{info_in, IsOneSet, IsApart, IsOnePlace};
 
 /// What holds of the sets of every folder: the definitions by which contracts speak of them fit
 /// together. It does nothing.

@@ -4,8 +4,8 @@ use Rattle.image_store.specs.FoundSets.{last_set}
 use Rattle.image_store.specs.StoreStates.{next_generation}
 use Rattle.image_store.specs.StoreCrashes.{OldOrNew}
 use Rattle.image_store.proofs.Passing.{told_before}
-use Rattle.image_store.proofs.RunSteps.{none_above, next_opened, ok_both, some_next}
-use Rattle.image_store.proofs.runs.put_or_open.Goals as goal
+use Rattle.store_runs.proofs.RunSteps.{none_above, next_opened, ok_both, some_next}
+use Rattle.store_runs.proofs.runs.put_or_open.Goals as goal
 
 pub open_store-requires : goal.open_store-requires
 open_store-requires g c = λ after is_after some.

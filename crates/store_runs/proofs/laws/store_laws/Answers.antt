@@ -1,5 +1,6 @@
-use Rattle.image_store.proofs.SetLaws.{apart, last_info, one_damage, one_set}
-use Rattle.image_store.proofs.laws.store_laws.Goals as goal
+use Rattle.image_store.proofs.SetLaws.{apart, one_damage, one_set}
+use Rattle.store_runs.proofs.LastInfo.{last_info}
+use Rattle.store_runs.proofs.laws.store_laws.Goals as goal
 
 pub returns-clause-info : goal.returns-clause-info
 returns-clause-info c = last_info

@@ -1,0 +1,2 @@
+pub mod StoreRuns
+pub mod StoreLaws
