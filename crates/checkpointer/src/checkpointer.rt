@@ -54,7 +54,7 @@ impl Checkpointer {
     }
 
     /// Serves the request that the last record of work made, if it made one, as far as the trace has room. Bytes may
-    /// arrive meanwhile; whose turn it is in the rounds stays.
+    /// arrive meanwhile; each process's own part stays, and whose turn it is in the rounds.
     pub fn serve<L: Sink, F: Folder>(
         &mut self,
         alloc: Global,
@@ -89,6 +89,7 @@ impl Checkpointer {
         ensures ready { IsReady computation.new }
         ensures size { length trace.new.records + trace.new.room ≡ length trace.old.records + trace.old.room }
         ensures room { trace.new.room ≤ trace.old.room }
+        ensures guests { computation.new.guests ≡ computation.old.guests }
         ensures schedule { self.new.schedule ≡ self.old.schedule }
         ensures untouched { self.old.schedule.every ≡ None → disk.new ≡ disk.old }
         ensures unchanged { self.old.schedule.every ≡ None → computation.new ≡ computation.old }
@@ -151,6 +152,7 @@ impl Checkpointer {
         ensures ready { IsReady computation.new }
         ensures size { length trace.new.records + trace.new.room ≡ length trace.old.records + trace.old.room }
         ensures room { trace.new.room ≤ trace.old.room }
+        ensures guests { computation.new.guests ≡ computation.old.guests }
         ensures schedule { self.new.schedule ≡ self.old.schedule }
         ensures cause { IsFaultOf result Stop.Sink (L.seen log.old).faults (L.seen log.new).faults }
         ensures later { (L.seen log.old).faults ≤ (L.seen log.new).faults }

@@ -1,6 +1,6 @@
 -- The records of a turn are due at its place.
 --     call_due, user_due, first_due, trap_due
---     going_part, goes_at_place       the part of a thread that goes on, and where it stands
+--     goes_at_place                   where a thread stands that goes on
 --     serves_if                       a call that goes on and isn't the process's own is served
 --     same_plain, ready_same          a computation with the same kernel part and guests
 use Rattle.std.proofs.Common.{◌≡◌, ℕ, Bool, true, false, not, List, Option, Some, None, refl, sym, ap, subst, ◌∙◌, arith, tests}
@@ -10,7 +10,7 @@ use Rattle.views.proofs.MapLaws.{true_false}
 use Rattle.sys_abi.specs.declared.identity.VPid.{VPid}
 use Rattle.sys_abi.specs.declared.identity.Tid.{Tid}
 use Rattle.sys_abi.specs.declared.identity.Signal.{Signal}
-use Rattle.sys_abi.specs.declared.record.Record.TheVariants.{User, Call, Deliver}
+use Rattle.sys_abi.specs.declared.record.Record.TheVariants.{User, Call, Deliver as Delivery}
 use Rattle.sys_abi.specs.declared.request.Request.{Request}
 use Rattle.sys_abi.specs.Requests.{is_local}
 use Rattle.plain_process.specs.declared.user_part.UserPart.{UserPart}
@@ -22,6 +22,7 @@ use Rattle.plain_machine.specs.Records.{step, stands, waits_at}
 use Rattle.plain_machine.specs.Serve.{serve}
 use Rattle.plain_machine.specs.Valid.{IsValid}
 use Rattle.computation.specs.declared.computation.Computation.{Computation}
+use Rattle.computation.specs.declared.computation.Next.TheVariants.{Deliver, GoOn}
 use Rattle.computation.specs.Computations.{plain_of, IsReady, IsTurnAt}
 use Rattle.computation.specs.Takes.{IsDueWork}
 use Rattle.computation.specs.Turns.{Place, goes_on, goes_on_at, is_turn_of, is_due_signal, stands_in, traps_in}
@@ -30,6 +31,7 @@ use Rattle.computation.proofs.Starts.{plain_is}
 use Rattle.computation.proofs.Threads.{call_goes, not_not}
 use Rattle.views.specs.Maps.{map_values}
 use Rattle.guest_proc.specs.Guests.{GuestPart, ran_at}
+use Rattle.guest_proc.specs.declared.ran.Ran.{Ran}
 use Rattle.guest_proc.specs.declared.ran.Ran.TheVariants.{Waits as RanWaits, Memory as RanMemory}
 
 itself : (n : ℕ) → (n == n) ≡ true
@@ -40,17 +42,14 @@ turn_is here p t process thread =
     ap (λ (x : VPid). (x.0 == p.0) && (here.t == t.0)) process ∙ ap (λ n. (p.0 == p.0) && (n == t.0)) thread ∙ ap (λ b. b && (t.0 == t.0)) (itself p.0) ∙ itself t.0
 
 module _ (g : Plain) (p : VPid) (t : Tid) where
-  unsigned : (here : Place) → IsTurnAt g p t None here → here.signal ≡ None
-  unsigned here turn = turn.first
-
-  pub call_due : (here : Place) → IsTurnAt g p t None here → IsDueWork g here (Call p t)
-  call_due here turn = record {
+  pub call_due : (ran : Ran) (here : Place) → IsTurnAt g p t (GoOn ran) here → IsDueWork g here (Call p t)
+  call_due ran here turn = record {
     work = refl;
     due = ap (λ b. b && not (is_some here.signal)) (turn_is here p t turn.process turn.thread) ∙ ap (λ (o : Option ℕ). not (is_some o)) turn.first;
   }
 
-  pub user_due : (n : ℕ) (user : UserPart) → map.get g.users p ≡ Some user → stands (user_step user t.0) ≡ false → (here : Place) → IsTurnAt g p t None here → IsDueWork g here (User p t n)
-  user_due n user there moves here turn = record {
+  pub user_due : (n : ℕ) (user : UserPart) → map.get g.users p ≡ Some user → stands (user_step user t.0) ≡ false → (ran : Ran) (here : Place) → IsTurnAt g p t (GoOn ran) here → IsDueWork g here (User p t n)
+  user_due n user there moves ran here turn = record {
     work = refl;
     due = ap (λ b. b && not here.has_run && not (is_some here.signal)) (turn_is here p t turn.process turn.thread)
         ∙ ap (λ b. not b && not (is_some here.signal)) (by_run here.has_run refl) ∙ ap (λ (o : Option ℕ). not (is_some o)) turn.first;
@@ -60,14 +59,14 @@ module _ (g : Plain) (p : VPid) (t : Tid) where
       by_run false is = refl
       by_run true is = true_false (sym (turn.stopped is) ∙ ap (λ found. stands_in found t.0) there ∙ moves)
 
-  pub first_due : (s : Signal) (here : Place) → IsTurnAt g p t (Some s) here → IsDueWork g here (Deliver p t s)
+  pub first_due : (s : Signal) (here : Place) → IsTurnAt g p t (Deliver s) here → IsDueWork g here (Delivery p t s)
   first_due s here turn = record {
     work = refl;
     due = ap (λ b. b && is_due_signal g here s.0 here.signal) (turn_is here p t turn.process turn.thread) ∙ ap (is_due_signal g here s.0) turn.first ∙ itself s.0;
   }
 
-  pub trap_due : (s : Signal) (user : UserPart) → map.get g.users p ≡ Some user → user_step user t.0 ≡ Trapped s.0 → (here : Place) → IsTurnAt g p t None here → IsDueWork g here (Deliver p t s)
-  trap_due s user there traps here turn = record {
+  pub trap_due : (s : Signal) (user : UserPart) → map.get g.users p ≡ Some user → user_step user t.0 ≡ Trapped s.0 → (ran : Ran) (here : Place) → IsTurnAt g p t (GoOn ran) here → IsDueWork g here (Delivery p t s)
+  trap_due s user there traps ran here turn = record {
     work = refl;
     due = ap (λ b. b && is_due_signal g here s.0 here.signal) (turn_is here p t turn.process turn.thread) ∙ ap (is_due_signal g here s.0) turn.first
         ∙ ap (λ (x : VPid). traps_in (map.get g.users x) here.t s.0) turn.process ∙ ap (λ n. traps_in (map.get g.users p) n s.0) turn.thread
@@ -75,14 +74,6 @@ module _ (g : Plain) (p : VPid) (t : Tid) where
   }
 
 -- a thread that goes on
-pub going_part : (g : Plain) (p : VPid) (t : ℕ) → goes_on g p t (map.get g.users p) ≡ true → (user : UserPart) × (map.get g.users p ≡ Some user)
-unfolding goes_on
-going_part g p t goes = by_found (map.get g.users p) refl goes
-  where
-    by_found : (found : Option UserPart) → map.get g.users p ≡ found → goes_on g p t found ≡ true → (user : UserPart) × (map.get g.users p ≡ Some user)
-    by_found None is goes = true_false (sym goes)
-    by_found (Some user) is goes = (user, is)
-
 pub goes_at_place : (g : Plain) (p : VPid) (t : ℕ) (user : UserPart) → map.get g.users p ≡ Some user → goes_on g p t (map.get g.users p) ≡ true → goes_on_at g p t (user_step user t) ≡ true
 unfolding goes_on
 goes_at_place g p t user there goes = sym (ap (goes_on g p t) there) ∙ goes

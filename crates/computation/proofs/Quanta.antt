@@ -1,8 +1,10 @@
 -- A quantum of instructions: it has at least one, and ends after 4,096 of them or where the thread stands at a call or a trap.
 use Rattle.std.proofs.Common.{◌≡◌, ℕ, zero, suc, ◌≤◌, Bool, true, false, cond, Option, Some, None, inl, inr, refl, sym, ap, subst, ◌∙◌, arith}
-use Rattle.std.specs.Prelude.{◌⊎◌, option_and_then}
+use Rattle.std.specs.Prelude.{◌⊎◌, is_some, option_and_then}
+use Rattle.std.specs.Cmp.{nat_cmp_total}
 use Rattle.std.specs.FinMap as map
-use Rattle.guest_proc.specs.Guests.{Tells, ran_at}
+use Rattle.views.proofs.MapLaws.{get_insert_same}
+use Rattle.guest_proc.specs.Guests.{HasThread, Tells, ran_at}
 use Rattle.guest_proc.specs.declared.ran.Ran.{Ran}
 use Rattle.guest_proc.specs.declared.ran.Ran.TheVariants.{Whole as RanWhole, Asks as RanAsks, Trapped as RanTrapped, Waits as RanWaits, Memory as RanMemory}
 use Rattle.plain_process.specs.declared.user_part.UserPart.{UserPart}
@@ -57,6 +59,35 @@ after_run : (n : ℕ) (user next : UserPart) (t : ℕ) → 1 ≤ n → user_step
 unfolding user_steps
 after_run zero user next t some goes = absurd (omega arith)
 after_run (suc n) user next t some goes = last_step (user_steps n user t) next t goes
+
+-- a thread that ran is there
+kept_by : (user next : UserPart) (t : ℕ) (thread : ThreadPart) (e : Effect) → stepped (step_by user t thread e) ≡ Some next → HasThread next t
+kept_by user next t thread (Next regs memory) is =
+    let same : with_thread user t (with_regs thread regs) memory ≡ next = cc in
+    subst (λ (u : UserPart). is_some (map.get u.threads t) ≡ true) same (ap is_some (get_insert_same nat_cmp_total map.nat_cmp-IsAntisymmetric user.threads t (with_regs thread regs)))
+kept_by user next t thread Calls is = absurd (cc)
+kept_by user next t thread (Traps s) is = absurd (cc)
+
+kept_unless : (user next : UserPart) (t : ℕ) (thread : ThreadPart) (b : Bool) → stepped (cond b Waits (step_by user t thread (effect_at thread.regs user.memory))) ≡ Some next → HasThread next t
+kept_unless user next t thread true goes = absurd (cc)
+kept_unless user next t thread false goes = kept_by user next t thread (effect_at thread.regs user.memory) goes
+
+kept_of : (user next : UserPart) (t : ℕ) (found : Option ThreadPart) → stepped (step_of user t found) ≡ Some next → HasThread next t
+kept_of user next t None goes = absurd (cc)
+kept_of user next t (Some thread) goes = kept_unless user next t thread (waits user t) goes
+
+kept_after : (user next : UserPart) (t : ℕ) → stepped (user_step user t) ≡ Some next → HasThread next t
+unfolding user_step
+kept_after user next t goes = kept_of user next t (map.get user.threads t) goes
+
+kept_last : (before : Option UserPart) (next : UserPart) (t : ℕ) → option_and_then (λ user. stepped (user_step user t)) before ≡ Some next → HasThread next t
+kept_last None next t goes = absurd (cc)
+kept_last (Some user) next t goes = kept_after user next t goes
+
+pub keeps_thread : (n : ℕ) (user next : UserPart) (t : ℕ) → HasThread user t → user_steps n user t ≡ Some next → HasThread next t
+unfolding user_steps
+keeps_thread zero user next t there goes = let same : user ≡ next = cc in subst (λ (u : UserPart). is_some (map.get u.threads t) ≡ true) same there
+keeps_thread (suc n) user next t there goes = kept_last (user_steps n user t) next t goes
 
 by_effect : (user : UserPart) (t : ℕ) (thread : ThreadPart) (e : Effect) → step_by user t thread e ≡ Waits → ⊥
 by_effect user t thread (Next regs memory) is = cc

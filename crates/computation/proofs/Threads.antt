@@ -1,9 +1,8 @@
--- What a process's own part tells of its threads, in the words of the rounds: which signal is due, whether a thread can go
--- on, and whether it stands at a call or a trap.
+-- What a process's own part tells of its threads, in the words of the rounds: which signal is due, and whether a thread can
+-- go on.
 --     part_of               the part of a guest
 --     due_is, due_can       the signal that is delivered first
 --     idle_waits, idle_asks, idle_else, goes_is      whether a thread can go on
---     stops_nowhere, asks_stands, traps_stands, goes_past      whether it stands
 use Rattle.std.proofs.Common.{◌≡◌, ℕ, Bool, true, false, not, cond, List, [], ◌∷◌, Option, Some, None, refl, sym, ap, ◌∙◌, arith, tests}
 use Rattle.std.specs.Prelude.{◌&&◌, length, nat_lt, is_some, find, IfSome}
 use Rattle.std.specs.Option.{option_map}
@@ -31,7 +30,7 @@ use Rattle.plain_machine.specs.declared.plain.Plain.{Plain}
 use Rattle.plain_machine.specs.Attempts.{Served}
 use Rattle.plain_machine.specs.Kernel.{pending}
 use Rattle.plain_machine.specs.Serve.{serve}
-use Rattle.plain_machine.specs.Records.{Outcome, quiet, with_user, step, outcome, stands, waits_at, is_unready, deliverable, outcome_of_call, outcome_of_ask, outcome_of_lent, outcome_of_serve, outcome_of_signal, outcome_of_pending}
+use Rattle.plain_machine.specs.Records.{Outcome, quiet, with_user, step, outcome, waits_at, is_unready, deliverable, outcome_of_call, outcome_of_ask, outcome_of_lent, outcome_of_serve, outcome_of_signal, outcome_of_pending}
 use Rattle.guest_proc.specs.Guests.{GuestPart, ran_at}
 use Rattle.guest_proc.specs.declared.ran.Ran.TheVariants.{Asks as RanAsks, Trapped as RanTrapped, Waits as RanWaits}
 use Rattle.plain_tables.specs.declared.channel.Direction.{Direction}
@@ -228,13 +227,6 @@ traps_at (Trapped trap) s is = let same : record { 0 = trap } ≡ s = cc in ap (
 traps_at Waits s is = absurd (cc)
 traps_at NoThread s is = absurd (cc)
 
-pub goes_past : (place : UserStep) → ((q : Request) → ran_at place ≡ RanAsks q → ⊥) → ((s : Signal) → ran_at place ≡ RanTrapped s → ⊥) → false ≡ stands place
-goes_past (Stepped after) asks traps = refl
-goes_past (Asks q) asks traps = absurd (asks q refl)
-goes_past (Trapped s) asks traps = absurd (traps (record { 0 = s }) refl)
-goes_past Waits asks traps = refl
-goes_past NoThread asks traps = refl
-
 -- the directions of which bytes are missing
 pub one_more : (entry : Dir × Direction) (rest : List (Dir × Direction)) → nat_lt entry.1.arrived (length entry.1.left) ≡ true
     → filter_map if_missing (entry ∷ rest) ≡ entry.0 ∷ filter_map if_missing rest
@@ -247,11 +239,3 @@ none_more entry rest here = grind (arith, tests)
 pub coming_is : (g : Plain) (entries : List (Dir × Direction)) → entries ≡ map.entries g.kernel.directions → coming g ≡ filter_map if_missing entries
 unfolding coming
 coming_is g entries is = ap (filter_map if_missing) (sym is)
-
--- a thread that goes on is there
-pub going_thread : (g : Plain) (p : VPid) (t : ℕ) (user : UserPart) → map.get g.users p ≡ Some user → goes_on g p t (map.get g.users p) ≡ true → is_some (map.get user.threads t) ≡ true
-going_thread g p t user there goes = by (is_some (map.get user.threads t)) refl
-  where
-    by : (b : Bool) → is_some (map.get user.threads t) ≡ b → b ≡ true
-    by true is = refl
-    by false is = true_false (sym goes ∙ sym (nobody_goes g p t user there is))

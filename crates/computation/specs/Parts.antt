@@ -1,5 +1,5 @@
 -- What a record leaves of the parts of a computation.
---     AsksAt, RunsAt             where a thread stands
+--     AsksAt, StandsAt           where a thread stands
 --     kernel_found, delivery_at  what a delivery finds, and what it comes to
 --     kernel_after, guests_after what it leaves: a signal that kills takes the process away
 --     grown                      the guests with the child that an answer makes
@@ -29,7 +29,7 @@ use Rattle.plain_machine.specs.Ends.{after_end}
 use Rattle.plain_machine.specs.Kernel.{after_take}
 use Rattle.plain_machine.specs.Records.{Users, is_unready}
 use Rattle.guest_proc.specs.Guests.{GuestPart, HasThread, ran_at}
-use Rattle.guest_proc.specs.declared.ran.Ran.TheVariants.{Whole}
+use Rattle.guest_proc.specs.declared.ran.Ran.{Ran}
 
 abbrev pub Guests : Type 0
 Guests = map.FinMap vpid_cmp GuestPart
@@ -40,12 +40,12 @@ pub record AsksAt (users : Users) (p : VPid) (t : ℕ) (q : Request) : Type 0 wh
   pub there : map.get users p ≡ Some user
   pub asks : user_step user t ≡ Asks q
 
--- the next instruction of a thread goes on
-pub record RunsAt (users : Users) (p : VPid) (t : ℕ) : Type 0 where
+-- a look at a thread of this process tells this
+pub record StandsAt (users : Users) (p : VPid) (t : ℕ) (ran : Ran) : Type 0 where
   pub user : UserPart
   pub there : map.get users p ≡ Some user
   pub thread : HasThread user t
-  pub goes : ran_at (user_step user t) ≡ Whole
+  pub stands : ran ≡ ran_at (user_step user t)
 
 -- the signal of a trap stays pending where it is
 abbrev pub kernel_found : PlainKernel → VPid → ℕ → ℕ → UserPart → PlainKernel

@@ -12,10 +12,10 @@ ghost use Rattle.plain_machine.specs.Tests.{all_arrived, ended};
 ghost use Rattle.plain_tables.specs.Valid.Channels.{IsDirection};
 ghost use Rattle.plain_machine.specs.Valid.{AreNamed};
 ghost use Rattle.computation.specs.Sinks.{sunk};
-ghost use Rattle.computation.specs.Turns.{coming, due_signal, goes_on, missing_in, stands_in, threads_in};
+ghost use Rattle.computation.specs.Turns.{coming, due_signal, goes_on, missing_in, threads_in};
 ghost use Rattle.computation.specs.Takes.{CanDeliver, Takes};
 
-use crate::looks::{has_stopped, is_idle, signal_due};
+use crate::looks::{is_idle, signal_due};
 use edge_io::Sink;
 use elf32::Program;
 use guest_proc::{Guest, Ran};
@@ -47,6 +47,15 @@ impl From<AllocError> for Stop {
     }
 }
 
+/// What comes next in a thread's turn.
+#[derive(Clone, Copy, Debug, PartialEq, Eq)]
+pub enum Next {
+    /// The signal is delivered with which the turn begins.
+    Deliver(Signal),
+    /// The thread goes on where it stands.
+    GoOn(Ran),
+}
+
 /// What a record of a thread's turn was.
 #[derive(Clone, Copy, Debug, PartialEq, Eq)]
 pub enum Did {
@@ -54,8 +63,8 @@ pub enum Did {
     Delivered,
     /// A call was served.
     Served,
-    /// Instructions ran.
-    Ran,
+    /// Instructions ran, and the thread stands there.
+    Ran(Ran),
 }
 
 /// A distributed computation: the part that all processes share, each live process's own part, and the buffer of
@@ -68,7 +77,8 @@ pub struct Computation {
 }
 
 impl Computation {
-    ghost use Rattle.computation.specs.Computations.{plain_of, user_at, CanWork, Failed, IsReady, IsStart, Worked};
+    ghost use Rattle.computation.specs.Computations.{plain_of, user_at, CanGoOn, CanWork, Failed, IsReady, IsStart, Worked};
+    ghost use Rattle.computation.specs.Parts.{StandsAt};
 
     /// The start of a job without programs and files.
     pub fn empty(alloc: Global) -> Result<Computation, AllocError>
@@ -159,74 +169,80 @@ impl Computation {
         signal_due(&self.kernel, p, guest, t)
     }
 
-    /// Whether the thread can go on: its next instruction does, or it stands at a trap or at a call that is ready.
-    pub fn goes_on(&self, p: VPid, t: Tid) -> bool
+    /// Where the thread stands, if it can go on there: its next instruction does, or it stands at a trap or at a call
+    /// that is ready.
+    pub fn ready_at(&self, p: VPid, t: Tid) -> Option<Ran>
         requires { IsReady self.now }
+        ensures goes { is_some result ≡ goes_on (plain_of self.now) p t.0 (user_at self.now p) }
+        ensures can { IfSome result (λ ran. CanGoOn (plain_of self.now) p t ran) }
+    {
+        let Some(guest) = self.guests.get(p) else {
+            return None;
+        };
+        if !guest.has_thread(t) {
+            return None;
+        }
+        let ran = guest.look(t);
+        if is_idle(&self.kernel, p, guest, t, &ran) {
+            return None;
+        }
+        Some(ran)
+    }
+
+    /// Whether the thread, which stands there, can go on. Looks at no instruction.
+    pub fn goes_on_at(&self, p: VPid, t: Tid, ran: &Ran) -> bool
+        requires { StandsAt (plain_of self.now).users p t.0 ran.now }
         ensures { result ≡ goes_on (plain_of self.now) p t.0 (user_at self.now p) }
     {
         let Some(guest) = self.guests.get(p) else {
-            return false;
+            unreachable!();
         };
-        if !guest.has_thread(t) {
-            return false;
-        }
-        !is_idle(&self.kernel, p, guest, t)
+        !is_idle(&self.kernel, p, guest, t, ran)
     }
 
-    /// Whether the thread stands at a call or a trap.
-    pub fn stands(&self, p: VPid, t: Tid) -> bool
-        requires { IsReady self.now }
-        ensures { result ≡ stands_in (user_at self.now p) t.0 }
-    {
-        let Some(guest) = self.guests.get(p) else {
-            return false;
-        };
-        has_stopped(guest, t)
-    }
-
-    /// Makes one record of the thread's turn: the delivery of the signal with which the turn begins, if it begins with
-    /// one, and else the call, the trap or the quantum of instructions that is due.
+    /// Makes one record of the thread's turn: the delivery of the signal with which the turn begins, or the call, the
+    /// trap or the quantum of instructions that is due where the thread stands.
     pub fn work<O: Sink>(
         &mut self,
         alloc: Global,
         p: VPid,
         t: Tid,
-        signal: Option<Signal>,
+        next: Next,
         out: &mut O,
         trace: &mut Trace,
     ) -> Result<Did, Stop>
         requires ready { IsReady self.old }
-        requires turn { CanWork (plain_of self.old) p t signal }
+        requires turn { CanWork (plain_of self.old) p t next }
         requires room { 0 < trace.old.room }
-        ensures ok { IfOk result (λ did. Worked (plain_of self.old) (plain_of self.new) p t signal did
+        ensures ok { IfOk result (λ did. Worked (plain_of self.old) (plain_of self.new) p t next did
             trace.old trace.new (sunk (O.seen out.old).taken (O.seen out.new).taken)) }
         ensures ready { OnOk result (IsReady self.new) }
-        ensures failed { IsErrOf result Stop.Sink → Failed (plain_of self.old) p t signal
+        ensures failed { IsErrOf result Stop.Sink → Failed (plain_of self.old) p t next
             trace.old trace.new (sunk (O.seen out.old).taken (O.seen out.new).taken) }
         ensures memory { IsErrOf result Stop.Memory →
             (trace.new ≡ trace.old) × ((O.seen out.new).taken ≡ (O.seen out.old).taken) }
         ensures cause { IsFaultOf result Stop.Sink (O.seen out.old).faults (O.seen out.new).faults }
         ensures later { (O.seen out.old).faults ≤ (O.seen out.new).faults }
     {
-        if let Some(signal) = signal {
-            self.deliver(alloc, p, t, signal, trace);
-            return Ok(Did::Delivered);
-        }
-        match self.look(p, t) {
-            Ran::Asks(request) => {
-                self.call(alloc, p, t, &request, out, trace)?;
-                Ok(Did::Served)
-            }
-            Ran::Trapped(signal) => {
+        match next {
+            Next::Deliver(signal) => {
                 self.deliver(alloc, p, t, signal, trace);
                 Ok(Did::Delivered)
             }
-            Ran::Whole => {
-                self.run_quantum(p, t, trace);
-                Ok(Did::Ran)
+            Next::GoOn(Ran::Asks(request)) => {
+                self.call(alloc, p, t, &request, out, trace)?;
+                Ok(Did::Served)
             }
-            Ran::Waits => unreachable!(),
-            Ran::Memory => unreachable!(),
+            Next::GoOn(Ran::Trapped(signal)) => {
+                self.deliver(alloc, p, t, signal, trace);
+                Ok(Did::Delivered)
+            }
+            Next::GoOn(Ran::Whole) => {
+                let stands = self.run_quantum(p, t, trace);
+                Ok(Did::Ran(stands))
+            }
+            Next::GoOn(Ran::Waits) => unreachable!(),
+            Next::GoOn(Ran::Memory) => unreachable!(),
         }
     }
 
@@ -243,7 +259,7 @@ impl Computation {
         None
     }
 
-    /// Has all bytes of a direction arrive that are missing. Takes no memory.
+    /// Has all bytes of a direction arrive that are missing. Takes no memory, and changes no process's own part.
     pub fn arrive(&mut self, dir: Dir, trace: &mut Trace)
         requires ready { IsReady self.old }
         requires missing { (rest : _) × (coming (plain_of self.old) ≡ dir ∷ rest) }
@@ -252,6 +268,7 @@ impl Computation {
             (a_record.Arrive dir (missing_in (map.get self.old.kernel.directions dir)))
             trace.old trace.new (sunk taken taken) }
         ensures rest { (rest : _) → coming (plain_of self.old) ≡ dir ∷ rest → coming (plain_of self.new) ≡ rest }
+        ensures guests { self.new.guests ≡ self.old.guests }
         ensures ready { IsReady self.new }
     {
         let n = arrive_all(&mut self.kernel.directions, dir);

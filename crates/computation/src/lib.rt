@@ -5,7 +5,8 @@
 //! `work` makes one record of a thread's turn, a signal's delivery, a quantum of instructions or a call, and `arrive` has
 //! all bytes of a direction arrive that are missing: each appends a record that is a step from the state before to the one
 //! after, and the console takes what that step writes. The look-ups say who lives, which threads there are, and what each
-//! can do. No fault of the console is passed over, and want of memory leaves the trace and the console as they were.
+//! can do. Where a thread stands is looked at once: a look's answer, and what a quantum tells of its end, is handed back to
+//! `work`. No fault of the console is passed over, and want of memory leaves the trace and the console as they were.
 //! Not claimed: that an allocation succeeds.
 #![tactic(auto)]
 
@@ -15,4 +16,4 @@ mod parts;
 mod serving;
 mod work;
 
-pub use computation::{Computation, Did, Stop};
+pub use computation::{Computation, Did, Next, Stop};

@@ -1,9 +1,9 @@
-ghost use Rattle.std.specs.Prelude.{◌≡◌, true, option_map};
+ghost use Rattle.std.specs.Prelude.{◌≡◌, option_map};
 ghost use Rattle.std.specs.FinMap as map;
-ghost use Rattle.guest_proc.specs.Guests.{HasThread};
+ghost use Rattle.guest_proc.specs.Guests.{HasThread, Tells, ran_at};
 ghost use Rattle.plain_process.specs.Buffers.{lent};
 ghost use Rattle.plain_process.specs.Steps.{user_step};
-ghost use Rattle.plain_machine.specs.Records.{Users, is_unready, stands, waits_at};
+ghost use Rattle.plain_machine.specs.Records.{Users, is_unready, waits_at};
 ghost use Rattle.computation.specs.Turns.{signal_for};
 
 use guest_proc::{Guest, Ran};
@@ -41,29 +41,27 @@ pub(crate) fn call_waits(
     !is_local(request) && !is_ready(kernel, p, t, request, &front)
 }
 
-/// Whether a thread waits on a word, or stands at a call that waits. Copies nothing.
-pub(crate) fn is_idle(kernel: &PlainKernel, p: VPid, guest: &Guest, t: Tid) -> bool
-    requires { HasThread guest.now.user t.0 }
+/// Whether a thread that stands there waits on a word, or on its call. Copies nothing.
+pub(crate) fn is_idle(kernel: &PlainKernel, p: VPid, guest: &Guest, t: Tid, ran: &Ran) -> bool
+    requires { ran.now ≡ ran_at (user_step guest.now.user t.0) }
     ensures { (users : Users) → result ≡ is_unready (record { kernel = kernel.now; users = users }) p t.0
         guest.now.user (user_step guest.now.user t.0) }
 {
-    match guest.look(t) {
+    match ran {
         Ran::Waits => true,
-        Ran::Asks(request) => call_waits(kernel, p, guest, t, &request),
+        Ran::Asks(request) => call_waits(kernel, p, guest, t, request),
         _ => false,
     }
 }
 
-/// Whether a thread stands at a call or a trap.
-pub(crate) fn has_stopped(guest: &Guest, t: Tid) -> bool
-    ensures { result ≡ stands (user_step guest.now.user t.0) }
+/// Where a thread stands that ran. One that ran its whole quantum is looked at.
+pub(crate) fn place_after(guest: &Guest, t: Tid, ran: Ran) -> Ran
+    requires thread { HasThread guest.now.user t.0 }
+    requires told { Tells ran (user_step guest.now.user t.0) }
+    ensures { result ≡ ran_at (user_step guest.now.user t.0) }
 {
-    if !guest.has_thread(t) {
-        return false;
-    }
-    match guest.look(t) {
-        Ran::Asks(_) => true,
-        Ran::Trapped(_) => true,
-        _ => false,
+    match ran {
+        Ran::Whole => guest.look(t),
+        _ => ran,
     }
 }

@@ -4,9 +4,9 @@ ghost use Rattle.views.specs.Faults.{IsFaultOf};
 ghost use Rattle.sys_abi.specs.declared.reply.Reply.{Reply};
 ghost use Rattle.plain_process.specs.Deliveries.{traps_with};
 ghost use Rattle.plain_process.specs.Put.{added_thread};
-ghost use Rattle.plain_process.specs.Steps.{user_step};
+ghost use Rattle.plain_process.specs.Steps.{UserStep};
 ghost use Rattle.plain_machine.specs.Records.{Users};
-ghost use Rattle.guest_proc.specs.Guests.{HasThread, delivered_by, part_after};
+ghost use Rattle.guest_proc.specs.Guests.{HasThread, delivered_by, part_after, ran_at};
 ghost use Rattle.computation.specs.Parts.{delivery_at, kernel_found};
 ghost use Rattle.computation.specs.Sinks.{sunk, Took, TookFront};
 
@@ -18,12 +18,11 @@ use plain_machine::PlainKernel;
 use std::alloc::{AllocError, Global};
 use sys_abi::{Delivered, Request, Signal, Tid, VPid};
 
-/// Whether a thread traps with this signal.
-fn is_trapped(guest: &Guest, t: Tid, s: Signal) -> bool
-    requires { HasThread guest.now.user t.0 }
-    ensures { result ≡ traps_with (user_step guest.now.user t.0) s.0 }
+/// Whether a thread that stands there traps with this signal.
+fn is_trapped(ran: &Ran, s: Signal) -> bool
+    ensures { (place : UserStep) → ran.now ≡ ran_at place → result ≡ traps_with place s.0 }
 {
-    match guest.look(t) {
+    match ran {
         Ran::Trapped(trap) => trap.0 == s.0,
         _ => false,
     }
@@ -46,8 +45,9 @@ pub(crate) fn deliver_to(
     ensures told { (users : Users)
         → result ≡ delivered_by (delivery_at kernel.old users p t.0 s.0 guest.old.user) }
 {
-    let is_idle = is_idle(kernel, p, guest, t);
-    if !is_trapped(guest, t, s) {
+    let ran = guest.look(t);
+    let is_idle = is_idle(kernel, p, guest, t, &ran);
+    if !is_trapped(&ran, s) {
         kernel.take(p, t, s);
     }
     guest.deliver(t, s, is_idle)

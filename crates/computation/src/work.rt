@@ -5,15 +5,13 @@ ghost use Rattle.sys_abi.specs.Requests.{is_local};
 ghost use Rattle.sys_abi.specs.declared.record.Record.TheVariants as a_record;
 ghost use Rattle.plain_process.specs.Buffers.{lent};
 ghost use Rattle.plain_process.specs.declared.user_part.UserPart.{UserPart};
-ghost use Rattle.plain_process.specs.Steps.{user_step};
 ghost use Rattle.plain_machine.specs.Records.{step};
-ghost use Rattle.guest_proc.specs.Guests.{ran_at};
 ghost use Rattle.computation.specs.Sinks.{sunk};
-ghost use Rattle.computation.specs.Turns.{goes_on};
 ghost use Rattle.computation.specs.Takes.{CanDeliver, Takes, Breaks};
-ghost use Rattle.computation.specs.Parts.{AsksAt, RunsAt, kernel_after, guests_after};
+ghost use Rattle.computation.specs.Parts.{AsksAt, StandsAt, kernel_after, guests_after};
 
 use crate::computation::{Computation, Stop};
+use crate::looks::place_after;
 use crate::parts::deliver_to;
 use edge_io::Sink;
 use guest_proc::{LendFault, Ran};
@@ -28,31 +26,24 @@ const QUANTUM: u32 = 4_096;
 impl Computation {
     ghost use Rattle.computation.specs.Computations.{plain_of, user_at, IsReady};
 
-    /// Where a thread that can go on stands.
-    pub(crate) fn look(&self, p: VPid, t: Tid) -> Ran
-        requires { goes_on (plain_of self.now) p t.0 (user_at self.now p) ≡ true }
-        ensures { (user : UserPart) → user_at self.now p ≡ Some user → result ≡ ran_at (user_step user t.0) }
-    {
-        match self.guests.get(p) {
-            Some(guest) => guest.look(t),
-            None => unreachable!(),
-        }
-    }
-
-    /// Runs a quantum of the thread's instructions, fewer where it comes to a call or a trap.
-    pub(crate) fn run_quantum(&mut self, p: VPid, t: Tid, trace: &mut Trace)
+    /// Runs a quantum of the thread's instructions, fewer where it comes to a call or a trap, and tells where it stands
+    /// then.
+    pub(crate) fn run_quantum(&mut self, p: VPid, t: Tid, trace: &mut Trace) -> Ran
         requires ready { IsReady self.old }
-        requires runs { RunsAt (plain_of self.old).users p t.0 }
+        requires runs { StandsAt (plain_of self.old).users p t.0 Ran.Whole }
         requires room { 0 < trace.old.room }
         ensures took { (n : ℕ) × ((taken : _) → Takes (plain_of self.old) (plain_of self.new)
             (a_record.User p t n) trace.old trace.new (sunk taken taken)) }
         ensures ready { IsReady self.new }
+        ensures told { StandsAt (plain_of self.new).users p t.0 result }
     {
         let Some(guest) = self.guests.get_mut(p) else {
             unreachable!();
         };
-        let (n, _) = guest.run(t, QUANTUM);
+        let (n, ran) = guest.run(t, QUANTUM);
+        let stands = place_after(guest, t, ran);
         trace.append(Record::User { p, t, n });
+        stands
     }
 
     /// Delivers a signal to a thread: that of the trap at which it stands, or a pending one.

@@ -41,8 +41,8 @@ goes_on_if true is = sym is
 goes_on_if false is = refl
 
 did_work : (did : Did) (r : Record) → IsDid did r → is_work r ≡ true
-did_work Ran (User p t n) is = refl
-did_work Ran _ is = absurd is
+did_work (Ran place) (User p t n) is = refl
+did_work (Ran place) _ is = absurd is
 did_work Served (Call p t) is = refl
 did_work Served _ is = absurd is
 did_work Delivered (Deliver p t s) is = refl

@@ -4,24 +4,29 @@
 --     goes_on         it was served
 --     breaks_off      the checkpointer broke off
 --     stops           the record was not made, or broke off
-use Rattle.std.proofs.Common.{◌≡◌, ℕ, ◌+◌, ◌-◌, ◌<◌, ◌≤◌, true, false, [], ◌∷◌, List, length, Option, Some, Result, Ok, Err, OnErr, inl, refl, sym, ap, subst, ◌∙◌, arith}
+--     still_told      what is told of where a thread stands, over a checkpoint
+use Rattle.std.proofs.Common.{◌≡◌, ℕ, ◌+◌, ◌-◌, ◌<◌, ◌≤◌, true, false, [], ◌∷◌, List, length, Option, Some, Result, Ok, Err, OnOk, OnErr, inl, refl, sym, ap, subst, ◌∙◌, arith}
 use Rattle.std.specs.Prelude.{IfErr}
 use Rattle.std.proofs.lemmas.List.{length-append}
+use Rattle.views.specs.Maps.{map_values}
+use Rattle.guest_proc.specs.Guests.{GuestPart}
 use Rattle.disk_folder.specs.SeenFolder.{SeenFolder}
 use Rattle.plain_machine.specs.declared.plain.Plain.{Plain}
 use Rattle.trace_log.specs.declared.requests.Schedule.{Schedule}
 use Rattle.trace_log.specs.Trace.{TraceState}
 use Rattle.trace_log.specs.Requests.{one_more_work}
+use Rattle.computation.specs.declared.computation.Computation.{Computation}
 use Rattle.computation.specs.declared.computation.Stop.{Stop}
 use Rattle.computation.specs.declared.computation.Stop.TheVariants.{Sink, Memory}
 use Rattle.computation.specs.Computations.{plain_of}
 use Rattle.computation.specs.Sinks.{Sunk, sunk}
 use Rattle.computation.specs.Turns.{Due, Upcoming, After, due_at}
+use Rattle.scheduler.specs.declared.rounds.Come.{Come}
 use Rattle.scheduler.specs.declared.rounds.Chosen.{Chosen}
 use Rattle.scheduler.specs.declared.rounds.Chosen.TheVariants as to_do
 use Rattle.scheduler.specs.declared.rounds.Made.{Made}
 use Rattle.scheduler.specs.declared.rounds.Rounds.{Rounds}
-use Rattle.scheduler.specs.Scheduling.{IsCome, IsPast, Notes, Spoils, chosen, is_made_work}
+use Rattle.scheduler.specs.Scheduling.{IsCome, IsPast, IsToldOf, Notes, Spoils, chosen, is_made_work}
 use Rattle.checkpointer.specs.declared.checkpointer.Checkpointer.{Checkpointer}
 use Rattle.checkpointer.specs.UnderWay.{IsUnderWay, IsBrokenOff, WaitsIfAsked, IsSettled}
 use Rattle.run_loop.specs.declared.start.Start.{Start}
@@ -32,6 +37,14 @@ use Rattle.run_loop.proofs.Turning.{arrived, spoilt, stays_come, worked}
 pub each_err : {A E P : Type 0} {Q : E → Type 0} (r : Result A E) → (P → (e : E) → Q e) → OnErr r P → IfErr r Q
 each_err (Ok a) f p = tt
 each_err (Err e) f p = f p e
+
+pub each_ok : {A E P : Type 0} (r : Result A E) → P → OnOk r P
+each_ok (Ok a) p = p
+each_ok (Err e) p = tt
+
+-- a checkpoint changes no process's own part, so that what is told of where a thread stands stays so
+pub still_told : (come : Come) (before after : Computation) → after.guests ≡ before.guests → IsToldOf come (plain_of before).users → IsToldOf come (plain_of after).users
+still_told come before after same told = subst (λ guests. IsToldOf come (map_values (λ (guest : GuestPart). guest.user) guests)) (sym same) told
 
 -- the record that was taken, and how far the round has come with it
 abbrev pub Taken : Plain → Plain → Option Due → Rounds → Made → TraceState → TraceState → Sunk → Type 0

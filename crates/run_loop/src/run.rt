@@ -6,7 +6,7 @@ ghost use Rattle.trace_log.specs.LogText.{at_start};
 ghost use Rattle.trace_log.specs.Requests.{first_tally};
 ghost use Rattle.computation.specs.Computations.{plain_of, IsReady};
 ghost use Rattle.computation.specs.Sinks.{sunk};
-ghost use Rattle.scheduler.specs.Scheduling.{CanTake};
+ghost use Rattle.scheduler.specs.Scheduling.{CanTake, IsToldOf};
 ghost use Rattle.checkpointer.specs.Keeping.{IsKept, IsSafe};
 ghost use Rattle.checkpointer.specs.Rounds.{GoesInRounds};
 ghost use Rattle.run_loop.specs.RunEnds.{EndsAt, EndsRun};
@@ -114,6 +114,7 @@ impl Start {
             (sunk had (O.seen out.new).taken) (sunk told (L.seen log.new).taken) (F.seen first)
             (F.seen disk.new)) }
         ensures ready { OnOk result (IsReady self.new.computation) }
+        ensures told { OnOk result (IsToldOf rounds.new.come (plain_of self.new.computation).users) }
         ensures kept { OnOk result (self.old.checkpointer.schedule.every ≢ None
             → IsKept self.new.checkpointer (F.seen disk.new)) }
         ensures ended { IfErr result (λ stop. (schedule : Schedule) (g : Plain) (room : ℕ)

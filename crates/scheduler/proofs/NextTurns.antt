@@ -6,14 +6,13 @@ use Rattle.std.specs.Option.{option_or}
 use Rattle.std.specs.FinMap as map
 use Rattle.sys_abi.specs.declared.identity.VPid.{VPid}
 use Rattle.sys_abi.specs.declared.identity.Dir.{Dir}
-use Rattle.sys_abi.specs.declared.identity.Signal.{Signal}
 use Rattle.sys_abi.specs.declared.record.Record.{Record}
 use Rattle.sys_abi.specs.declared.record.Record.TheVariants.{User, Call, Deliver}
 use Rattle.plain_machine.specs.declared.plain.Plain.{Plain}
 use Rattle.plain_tables.specs.Tables.{pid}
 use Rattle.computation.specs.declared.computation.Did.TheVariants.{Delivered, Served, Ran}
-use Rattle.computation.specs.Computations.{IsDid}
-use Rattle.computation.specs.Turns.{Place, Due, Arrival, InTurn, Upcoming, NewRound, After, coming, first_turn, round_of, new_round, next_turn, same_turn, after_turn, stands_in, due_at, round_from}
+use Rattle.computation.specs.Computations.{IsDid, first_signal}
+use Rattle.computation.specs.Turns.{Place, Due, Arrival, InTurn, Upcoming, NewRound, After, coming, first_turn, goes_on, round_of, new_round, next_turn, same_turn, after_turn, stands_in, due_at, round_from}
 use Rattle.scheduler.specs.declared.rounds.Rounds.{Rounds}
 use Rattle.scheduler.specs.declared.rounds.Turn.{Turn}
 use Rattle.scheduler.specs.declared.rounds.Come.TheVariants as has_come
@@ -42,10 +41,6 @@ module _ (g : Plain) (numbers : List ℕ) (queued : each pid numbers ≡ map.key
 
 -- after the turn of a thread, which it goes on with or not
 
-mapped_is : (signal : Option Signal) → is_some (option_map (λ s. s.0) signal) ≡ is_some signal
-mapped_is None = refl
-mapped_is (Some s) = refl
-
 module _ (rounds : Rounds) (g : Plain) (turn : Turn) where
   pub served : (r : Record) → IsDid Served r → after_turn g (place_in rounds turn) r ≡ next_turn g (place_in rounds turn)
   served (User p t n) did = absurd did
@@ -53,19 +48,26 @@ module _ (rounds : Rounds) (g : Plain) (turn : Turn) where
   served (Deliver p t s) did = absurd did
   served _ did = absurd did
 
-  pub ran : (r : Record) → IsDid Ran r → (stands : Bool) → stands ≡ stands_in (map.get g.users turn.process) turn.thread.0
+  pub ran : (place : _) (r : Record) → IsDid (Ran place) r → (stands : Bool) → stands ≡ stands_in (map.get g.users turn.process) turn.thread.0
       → after_turn g (place_in rounds turn) r ≡ cond stands (same_turn g (place_in rounds turn) true) (next_turn g (place_in rounds turn))
-  ran (User p t n) did stands is = ap (λ b. cond b (same_turn g (place_in rounds turn) true) (next_turn g (place_in rounds turn))) (sym is)
-  ran (Call p t) did stands is = absurd did
-  ran (Deliver p t s) did stands is = absurd did
-  ran _ did stands is = absurd did
+  ran place (User p t n) did stands is = ap (λ b. cond b (same_turn g (place_in rounds turn) true) (next_turn g (place_in rounds turn))) (sym is)
+  ran place (Call p t) did stands is = absurd did
+  ran place (Deliver p t s) did stands is = absurd did
+  ran place _ did stands is = absurd did
 
-  pub delivered : (r : Record) → IsDid Delivered r → (first : Bool) → first ≡ is_some turn.signal
+  pub delivered : (r : Record) → IsDid Delivered r → (first : Bool) → first ≡ is_some (first_signal turn.next)
       → after_turn g (place_in rounds turn) r ≡ cond first (same_turn g (place_in rounds turn) false) (next_turn g (place_in rounds turn))
-  delivered (Deliver p t s) did first is = ap (λ b. cond b (same_turn g (place_in rounds turn) false) (next_turn g (place_in rounds turn))) (mapped_is turn.signal ∙ sym is)
+  delivered (Deliver p t s) did first is = ap (λ b. cond b (same_turn g (place_in rounds turn) false) (next_turn g (place_in rounds turn))) (sym is)
   delivered (User p t n) did first is = absurd did
   delivered (Call p t) did first is = absurd did
   delivered _ did first is = absurd did
+
+  -- the thread goes on with its turn, or not
+
+  pub stays : (has_run goes : Bool) → goes ≡ goes_on g turn.process turn.thread.0 (map.get g.users turn.process)
+      → same_turn g (place_in rounds turn) has_run ≡ cond goes (Some (InTurn (record (place_in rounds turn) { signal = None; has_run = has_run }))) (next_turn g (place_in rounds turn))
+  stays has_run goes is =
+      ap (λ b. cond b (Some (InTurn (record (place_in rounds turn) { signal = None; has_run = has_run }))) (next_turn g (place_in rounds turn))) (sym is)
 
   -- how far the round has come
 

@@ -30,7 +30,7 @@ work_is_no_mark (Call p t) work = refl
 work_is_no_mark (Deliver p t s) work = refl
 work_is_no_mark _ work = true_false (sym work)
 
-turn_at : (rounds : Rounds) (g : Plain) (turn : Turn) → CanTurn g turn → IsTurnAt g turn.process turn.thread turn.signal (place_in rounds turn)
+turn_at : (rounds : Rounds) (g : Plain) (turn : Turn) → CanTurn g turn → IsTurnAt g turn.process turn.thread turn.next (place_in rounds turn)
 turn_at rounds g turn can = record { process = refl; thread = refl; first = refl; stopped = can.stopped }
 
 -- what was chosen, with what is known of it
@@ -39,7 +39,7 @@ Taken rounds g h after choice made from to console =
     (notes : Notes g h (chosen rounds g (Some choice)) made from to console) × IsPast after h (chosen rounds g (Some choice)) notes.noted
 
 module _ (rounds : Rounds) (g h : Plain) (turn : Turn) (from to : TraceState) (console : Sunk) where
-  pub worked : (did : Did) → CanTurn g turn → Worked g h turn.process turn.thread turn.signal did from to console
+  pub worked : (did : Did) → CanTurn g turn → Worked g h turn.process turn.thread turn.next did from to console
       → Taken rounds g h (record { come = has_come.Worked turn did; threads = rounds.threads; processes = rounds.processes }) (to_do.Turn turn) made_was.Work from to console
   unfolding IsComeSo
   worked did can work =
@@ -51,7 +51,7 @@ module _ (rounds : Rounds) (g h : Plain) (turn : Turn) (from to : TraceState) (c
       some_same : {d : Due} → Some (InTurn (place_in rounds turn)) ≡ Some d → d ≡ InTurn (place_in rounds turn)
       some_same is = cc
 
-  pub failed : CanTurn g turn → Failed g turn.process turn.thread turn.signal from to console → Spoils g (chosen rounds g (Some (to_do.Turn turn))) from to console
+  pub failed : CanTurn g turn → Failed g turn.process turn.thread turn.next from to console → Spoils g (chosen rounds g (Some (to_do.Turn turn))) from to console
   failed can fails =
       let own = fails.due (place_in rounds turn) (turn_at rounds g turn can) in
       record { noted = fails.noted; own = own.due; work = own.work; broke = fails.broke }

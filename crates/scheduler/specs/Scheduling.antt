@@ -1,19 +1,21 @@
 -- How far a round has come in the code, and what was chosen to be next, in the words of the rounds.
 --     place_in rounds turn         the place in the rounds that a turn is, before those that follow
 --     IsCome rounds g upcoming     the round has come this far, at the state of now
+--     IsToldOf come users          what is told of where a thread stands is so now
 --     chosen rounds g choice       what was chosen, as what is due
 --     CanTake g choice             it can be done
 --     Notes, Spoils                one record that was due, which the console took, or a first part of it
-use Rattle.std.specs.Prelude.{◌≡◌, ℕ, Bool, true, false, List, [], ◌∷◌, Option, Some, None, option_map, map as each}
+use Rattle.std.specs.Prelude.{◌≡◌, ℕ, Bool, true, false, List, [], ◌∷◌, Option, Some, None, map as each}
 use Rattle.std.specs.FinMap as map
 use Rattle.sys_abi.specs.declared.identity.Dir.{Dir}
 use Rattle.sys_abi.specs.declared.record.Record.{Record}
 use Rattle.trace_log.specs.Trace.{TraceState}
 use Rattle.trace_log.specs.Requests.{is_mark}
 use Rattle.plain_machine.specs.declared.plain.Plain.{Plain}
+use Rattle.plain_machine.specs.Records.{Users}
 use Rattle.plain_machine.specs.Tests.{is_work}
 use Rattle.plain_tables.specs.Tables.{pid}
-use Rattle.computation.specs.Computations.{CanWork, IsDid}
+use Rattle.computation.specs.Computations.{CanWork, IsDid, IsTold, first_signal}
 use Rattle.computation.specs.Sinks.{Sunk}
 use Rattle.computation.specs.Takes.{Takes, Breaks}
 use Rattle.computation.specs.Turns.{Place, Due, Arrival, InTurn, Upcoming, NewRound, After, coming, is_due_at, stands_in}
@@ -31,7 +33,7 @@ abbrev pub place_of : Turn → List ℕ → List ℕ → Place
 place_of turn threads processes = record {
   p = turn.process;
   t = turn.thread.0;
-  signal = option_map (λ s. s.0) turn.signal;
+  signal = first_signal turn.next;
   has_run = turn.has_run;
   threads = threads;
   processes = each pid processes;
@@ -51,6 +53,11 @@ IsComeSo (has_come.Worked turn did) rounds g upcoming =
 abbrev pub IsCome : Rounds → Plain → Upcoming → Type 0
 IsCome rounds g upcoming = IsComeSo rounds.come rounds g upcoming
 
+-- a checkpoint that follows the record leaves each process's own part as it is
+abbrev pub IsToldOf : Come → Users → Type 0
+IsToldOf (has_come.Worked turn did) users = IsTold users turn.process turn.thread did
+IsToldOf _ users = Unit {0}
+
 abbrev pub rest_of : List Dir → List Dir
 rest_of [] = []
 rest_of (dir ∷ dirs) = dirs
@@ -62,7 +69,7 @@ chosen rounds g (Some (to_do.Arrival dir)) = Some (Arrival dir (rest_of (coming 
 chosen rounds g (Some (to_do.Turn turn)) = Some (InTurn (place_in rounds turn))
 
 pub record CanTurn (g : Plain) (turn : Turn) : Type 0 where
-  pub able : CanWork g turn.process turn.thread turn.signal
+  pub able : CanWork g turn.process turn.thread turn.next
   pub stopped : turn.has_run ≡ true → stands_in (map.get g.users turn.process) turn.thread.0 ≡ true
 
 abbrev pub CanTake : Plain → Chosen → Type 0

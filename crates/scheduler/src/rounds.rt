@@ -1,27 +1,32 @@
-ghost use Rattle.std.specs.Prelude.{◌≡◌, ◌<◌, ◌≤◌, ℕ, List, [], ◌∷◌, true, None, Some, IsErrOf, IfOk, IfSome, OnOk, option_map, map as each};
+ghost use Rattle.std.specs.Prelude.{◌≡◌, ◌<◌, ◌≤◌, ℕ, List, [], ◌∷◌, false, None, Some, IsErrOf, IfOk, IfSome, OnOk, option_map, map as each};
 ghost use Rattle.std.specs.FinMap as map;
 ghost use Rattle.views.specs.Faults.{IsFaultOf};
 ghost use Rattle.plain_tables.specs.Tables.{pid};
 ghost use Rattle.sys_abi.specs.declared.record.Record.{Record};
-ghost use Rattle.computation.specs.Computations.{plain_of, user_at, IsDid, IsReady};
+ghost use Rattle.plain_process.specs.Steps.{UserStep};
+ghost use Rattle.plain_machine.specs.Records.{stands};
+ghost use Rattle.guest_proc.specs.Guests.{ran_at};
+ghost use Rattle.computation.specs.Computations.{plain_of, user_at, IsDid, IsReady, IsTold};
+ghost use Rattle.computation.specs.Parts.{StandsAt};
 ghost use Rattle.computation.specs.Sinks.{sunk};
-ghost use Rattle.computation.specs.Turns.{Place, Upcoming, threads_in, turn_of, first_thread, first_turn, new_round, next_turn, same_turn, after_turn, due_at, stands_in};
-ghost use Rattle.scheduler.specs.Scheduling.{place_of, place_in, chosen, CanTake, CanTurn, IsCome, IsPast, Notes, Spoils};
+ghost use Rattle.computation.specs.Turns.{Place, Upcoming, threads_in, turn_of, first_thread, first_turn, new_round, next_turn, same_turn, after_turn, due_at};
+ghost use Rattle.scheduler.specs.Scheduling.{place_of, place_in, chosen, CanTake, CanTurn, IsCome, IsPast, IsToldOf, Notes, Spoils};
 
 use crate::queue::Queue;
-use computation::{Computation, Did, Stop};
+use computation::{Computation, Did, Next, Stop};
 use edge_io::Sink;
+use guest_proc::Ran;
 use std::alloc::{AllocError, Global};
-use sys_abi::{Dir, Signal, Tid, VPid};
+use sys_abi::{Dir, Tid, VPid};
 use trace_log::Trace;
 
-/// A thread's turn in a round: the signal that is delivered first, if one is, and whether the thread has run its
-/// quantum.
+/// A thread's turn in a round: what comes next in it, the signal that is delivered first or where the thread stands, and
+/// whether the thread has run its quantum.
 #[derive(Clone, Copy, Debug, PartialEq, Eq)]
 pub struct Turn {
     pub process: VPid,
     pub thread: Tid,
-    pub signal: Option<Signal>,
+    pub next: Next,
     pub has_run: bool,
 }
 
@@ -66,7 +71,8 @@ pub struct Rounds {
 impl Rounds {
     /// Before the first round.
     pub fn new(alloc: Global) -> Result<Rounds, AllocError>
-        ensures { IfOk result (λ rounds. (g : _) → IsCome rounds g Upcoming.NewRound) }
+        ensures come { IfOk result (λ rounds. (g : _) → IsCome rounds g Upcoming.NewRound) }
+        ensures told { IfOk result (λ rounds. (users : _) → IsToldOf rounds.come users) }
     {
         Ok(Rounds {
             come: Come::NewRound,
@@ -76,9 +82,10 @@ impl Rounds {
     }
 
     /// Chooses what is due next, None where nothing is: nobody lives, or nobody can go on and no byte is missing. Takes
-    /// no memory.
+    /// no memory. Where a thread stands after its quantum it is told, and not looked at again.
     pub fn choose(&mut self, computation: &Computation) -> Option<Chosen>
-        requires { IsReady computation.now }
+        requires ready { IsReady computation.now }
+        requires told { IsToldOf self.old.come (plain_of computation.now).users }
         ensures due { (upcoming : Upcoming) → IsCome self.old (plain_of computation.now) upcoming
             → chosen self.new (plain_of computation.now) result ≡ due_at (plain_of computation.now) upcoming }
         ensures can { IfSome result (CanTake (plain_of computation.now)) }
@@ -108,6 +115,7 @@ impl Rounds {
             × IsPast self.new (plain_of computation.new)
             (chosen self.old (plain_of computation.old) (Some choice)) notes.noted) }
         ensures ready { OnOk result (IsReady computation.new) }
+        ensures told { OnOk result (IsToldOf self.new.come (plain_of computation.new).users) }
         ensures failed { IsErrOf result Stop.Sink → Spoils (plain_of computation.old)
             (chosen self.old (plain_of computation.old) (Some choice)) trace.old trace.new
             (sunk (O.seen out.old).taken (O.seen out.new).taken) }
@@ -123,8 +131,8 @@ impl Rounds {
                 Ok(Made::Arrival)
             }
             Chosen::Turn(turn) => {
-                let signal = turn.signal;
-                match computation.work(alloc, turn.process, turn.thread, signal, out, trace) {
+                let next = turn.next;
+                match computation.work(alloc, turn.process, turn.thread, next, out, trace) {
                     Ok(did) => {
                         self.come = Come::Worked(turn, did);
                         Ok(Made::Work)
@@ -137,48 +145,59 @@ impl Rounds {
 
     /// What is due after a record of the turn.
     fn after(&mut self, computation: &Computation, turn: Turn, did: Did) -> Option<Chosen>
-        requires { IsReady computation.now }
+        requires ready { IsReady computation.now }
+        requires told { IsTold (plain_of computation.now).users turn.process turn.thread did }
         ensures due { (r : Record) → IsDid did r → chosen self.new (plain_of computation.now) result
             ≡ after_turn (plain_of computation.now) (place_in self.old turn) r }
         ensures can { IfSome result (CanTake (plain_of computation.now)) }
     {
         match did {
             Did::Served => self.next_turn(computation, turn.process),
-            Did::Ran => {
-                if computation.stands(turn.process, turn.thread) {
-                    self.same_turn(computation, turn, true)
-                } else {
-                    self.next_turn(computation, turn.process)
-                }
-            }
-            Did::Delivered => {
-                if turn.signal.is_some() {
-                    self.same_turn(computation, turn, false)
-                } else {
-                    self.next_turn(computation, turn.process)
-                }
-            }
+            Did::Ran(ran) => self.after_quantum(computation, turn, ran),
+            Did::Delivered => match turn.next {
+                Next::Deliver(_) => self.after_signal(computation, turn),
+                Next::GoOn(_) => self.next_turn(computation, turn.process),
+            },
         }
     }
 
-    /// The rest of the turn, where the thread can go on, or else what follows it.
-    fn same_turn(&mut self, computation: &Computation, turn: Turn, has_run: bool) -> Option<Chosen>
+    /// What is due after a quantum that left the thread there: the rest of its turn, where it stands at a call or a trap
+    /// and can go on, or else what follows the turn.
+    fn after_quantum(&mut self, computation: &Computation, turn: Turn, ran: Ran) -> Option<Chosen>
         requires ready { IsReady computation.now }
-        requires stopped { has_run ≡ true
-            → stands_in (user_at computation.now turn.process) turn.thread.0 ≡ true }
-        ensures due { chosen self.new (plain_of computation.now) result
-            ≡ same_turn (plain_of computation.now) (place_in self.old turn) has_run }
+        requires stands { StandsAt (plain_of computation.now).users turn.process turn.thread.0 ran }
+        ensures due { (r : Record) → IsDid (Did.Ran ran) r → chosen self.new (plain_of computation.now) result
+            ≡ after_turn (plain_of computation.now) (place_in self.old turn) r }
         ensures can { IfSome result (CanTake (plain_of computation.now)) }
     {
-        if computation.goes_on(turn.process, turn.thread) {
-            return Some(Chosen::Turn(Turn {
-                process: turn.process,
-                thread: turn.thread,
-                signal: None,
-                has_run,
-            }));
+        if !has_stopped(&ran) {
+            return self.next_turn(computation, turn.process);
         }
-        self.next_turn(computation, turn.process)
+        if !computation.goes_on_at(turn.process, turn.thread, &ran) {
+            return self.next_turn(computation, turn.process);
+        }
+        Some(Chosen::Turn(Turn {
+            next: Next::GoOn(ran),
+            has_run: true,
+            ..turn
+        }))
+    }
+
+    /// The rest of a turn that began with a signal, where the thread can go on, or else what follows it.
+    fn after_signal(&mut self, computation: &Computation, turn: Turn) -> Option<Chosen>
+        requires { IsReady computation.now }
+        ensures due { chosen self.new (plain_of computation.now) result
+            ≡ same_turn (plain_of computation.now) (place_in self.old turn) false }
+        ensures can { IfSome result (CanTake (plain_of computation.now)) }
+    {
+        let Some(ran) = computation.ready_at(turn.process, turn.thread) else {
+            return self.next_turn(computation, turn.process);
+        };
+        Some(Chosen::Turn(Turn {
+            next: Next::GoOn(ran),
+            has_run: false,
+            ..turn
+        }))
     }
 
     /// The next turn of a thread of this process, of a process after it, or what a new round begins with.
@@ -258,20 +277,32 @@ fn turn_of(computation: &Computation, p: VPid, t: Tid) -> Option<Turn>
         ≡ turn_of (plain_of computation.now) p t.0 threads (each pid processes) }
     ensures can { IfSome result (CanTurn (plain_of computation.now)) }
 {
-    let signal = computation.due_signal(p, t);
-    let turn = Turn {
+    if let Some(signal) = computation.due_signal(p, t) {
+        return Some(Turn {
+            process: p,
+            thread: t,
+            next: Next::Deliver(signal),
+            has_run: false,
+        });
+    }
+    let ran = computation.ready_at(p, t)?;
+    Some(Turn {
         process: p,
         thread: t,
-        signal,
+        next: Next::GoOn(ran),
         has_run: false,
-    };
-    if signal.is_some() {
-        return Some(turn);
+    })
+}
+
+/// Whether a thread that stands there stands at a call or a trap.
+fn has_stopped(ran: &Ran) -> bool
+    ensures { (place : UserStep) → ran.now ≡ ran_at place → result ≡ stands place }
+{
+    match ran {
+        Ran::Asks(_) => true,
+        Ran::Trapped(_) => true,
+        _ => false,
     }
-    if !computation.goes_on(p, t) {
-        return None;
-    }
-    Some(turn)
 }
 
 /// The queue has all live processes, in rising order.

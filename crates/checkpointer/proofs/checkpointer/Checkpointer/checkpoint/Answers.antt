@@ -71,6 +71,9 @@ returns-in_default-clause-err g c =
     → IsBrokenOff c.loop-arrival.self.schedule g' h upcoming c.cut.new.trace sink (sunk had (g.L.Sink.seen c.cut.new.log).taken) (g.F.Folder.seen first) (g.F.Folder.seen c.cut.new.disk))) inv.same_disk c.cut.ensures.err)) in
     OnErr-map c.cut.result (λ done g' upcoming sink had first before waits. let now = inv.under g' upcoming sink had first before waits in done g' upcoming sink had first now.0 now.1) as_args
 
+pub returns-in_default-clause-guests : goal.returns-in_default-clause-guests
+returns-in_default-clause-guests g c = c.loop-arrival.invariant.guests
+
 pub returns-in_default-clause-schedule : goal.returns-in_default-clause-schedule
 returns-in_default-clause-schedule g c = c.cut.ensures.schedule ∙ ap (λ (x : Checkpointer). x.schedule) c.loop-arrival.invariant.same
 
@@ -87,6 +90,7 @@ loop-arrival-init g c = record {
   same_disk = refl;
   ready = c.requires.ready;
   held = c.requires.held;
+  guests = refl;
   under = λ g' upcoming sink had first before waits. (before, waits);
   size = refl;
   left = omega arith;
@@ -113,6 +117,7 @@ loop-arrival-preserved g c =
       same_disk = inv.same_disk;
       ready = c.arrive.ensures.ready;
       held = come.held inv.held;
+      guests = c.arrive.ensures.guests ∙ inv.guests;
       under = λ g' upcoming sink had first before waits.
           let now = inv.under g' upcoming sink had first before waits in
           arrived_meanwhile c.args.self.now.schedule g' h k upcoming c.args.self.now c.loop-arrival.trace c.arrive.new.trace sink (sunk had (g.L.Sink.seen c.args.log.now).taken) dir c.in-Some.ensures.some.0 (g.F.Folder.seen first) (g.F.Folder.seen c.args.disk.now)
@@ -137,6 +142,9 @@ pub returns-clause-kept : goal.returns-clause-kept
 returns-clause-kept g c =
     let inv = c.loop-arrival.invariant in
     subst (λ disk. IsKept c.loop-arrival.self (g.F.Folder.seen disk)) (sym inv.same_disk) (subst (λ (x : Checkpointer). IsKept x (g.F.Folder.seen c.args.disk.now)) (sym inv.same) c.requires.kept)
+
+pub returns-clause-guests : goal.returns-clause-guests
+returns-clause-guests g c = c.loop-arrival.invariant.guests
 
 pub returns-clause-schedule : goal.returns-clause-schedule
 returns-clause-schedule g c = ap (λ (x : Checkpointer). x.schedule) c.loop-arrival.invariant.same

@@ -14,6 +14,7 @@ invariant-loop-arrival g l = record {
   same_disk : l.disk ≡ l.initial.disk;
   ready : IsReady l.computation;
   held : CanBeHeld (plain_of l.computation);
+  guests : l.computation.guests ≡ l.initial.computation.guests;
   under : (g' : Plain) (upcoming : Upcoming) (sink : Sunk) (had : Option (List ℕ)) (first : _)
       → (before : IsUnderWay l.initial.self.schedule g' (plain_of l.initial.computation) upcoming l.initial.self l.initial.trace sink (sunk had (g.L.Sink.seen l.initial.log).taken) (g.F.Folder.seen first) (g.F.Folder.seen l.initial.disk))
       → before.running.requests.phase ≡ Requested []

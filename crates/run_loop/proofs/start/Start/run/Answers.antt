@@ -36,8 +36,9 @@ loop-record-init g c =
     let begun = starting start s.checkpointer c.args.trace.now (g.O.Sink.seen c.args.out.now).taken (g.L.Sink.seen c.args.log.now).taken (g.F.Folder.seen c.args.disk.now) c.requires.empty c.requires.tally c.requires.lines in
     let room = c.room-room.ensures in
     record {
-      going = record { upcoming = NewRound; under = begun.now; settled = inl begun.free; come = c.in-Ok.ensures start };
+      going = record { upcoming = NewRound; under = begun.now; settled = inl begun.free; come = c.in-Ok.ensures.come start };
       ready = c.requires.ready;
+      told = c.in-Ok.ensures.told start.users;
       scheduled = refl;
       kept = c.requires.kept;
       untouched = λ none. refl;
@@ -138,6 +139,7 @@ loop-record-preserved g c =
     record {
       going = c.in-Ok-step.ensures.ok s.checkpointer.schedule (plain_of s.computation) (g.O.Sink.seen c.args.out.now).taken (g.L.Sink.seen c.args.log.now).taken c.args.disk.now chosen;
       ready = c.in-Ok-step.ensures.ready;
+      told = c.in-Ok-step.ensures.told;
       scheduled = c.step.ensures.schedule ∙ l.invariant.scheduled;
       kept = λ some_every. c.in-Ok-step.ensures.kept (λ none. some_every (ap (λ (x : Schedule). x.every) c.step.ensures.schedule ∙ none));
       untouched = λ none. c.step.ensures.untouched (ap (λ (x : Schedule). x.every) l.invariant.scheduled ∙ none) ∙ l.invariant.untouched none;

@@ -1,6 +1,7 @@
 use Rattle.std.proofs.Common.{◌≡◌, ◌≢◌, ◌+◌, ◌≤◌, length, None}
 use Rattle.computation.specs.Computations.{plain_of, IsReady}
 use Rattle.computation.specs.Sinks.{sunk}
+use Rattle.scheduler.specs.Scheduling.{IsToldOf}
 use Rattle.checkpointer.specs.Keeping.{IsKept}
 use Rattle.run_loop.specs.Going.{IsGoing}
 use Rattle.run_loop.proofs.start.Start.run.Given as goal
@@ -10,6 +11,7 @@ invariant-loop-record g l = record {
   going : IsGoing l.initial.self.checkpointer.schedule (plain_of l.initial.self.computation) l.self l.rounds l.trace
       (sunk (g.O.Sink.seen l.initial.out).taken (g.O.Sink.seen l.out).taken) (sunk (g.L.Sink.seen l.initial.log).taken (g.L.Sink.seen l.log).taken) (g.F.Folder.seen l.initial.disk) (g.F.Folder.seen l.disk);
   ready : IsReady l.self.computation;
+  told : IsToldOf l.rounds.come (plain_of l.self.computation).users;
   scheduled : l.self.checkpointer.schedule ≡ l.initial.self.checkpointer.schedule;
   kept : l.self.checkpointer.schedule.every ≢ None → IsKept l.self.checkpointer (g.F.Folder.seen l.disk);
   untouched : l.initial.self.checkpointer.schedule.every ≡ None → l.disk ≡ l.initial.disk;

@@ -6,7 +6,7 @@ use Rattle.scheduler.specs.Scheduling.{is_made_work}
 use Rattle.checkpointer.specs.declared.checkpointer.Checkpointer.{Checkpointer}
 use Rattle.checkpointer.proofs.Results.{OnOk-map}
 use Rattle.checkpointer.proofs.Served.{kept_same}
-use Rattle.run_loop.proofs.Stepping.{arrives, breaks_off, each_err, goes_on, size, stops, works}
+use Rattle.run_loop.proofs.Stepping.{arrives, breaks_off, each_err, each_ok, goes_on, size, stops, still_told, works}
 use Rattle.run_loop.proofs.start.Start.step.Goals as goal
 
 pub serve-requires-clause-kept : goal.serve-requires-clause-kept
@@ -25,6 +25,10 @@ returns-in-Ok-Work-clause-ok g c = OnOk-map c.serve.result (λ serves. λ schedu
     (plain_of c.take.new.computation) c.in-Ok-Work.field-0 c.in-Ok-Work.ensures.ok c.count.new.self c.count.ensures (ap is_made_work c.in-Ok-Work.field-0-is) in
     goes_on schedule start (plain_of c.take.new.computation) (plain_of c.serve.new.computation) c.take.new.self c.count.new.self c.serve.new.self c.take.new.trace c.serve.new.trace sink told (g.L.Sink.seen c.args.log.now).taken (g.L.Sink.seen c.serve.new.log).taken (g.F.Folder.seen first) (g.F.Folder.seen c.args.disk.now) (g.F.Folder.seen c.serve.new.disk) serving
     (record { computation = c.serve.new.computation; checkpointer = c.serve.new.self }) refl refl (λ upcoming under waits. serves start upcoming sink told first under waits)) c.serve.ensures.ok
+
+pub returns-in-Ok-Work-clause-told : goal.returns-in-Ok-Work-clause-told
+returns-in-Ok-Work-clause-told g c =
+    each_ok c.serve.result (still_told c.take.new.self.come c.take.new.computation c.serve.new.computation c.serve.ensures.guests c.in-Ok-Work.ensures.told)
 
 pub returns-in-Ok-Work-clause-ended : goal.returns-in-Ok-Work-clause-ended
 returns-in-Ok-Work-clause-ended g c = each_err c.serve.result (λ fails stop. λ schedule start room had told first before whole.

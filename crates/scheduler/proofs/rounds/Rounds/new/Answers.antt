@@ -2,6 +2,6 @@ use Rattle.std.proofs.Common.{refl}
 use Rattle.scheduler.specs.Scheduling.{IsComeSo}
 use Rattle.scheduler.proofs.rounds.Rounds.new.Goals as goal
 
-pub returns : goal.returns
+pub returns-clause-come : goal.returns-clause-come
 unfolding IsComeSo
-returns c = λ g. refl
+returns-clause-come c = λ g. refl
