@@ -1,0 +1,12 @@
+pub mod Ways
+pub mod LookUps
+pub mod Frames
+pub mod SlotChanges
+pub mod DescriptionChanges
+pub mod MakerChanges
+pub mod ProcessChanges
+pub mod DirectionChanges
+pub mod ChannelChanges
+pub mod ListenerChanges
+pub mod MorePairs
+pub mod GrownTopics

@@ -1,0 +1,10 @@
+pub mod Numbers
+pub mod Processes
+pub mod Datagrams
+pub mod Descriptions
+pub mod Network
+pub mod Stands
+pub mod Conditions
+pub mod Requests
+pub mod Serves
+pub mod Systems
