@@ -10,3 +10,5 @@ pub mod ChannelChanges
 pub mod ListenerChanges
 pub mod MorePairs
 pub mod GrownTopics
+pub mod Waits
+pub mod PortsLeft
