@@ -1,7 +1,7 @@
 -- Channels made through the pairs, and how many there are.
 --     channel_made        a new channel, whose kind and addresses are given
 --     same_channels       as many channels on both sides
-use Rattle.std.proofs.Common.{◌≡◌, ◌≢◌, ◌⊎◌, ℕ, zero, suc, ◌-◌, ◌<◌, ◌≤◌, Bool, true, false, cond, List, [], ◌∷◌, Option, Some, None, inl, inr, refl, sym, ap, ◌∙◌, subst, length, arith}
+use Rattle.std.proofs.Common.{◌≡◌, ◌≢◌, ℕ, zero, suc, ◌<◌, ◌≤◌, Bool, true, false, cond, [], ◌∷◌, Option, Some, None, inl, inr, refl, sym, ap, ◌∙◌, subst, length, arith}
 use Rattle.std.specs.Prelude.{option_map, option_and_then, is_some, IsSome, ◌==◌, ◌&&◌, slice_index_or}
 use Rattle.std.specs.FinMap as map
 use Rattle.std.proofs.lemmas.Option.{same_Some, none-some}
@@ -16,17 +16,16 @@ use Rattle.sys_abi.specs.Orders.{conn_cmp}
 use Rattle.sys_abi.proofs.OrderLaws.{conn_total, conn_exact, dir_total, dir_exact}
 use Rattle.conn_table.specs.declared.conn.Conn.{Conn}
 use Rattle.plain_tables.specs.declared.channel.Channel as plain
-use Rattle.plain_tables.specs.declared.channel.Direction as plain_direction
 use Rattle.plain_tables.specs.Objects.{dir}
 use Rattle.plain_tables.specs.Tables.{Channels, Directions}
 use Rattle.plain_machine.specs.declared.kernel.PlainKernel.{PlainKernel}
 use Rattle.plain_machine.specs.Channels.{open_channel, empty_direction, with_channel}
 use Rattle.wire_net.specs.declared.channel.Channel.{Channel}
-use Rattle.wire_net.specs.Directions.{Direction, unused}
+use Rattle.wire_net.specs.Directions.{unused}
 use Rattle.wire_net.specs.Channels as net
 use Rattle.wire_net.specs.Networks.{Network}
 use Rattle.host_tables.specs.declared.kernel.Kernel.{Kernel}
-use Rattle.host_tables.specs.Network.{Conns, kind_of, seen_channel, SameChannels, is_pipe_conn, is_unused, SameDirection, SameDirections, IsSilent}
+use Rattle.host_tables.specs.Network.{Conns, kind_of, seen_channel, SameChannels, is_pipe_conn, SameDirection, SameDirections}
 use Rattle.host_tables.specs.Stands.{Given, Stands, open_conn, with_conn}
 use Rattle.host_tables.proofs.DirectionChanges.{same_direction, re_directed}
 

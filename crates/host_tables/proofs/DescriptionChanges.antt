@@ -3,7 +3,7 @@
 --     description_put           one is put, and nothing else changes
 --     SameDescriptions-remove, SameInboxes-remove      one goes
 --     same_open                 either side tells whether a file is open
-use Rattle.std.proofs.Common.{◌≡◌, ◌≢◌, ◌⊎◌, ℕ, Bool, true, Option, Some, None, inl, inr, refl, sym, ap, ◌∙◌, subst}
+use Rattle.std.proofs.Common.{◌≡◌, ◌≢◌, ◌⊎◌, ℕ, Option, Some, None, inl, inr, refl, sym, ap, ◌∙◌, subst}
 use Rattle.std.specs.Prelude.{option_map, option_and_then}
 use Rattle.std.specs.List.{list_any}
 use Rattle.std.specs.FinMap as map
@@ -14,7 +14,6 @@ use Rattle.views.proofs.Seen.{any_seen}
 use Rattle.sys_abi.specs.declared.identity.DescId.{DescId}
 use Rattle.sys_abi.specs.Orders.{desc_cmp}
 use Rattle.sys_abi.proofs.OrderLaws.{desc_total, desc_exact}
-use Rattle.datagram_pairs.specs.declared.pairs.DatagramPair.{DatagramPair}
 use Rattle.datagram_pairs.specs.Pairs.{Pairs, end_of}
 use Rattle.fd_book.specs.declared.description.Desc.{Desc}
 use Rattle.fd_book.specs.declared.description.Object as real_object

@@ -3,8 +3,8 @@
 --     re_directed                     directions that are as they were, or changed on both sides
 --     SameChannels-open               channels whose ends stay open or closed
 --     direction_put                   one direction changes
-use Rattle.std.proofs.Common.{◌≡◌, ◌≢◌, ◌⊎◌, ℕ, ◌-◌, ◌<◌, ◌≤◌, Bool, true, false, cond, List, Option, Some, None, inl, inr, refl, sym, ap, ◌∙◌, subst, length, arith}
-use Rattle.std.specs.Prelude.{option_map, option_and_then, is_some, IsSome, ◌==◌, slice_index_or}
+use Rattle.std.proofs.Common.{◌≡◌, ◌⊎◌, ℕ, ◌-◌, ◌<◌, ◌≤◌, Bool, true, false, cond, List, Option, Some, None, inl, inr, refl, sym, ap, ◌∙◌, subst, length, arith}
+use Rattle.std.specs.Prelude.{option_map, option_and_then, IsSome, ◌==◌, slice_index_or}
 use Rattle.std.specs.Option.{option_map_or}
 use Rattle.std.specs.FinMap as map
 use Rattle.std.proofs.lemmas.Option.{same_Some, none-some}
@@ -15,7 +15,6 @@ use Rattle.sys_abi.specs.declared.identity.ConnId.{ConnId}
 use Rattle.sys_abi.specs.declared.identity.Dir.{Dir}
 use Rattle.sys_abi.specs.Orders.{dir_cmp}
 use Rattle.sys_abi.proofs.OrderLaws.{conn_total, conn_exact, dir_total, dir_exact}
-use Rattle.conn_table.specs.declared.conn.Conn.{Conn}
 use Rattle.plain_tables.specs.declared.channel.Direction as plain_direction
 use Rattle.plain_tables.specs.Tables.{Channels, Directions}
 use Rattle.plain_machine.specs.declared.kernel.PlainKernel.{PlainKernel}

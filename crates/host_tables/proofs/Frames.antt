@@ -1,7 +1,7 @@
 -- What stands for a kernel part goes on doing so where a table changes, if the topics of that table do: one
 -- lemma a table. The other topics are as they were.
 --     book_kept, files_kept, procs_kept, makers_kept, net_kept, datagrams_kept
-use Rattle.std.specs.Prelude.{ℕ, List, Option}
+use Rattle.std.specs.Prelude.{ℕ, Option}
 use Rattle.fd_book.specs.Books.{Books}
 use Rattle.proc_book.specs.Procs.{ProcTable}
 use Rattle.vfs_files.specs.FileTable.{FileTable}

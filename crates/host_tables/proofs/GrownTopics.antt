@@ -3,7 +3,7 @@
 --     SameProcess-grows, SameProcesses-grows    processes and their threads
 --     SameDescriptors-grows                     descriptors, where the pair is nobody's who has any
 --     SameDescriptions-grows                    descriptions and their owners
-use Rattle.std.proofs.Common.{◌≡◌, ◌≢◌, ◌⊎◌, ℕ, Bool, true, false, cond, Option, Some, None, inl, inr, refl, sym, ap, ◌∙◌, subst}
+use Rattle.std.proofs.Common.{◌≡◌, ◌≢◌, ◌⊎◌, ℕ, Bool, true, false, cond, Option, Some, None, inl, inr, refl, sym, ap, ◌∙◌}
 use Rattle.std.specs.Prelude.{option_map, option_and_then, is_some, IsSome, ◌==◌, unwrap_or}
 use Rattle.std.specs.Ordering.{nat_cmp}
 use Rattle.std.specs.Cmp.{nat_cmp_total}
@@ -33,7 +33,7 @@ use Rattle.host_tables.specs.Numbers.{Pids, Virts, real, to_real, to_virt, numbe
 use Rattle.host_tables.specs.Processes.{IsSame, SameProcess, SameProcesses, RealDescriptors, SameDescriptors, to_slot, from_slot}
 use Rattle.host_tables.specs.Datagrams.{RealDescriptions}
 use Rattle.host_tables.specs.Descriptions.{Names, Addresses, Stage, owner_of, seen_desc, SameDescriptions}
-use Rattle.host_tables.proofs.MorePairs.{pids', virts', real_kept, virt_kept, real_was, real_none, virt_none}
+use Rattle.host_tables.proofs.MorePairs.{pids', virts', virt_kept, real_was, real_none, virt_none}
 use Rattle.host_tables.proofs.Ways.{lead_process, lead_slot, lead_thread}
 
 module _ (pids : Pids) (virts : Virts) (inverse : AreInverse pids virts) (v : ℕ) (r : RealPid)

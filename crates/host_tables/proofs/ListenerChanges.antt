@@ -2,18 +2,14 @@
 --     SameDirections-listeners      directions say nothing of listeners
 --     listener_put, listener_taken  a listener is another;  it goes
 --     listener_made                 a new one, at a port that nobody has
-use Rattle.std.proofs.Common.{◌≡◌, ◌≢◌, ◌⊎◌, ℕ, Option, Some, None, inl, inr, refl, sym, ap, ◌∙◌, subst}
-use Rattle.std.specs.Prelude.{List}
+use Rattle.std.proofs.Common.{◌≡◌, Option, Some, None}
 use Rattle.std.specs.FinMap as map
-use Rattle.std.proofs.lemmas.Option.{same_Some, none-some}
 use Rattle.views.specs.Seen.{Agree, SeenBy}
-use Rattle.views.proofs.MapLaws.{same_or_other, get_insert_same, get_insert_other}
-use Rattle.views.proofs.Seen.{SeenBy-insert, SeenBy-remove, grown}
+use Rattle.views.proofs.Seen.{SeenBy-insert, SeenBy-remove}
 use Rattle.sys_abi.specs.declared.identity.Dir.{Dir}
 use Rattle.sys_abi.specs.declared.identity.RealAddr.{RealAddr}
 use Rattle.sys_abi.specs.declared.identity.VirtAddr.{VirtAddr}
 use Rattle.sys_abi.proofs.OrderLaws.{address_total, address_exact, real_address_total, real_address_exact}
-use Rattle.virt_ids.specs.Pairs.{AreInverse}
 use Rattle.plain_tables.specs.declared.channel.Direction as plain_direction
 use Rattle.plain_tables.specs.declared.channel.Listening.{Listening}
 use Rattle.plain_tables.specs.Tables.{Directions, Listeners}
@@ -24,8 +20,8 @@ use Rattle.wire_net.specs.Directions.{Direction}
 use Rattle.wire_net.specs.Listeners as net_listeners
 use Rattle.wire_net.specs.Networks.{Network}
 use Rattle.host_tables.specs.declared.kernel.Kernel.{Kernel}
-use Rattle.host_tables.specs.Descriptions.{Stage, Addresses}
-use Rattle.host_tables.specs.Network.{Conns, Ports, SameDirection, SameDirections, SameListener, SameListeners}
+use Rattle.host_tables.specs.Descriptions.{Stage}
+use Rattle.host_tables.specs.Network.{Conns, SameDirection, SameDirections, SameListener}
 use Rattle.host_tables.specs.Stands.{Given, Stands}
 use Rattle.host_tables.proofs.Frames.{net_kept}
 use Rattle.host_tables.proofs.Ways.{lead_place}

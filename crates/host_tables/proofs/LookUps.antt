@@ -3,12 +3,12 @@
 --     held_none, held_some         what a descriptor leads to
 --     free_none, free_some         the least free number
 --     process_of, lives_of         a process, and whether it lives
-use Rattle.std.proofs.Common.{◌≡◌, ◌≢◌, ℕ, zero, suc, ◌+◌, ◌-◌, ◌<◌, ◌≤◌, Bool, true, false, cond, Option, Some, None, refl, sym, ap, ◌∙◌, subst, arith}
+use Rattle.std.proofs.Common.{◌≡◌, ◌≢◌, ℕ, zero, suc, ◌+◌, ◌-◌, ◌<◌, ◌≤◌, false, cond, Option, Some, None, refl, sym, ap, ◌∙◌, arith}
 use Rattle.std.specs.Prelude.{option_map, is_some, IsSome}
 use Rattle.std.specs.Option.{option_map_or}
 use Rattle.std.specs.FinMap as map
-use Rattle.std.specs.FinMap.{FinMap}
-use Rattle.std.proofs.lemmas.Option.{same_Some, none-some}
+use Rattle.std.proofs.lemmas.Option.{none-some}
+use Rattle.views.specs.Limits.{DESCRIPTOR_LIMIT}
 use Rattle.views.specs.Seen.{Agree}
 use Rattle.views.proofs.MapLaws.{true_false}
 use Rattle.views.proofs.Seen.{agree_same, agree_found, agree_real}
@@ -27,7 +27,7 @@ use Rattle.plain_tables.specs.declared.process.Process.{Process}
 use Rattle.plain_tables.specs.Tables.{Descriptors, slot, is_live_process}
 use Rattle.plain_process.specs.Attempts.{Try, Fails, Gives, and_then, found}
 use Rattle.plain_machine.specs.declared.kernel.PlainKernel.{PlainKernel}
-use Rattle.plain_machine.specs.Kernel.{Held, held, free_among, free_from, description_at, is_live}
+use Rattle.plain_machine.specs.Kernel.{Held, held, free_among, free_from, is_live}
 use Rattle.host_tables.specs.declared.kernel.Kernel.{Kernel}
 use Rattle.host_tables.specs.Numbers.{Pids, Virts}
 use Rattle.host_tables.specs.Processes.{RealDescriptors, SameDescriptors, SameProcess, to_slot}
@@ -53,7 +53,7 @@ module _ (pids : Pids) (virts : Virts) (real : RealDescriptors) (virt : Descript
   by_slot from n o is =
       ap (λ x. cond (is_some x) (free_among virt p (from + 1) n) (Some from)) (at_slot from ∙ is)
 
-  none_free : (n from : ℕ) → from + n ≡ 256 → AllUsed real r from → free_among virt p from n ≡ None
+  none_free : (n from : ℕ) → from + n ≡ DESCRIPTOR_LIMIT → AllUsed real r from → free_among virt p from n ≡ None
   unfolding free_among
   none_free zero from e used = refl
   none_free (suc n) from e used =
@@ -61,11 +61,11 @@ module _ (pids : Pids) (virts : Virts) (real : RealDescriptors) (virt : Descript
       by_slot from n (Some d.0) d.1
       ∙ none_free n (from + 1) (omega (arith, e)) (λ fd above below. used fd (omega (arith, above)) below)
 
-  lowest_free : (n from fd : ℕ) → from + n ≡ 256 → IsLowestFree real r from fd
+  lowest_free : (n from fd : ℕ) → from + n ≡ DESCRIPTOR_LIMIT → IsLowestFree real r from fd
       → free_among virt p from n ≡ Some fd
   lowest_free zero from fd e lowest = absurd (below from fd e lowest.from_on lowest.in_range)
     where
-      below : (from fd : ℕ) → from + 0 ≡ 256 → from ≤ fd → fd < 256 → ⊥
+      below : (from fd : ℕ) → from + 0 ≡ DESCRIPTOR_LIMIT → from ≤ fd → fd < DESCRIPTOR_LIMIT → ⊥
       below from fd e h l = omega (arith, e, h, l)
   lowest_free (suc n) from fd e lowest = by_found (map.get real (books.slot r from)) refl
       (λ differ. lowest_free n (from + 1) fd (omega (arith, e)) (record {
@@ -122,19 +122,19 @@ module _ (g : Given) (real : Kernel) (k : PlainKernel) (st : Stands g None real 
       (st.descriptions.each d.desc
       ∙ ap (option_map (seen_desc g.virts g.names real.datagrams None d.desc)) there)
 
-  pub free_none : (from : ℕ) → from ≤ 256 → AllUsed real.book.descriptors r from
+  pub free_none : (from : ℕ) → from ≤ DESCRIPTOR_LIMIT → AllUsed real.book.descriptors r from
       → free_from k p from ≡ Fails EMFILE
   unfolding free_from found
   free_none from h used =
       ap (λ o. found o EMFILE)
-      (none_free g.pids g.virts _ _ st.descriptors p r paired (256 - from) from (omega (arith, h)) used)
+      (none_free g.pids g.virts _ _ st.descriptors p r paired (DESCRIPTOR_LIMIT - from) from (omega (arith, h)) used)
 
-  pub free_some : (from fd : ℕ) → from ≤ 256 → IsLowestFree real.book.descriptors r from fd
+  pub free_some : (from fd : ℕ) → from ≤ DESCRIPTOR_LIMIT → IsLowestFree real.book.descriptors r from fd
       → free_from k p from ≡ Gives fd
   unfolding free_from found
   free_some from fd h lowest =
       ap (λ o. found o EMFILE)
-      (lowest_free g.pids g.virts _ _ st.descriptors p r paired (256 - from) from fd (omega (arith, h)) lowest)
+      (lowest_free g.pids g.virts _ _ st.descriptors p r paired (DESCRIPTOR_LIMIT - from) from fd (omega (arith, h)) lowest)
 
   -- the process itself
   pub process_of : (y : real_process.Process) → map.get real.procs.processes r ≡ Some y

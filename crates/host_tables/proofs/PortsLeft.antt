@@ -1,6 +1,6 @@
 -- While the tables stand for a valid kernel part, each node has a port at which nobody listens: there are
 -- fewer listeners than a node has ports.
-use Rattle.std.proofs.Common.{◌≡◌, ℕ, ◌≤◌, List, arith}
+use Rattle.std.proofs.Common.{ℕ, List, arith}
 use Rattle.std.specs.FinMap as map
 use Rattle.views.proofs.SeenLengths.{same_len}
 use Rattle.sys_abi.proofs.OrderLaws.{address_total, address_exact, real_address_total, real_address_exact}

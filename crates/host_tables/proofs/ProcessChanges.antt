@@ -3,29 +3,25 @@
 --     AreNumbered-changed           the numbers are still those of processes and threads
 --     process_changed               a process is another on both sides
 --     same_count, same_threads      how many there are, and how many threads one has
-use Rattle.std.proofs.Common.{◌≡◌, ◌≢◌, ◌⊎◌, ℕ, Bool, true, Option, Some, None, inl, inr, refl, sym, ap, ◌∙◌, subst}
+use Rattle.std.proofs.Common.{◌≡◌, ◌≢◌, ◌⊎◌, ℕ, Option, Some, None, inl, inr, refl, sym, ap, ◌∙◌, subst}
 use Rattle.std.specs.Prelude.{IsSome, is_some, List}
-use Rattle.std.specs.Ordering.{nat_cmp}
 use Rattle.std.specs.Cmp.{nat_cmp_total}
 use Rattle.std.specs.FinMap as map
 use Rattle.std.specs.FinMap.{nat_cmp-IsAntisymmetric}
-use Rattle.std.proofs.lemmas.Option.{same_Some, none-some}
+use Rattle.std.proofs.lemmas.Option.{same_Some}
 use Rattle.views.proofs.MapLaws.{true_false, same_or_other, get_insert_same, get_insert_other}
 use Rattle.views.proofs.Seen.{SeenBy-insert}
 use Rattle.views.proofs.SeenLengths.{same_len}
 use Rattle.sys_abi.specs.declared.identity.VPid.{VPid}
 use Rattle.sys_abi.specs.declared.identity.RealPid.{RealPid}
-use Rattle.sys_abi.specs.declared.maker.Maker.{Maker}
 use Rattle.sys_abi.proofs.OrderLaws.{vpid_total, vpid_exact, real_pid_total, real_pid_exact}
 use Rattle.proc_book.specs.declared.process.Process as real_process
-use Rattle.proc_book.specs.Ends as procs
-use Rattle.virt_ids.specs.Pairs.{AreInverse}
 use Rattle.plain_tables.specs.declared.process.Process.{Process}
 use Rattle.plain_tables.specs.Tables.{Processes, Makers}
 use Rattle.plain_machine.specs.declared.kernel.PlainKernel.{PlainKernel}
 use Rattle.host_tables.specs.declared.kernel.Kernel.{Kernel}
-use Rattle.host_tables.specs.Numbers.{Pids, Virts, AreNumbered, to_real, to_virt, to_real_thread, to_virt_thread}
-use Rattle.host_tables.specs.Processes.{IsSame, SameProcess, SameProcesses}
+use Rattle.host_tables.specs.Numbers.{Pids, AreNumbered, to_real, to_virt, to_real_thread, to_virt_thread}
+use Rattle.host_tables.specs.Processes.{IsSame, SameProcess}
 use Rattle.host_tables.specs.Descriptions.{Stage}
 use Rattle.host_tables.specs.Stands.{Given, Stands}
 use Rattle.host_tables.proofs.Frames.{procs_kept}

@@ -1,7 +1,7 @@
 -- Descriptors put and taken away through the pairs, and whether a description is held.
 --     put_kept, taken_kept      a descriptor more, or in the place of another;  one less
 --     same_held                 either side tells whether a description is held
-use Rattle.std.proofs.Common.{◌≡◌, ℕ, Option, Some, None, refl, sym, ap}
+use Rattle.std.proofs.Common.{◌≡◌, ℕ, Option, Some, refl, ap}
 use Rattle.std.specs.FinMap as map
 use Rattle.views.proofs.Seen.{SeenBy-insert, SeenBy-remove, any_seen}
 use Rattle.sys_abi.specs.declared.identity.VPid.{VPid}

@@ -5,18 +5,16 @@
 --     same_parent               a parent is the same one on both sides
 --     same_wait_by              a wait for a named child
 --     same_wait_any             a wait for any child
-use Rattle.std.proofs.Common.{◌≡◌, ◌≢◌, ℕ, ◌<◌, ◌≤◌, Ordering, Less, Equal, Greater, Bool, true, false, cond}
-use Rattle.std.proofs.Common.{List, Option, Some, None, inl, inr, refl, sym, ap, ◌∙◌, subst, arith, ⊎_elim}
-use Rattle.std.specs.Prelude.{option_map, IsSome, IsTrue, ◌==◌, is_some}
+use Rattle.std.proofs.Common.{◌≡◌, ℕ, ◌<◌, ◌≤◌, Less, Bool, true, false, cond}
+use Rattle.std.proofs.Common.{List, Option, Some, None, refl, sym, ap, ◌∙◌, subst, arith, ⊎_elim}
+use Rattle.std.specs.Prelude.{IsTrue, ◌==◌, is_some}
 use Rattle.std.specs.Ordering.{eq_by_cmp, nat_cmp, ordering_then}
 use Rattle.std.specs.Cmp.{both_ways, nat_cmp_total, tied_itself}
 use Rattle.std.specs.FinMap as map
-use Rattle.std.specs.FinMap.{FinMap}
-use Rattle.std.proofs.lemmas.Option.{same_Some, none-some}
+use Rattle.std.proofs.lemmas.Option.{same_Some}
 use Rattle.std.proofs.lemmas.Bool.{eqb-true, eq-eqb}
 use Rattle.std.proofs.lemmas.Bool.Decides.{nat_tests}
-use Rattle.views.specs.Seen.{Agree, SeenBy}
-use Rattle.views.specs.Leasts.{FindsLeast}
+use Rattle.views.specs.Seen.{Agree}
 use Rattle.views.proofs.MapLaws.{key_tied, same_key, true_false}
 use Rattle.views.proofs.Leasts.{SameLeast, same_least}
 use Rattle.sys_abi.specs.declared.identity.VPid.{VPid}
@@ -34,9 +32,9 @@ use Rattle.proc_book.specs.Ends as ends
 use Rattle.proc_book.specs.Procs as table
 use Rattle.proc_book.proofs.Leasts as real_leasts
 use Rattle.plain_tables.specs.declared.process.Process.{Process}
-use Rattle.plain_tables.specs.Tables.{FIRST_PID, NOBODY, Processes, Makers, pid, same_host, lives_in}
+use Rattle.plain_tables.specs.Tables.{FIRST_PID, NOBODY, Processes, Makers, pid, same_host}
 use Rattle.plain_tables.specs.Ends.{is_child_of}
-use Rattle.plain_tables.specs.Valid.Processes.{IsParent, HasParent, AreMakers, AreParents}
+use Rattle.plain_tables.specs.Valid.Processes.{IsParent, HasParent, AreParents}
 use Rattle.plain_machine.specs.declared.waiting.Waiting.{Waiting}
 use Rattle.plain_machine.specs.declared.waiting.Waiting.TheVariants as plain
 use Rattle.plain_machine.specs.Waits as waits
@@ -104,21 +102,21 @@ module _ (pids : Pids) (virts : Virts) (inverse : AreInverse pids virts) where
         let here = ap (map.get virts) (sym (same_key real_pid_total real_pid_exact who s e)) in
         eq-eqb n p.0 (same_Some n p.0 (sym is ∙ here ∙ inverse.leads_back p.0 who paired)))
 
-    one_same : (q : VPid) (r : RealPid) (life : Life) → map.get pids q.0 ≡ Some r
-        → SameWait pids (waits.wait_of q life) (table.wait_of r life)
+    one_same : (q : VPid) (r : RealPid) (lived : Life) → map.get pids q.0 ≡ Some r
+        → SameWait pids (waits.wait_of q lived) (table.wait_of r lived)
     one_same q r Live leads = tt
     one_same q r (Zombie status) leads = (leads, refl)
 
     abbrev virt_by : VPid → Bool → Life → Waiting
-    virt_by q child life = cond child (waits.wait_of q life) plain.NoChild
+    virt_by q child lived = cond child (waits.wait_of q lived) plain.NoChild
 
     abbrev real_by : RealPid → Bool → Life → real_waiting.Waiting
-    real_by r child life = cond child (table.wait_of r life) found.NoChild
+    real_by r child lived = cond child (table.wait_of r lived) found.NoChild
 
-    either : (q : VPid) (r : RealPid) (life : Life) → map.get pids q.0 ≡ Some r → (child : Bool)
-        → SameWait pids (virt_by q child life) (real_by r child life)
-    either q r life leads true = one_same q r life leads
-    either q r life leads false = tt
+    either : (q : VPid) (r : RealPid) (lived : Life) → map.get pids q.0 ≡ Some r → (child : Bool)
+        → SameWait pids (virt_by q child lived) (real_by r child lived)
+    either q r lived leads true = one_same q r lived leads
+    either q r lived leads false = tt
 
     by_child : (q : VPid) (r : RealPid) → map.get pids q.0 ≡ Some r
         → (o : Option Process) (m : Option real_process.Process)
@@ -130,7 +128,7 @@ module _ (pids : Pids) (virts : Virts) (inverse : AreInverse pids virts) where
         let child = procs.is_child_of who y in
         subst (λ (b : Bool). SameWait pids (virt_by q b x.life) (real_by r child y.life))
         (sym (same_parent y.parent x.parent same.parent))
-        (subst (λ (life : Life). SameWait pids (virt_by q child x.life) (real_by r child life)) same.life
+        (subst (λ (lived : Life). SameWait pids (virt_by q child x.life) (real_by r child lived)) same.life
         (either q r x.life leads child))
 
     -- a child of that number

@@ -3,8 +3,9 @@
 --     IsAsking real who t       the process lives, with the thread, and was handed out its number
 --     IsFresh real who req      the numbers that the request names for new things are nobody's, and a number
 --                               is left for a clone
-use Rattle.std.specs.Prelude.{◌≡◌, ◌≢◌, ℕ, ◌<◌, ◌^◌, true, length, Option, Some, None, IsSome, option_and_then}
+use Rattle.std.specs.Prelude.{◌≡◌, ◌≢◌, ◌<◌, ◌^◌, true, length, Option, Some, None, IsSome, option_and_then}
 use Rattle.std.specs.FinMap as map
+use Rattle.views.specs.Numbers.{ThreadNumber}
 use Rattle.sys_abi.specs.declared.identity.DescId.{DescId}
 use Rattle.sys_abi.specs.declared.identity.ConnId.{ConnId}
 use Rattle.sys_abi.specs.declared.identity.RealPid.{RealPid}
@@ -41,7 +42,7 @@ pub record IsSound (real : Kernel) : Type 0 where
       → is_live_at real.procs.processes at.pid ≡ true
   pub nodes : real.net.nodes ≡ length real.procs.next
 
-pub record IsAsking (t : ProcTable) (who : RealPid) (thread : ℕ) : Type 0 where
+pub record IsAsking (t : ProcTable) (who : RealPid) (thread : ThreadNumber) : Type 0 where
   pub node : who.node < length t.next
   pub below : who.pid < next_of t who.node
   pub alive : is_live_at t.processes who ≡ true

@@ -7,6 +7,7 @@ use Rattle.std.specs.Prelude.{◌≡◌, ℕ, ◌-◌, ◌<◌, Bool, true, List
 use Rattle.std.specs.Option.{option_map_or}
 use Rattle.std.specs.FinMap as map
 use Rattle.std.specs.FinMap.{FinMap}
+use Rattle.views.specs.Numbers.{Byte}
 use Rattle.sys_abi.specs.declared.identity.DescId.{DescId}
 use Rattle.sys_abi.specs.Orders.{desc_cmp}
 use Rattle.datagram_pairs.specs.declared.pairs.DatagramPair.{DatagramPair}
@@ -31,7 +32,7 @@ abbrev pub IsOpenEnd : Pairs → DescId → ℕ → ℕ → Type 0
 IsOpenEnd pairs id queue side =
     (side < 2) × (option_map (told_end side) (map.get pairs queue) ≡ Some (id, true))
 
-abbrev pub inbox_of : Pairs → Object → Option (List (List ℕ))
+abbrev pub inbox_of : Pairs → Object → Option (List (List Byte))
 inbox_of pairs (real_object.Datagram queue side) =
     option_map (λ pair. (end_of side pair).inbox) (map.get pairs queue)
 inbox_of pairs _ = None

@@ -11,6 +11,7 @@ use Rattle.std.specs.Prelude.{◌≡◌, ◌==◌, ℕ, ◌+◌, ◌-◌, ◌^�
 use Rattle.std.specs.Ordering.{nat_cmp}
 use Rattle.std.specs.FinMap as map
 use Rattle.std.specs.FinMap.{FinMap}
+use Rattle.views.specs.Numbers.{ThreadNumber}
 use Rattle.sys_abi.specs.declared.identity.VPid.{VPid}
 use Rattle.sys_abi.specs.declared.identity.RealPid.{RealPid}
 use Rattle.sys_abi.specs.declared.maker.Maker.{Maker}
@@ -56,10 +57,10 @@ to_virt virts r = option_map pid (map.get virts r)
 abbrev pub number_on : ℕ → RealPid → Option ℕ
 number_on node r = if r.node == node then Some r.pid else None
 
-abbrev pub to_real_thread : Pids → ℕ → ℕ → Option ℕ
+abbrev pub to_real_thread : Pids → ℕ → ThreadNumber → Option ThreadNumber
 to_real_thread pids node t = option_and_then (number_on node) (map.get pids t)
 
-abbrev pub to_virt_thread : Virts → ℕ → ℕ → Option ℕ
+abbrev pub to_virt_thread : Virts → ℕ → ThreadNumber → Option ThreadNumber
 to_virt_thread virts node number = map.get virts (real node number)
 
 -- a real number was handed out by its node, and none is 0
@@ -75,11 +76,11 @@ pub record ArePaired (pids : Pids) (virts : Virts) (next : List ℕ) : Type 0 wh
 
 pub record AreNumbered (nodes : List ℕ) (pids : Pids) (processes : Processes) (makers : Makers) : Type 0 where
   pub process : (p : VPid) (x : Process) → map.get processes p ≡ Some x → IsSome (map.get pids p.0)
-  pub thread : (p : VPid) (x : Process) (t : ℕ) → map.get processes p ≡ Some x
+  pub thread : (p : VPid) (x : Process) (t : ThreadNumber) → map.get processes p ≡ Some x
       → IsSome (map.get x.threads t) → IsSome (map.get pids t)
   pub node : (p : VPid) (x : Process) (m : Maker) (r : RealPid) → map.get processes p ≡ Some x
       → map.get makers p ≡ Some m → map.get pids p.0 ≡ Some r → r.node ≡ node_of nodes m.host
-  pub thread_node : (p : VPid) (x : Process) (t : ℕ) (r s : RealPid) → map.get processes p ≡ Some x
+  pub thread_node : (p : VPid) (x : Process) (t : ThreadNumber) (r s : RealPid) → map.get processes p ≡ Some x
       → IsSome (map.get x.threads t) → map.get pids p.0 ≡ Some r → map.get pids t ≡ Some s
       → s.node ≡ r.node
   pub order : (p q : VPid) (r s : RealPid) → IsSome (map.get processes p) → IsSome (map.get processes q)

@@ -5,6 +5,7 @@
 --                                   the numbers for new things are the next ones of their process
 use Rattle.std.specs.Prelude.{◌≡◌, ◌==◌, ◌||◌, ℕ, ◌+◌, ◌<◌, nat_le, nat_lt, not, Bool, true, List, Option, Some, None, IsSome, is_some, option_and_then, Result, Ok, Err, if◌then◌else◌}
 use Rattle.std.specs.FinMap as map
+use Rattle.views.specs.Numbers.{Byte}
 use Rattle.sys_abi.specs.declared.identity.VPid.{VPid}
 use Rattle.sys_abi.specs.declared.identity.DescId.{DescId}
 use Rattle.sys_abi.specs.declared.identity.ConnId.{ConnId}
@@ -98,7 +99,7 @@ abbrev pub place_named : Addresses → VirtAddr → Endpoint → Option RealAddr
 place_named addresses own endpoint =
     option_and_then (λ host. map.get addresses (address_at host endpoint.port)) (named_host own.host endpoint)
 
-abbrev pub target_of : Addresses → VirtAddr → ℕ → List ℕ → Result (Option RealAddr) Errno
+abbrev pub target_of : Addresses → VirtAddr → ℕ → List Byte → Result (Option RealAddr) Errno
 target_of addresses own length given =
     if not (nat_le ADDRESS_SIZE length) then Err (record { 0 = EINVAL }) else
     if not ((endpoint_of given).family == AF_INET) then Err (record { 0 = EAFNOSUPPORT }) else
@@ -113,7 +114,7 @@ abbrev pub IfHeld : Try Held → (VirtAddr → Type 0) → Type 0
 IfHeld (Gives h) M = IfSocket h.description.object M
 IfHeld _ M = Unit {0}
 
-pub record ConnectNames (g : Given) (k : PlainKernel) (length : ℕ) (given : List ℕ)
+pub record ConnectNames (g : Given) (k : PlainKernel) (length : ℕ) (given : List Byte)
     (to : Result (Option RealAddr) Errno) (port_free : Bool) (own : VirtAddr) : Type 0 where
   pub to_is : to ≡ target_of g.addresses own length given
   pub port_is : port_free ≡ has_port k own
@@ -126,7 +127,7 @@ abbrev pub AreListened : Given → PlainKernel → Type 0
 AreListened g k = (a : VirtAddr) (at : RealAddr) → map.get g.addresses a ≡ Some at
     → IsSome (map.get k.listeners a)
 
-abbrev pub IsNamed : Given → PlainKernel → RealPid → VPid → ℕ → List ℕ → RealRequest → Type 0
+abbrev pub IsNamed : Given → PlainKernel → RealPid → VPid → ℕ → List Byte → RealRequest → Type 0
 IsNamed g k who p length given (Eventfd2 value flags id) = id ≡ next_desc k p
 IsNamed g k who p length given (Fcntl fd command argument target) = target ≡ neighbour_of g.pids k p argument
 IsNamed g k who p length given (Openat directory flags id) = id ≡ next_desc k p

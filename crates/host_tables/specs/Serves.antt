@@ -7,6 +7,7 @@
 --     ServesCall                      all of them, for a call of a thread
 use Rattle.std.specs.Prelude.{◌≡◌, ◌==◌, ℕ, ◌%◌, List, [], ◌∷◌, Bool, true, false, Option, Some, None, if◌then◌else◌}
 use Rattle.std.specs.FinMap as map
+use Rattle.views.specs.Numbers.{Byte, ThreadNumber}
 use Rattle.sys_abi.specs.declared.identity.VPid.{VPid}
 use Rattle.sys_abi.specs.declared.identity.DescId.{DescId}
 use Rattle.sys_abi.specs.declared.identity.ConnId.{ConnId}
@@ -73,7 +74,7 @@ abbrev pub ByPort : ValueRelation
 ByPort n m g = m ≡ 0
 
 -- what stands in the transfer then: the guest's bytes where there are any
-abbrev pub bytes_or : List ℕ → List ℕ → List ℕ
+abbrev pub bytes_or : List Byte → List Byte → List Byte
 bytes_or before [] = before
 bytes_or before (byte ∷ bytes) = byte ∷ bytes
 
@@ -98,19 +99,19 @@ After = ℕ → ℕ → Given → Given
 abbrev pub same : After
 same n m g = g
 
-pub record Gave (V : ℕ → ℕ → Type 0) (g : Given) (new : Kernel) (before now : List ℕ) (a : Attempt)
+pub record Gave (V : ℕ → ℕ → Type 0) (g : Given) (new : Kernel) (before now : List Byte) (a : Attempt)
     (s : Served) : Type 0 where
   pub reply : IsReply V a s.reply
   pub bytes : now ≡ bytes_or before s.bytes
   pub stands : Stands g None new s.kernel
 
-pub record Unchanged (old new : Kernel) (before now : List ℕ) (a said : Attempt) : Type 0 where
+pub record Unchanged (old new : Kernel) (before now : List Byte) (a said : Attempt) : Type 0 where
   pub answer : a ≡ said
   pub kernel : new ≡ old
   pub bytes : now ≡ before
 
-abbrev pub Serves : ValueRelation → After → Given → Kernel → Kernel → List ℕ → List ℕ → Attempt → Try Served
-    → Type 0
+abbrev pub Serves : ValueRelation → After → Given → Kernel → Kernel → List Byte → List Byte → Attempt
+    → Try Served → Type 0
 Serves V after g old new before now a (Fails e) =
     Unchanged old new before now a (answer.Fails (record { 0 = e }))
 Serves V after g old new before now a NotReady = Unchanged old new before now a answer.NotReady
@@ -167,7 +168,7 @@ abbrev pub with_listening : Given → RealAddr → Try (Held × VirtAddr) → Gi
 with_listening g at (Gives found) = with_place (with_name g found.0.desc found.1) found.1 at
 with_listening g at _ = g
 
-abbrev pub GivenAfter : RealPid → PlainKernel → VPid → ℕ → List ℕ → RealRequest → After
+abbrev pub GivenAfter : RealPid → PlainKernel → VPid → ℕ → List Byte → RealRequest → After
 GivenAfter who k p length given (Pipe2 flags ids) n m g = with_new_channel g ids PIPE
 GivenAfter who k p length given (Socket domain socket_type protocol id) n m g =
     with_new_name g id (address_at (host_of k p) 0)
@@ -190,15 +191,17 @@ row_of (Clone flags) m = silent m
 row_of _ m = m
 
 -- a call of the real thread, whatever the length that a connect's guest names for its address
-abbrev pub ServesAttempt : Kernel → Kernel → RealPid → ℕ → RealRequest → List ℕ → List ℕ → Attempt → Type 0
+abbrev pub ServesAttempt : Kernel → Kernel → RealPid → ThreadNumber → RealRequest → List Byte → List Byte → Attempt
+    → Type 0
 ServesAttempt old new who thread req before now a =
-    Through old who (λ g k p. (t length : ℕ) → map.get g.pids t ≡ Some (real who.node thread)
+    Through old who (λ g k p. (t : ThreadNumber) (length : ℕ) → map.get g.pids t ≡ Some (real who.node thread)
     → IsNamed g k who p length before req
     → Serves (ValueOf who req) (GivenAfter who k p length before req) g old new before now a
     (row_of req (row k p t (plain_of length req) before)))
 
 -- after want of memory all is as before
-abbrev pub ServesCall : Kernel → Kernel → RealPid → ℕ → RealRequest → List ℕ → List ℕ → KernelReply → Type 0
+abbrev pub ServesCall : Kernel → Kernel → RealPid → ThreadNumber → RealRequest → List Byte → List Byte → KernelReply
+    → Type 0
 ServesCall old new who thread req before now (kernel_reply.Done n) =
     ServesAttempt old new who thread req before now (answer.Gives n)
 ServesCall old new who thread req before now (kernel_reply.Error e) =

@@ -5,6 +5,7 @@
 --     Calls                     what a wrapped call does
 use Rattle.std.specs.Prelude.{◌≡◌, ◌⊎◌, ℕ, Bool, true, false, List, length, Option, Some, None, IsSome, option_map}
 use Rattle.std.specs.FinMap as map
+use Rattle.views.specs.Numbers.{Byte}
 use Rattle.sys_abi.specs.declared.identity.VPid.{VPid}
 use Rattle.sys_abi.specs.declared.identity.DescId.{DescId}
 use Rattle.sys_abi.specs.declared.identity.ConnId.{ConnId}
@@ -88,20 +89,20 @@ pub record Turn : Type 0 where
   pub next_old : ℕ
   pub next_new : ℕ
 
-pub record StaysAs (turn : Turn) (before now : List ℕ) (a said : Attempt) : Type 0 where
+pub record StaysAs (turn : Turn) (before now : List Byte) (a said : Attempt) : Type 0 where
   pub answer : a ≡ said
   pub system : turn.new ≡ turn.old
   pub next : turn.next_new ≡ turn.next_old
   pub bytes : now ≡ before
 
-pub record GoesOn (turn : Turn) (before now : List ℕ) (a : Attempt) (s : Served) : Type 0 where
+pub record GoesOn (turn : Turn) (before now : List Byte) (a : Attempt) (s : Served) : Type 0 where
   pub reply : IsReply (λ n m. n ≡ m) a s.reply
   pub bytes : now ≡ bytes_or before s.bytes
   pub stands : StandsFor turn.new None s.kernel
   pub next : s.kernel.next_id ≡ turn.next_new
 
 -- by cases on the plain row, with the guest's numbers
-abbrev pub Calls : Turn → List ℕ → List ℕ → Attempt → Try Served → Type 0
+abbrev pub Calls : Turn → List Byte → List Byte → Attempt → Try Served → Type 0
 Calls turn before now a (Fails e) = StaysAs turn before now a (answer.Fails (record { 0 = e }))
 Calls turn before now a NotReady = StaysAs turn before now a answer.NotReady
 Calls turn before now a (Gives s) = GoesOn turn before now a s
