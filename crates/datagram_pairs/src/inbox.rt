@@ -1,3 +1,6 @@
+ghost use Rattle.std.specs.Prelude.{◌≡◌, []};
+
+use std::alloc::Global;
 use std::collections::VecDeque;
 use std::marker::Model;
 use views::list_of::ListOf;
@@ -14,4 +17,14 @@ impl Model for Inbox {
     ghost Value = { List (List ℕ) };
 
     ghost view = { λ a. a.messages.items };
+}
+
+impl Inbox {
+    pub fn new(alloc: Global) -> Inbox
+        ensures { result ≡ [] }
+    {
+        Inbox {
+            messages: VecDeque::new(alloc),
+        }
+    }
 }

@@ -5,6 +5,7 @@
 //! open, and keeps the description of an end that has closed: the other end is still known by it.
 #![tactic(auto)]
 
+mod closing;
 mod inbox;
 mod pairs;
 

@@ -102,21 +102,21 @@ module _ (pids : Pids) (virts : Virts) (inverse : AreInverse pids virts) where
         let here = ap (map.get virts) (sym (same_key real_pid_total real_pid_exact who s e)) in
         eq-eqb n p.0 (same_Some n p.0 (sym is ∙ here ∙ inverse.leads_back p.0 who paired)))
 
-    one_same : (q : VPid) (r : RealPid) (lived : Life) → map.get pids q.0 ≡ Some r
-        → SameWait pids (waits.wait_of q lived) (table.wait_of r lived)
+    one_same : (q : VPid) (r : RealPid) (life_is : Life) → map.get pids q.0 ≡ Some r
+        → SameWait pids (waits.wait_of q life_is) (table.wait_of r life_is)
     one_same q r Live leads = tt
     one_same q r (Zombie status) leads = (leads, refl)
 
     abbrev virt_by : VPid → Bool → Life → Waiting
-    virt_by q child lived = cond child (waits.wait_of q lived) plain.NoChild
+    virt_by q child life_is = cond child (waits.wait_of q life_is) plain.NoChild
 
     abbrev real_by : RealPid → Bool → Life → real_waiting.Waiting
-    real_by r child lived = cond child (table.wait_of r lived) found.NoChild
+    real_by r child life_is = cond child (table.wait_of r life_is) found.NoChild
 
-    either : (q : VPid) (r : RealPid) (lived : Life) → map.get pids q.0 ≡ Some r → (child : Bool)
-        → SameWait pids (virt_by q child lived) (real_by r child lived)
-    either q r lived leads true = one_same q r lived leads
-    either q r lived leads false = tt
+    either : (q : VPid) (r : RealPid) (life_is : Life) → map.get pids q.0 ≡ Some r → (child : Bool)
+        → SameWait pids (virt_by q child life_is) (real_by r child life_is)
+    either q r life_is leads true = one_same q r life_is leads
+    either q r life_is leads false = tt
 
     by_child : (q : VPid) (r : RealPid) → map.get pids q.0 ≡ Some r
         → (o : Option Process) (m : Option real_process.Process)
@@ -128,7 +128,7 @@ module _ (pids : Pids) (virts : Virts) (inverse : AreInverse pids virts) where
         let child = procs.is_child_of who y in
         subst (λ (b : Bool). SameWait pids (virt_by q b x.life) (real_by r child y.life))
         (sym (same_parent y.parent x.parent same.parent))
-        (subst (λ (lived : Life). SameWait pids (virt_by q child x.life) (real_by r child lived)) same.life
+        (subst (λ (life_is : Life). SameWait pids (virt_by q child x.life) (real_by r child life_is)) same.life
         (either q r x.life leads child))
 
     -- a child of that number
