@@ -16,11 +16,12 @@ use Rattle.sys_abi.specs.declared.identity.RealPid.{RealPid}
 use Rattle.sys_abi.proofs.OrderLaws.{desc_total, desc_exact}
 use Rattle.datagram_pairs.specs.declared.pairs.DatagramPair.{DatagramPair}
 use Rattle.datagram_pairs.specs.Pairs.{Pairs, after_close}
-use Rattle.fd_book.specs.declared.description.Desc.{Desc}
-use Rattle.fd_book.specs.declared.description.Object as real_object
-use Rattle.fd_book.specs.declared.description.Object.TheVariants as object
-use Rattle.fd_book.specs.declared.real_slot.RealSlot.{RealSlot}
+use Rattle.fd_tables.specs.declared.description.Desc.{Desc}
+use Rattle.fd_tables.specs.declared.description.Object as real_object
+use Rattle.fd_tables.specs.declared.description.Object.TheVariants as object
+use Rattle.fd_tables.specs.declared.real_slot.RealSlot.{RealSlot}
 use Rattle.fd_book.specs.Books as books
+use Rattle.fd_tables.specs.Slots as slots
 use Rattle.fd_book.specs.Books.{Books}
 use Rattle.plain_tables.specs.Tables.{slot, is_held}
 use Rattle.plain_machine.specs.declared.kernel.PlainKernel.{PlainKernel}
@@ -75,7 +76,7 @@ module _ (g : Given) (old : Kernel) (k : PlainKernel) (whole : IsKernel k) (st :
 module _ (g : Given) (old : Kernel) (k : PlainKernel) (st : Stands g None old k) (p : VPid) (who : RealPid)
     (paired : map.get g.pids p.0 ≡ Some who) (fd : ℕ) where
   abbrev place : RealSlot
-  place = books.slot who fd
+  place = slots.slot who fd
 
   slot_is : map.get k.descriptors (slot p fd) ≡ map.get old.book.descriptors place
   slot_is = at_slot g.pids g.virts old.book.descriptors k.descriptors st.descriptors p who paired fd
@@ -272,22 +273,22 @@ module _ (b : Books) (at : RealSlot) (d : Descriptor) (is : map.get b.descriptor
 
 module _ (g : Given) (old : Kernel) (k : PlainKernel) (whole : IsKernel k) (st : Stands g None old k) (p : VPid)
     (who : RealPid) (paired : map.get g.pids p.0 ≡ Some who) (fd : ℕ) (d : Descriptor)
-    (is : map.get old.book.descriptors (books.slot who fd) ≡ Some d) (b : Books)
-    (after : b ≡ books.after_close old.book (books.slot who fd)) where
-  pub closed_held : books.lost_by_close old.book (books.slot who fd) ≡ None
+    (is : map.get old.book.descriptors (slots.slot who fd) ≡ Some d) (b : Books)
+    (after : b ≡ books.after_close old.book (slots.slot who fd)) where
+  pub closed_held : books.lost_by_close old.book (slots.slot who fd) ≡ None
       → Stands g None (record old { book = b }) (close_fd k p fd)
   closed_held none =
-      let held = held_none old.book (books.slot who fd) d is none in
+      let held = held_none old.book (slots.slot who fd) d is none in
       subst (λ w. Stands g None (record old { book = w }) (close_fd k p fd))
-      (sym (after ∙ after_is old.book (books.slot who fd) d is true held)) (kept g old k st p who paired fd d is held)
+      (sym (after ∙ after_is old.book (slots.slot who fd) d is true held)) (kept g old k st p who paired fd d is held)
 
   module _ (x : Desc) (described : map.get old.book.descriptions d.desc ≡ Some x) (id : DescId)
-      (lost : books.lost_by_close old.book (books.slot who fd) ≡ Some id) where
-    not_held : books.is_held (map.remove old.book.descriptors (books.slot who fd)) d.desc ≡ false
-    not_held = (held_some old.book (books.slot who fd) d is id lost).0
+      (lost : books.lost_by_close old.book (slots.slot who fd) ≡ Some id) where
+    not_held : books.is_held (map.remove old.book.descriptors (slots.slot who fd)) d.desc ≡ false
+    not_held = (held_some old.book (slots.slot who fd) d is id lost).0
 
     b_is : b ≡ less_descs g old k st p who paired fd d is x described
-    b_is = after ∙ after_is old.book (books.slot who fd) d is false not_held
+    b_is = after ∙ after_is old.book (slots.slot who fd) d is false not_held
 
     -- the kernel in between, and what is left to do
     abbrev pub in_between : PlainKernel
@@ -323,10 +324,10 @@ module _ (g : Given) (old : Kernel) (k : PlainKernel) (whole : IsKernel k) (st :
 
 module _ (g : Given) (old : Kernel) (k : PlainKernel) (st : Stands g None old k) (p : VPid) (who : RealPid)
     (paired : map.get g.pids p.0 ≡ Some who) (fd : ℕ)
-    (none : map.get old.book.descriptors (books.slot who fd) ≡ None) where
-  pub closed_nothing : (b : Books) → b ≡ books.after_close old.book (books.slot who fd)
+    (none : map.get old.book.descriptors (slots.slot who fd) ≡ None) where
+  pub closed_nothing : (b : Books) → b ≡ books.after_close old.book (slots.slot who fd)
       → Stands g None (record old { book = b }) (close_fd k p fd)
   closed_nothing b is =
       subst (λ (w : Books). Stands g None (record old { book = w }) (close_fd k p fd))
-      (sym (is ∙ after_none old.book (books.slot who fd) none))
+      (sym (is ∙ after_none old.book (slots.slot who fd) none))
       (subst (Stands g None old) (sym (closed_none g old k st p who paired fd none)) st)

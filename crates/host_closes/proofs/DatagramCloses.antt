@@ -13,9 +13,9 @@ use Rattle.sys_abi.specs.declared.identity.DescId.{DescId}
 use Rattle.sys_abi.proofs.OrderLaws.{desc_total, desc_exact}
 use Rattle.datagram_pairs.specs.declared.pairs.DatagramPair.{DatagramPair}
 use Rattle.datagram_pairs.specs.Pairs.{Pairs, end_of, is_open, without_end, put_back, after_close}
-use Rattle.fd_book.specs.declared.description.Desc.{Desc}
-use Rattle.fd_book.specs.declared.description.Object as real_object
-use Rattle.fd_book.specs.declared.description.Object.TheVariants as object
+use Rattle.fd_tables.specs.declared.description.Desc.{Desc}
+use Rattle.fd_tables.specs.declared.description.Object as real_object
+use Rattle.fd_tables.specs.declared.description.Object.TheVariants as object
 use Rattle.plain_tables.specs.declared.description.Object.TheVariants as plain
 use Rattle.plain_tables.specs.Tables.{Inboxes}
 use Rattle.host_tables.specs.Datagrams.{RealDescriptions, peer_of, told_end, IsOpenEnd, inbox_of, SameInboxes}

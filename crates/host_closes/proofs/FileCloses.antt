@@ -14,7 +14,7 @@ use Rattle.views.proofs.MapLaws.{true_false}
 use Rattle.views.proofs.MapValues.{get-retained, none_among-values, some_among-values}
 use Rattle.sys_abi.specs.Names.{name_cmp}
 use Rattle.sys_abi.proofs.OrderLaws.{name_total, name_exact}
-use Rattle.fd_book.specs.Books.{is_of_file}
+use Rattle.fd_tables.specs.Parts.{is_of_file}
 use Rattle.vfs_files.specs.FileTable.{FileTable, after_forget}
 use Rattle.vfs_files.specs.Keeping.{IsWhole}
 use Rattle.vfs_files.specs.Names.{IsNameOf, without_file}

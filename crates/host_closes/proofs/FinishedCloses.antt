@@ -13,11 +13,12 @@ use Rattle.sys_abi.specs.declared.identity.DescId.{DescId}
 use Rattle.sys_abi.specs.declared.identity.RealPid.{RealPid}
 use Rattle.sys_abi.specs.declared.identity.VirtAddr.{VirtAddr}
 use Rattle.datagram_pairs.specs.Pairs.{Pairs, after_close}
-use Rattle.fd_book.specs.declared.description.Desc.{Desc}
-use Rattle.fd_book.specs.declared.description.Object as real_object
-use Rattle.fd_book.specs.declared.description.Object.TheVariants as object
-use Rattle.fd_book.specs.declared.real_slot.RealSlot.{RealSlot}
+use Rattle.fd_tables.specs.declared.description.Desc.{Desc}
+use Rattle.fd_tables.specs.declared.description.Object as real_object
+use Rattle.fd_tables.specs.declared.description.Object.TheVariants as object
+use Rattle.fd_tables.specs.declared.real_slot.RealSlot.{RealSlot}
 use Rattle.fd_book.specs.Books as books
+use Rattle.fd_tables.specs.Slots as slots
 use Rattle.fd_book.specs.Books.{Books, IsWhole}
 use Rattle.plain_tables.specs.declared.channel.Listening.{Listening}
 use Rattle.plain_tables.specs.declared.description.Object as plain
@@ -70,7 +71,7 @@ let_go_put p fd (Some d) k id o = let_go_beside p fd d k id o
 
 put_both : (g : Given) (real : Kernel) (k : PlainKernel) → Stands g None real k → (p : VPid) (r : RealPid)
     → map.get g.pids p.0 ≡ Some r → (fd : ℕ) (extra : Option Descriptor)
-    → Stands g None (record real { book = put_in (books.slot r fd) extra real.book }) (put_on p fd extra k)
+    → Stands g None (record real { book = put_in (slots.slot r fd) extra real.book }) (put_on p fd extra k)
 put_both g real k st p r paired fd None = st
 put_both g real k st p r paired fd (Some d) = put_kept g None real k st p r paired fd d
 
@@ -78,7 +79,7 @@ module _ (g : Given) (old : Kernel) (k : PlainKernel) (whole : IsKernel k) (st :
     (who : RealPid) (paired : map.get g.pids p.0 ≡ Some who) (fd : ℕ) (sound : IsWhole old.book)
     (extra : Option Descriptor) where
   abbrev at : RealSlot
-  at = books.slot who fd
+  at = slots.slot who fd
 
   abbrev b : Books
   b = books.after_close old.book at

@@ -7,12 +7,12 @@ use Rattle.views.specs.Seen.{Agree}
 use Rattle.sys_abi.specs.declared.identity.ConnId.{ConnId}
 use Rattle.sys_abi.specs.declared.identity.RealAddr.{RealAddr}
 use Rattle.sys_abi.specs.declared.identity.VirtAddr.{VirtAddr}
-use Rattle.fd_book.specs.declared.description.Object.TheVariants as object
+use Rattle.fd_tables.specs.declared.description.Object.TheVariants as object
 use Rattle.plain_tables.specs.declared.channel.Listening.{Listening}
 use Rattle.plain_machine.specs.declared.kernel.PlainKernel.{PlainKernel}
 use Rattle.plain_machine.specs.Channels.{close_pending, close_queue, without_listener, close_listener}
-use Rattle.wire_net.specs.declared.listener.Listener.{Listener}
-use Rattle.wire_net.specs.Channels as net
+use Rattle.wire_channels.specs.declared.listener.Listener.{Listener}
+use Rattle.wire_channels.specs.Channels as channels
 use Rattle.wire_net.specs.Networks.{waiting_at}
 use Rattle.host_tables.specs.declared.kernel.Kernel.{Kernel}
 use Rattle.host_tables.specs.Descriptions.{address_of}
@@ -26,7 +26,7 @@ abbrev without_place : Kernel → RealAddr → List ConnId → Kernel
 without_place real at queue = record real {
   net = record real.net {
     listeners = map.remove real.net.listeners at;
-    channels = net.after_closes 1 real.net.channels queue;
+    channels = channels.after_closes 1 real.net.channels queue;
   };
 }
 

@@ -22,8 +22,8 @@ use Rattle.plain_tables.specs.Closing.{with_closed}
 use Rattle.plain_tables.specs.Objects.{dir}
 use Rattle.plain_tables.specs.Tables.{Channels, Directions}
 use Rattle.plain_machine.specs.declared.kernel.PlainKernel.{PlainKernel}
-use Rattle.wire_net.specs.declared.channel.Channel.{Channel}
-use Rattle.wire_net.specs.Channels as net
+use Rattle.wire_channels.specs.declared.channel.Channel.{Channel}
+use Rattle.wire_channels.specs.Channels as channels
 use Rattle.wire_net.specs.Networks.{Network}
 use Rattle.host_tables.specs.declared.kernel.Kernel.{Kernel}
 use Rattle.host_tables.specs.Network.{Conns, kind_of, seen_channel, SameChannels, SameDirections, IsSilent}
@@ -94,7 +94,7 @@ pub record IsBoth (conns : Conns) (virt : Channels) (id : ConnId) (channel : Cha
   pub seen : map.get virt id ≡ Some (seen_channel channel conn)
   pub two : length channel.open_ends ≡ 2
 
-pub both : (conns : Conns) (virt : Channels) (real : net.Channels) → SameChannels conns virt real → (id : ConnId)
+pub both : (conns : Conns) (virt : Channels) (real : channels.Channels) → SameChannels conns virt real → (id : ConnId)
     (channel : Channel) → map.get real id ≡ Some channel → IsBoth conns virt id channel
 both conns virt real same id channel is =
     let found = some_value (map.get conns id) (same.listed id (ap is_some is)) in
@@ -107,13 +107,13 @@ both conns virt real same id channel is =
       two = same.sides id channel is;
     }
 
-module _ (conns : Conns) (virt : Channels) (real : net.Channels) (same : SameChannels conns virt real)
+module _ (conns : Conns) (virt : Channels) (real : channels.Channels) (same : SameChannels conns virt real)
     (id : ConnId) (side : ℕ) (less : side < 2) (channel : Channel) (there : map.get real id ≡ Some channel) where
   abbrev here : IsBoth conns virt id channel
   here = both conns virt real same id channel there
 
   abbrev marked : Channel
-  marked = net.with_closed_end side channel
+  marked = channels.with_closed_end side channel
 
   abbrev seen_at : ConnId → Option Channel → Option plain.Channel
   seen_at q o = option_and_then (λ channel. option_map (seen_channel channel) (map.get conns q)) o
@@ -156,19 +156,19 @@ module _ (t : Network) (conns : Conns) (virt : Directions) (same : SameDirection
     (id : ConnId) (side : ℕ) (channel : Channel) (there : map.get t.channels id ≡ Some channel)
     (silent : IsSilent side channel) where
   abbrev mark : Channel
-  mark = net.with_closed_end side channel
+  mark = channels.with_closed_end side channel
 
   abbrev t' : Network
   t' = record t { channels = map.insert t.channels id mark }
 
-  same_real : (e : Dir) → net.direction_at t'.channels e ≡ net.direction_at t.channels e
+  same_real : (e : Dir) → channels.direction_at t'.channels e ≡ channels.direction_at t.channels e
   same_real e = elim (same_or_other conn_total conn_exact e.conn id) [
     | inl is ↦
-        ap (λ x. option_map (net.direction_of e.side) (map.get t'.channels x)) is
-        ∙ ap (option_map (net.direction_of e.side)) (get_insert_same conn_total conn_exact t.channels id mark)
-        ∙ sym (ap (λ x. option_map (net.direction_of e.side) (map.get t.channels x)) is
-        ∙ ap (option_map (net.direction_of e.side)) there)
-    | inr differ ↦ ap (option_map (net.direction_of e.side))
+        ap (λ x. option_map (channels.direction_of e.side) (map.get t'.channels x)) is
+        ∙ ap (option_map (channels.direction_of e.side)) (get_insert_same conn_total conn_exact t.channels id mark)
+        ∙ sym (ap (λ x. option_map (channels.direction_of e.side) (map.get t.channels x)) is
+        ∙ ap (option_map (channels.direction_of e.side)) there)
+    | inr differ ↦ ap (option_map (channels.direction_of e.side))
         (get_insert_other conn_total conn_exact t.channels id mark e.conn differ)
   ]
 
@@ -202,12 +202,12 @@ module _ (g : Given) (real : Kernel) (k : PlainKernel) (st : Stands g None real 
     (less : side < 2) (channel : Channel) (there : map.get real.net.channels id ≡ Some channel) where
   pub end_marked : IsSilent side channel → (c : Conn) → map.get g.conns id ≡ Some c → Stands g None
       (record real { net = record real.net {
-        channels = map.insert real.net.channels id (net.with_closed_end side channel);
+        channels = map.insert real.net.channels id (channels.with_closed_end side channel);
       } })
       (record k { channels = map.insert k.channels id (with_closed side (seen_channel channel c)) })
   end_marked silent c listed =
       net_kept g None real k st
-      (record real.net { channels = map.insert real.net.channels id (net.with_closed_end side channel) })
+      (record real.net { channels = map.insert real.net.channels id (channels.with_closed_end side channel) })
       (map.insert k.channels id (with_closed side (seen_channel channel c))) k.directions k.listeners
       (SameChannels-marked g.conns k.channels real.net.channels st.channels id side less channel there c listed)
       (SameDirections-marked real.net g.conns k.directions st.directions id side channel there silent)
@@ -215,7 +215,7 @@ module _ (g : Given) (real : Kernel) (k : PlainKernel) (st : Stands g None real 
 
 -- a channel goes
 
-module _ (conns : Conns) (virt : Channels) (real : net.Channels) (same : SameChannels conns virt real)
+module _ (conns : Conns) (virt : Channels) (real : channels.Channels) (same : SameChannels conns virt real)
     (id : ConnId) where
   was_there : (q : ConnId) (x : Channel) → map.get (map.remove real id) q ≡ Some x → map.get real q ≡ Some x
   was_there q x is = elim (same_or_other conn_total conn_exact q id) [
@@ -274,10 +274,10 @@ module _ (t : Network) (conns : Conns) (virt : Directions) (same : SameDirection
       get_remove_other dir_total dir_exact without_one (dir id 1) e second
       ∙ get_remove_other dir_total dir_exact virt (dir id 0) e first
 
-  none_real : (e : Dir) → e.conn ≡ id → net.direction_at less_net.channels e ≡ None
+  none_real : (e : Dir) → e.conn ≡ id → channels.direction_at less_net.channels e ≡ None
   none_real e at =
-      ap (λ x. option_map (net.direction_of e.side) (map.get less_net.channels x)) at
-      ∙ ap (option_map (net.direction_of e.side)) (get_remove_same conn_total conn_exact t.channels id)
+      ap (λ x. option_map (channels.direction_of e.side) (map.get less_net.channels x)) at
+      ∙ ap (option_map (channels.direction_of e.side)) (get_remove_same conn_total conn_exact t.channels id)
 
   pub SameDirections-gone : SameDirections less_net None conns without_both
   SameDirections-gone =
@@ -288,7 +288,7 @@ module _ (t : Network) (conns : Conns) (virt : Directions) (same : SameDirection
         | inr differ ↦ inl (record {
             virt_same = beside e (λ same. differ (ap (λ (q : Dir). q.conn) same))
                 (λ same. differ (ap (λ (q : Dir). q.conn) same));
-            real_same = ap (option_map (net.direction_of e.side))
+            real_same = ap (option_map (channels.direction_of e.side))
                 (get_remove_other conn_total conn_exact t.channels id e.conn differ);
             same_use = refl;
           })

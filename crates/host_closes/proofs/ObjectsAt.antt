@@ -12,10 +12,10 @@ use Rattle.sys_abi.specs.declared.descriptor.Descriptor.{Descriptor}
 use Rattle.sys_abi.specs.declared.identity.ConnId.{ConnId}
 use Rattle.sys_abi.specs.declared.identity.DescId.{DescId}
 use Rattle.sys_abi.specs.declared.identity.RealAddr.{RealAddr}
-use Rattle.fd_book.specs.declared.description.Desc.{Desc}
-use Rattle.fd_book.specs.declared.description.Object.{Object}
-use Rattle.fd_book.specs.declared.description.Object.TheVariants as object
-use Rattle.fd_book.specs.declared.real_slot.RealSlot.{RealSlot}
+use Rattle.fd_tables.specs.declared.description.Desc.{Desc}
+use Rattle.fd_tables.specs.declared.description.Object.{Object}
+use Rattle.fd_tables.specs.declared.description.Object.TheVariants as object
+use Rattle.fd_tables.specs.declared.real_slot.RealSlot.{RealSlot}
 use Rattle.fd_book.specs.Books.{Books, IsWhole}
 
 pub record IsOpen (b : Books) (at : RealSlot) (o : Object) : Type 0 where

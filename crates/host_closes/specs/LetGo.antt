@@ -7,9 +7,9 @@ use Rattle.std.specs.Prelude.{◌≡◌, ℕ, ◌<◌, [], Option, Some, None, I
 use Rattle.std.specs.FinMap as map
 use Rattle.sys_abi.specs.declared.identity.DescId.{DescId}
 use Rattle.datagram_pairs.specs.Pairs.{after_close}
-use Rattle.fd_book.specs.declared.description.Object.{Object}
-use Rattle.fd_book.specs.declared.description.Object.TheVariants.{File, Stream, Listener, Datagram}
-use Rattle.fd_book.specs.declared.real_slot.RealSlot.{RealSlot}
+use Rattle.fd_tables.specs.declared.description.Object.{Object}
+use Rattle.fd_tables.specs.declared.description.Object.TheVariants.{File, Stream, Listener, Datagram}
+use Rattle.fd_tables.specs.declared.real_slot.RealSlot.{RealSlot}
 use Rattle.fd_book.specs.Books.{Books, lost_by_close}
 use Rattle.plain_machine.specs.declared.kernel.PlainKernel.{PlainKernel}
 use Rattle.plain_machine.specs.Closing.{let_go}

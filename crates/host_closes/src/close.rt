@@ -1,6 +1,6 @@
 ghost use Rattle.std.specs.Prelude.{◌≡◌, None, Some, IfSome, IfNone, option_map, option_and_then};
 ghost use Rattle.std.specs.FinMap as map;
-ghost use Rattle.fd_book.specs.Books as books;
+ghost use Rattle.fd_tables.specs.Slots as slots;
 ghost use Rattle.plain_machine.specs.Closing as plain;
 ghost use Rattle.host_tables.specs.Serves.{Through};
 ghost use Rattle.host_tables.specs.Stands.{Stands};
@@ -22,7 +22,7 @@ pub struct Closed {
 pub fn object_at(book: &Book, who: RealPid, fd: u32) -> Option<Object>
     ensures { result ≡ option_and_then
         (λ descriptor. option_map (λ desc. desc.object) (map.get book.now.descriptions descriptor.desc))
-        (map.get book.now.descriptors (books.slot who fd)) }
+        (map.get book.now.descriptors (slots.slot who fd)) }
 {
     let Some(id) = book.get(who, Fd(fd)) else {
         return None;
@@ -54,7 +54,7 @@ pub fn finish(kernel: &mut Kernel, lost: Option<DescId>, object: Option<Object>)
 /// that. Takes no memory.
 pub fn close_one(kernel: &mut Kernel, who: RealPid, fd: u32) -> Option<Closed>
     ensures closed { Through kernel.old who (λ g k p. Stands g None kernel.new (plain.close_fd k p fd)) }
-    ensures told { IsToldClose kernel.old.book (books.slot who fd) result }
+    ensures told { IsToldClose kernel.old.book (slots.slot who fd) result }
 {
     kernel.book.whole();
     let object = object_at(&kernel.book, who, fd);

@@ -20,16 +20,16 @@ use Rattle.plain_tables.specs.Objects.{dir}
 use Rattle.plain_tables.specs.Tables.{Channels, Directions}
 use Rattle.plain_machine.specs.declared.kernel.PlainKernel.{PlainKernel}
 use Rattle.plain_machine.specs.Channels.{open_channel, empty_direction, with_channel}
-use Rattle.wire_net.specs.declared.channel.Channel.{Channel}
-use Rattle.wire_net.specs.Directions.{unused}
-use Rattle.wire_net.specs.Channels as net
+use Rattle.wire_channels.specs.declared.channel.Channel.{Channel}
+use Rattle.wire_channels.specs.Directions.{unused}
+use Rattle.wire_channels.specs.Channels as channels
 use Rattle.wire_net.specs.Networks.{Network}
 use Rattle.host_tables.specs.declared.kernel.Kernel.{Kernel}
 use Rattle.host_tables.specs.Network.{Conns, kind_of, seen_channel, SameChannels, is_pipe_conn, SameDirection, SameDirections}
 use Rattle.host_tables.specs.Stands.{Given, Stands, open_conn, with_conn}
 use Rattle.host_tables.proofs.DirectionChanges.{same_direction, re_directed}
 
-module _ (conns : Conns) (virt : Channels) (real : net.Channels) (same : SameChannels conns virt real)
+module _ (conns : Conns) (virt : Channels) (real : channels.Channels) (same : SameChannels conns virt real)
     (id : ConnId) (kind : ℕ) (first second : Option VirtAddr) (new : map.get real id ≡ None) where
   abbrev conn : Conn
   conn = open_conn id kind first second
@@ -43,8 +43,8 @@ module _ (conns : Conns) (virt : Channels) (real : net.Channels) (same : SameCha
   abbrev virt' : Channels
   virt' = map.insert virt id made
 
-  abbrev real' : net.Channels
-  real' = map.insert real id net.new_channel
+  abbrev real' : channels.Channels
+  real' = map.insert real id channels.new_channel
 
   abbrev seen_at : Conns → ConnId → Option Channel → Option plain.Channel
   seen_at table q o = option_and_then (λ channel. option_map (seen_channel channel) (map.get table q)) o
@@ -52,14 +52,14 @@ module _ (conns : Conns) (virt : Channels) (real : net.Channels) (same : SameCha
   here_conn : map.get conns' id ≡ Some conn
   here_conn = get_insert_same conn_total conn_exact conns id conn
 
-  here_real : map.get real' id ≡ Some net.new_channel
-  here_real = get_insert_same conn_total conn_exact real id net.new_channel
+  here_real : map.get real' id ≡ Some channels.new_channel
+  here_real = get_insert_same conn_total conn_exact real id channels.new_channel
 
   beside_conn : (q : ConnId) → q ≢ id → map.get conns' q ≡ map.get conns q
   beside_conn q differ = get_insert_other conn_total conn_exact conns id conn q differ
 
   beside_real : (q : ConnId) → q ≢ id → map.get real' q ≡ map.get real q
-  beside_real q differ = get_insert_other conn_total conn_exact real id net.new_channel q differ
+  beside_real q differ = get_insert_other conn_total conn_exact real id channels.new_channel q differ
 
   pub SameChannels-made : SameChannels conns' virt' real'
   SameChannels-made = record {
@@ -67,7 +67,7 @@ module _ (conns : Conns) (virt : Channels) (real : net.Channels) (same : SameCha
       | inl here ↦
           ap (map.get virt') here ∙ get_insert_same conn_total conn_exact virt id made
           ∙ sym (ap (λ x. seen_at conns' x (map.get real' x)) here ∙ ap (seen_at conns' id) here_real
-          ∙ ap (option_map (seen_channel net.new_channel)) here_conn)
+          ∙ ap (option_map (seen_channel channels.new_channel)) here_conn)
       | inr differ ↦
           get_insert_other conn_total conn_exact virt id made q differ ∙ same.each q
           ∙ sym (ap (seen_at conns' q) (beside_real q differ)
@@ -81,7 +81,7 @@ module _ (conns : Conns) (virt : Channels) (real : net.Channels) (same : SameCha
     ];
     sides = λ q channel is. elim (same_or_other conn_total conn_exact q id) [
       | inl here ↦ ap (λ (c : Channel). length c.open_ends)
-          (same_Some channel net.new_channel (sym is ∙ ap (map.get real') here ∙ here_real))
+          (same_Some channel channels.new_channel (sym is ∙ ap (map.get real') here ∙ here_real))
       | inr differ ↦ same.sides q channel (sym (beside_real q differ) ∙ is)
     ];
   }
@@ -103,7 +103,7 @@ module _ (t : Network) (conns : Conns) (virt : Directions) (same : SameDirection
   table = map.insert conns id conn
 
   abbrev t' : Network
-  t' = record t { channels = map.insert t.channels id net.new_channel }
+  t' = record t { channels = map.insert t.channels id channels.new_channel }
 
   abbrev with_first : Directions
   with_first = map.insert virt (dir id 0) empty_direction
@@ -131,15 +131,15 @@ module _ (t : Network) (conns : Conns) (virt : Directions) (same : SameDirection
       above : (n : ℕ) → suc (suc n) < 2 → ⊥
       above n h = omega (arith, h)
 
-  real_here : (side : ℕ) → net.direction_at t'.channels (dir id side) ≡ Some unused
+  real_here : (side : ℕ) → channels.direction_at t'.channels (dir id side) ≡ Some unused
   real_here side =
-      ap (option_map (net.direction_of side)) (get_insert_same conn_total conn_exact t.channels id net.new_channel)
+      ap (option_map (channels.direction_of side)) (get_insert_same conn_total conn_exact t.channels id channels.new_channel)
       ∙ ap Some (unused_side (side == 0))
 
   here_agree : (e : Dir) → e.side < 2 → e.conn ≡ id
-      → Agree (SameDirection t' None table e) (map.get directions' e) (net.direction_at t'.channels e)
+      → Agree (SameDirection t' None table e) (map.get directions' e) (channels.direction_at t'.channels e)
   here_agree e less here =
-      subst (λ q. Agree (SameDirection t' None table q) (map.get directions' q) (net.direction_at t'.channels q))
+      subst (λ q. Agree (SameDirection t' None table q) (map.get directions' q) (channels.direction_at t'.channels q))
       (ap (λ x. dir x e.side) (sym here))
       (agree_by (SameDirection t' None table (dir id e.side)) (Some empty_direction) _ (Some unused) _
       (virt_here e.side less) (real_here e.side)
@@ -173,8 +173,8 @@ module _ (t : Network) (conns : Conns) (virt : Directions) (same : SameDirection
         | inl here ↦ inr (here_agree e less here)
         | inr differ ↦ inl (record {
           virt_same = beside_virt e differ;
-          real_same = ap (option_map (net.direction_of e.side))
-              (get_insert_other conn_total conn_exact t.channels id net.new_channel e.conn differ);
+          real_same = ap (option_map (channels.direction_of e.side))
+              (get_insert_other conn_total conn_exact t.channels id channels.new_channel e.conn differ);
           same_use = ap (λ (o : Option Conn). (e.side == 1) && is_pipe_conn o)
               (get_insert_other conn_total conn_exact conns id conn e.conn differ);
         })
@@ -182,17 +182,17 @@ module _ (t : Network) (conns : Conns) (virt : Directions) (same : SameDirection
       above_virt
       (λ q channel side is less shut. elim (same_or_other conn_total conn_exact q id) [
         | inl here ↦ true_false (sym (open_both side) ∙ ap (λ (c : Channel). slice_index_or c.open_ends side true)
-            (same_Some net.new_channel channel
-            (sym (get_insert_same conn_total conn_exact t.channels id net.new_channel)
+            (same_Some channels.new_channel channel
+            (sym (get_insert_same conn_total conn_exact t.channels id channels.new_channel)
             ∙ ap (map.get t'.channels) (sym here) ∙ is)) ∙ shut)
         | inr differ ↦ same.closed q channel side
-            (sym (get_insert_other conn_total conn_exact t.channels id net.new_channel q differ) ∙ is) less shut
+            (sym (get_insert_other conn_total conn_exact t.channels id channels.new_channel q differ) ∙ is) less shut
       ])
 
 pub channel_made : (g : Given) (real : Kernel) (k : PlainKernel) → Stands g None real k → (id : ConnId)
     (kind : ℕ) (first second : Option VirtAddr) → map.get real.net.channels id ≡ None
     → Stands (with_conn g (open_conn id kind first second)) None
-    (record real { net = record real.net { channels = map.insert real.net.channels id net.new_channel } })
+    (record real { net = record real.net { channels = map.insert real.net.channels id channels.new_channel } })
     (with_channel k id (open_channel (kind_of kind) first second))
 channel_made g real k st id kind first second new = record {
   paired = st.paired;
@@ -210,7 +210,7 @@ channel_made g real k st id kind first second new = record {
 
 -- how many
 
-module _ (conns : Conns) (virt : Channels) (real : net.Channels) (same : SameChannels conns virt real) where
+module _ (conns : Conns) (virt : Channels) (real : channels.Channels) (same : SameChannels conns virt real) where
   itself : LeadBack {K = ConnId} {L = ConnId} Some Some
   itself = record { back = λ k l e. ap Some (sym (same_Some k l e)); there = λ k l e. ap Some (sym (same_Some l k e)) }
 

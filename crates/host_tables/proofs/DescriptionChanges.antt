@@ -15,10 +15,10 @@ use Rattle.sys_abi.specs.declared.identity.DescId.{DescId}
 use Rattle.sys_abi.specs.Orders.{desc_cmp}
 use Rattle.sys_abi.proofs.OrderLaws.{desc_total, desc_exact}
 use Rattle.datagram_pairs.specs.Pairs.{Pairs, end_of}
-use Rattle.fd_book.specs.declared.description.Desc.{Desc}
-use Rattle.fd_book.specs.declared.description.Object as real_object
-use Rattle.fd_book.specs.declared.description.Object.TheVariants as object
-use Rattle.fd_book.specs.Books as books
+use Rattle.fd_tables.specs.declared.description.Desc.{Desc}
+use Rattle.fd_tables.specs.declared.description.Object as real_object
+use Rattle.fd_tables.specs.declared.description.Object.TheVariants as object
+use Rattle.fd_tables.specs.Parts as parts
 use Rattle.plain_tables.specs.declared.description.Description.{Description}
 use Rattle.plain_tables.specs.Objects.{is_file, has_open}
 use Rattle.plain_tables.specs.Tables.{Descriptions, Inboxes}
@@ -161,7 +161,7 @@ module _ (virts : Virts) (names : Names) (addresses : Addresses) (pairs : Pairs)
   }
 
   same_file : (number : ℕ) (id : DescId) (o : real_object.Object)
-      → is_file number (seen_object names pairs id o) ≡ books.is_file number o
+      → is_file number (seen_object names pairs id o) ≡ parts.is_file number o
   same_file number id object.Console = refl
   same_file number id (object.File n offset) = refl
   same_file number id (object.Stream conn side) = refl
@@ -171,10 +171,10 @@ module _ (virts : Virts) (names : Names) (addresses : Addresses) (pairs : Pairs)
   same_file number id (object.Counter value) = refl
 
   pub same_open : (number : ℕ)
-      → has_open virt number ≡ list_any (books.is_of_file number) (map.values real)
+      → has_open virt number ≡ list_any (parts.is_of_file number) (map.values real)
   same_open number =
       any_seen desc_total desc_exact desc_total desc_exact Some Some itself IsSeen virt real as_seen
-      (λ (x : Description). is_file number x.object) (books.is_of_file number)
+      (λ (x : Description). is_file number x.object) (parts.is_of_file number)
       (λ k l x d is. ap (λ (z : Description). is_file number z.object) is ∙ same_file number k d.object)
 
 -- an object without messages

@@ -19,12 +19,12 @@ use Rattle.plain_tables.specs.declared.channel.Direction as plain_direction
 use Rattle.plain_tables.specs.Tables.{Channels, Directions}
 use Rattle.plain_machine.specs.declared.kernel.PlainKernel.{PlainKernel}
 use Rattle.plain_machine.specs.Channels.{with_direction}
-use Rattle.wire_net.specs.declared.channel.Channel.{Channel}
-use Rattle.wire_net.specs.Directions.{Direction}
-use Rattle.wire_net.specs.Channels as net
+use Rattle.wire_channels.specs.declared.channel.Channel.{Channel}
+use Rattle.wire_channels.specs.Directions.{Direction}
+use Rattle.wire_channels.specs.Channels as channels
 use Rattle.wire_net.specs.Networks.{Network}
 use Rattle.wire_net.specs.Whereabouts.{Held, placed, stream, stream_on, reverse, whereabouts}
-use Rattle.wire_net.proofs.OneDirection.{direction_changed, direction_beside}
+use Rattle.wire_channels.proofs.OneDirection.{direction_changed, direction_beside}
 use Rattle.host_tables.specs.declared.kernel.Kernel.{Kernel}
 use Rattle.host_tables.specs.Network.{Conns, seen_channel, SameChannels, is_unused, SameDirection, SameDirections, IsSilent}
 use Rattle.host_tables.specs.Stands.{Given, Stands}
@@ -32,13 +32,13 @@ use Rattle.host_tables.proofs.Frames.{net_kept}
 
 -- without agents
 
-pub alone : (t : Network) (d : Dir) → whereabouts t map.empty d ≡ stream_on (net.direction_at t.channels d)
+pub alone : (t : Network) (d : Dir) → whereabouts t map.empty d ≡ stream_on (channels.direction_at t.channels d)
 alone t d =
-    ap (placed (stream_on (net.direction_at t.channels d)) (stream_on (net.direction_at t.channels (reverse d))))
+    ap (placed (stream_on (channels.direction_at t.channels d)) (stream_on (channels.direction_at t.channels (reverse d))))
     (map.get-empty {X = Held} dir_cmp d)
 
 pub left_alone : (t : Network) (conns : Conns) (d : Dir) (x : plain_direction.Direction) (y : Direction)
-    → net.direction_at t.channels d ≡ Some y → SameDirection t None conns d x y → x.left ≡ stream y
+    → channels.direction_at t.channels d ≡ Some y → SameDirection t None conns d x y → x.left ≡ stream y
 left_alone t conns d x y is same = same.left ∙ alone t d ∙ ap stream_on is
 
 -- what a direction is by the real one
@@ -49,7 +49,7 @@ pub record IsSeen (unused : Bool) (x : plain_direction.Direction) (y : Direction
   pub unread : unused ≡ false → x.unread ≡ y.is_unread
 
 pub same_direction : (t : Network) (conns : Conns) (d : Dir) (x : plain_direction.Direction) (y : Direction)
-    → net.direction_at t.channels d ≡ Some y → IsSeen (is_unused conns d) x y → SameDirection t None conns d x y
+    → channels.direction_at t.channels d ≡ Some y → IsSeen (is_unused conns d) x y → SameDirection t None conns d x y
 same_direction t conns d x y is seen = record {
   left = seen.left ∙ sym (alone t d ∙ ap stream_on is);
   ended = seen.ended;
@@ -58,7 +58,7 @@ same_direction t conns d x y is seen = record {
 }
 
 pub seen_direction : (t : Network) (conns : Conns) (d : Dir) (x : plain_direction.Direction) (y : Direction)
-    → net.direction_at t.channels d ≡ Some y → SameDirection t None conns d x y → IsSeen (is_unused conns d) x y
+    → channels.direction_at t.channels d ≡ Some y → SameDirection t None conns d x y → IsSeen (is_unused conns d) x y
 seen_direction t conns d x y is same = record {
   left = left_alone t conns d x y is same;
   arrived = same.arrived;
@@ -69,11 +69,11 @@ seen_direction t conns d x y is same = record {
 -- a direction that is as it was
 pub record IsKept (t t' : Network) (conns conns' : Conns) (virt virt' : Directions) (e : Dir) : Type 0 where
   pub virt_same : map.get virt' e ≡ map.get virt e
-  pub real_same : net.direction_at t'.channels e ≡ net.direction_at t.channels e
+  pub real_same : channels.direction_at t'.channels e ≡ channels.direction_at t.channels e
   pub same_use : is_unused conns' e ≡ is_unused conns e
 
 kept_agree : (t t' : Network) (conns conns' : Conns) (e : Dir) (o : Option plain_direction.Direction)
-    (q : Option Direction) → net.direction_at t.channels e ≡ q → net.direction_at t'.channels e ≡ q
+    (q : Option Direction) → channels.direction_at t.channels e ≡ q → channels.direction_at t'.channels e ≡ q
     → is_unused conns' e ≡ is_unused conns e
     → Agree (SameDirection t None conns e) o q → Agree (SameDirection t' None conns' e) o q
 kept_agree t t' conns conns' e None None is is' role h = tt
@@ -91,7 +91,7 @@ kept_agree t t' conns conns' e (Some x) (Some y) is is' role h =
 pub re_directed : (t t' : Network) (conns conns' : Conns) (virt virt' : Directions)
     → SameDirections t None conns virt
     → ((e : Dir) → e.side < 2 → IsKept t t' conns conns' virt virt' e
-    ⊎ Agree (SameDirection t' None conns' e) (map.get virt' e) (net.direction_at t'.channels e))
+    ⊎ Agree (SameDirection t' None conns' e) (map.get virt' e) (channels.direction_at t'.channels e))
     → ((e : Dir) → 2 ≤ e.side → map.get virt' e ≡ map.get virt e)
     → ((id : ConnId) (channel : Channel) (side : ℕ) → map.get t'.channels id ≡ Some channel → side < 2
     → slice_index_or channel.open_ends side true ≡ false → IsSilent side channel)
@@ -100,8 +100,8 @@ re_directed t t' conns conns' virt virt' same each above closed = record {
   at = λ e less. elim (each e less) [
     | inl kept ↦
         agree_by (SameDirection t' None conns' e) (map.get virt e) (map.get virt' e)
-        (net.direction_at t.channels e) (net.direction_at t'.channels e) kept.virt_same kept.real_same
-        (kept_agree t t' conns conns' e (map.get virt e) (net.direction_at t.channels e) refl kept.real_same
+        (channels.direction_at t.channels e) (channels.direction_at t'.channels e) kept.virt_same kept.real_same
+        (kept_agree t t' conns conns' e (map.get virt e) (channels.direction_at t.channels e) refl kept.real_same
         kept.same_use (same.at e less))
     | inr new ↦ new
   ];
@@ -134,7 +134,7 @@ some_ends None q e h = true_false (sym h)
 some_ends (Some x) None e h = absurd (none-some x.open_ends (sym e))
 some_ends (Some x) (Some y) e h = refl
 
-pub SameChannels-open : (conns : Conns) (virt : Channels) (real real' : net.Channels)
+pub SameChannels-open : (conns : Conns) (virt : Channels) (real real' : channels.Channels)
     → SameChannels conns virt real → ((id : ConnId) → ends_in (map.get real' id) ≡ ends_in (map.get real id))
     → SameChannels conns virt real'
 SameChannels-open conns virt real real' same ends = record {
@@ -171,37 +171,37 @@ ends_changed : (b : Bool) (f : Direction → Direction) (channel : Channel)
 ends_changed true f channel = refl
 ends_changed false f channel = refl
 
-module _ (m : net.Channels) (d : Dir) (f : Direction → Direction) where
+module _ (m : channels.Channels) (d : Dir) (f : Direction → Direction) where
   -- each channel that is there was there, changed or not
   found_was : (id : ConnId) (o : Option Channel) → map.get m d.conn ≡ o
-      → ends_in (map.get (option_map_or (λ channel. map.insert m d.conn (net.at_side d.side f channel)) o m) id)
+      → ends_in (map.get (option_map_or (λ channel. map.insert m d.conn (channels.at_side d.side f channel)) o m) id)
       ≡ ends_in (map.get m id)
   found_was id None is = refl
   found_was id (Some channel) is = elim (same_or_other conn_total conn_exact id d.conn) [
     | inl here ↦
-        ap (λ x. ends_in (map.get (map.insert m d.conn (net.at_side d.side f channel)) x)) here
-        ∙ ap ends_in (get_insert_same conn_total conn_exact m d.conn (net.at_side d.side f channel))
+        ap (λ x. ends_in (map.get (map.insert m d.conn (channels.at_side d.side f channel)) x)) here
+        ∙ ap ends_in (get_insert_same conn_total conn_exact m d.conn (channels.at_side d.side f channel))
         ∙ ap Some (ends_changed (d.side == 0) f channel)
         ∙ sym (ap (λ x. ends_in (map.get m x)) here ∙ ap ends_in is)
     | inr differ ↦
-        ap ends_in (get_insert_other conn_total conn_exact m d.conn (net.at_side d.side f channel) id differ)
+        ap ends_in (get_insert_other conn_total conn_exact m d.conn (channels.at_side d.side f channel) id differ)
   ]
 
-  pub ends_kept : (id : ConnId) → ends_in (map.get (net.at_direction m d f) id) ≡ ends_in (map.get m id)
+  pub ends_kept : (id : ConnId) → ends_in (map.get (channels.at_direction m d f) id) ≡ ends_in (map.get m id)
   ends_kept id = found_was id (map.get m d.conn) refl
 
   module _ (keeps : KeepsSilence f) where
-    abbrev IsClosedSilent : net.Channels → Type 0
+    abbrev IsClosedSilent : channels.Channels → Type 0
     IsClosedSilent n = (id : ConnId) (channel : Channel) (side : ℕ) → map.get n id ≡ Some channel → side < 2
         → slice_index_or channel.open_ends side true ≡ false → IsSilent side channel
 
     closed_by : IsClosedSilent m → (o : Option Channel) → map.get m d.conn ≡ o
-        → IsClosedSilent (option_map_or (λ channel. map.insert m d.conn (net.at_side d.side f channel)) o m)
+        → IsClosedSilent (option_map_or (λ channel. map.insert m d.conn (channels.at_side d.side f channel)) o m)
     closed_by closed None is id there side at less shut = closed id there side at less shut
     closed_by closed (Some channel) is id there side at less shut =
         elim (same_or_other conn_total conn_exact id d.conn) [
           | inl here ↦
-              let put = net.at_side d.side f channel in
+              let put = channels.at_side d.side f channel in
               let now : put ≡ there = same_Some put there
               (sym (get_insert_same conn_total conn_exact m d.conn put)
               ∙ ap (map.get (map.insert m d.conn put)) (sym here) ∙ at) in
@@ -214,21 +214,21 @@ module _ (m : net.Channels) (d : Dir) (f : Direction → Direction) where
                     still (λ y. y.is_unread ≡ true) f keeps.unread (1 - side == 0) (d.side == 0) channel was.unread;
               })
           | inr differ ↦ closed id there side
-              (sym (get_insert_other conn_total conn_exact m d.conn (net.at_side d.side f channel) id differ) ∙ at)
+              (sym (get_insert_other conn_total conn_exact m d.conn (channels.at_side d.side f channel) id differ) ∙ at)
               less shut
         ]
 
-    pub closed_kept : IsClosedSilent m → IsClosedSilent (net.at_direction m d f)
+    pub closed_kept : IsClosedSilent m → IsClosedSilent (channels.at_direction m d f)
     closed_kept closed = closed_by closed (map.get m d.conn) refl
 
 module _ (t : Network) (conns : Conns) (virt : Directions) (same : SameDirections t None conns virt) (d : Dir)
     (less : d.side < 2) (f : Direction → Direction) (keeps : KeepsSilence f) (x : plain_direction.Direction)
-    (y : Direction) (there : net.direction_at t.channels d ≡ Some y)
+    (y : Direction) (there : channels.direction_at t.channels d ≡ Some y)
     (seen : IsSeen (is_unused conns d) x (f y)) where
   abbrev t' : Network
-  t' = record t { channels = net.at_direction t.channels d f }
+  t' = record t { channels = channels.at_direction t.channels d f }
 
-  here_then : net.direction_at t'.channels d ≡ Some (f y)
+  here_then : channels.direction_at t'.channels d ≡ Some (f y)
   here_then = direction_changed t.channels d f ∙ ap (option_map f) there
 
   pub SameDirections-put : SameDirections t' None conns (map.insert virt d x)
@@ -236,9 +236,9 @@ module _ (t : Network) (conns : Conns) (virt : Directions) (same : SameDirection
       re_directed t t' conns conns virt (map.insert virt d x) same
       (λ e side. elim (same_or_other dir_total dir_exact e d) [
         | inl here ↦ inr (subst (λ q. Agree (SameDirection t' None conns q) (map.get (map.insert virt d x) q)
-            (net.direction_at t'.channels q)) (sym here)
+            (channels.direction_at t'.channels q)) (sym here)
             (agree_by (SameDirection t' None conns d) (Some x) (map.get (map.insert virt d x) d) (Some (f y))
-            (net.direction_at t'.channels d) (get_insert_same dir_total dir_exact virt d x) here_then
+            (channels.direction_at t'.channels d) (get_insert_same dir_total dir_exact virt d x) here_then
             (same_direction t' conns d x (f y) here_then seen)))
         | inr differ ↦ inl (record {
           virt_same = get_insert_other dir_total dir_exact virt d x e differ;
@@ -255,14 +255,14 @@ module _ (t : Network) (conns : Conns) (virt : Directions) (same : SameDirection
 
 module _ (g : Given) (real : Kernel) (k : PlainKernel) (st : Stands g None real k) (d : Dir) (less : d.side < 2)
     (f : Direction → Direction) (keeps : KeepsSilence f) (x : plain_direction.Direction) (y : Direction)
-    (there : net.direction_at real.net.channels d ≡ Some y) where
+    (there : channels.direction_at real.net.channels d ≡ Some y) where
   pub direction_put : IsSeen (is_unused g.conns d) x (f y) → Stands g None
-      (record real { net = record real.net { channels = net.at_direction real.net.channels d f } })
+      (record real { net = record real.net { channels = channels.at_direction real.net.channels d f } })
       (with_direction k d x)
   direction_put seen =
-      net_kept g None real k st (record real.net { channels = net.at_direction real.net.channels d f })
+      net_kept g None real k st (record real.net { channels = channels.at_direction real.net.channels d f })
       k.channels (map.insert k.directions d x) k.listeners
-      (SameChannels-open g.conns k.channels real.net.channels (net.at_direction real.net.channels d f)
+      (SameChannels-open g.conns k.channels real.net.channels (channels.at_direction real.net.channels d f)
       st.channels (ends_kept real.net.channels d f))
       (SameDirections-put real.net g.conns k.directions st.directions d less f keeps x y there seen)
       st.listeners

@@ -20,10 +20,10 @@ use Rattle.sys_abi.specs.declared.identity.RealPid.{RealPid}
 use Rattle.sys_abi.specs.declared.identity.Slot.{Slot}
 use Rattle.sys_abi.proofs.OrderLaws.{slot_total, slot_exact, vpid_total, vpid_exact, real_pid_total, real_pid_exact}
 use Rattle.datagram_pairs.specs.Pairs.{Pairs}
-use Rattle.fd_book.specs.declared.description.Desc.{Desc}
-use Rattle.fd_book.specs.declared.real_slot.RealSlot.{RealSlot}
-use Rattle.fd_book.specs.Books as books
-use Rattle.fd_book.proofs.OrderLaws.{real_slot_total, real_slot_exact}
+use Rattle.fd_tables.specs.declared.description.Desc.{Desc}
+use Rattle.fd_tables.specs.declared.real_slot.RealSlot.{RealSlot}
+use Rattle.fd_tables.specs.Slots as slots
+use Rattle.fd_tables.proofs.OrderLaws.{real_slot_total, real_slot_exact}
 use Rattle.proc_book.specs.declared.process.Process as real_process
 use Rattle.proc_book.specs.Ends as procs
 use Rattle.virt_ids.specs.Pairs.{AreInverse}
@@ -143,25 +143,25 @@ module _ (pids : Pids) (virts : Virts) (inverse : AreInverse pids virts) (v : �
 
   module _ (virt : Descriptors) (table : RealDescriptors) (same : SameDescriptors pids virts virt table) where
     slot_was : (at : Slot) (s : RealSlot) (o : Option RealPid) → map.get then_pids at.pid.0 ≡ o
-        → option_map (λ x. books.slot x at.fd) o ≡ Some s
+        → option_map (λ x. slots.slot x at.fd) o ≡ Some s
         → (to_slot pids at ≡ Some s) ⊎ ((map.get virt at ≡ None) × (map.get table s ≡ None))
     slot_was at s None e h = absurd (none-some s h)
     slot_was at s (Some x) e h = elim (was at.pid.0 x e) [
       | inl here ↦ inr (
-        same.virt_alone at (ap (λ w. option_map (λ x. books.slot x at.fd) (map.get pids w)) here.0
-            ∙ ap (option_map (λ x. books.slot x at.fd)) new_v),
+        same.virt_alone at (ap (λ w. option_map (λ x. slots.slot x at.fd) (map.get pids w)) here.0
+            ∙ ap (option_map (λ x. slots.slot x at.fd)) new_v),
         same.real_alone s (ap (from_slot virts) (sym (same_Some _ s h))
             ∙ ap (λ x. option_map (λ p. slot p at.fd) (to_virt virts x)) here.1
             ∙ ap (λ o. option_map (λ p. slot p at.fd) (option_map pid o)) new_r),
       )
-      | inr before ↦ inl (ap (option_map (λ x. books.slot x at.fd)) before.1 ∙ h)
+      | inr before ↦ inl (ap (option_map (λ x. slots.slot x at.fd)) before.1 ∙ h)
     ]
 
     no_slot : (at : Slot) (o : Option RealPid) → map.get then_pids at.pid.0 ≡ o
-        → option_map (λ x. books.slot x at.fd) o ≡ None → to_slot pids at ≡ None
+        → option_map (λ x. slots.slot x at.fd) o ≡ None → to_slot pids at ≡ None
     no_slot at None e h =
-        ap (option_map (λ x. books.slot x at.fd)) (real_none pids virts inverse v r new_v new_r at.pid.0 e)
-    no_slot at (Some x) e h = absurd (none-some (books.slot x at.fd) (sym h))
+        ap (option_map (λ x. slots.slot x at.fd)) (real_none pids virts inverse v r new_v new_r at.pid.0 e)
+    no_slot at (Some x) e h = absurd (none-some (slots.slot x at.fd) (sym h))
 
     no_virt_slot : (s : RealSlot) (o : Option ℕ) → map.get then_virts s.pid ≡ o
         → option_map (λ p. slot p s.fd) (option_map pid o) ≡ None → from_slot virts s ≡ None

@@ -14,10 +14,10 @@ use Rattle.plain_tables.specs.declared.channel.Direction as plain_direction
 use Rattle.plain_tables.specs.declared.channel.Listening.{Listening}
 use Rattle.plain_tables.specs.Tables.{Directions, Listeners}
 use Rattle.plain_machine.specs.declared.kernel.PlainKernel.{PlainKernel}
-use Rattle.wire_net.specs.declared.listener.Listener.{Listener}
-use Rattle.wire_net.specs.Channels as net
-use Rattle.wire_net.specs.Directions.{Direction}
-use Rattle.wire_net.specs.Listeners as net_listeners
+use Rattle.wire_channels.specs.declared.listener.Listener.{Listener}
+use Rattle.wire_channels.specs.Channels as channels
+use Rattle.wire_channels.specs.Directions.{Direction}
+use Rattle.wire_channels.specs.Listeners as listeners
 use Rattle.wire_net.specs.Networks.{Network}
 use Rattle.host_tables.specs.declared.kernel.Kernel.{Kernel}
 use Rattle.host_tables.specs.Descriptions.{Stage}
@@ -26,7 +26,7 @@ use Rattle.host_tables.specs.Stands.{Given, Stands}
 use Rattle.host_tables.proofs.Frames.{net_kept}
 use Rattle.host_tables.proofs.Ways.{lead_place}
 
-module _ (t : Network) (listeners : net_listeners.Listeners) (held : Option Stage) (conns : Conns) where
+module _ (t : Network) (listeners : listeners.Listeners) (held : Option Stage) (conns : Conns) where
   abbrev t' : Network
   t' = record t { listeners = listeners }
 
@@ -41,14 +41,14 @@ module _ (t : Network) (listeners : net_listeners.Listeners) (held : Option Stag
   pub SameDirections-listeners : (virt : Directions) → SameDirections t held conns virt
       → SameDirections t' held conns virt
   SameDirections-listeners virt same = record {
-    at = λ d less. same_bytes d (map.get virt d) (net.direction_at t.channels d) (same.at d less);
+    at = λ d less. same_bytes d (map.get virt d) (channels.direction_at t.channels d) (same.at d less);
     no_other = same.no_other;
     closed = same.closed;
   }
 
 module _ (g : Given) (held : Option Stage) (real : Kernel) (k : PlainKernel) (st : Stands g held real k)
     (a : VirtAddr) (at : RealAddr) (paired : map.get g.addresses a ≡ Some at) where
-  listeners_kept : (virt : Listeners) (table : net_listeners.Listeners)
+  listeners_kept : (virt : Listeners) (table : listeners.Listeners)
       → SeenBy (map.get g.addresses) (map.get g.ports) SameListener virt table
       → Stands g held (record real { net = record real.net { listeners = table } }) (record k { listeners = virt })
   listeners_kept virt table same =

@@ -17,10 +17,10 @@ use Rattle.sys_abi.specs.declared.identity.RealPid.{RealPid}
 use Rattle.sys_abi.specs.declared.descriptor.Descriptor.{Descriptor}
 use Rattle.sys_abi.specs.declared.errors.TheConstants.{EBADF, EMFILE}
 use Rattle.sys_abi.specs.Lives.{lives}
-use Rattle.fd_book.specs.declared.description.Desc.{Desc}
-use Rattle.fd_book.specs.Books as books
+use Rattle.fd_tables.specs.declared.description.Desc.{Desc}
+use Rattle.fd_tables.specs.Slots as slots
 use Rattle.fd_book.specs.Books.{IsWhole}
-use Rattle.fd_book.specs.Numbers.{AllUsed, IsLowestFree}
+use Rattle.fd_tables.specs.Numbers.{AllUsed, IsLowestFree}
 use Rattle.proc_book.specs.declared.process.Process as real_process
 use Rattle.proc_book.specs.Ends.{is_live_at}
 use Rattle.plain_tables.specs.declared.process.Process.{Process}
@@ -41,13 +41,13 @@ some_value (Some x) h = (x, refl)
 module _ (pids : Pids) (virts : Virts) (real : RealDescriptors) (virt : Descriptors)
     (same : SameDescriptors pids virts virt real) (p : VPid) (r : RealPid)
     (paired : map.get pids p.0 ≡ Some r) where
-  pub leads : (fd : ℕ) → to_slot pids (slot p fd) ≡ Some (books.slot r fd)
-  leads fd = ap (option_map (λ x. books.slot x fd)) paired
+  pub leads : (fd : ℕ) → to_slot pids (slot p fd) ≡ Some (slots.slot r fd)
+  leads fd = ap (option_map (λ x. slots.slot x fd)) paired
 
-  pub at_slot : (fd : ℕ) → map.get virt (slot p fd) ≡ map.get real (books.slot r fd)
-  at_slot fd = agree_same _ _ (same.at (slot p fd) (books.slot r fd) (leads fd))
+  pub at_slot : (fd : ℕ) → map.get virt (slot p fd) ≡ map.get real (slots.slot r fd)
+  at_slot fd = agree_same _ _ (same.at (slot p fd) (slots.slot r fd) (leads fd))
 
-  by_slot : (from n : ℕ) (o : Option Descriptor) → map.get real (books.slot r from) ≡ o
+  by_slot : (from n : ℕ) (o : Option Descriptor) → map.get real (slots.slot r from) ≡ o
       → free_among virt p from (suc n) ≡ cond (is_some o) (free_among virt p (from + 1) n) (Some from)
   unfolding free_among
   by_slot from n o is =
@@ -57,7 +57,7 @@ module _ (pids : Pids) (virts : Virts) (real : RealDescriptors) (virt : Descript
   unfolding free_among
   none_free zero from e used = refl
   none_free (suc n) from e used =
-      let d = some_value (map.get real (books.slot r from)) (used from (omega arith) (omega (arith, e))) in
+      let d = some_value (map.get real (slots.slot r from)) (used from (omega arith) (omega (arith, e))) in
       by_slot from n (Some d.0) d.1
       ∙ none_free n (from + 1) (omega (arith, e)) (λ fd above below. used fd (omega (arith, above)) below)
 
@@ -67,7 +67,7 @@ module _ (pids : Pids) (virts : Virts) (real : RealDescriptors) (virt : Descript
     where
       below : (from fd : ℕ) → from + 0 ≡ DESCRIPTOR_LIMIT → from ≤ fd → fd < DESCRIPTOR_LIMIT → ⊥
       below from fd e h l = omega (arith, e, h, l)
-  lowest_free (suc n) from fd e lowest = by_found (map.get real (books.slot r from)) refl
+  lowest_free (suc n) from fd e lowest = by_found (map.get real (slots.slot r from)) refl
       (λ differ. lowest_free n (from + 1) fd (omega (arith, e)) (record {
         free = lowest.free;
         from_on = above from fd lowest.from_on differ;
@@ -81,7 +81,7 @@ module _ (pids : Pids) (virts : Virts) (real : RealDescriptors) (virt : Descript
       not_below : (from fd : ℕ) → from ≤ fd → (from < fd → ⊥) → from ≡ fd
       not_below from fd h differ = grind arith
 
-      by_found : (o : Option Descriptor) → map.get real (books.slot r from) ≡ o
+      by_found : (o : Option Descriptor) → map.get real (slots.slot r from) ≡ o
           → (from ≢ fd → free_among virt p (from + 1) n ≡ Some fd) → free_among virt p from (suc n) ≡ Some fd
       by_found None is later =
           by_slot from n None is
@@ -89,23 +89,23 @@ module _ (pids : Pids) (virts : Virts) (real : RealDescriptors) (virt : Descript
           (λ less. true_false (sym (lowest.lowest from (omega arith) less) ∙ ap is_some is)))
       by_found (Some d) is later =
           by_slot from n (Some d) is
-          ∙ later (λ same. none-some d (sym (ap (λ x. map.get real (books.slot r x)) same ∙ lowest.free) ∙ is))
+          ∙ later (λ same. none-some d (sym (ap (λ x. map.get real (slots.slot r x)) same ∙ lowest.free) ∙ is))
 
 module _ (g : Given) (real : Kernel) (k : PlainKernel) (st : Stands g None real k) (p : VPid) (r : RealPid)
     (paired : map.get g.pids p.0 ≡ Some r) where
-  slot_is : (fd : ℕ) → map.get k.descriptors (slot p fd) ≡ map.get real.book.descriptors (books.slot r fd)
+  slot_is : (fd : ℕ) → map.get k.descriptors (slot p fd) ≡ map.get real.book.descriptors (slots.slot r fd)
   slot_is fd = at_slot g.pids g.virts real.book.descriptors k.descriptors st.descriptors p r paired fd
 
   abbrev described : Descriptor → Try Held
   described d = and_then (found (map.get k.descriptions d.desc) EBADF)
       (λ x. Gives (record { desc = d.desc; cloexec = d.cloexec; description = x }))
 
-  pub held_none : (fd : ℕ) → map.get real.book.descriptors (books.slot r fd) ≡ None → held k p fd ≡ Fails EBADF
+  pub held_none : (fd : ℕ) → map.get real.book.descriptors (slots.slot r fd) ≡ None → held k p fd ≡ Fails EBADF
   unfolding held and_then found
   held_none fd is = ap (λ o. and_then (found o EBADF) described) (slot_is fd ∙ is)
 
   pub held_some : (fd : ℕ) (d : Descriptor) (x : Desc)
-      → map.get real.book.descriptors (books.slot r fd) ≡ Some d
+      → map.get real.book.descriptors (slots.slot r fd) ≡ Some d
       → map.get real.book.descriptions d.desc ≡ Some x → held k p fd ≡ Gives (record {
         desc = d.desc;
         cloexec = d.cloexec;

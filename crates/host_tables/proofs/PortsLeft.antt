@@ -4,7 +4,7 @@ use Rattle.std.proofs.Common.{ℕ, List, arith}
 use Rattle.std.specs.FinMap as map
 use Rattle.views.proofs.SeenLengths.{same_len}
 use Rattle.sys_abi.proofs.OrderLaws.{address_total, address_exact, real_address_total, real_address_exact}
-use Rattle.wire_net.specs.Listeners as net
+use Rattle.wire_channels.specs.Listeners as listeners
 use Rattle.wire_net.proofs.PortsInUse.{all_ports-many}
 use Rattle.plain_tables.proofs.FewListeners.{few_listeners}
 use Rattle.plain_machine.specs.declared.kernel.PlainKernel.{PlainKernel}
@@ -14,9 +14,9 @@ use Rattle.host_tables.specs.Network.{Ports, SameListener, SameListeners}
 use Rattle.host_tables.proofs.Ways.{lead_place}
 
 pub ports_left : (k : PlainKernel) (nodes : List ℕ) (addresses : Addresses) (ports : Ports)
-    (real : net.Listeners)
+    (real : listeners.Listeners)
     → IsKernel k → SameListeners nodes addresses ports k.listeners real
-    → (node base : ℕ) → net.AllPortsUsed real node base → ⊥
+    → (node base : ℕ) → listeners.AllPortsUsed real node base → ⊥
 ports_left k nodes addresses ports real is same node base used =
     let count =
     same_len address_total address_exact real_address_total real_address_exact

@@ -11,8 +11,8 @@ use Rattle.views.proofs.Ways.{lead_maps, lead_part, lead_within}
 use Rattle.sys_abi.specs.declared.identity.VPid.{VPid}
 use Rattle.sys_abi.specs.declared.identity.RealPid.{RealPid}
 use Rattle.sys_abi.specs.declared.identity.Slot.{Slot}
-use Rattle.fd_book.specs.declared.real_slot.RealSlot.{RealSlot}
-use Rattle.fd_book.specs.Books as books
+use Rattle.fd_tables.specs.declared.real_slot.RealSlot.{RealSlot}
+use Rattle.fd_tables.specs.Slots as slots
 use Rattle.virt_ids.specs.Pairs.{AreInverse}
 use Rattle.plain_tables.specs.Tables.{pid, slot}
 use Rattle.host_tables.specs.Numbers.{Pids, Virts, real, to_real, to_virt, number_on, to_real_thread, to_virt_thread}
@@ -38,7 +38,7 @@ module _ (pids : Pids) (virts : Virts) (inverse : AreInverse pids virts) where
       lead_part (to_real pids) (to_virt virts) lead_process
       (λ (at : Slot). at.pid) (λ (at : Slot). at.fd) slot
       (record { whole = λ at. refl; its_part = λ p fd. refl; its_rest = λ p fd. refl })
-      (λ (at : RealSlot). at.pid) (λ (at : RealSlot). at.fd) books.slot
+      (λ (at : RealSlot). at.pid) (λ (at : RealSlot). at.fd) slots.slot
       (record { whole = λ at. refl; its_part = λ r fd. refl; its_rest = λ r fd. refl })
 
   own_node : (node n : ℕ) → number_on node (real node n) ≡ Some n

@@ -10,10 +10,10 @@ use Rattle.sys_abi.specs.declared.identity.DescId.{DescId}
 use Rattle.sys_abi.specs.declared.identity.ConnId.{ConnId}
 use Rattle.sys_abi.specs.declared.identity.RealPid.{RealPid}
 use Rattle.sys_abi.specs.declared.descriptor.Descriptor.{Descriptor}
-use Rattle.fd_book.specs.declared.real_slot.RealSlot.{RealSlot}
-use Rattle.fd_book.specs.declared.description.Desc.{Desc}
-use Rattle.fd_book.specs.declared.description.Object.{Object}
-use Rattle.fd_book.specs.declared.description.Object.TheVariants.{File, Stream, Listener, Datagram}
+use Rattle.fd_tables.specs.declared.real_slot.RealSlot.{RealSlot}
+use Rattle.fd_tables.specs.declared.description.Desc.{Desc}
+use Rattle.fd_tables.specs.declared.description.Object.{Object}
+use Rattle.fd_tables.specs.declared.description.Object.TheVariants.{File, Stream, Listener, Datagram}
 use Rattle.fd_book.specs.Books.{Books}
 use Rattle.proc_book.specs.Ends.{is_live_at}
 use Rattle.proc_book.specs.Procs.{ProcTable, next_of}
@@ -25,7 +25,7 @@ use Rattle.host_tables.specs.declared.request.PairIds.{PairIds}
 use Rattle.host_tables.specs.declared.request.RealRequest.{RealRequest}
 use Rattle.host_tables.specs.declared.request.RealRequest.TheVariants.{Eventfd2, Openat, Pipe2, Socket, Socketpair, Accept, Connect, Clone}
 use Rattle.datagram_pairs.specs.Pairs.{Pairs}
-use Rattle.wire_net.specs.Listeners.{Listeners}
+use Rattle.wire_channels.specs.Listeners.{Listeners}
 
 -- what an object names is there; a side is 0 or 1
 abbrev pub IsThere : Contents → Listeners → Pairs → Object → Type 0

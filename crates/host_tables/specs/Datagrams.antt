@@ -12,9 +12,9 @@ use Rattle.sys_abi.specs.declared.identity.DescId.{DescId}
 use Rattle.sys_abi.specs.Orders.{desc_cmp}
 use Rattle.datagram_pairs.specs.declared.pairs.DatagramPair.{DatagramPair}
 use Rattle.datagram_pairs.specs.Pairs.{Pairs, end_of, is_open}
-use Rattle.fd_book.specs.declared.description.Desc.{Desc}
-use Rattle.fd_book.specs.declared.description.Object.{Object}
-use Rattle.fd_book.specs.declared.description.Object.TheVariants as real_object
+use Rattle.fd_tables.specs.declared.description.Desc.{Desc}
+use Rattle.fd_tables.specs.declared.description.Object.{Object}
+use Rattle.fd_tables.specs.declared.description.Object.TheVariants as real_object
 use Rattle.plain_tables.specs.Tables.{Inboxes}
 
 abbrev pub RealDescriptions : Type 0

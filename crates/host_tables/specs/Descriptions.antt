@@ -11,9 +11,9 @@ use Rattle.sys_abi.specs.declared.identity.RealPid.{RealPid}
 use Rattle.sys_abi.specs.declared.identity.RealAddr.{RealAddr}
 use Rattle.sys_abi.specs.declared.identity.VirtAddr.{VirtAddr}
 use Rattle.sys_abi.specs.Orders.{desc_cmp, address_cmp}
-use Rattle.fd_book.specs.declared.description.Desc.{Desc}
-use Rattle.fd_book.specs.declared.description.Object.{Object}
-use Rattle.fd_book.specs.declared.description.Object.TheVariants as real_object
+use Rattle.fd_tables.specs.declared.description.Desc.{Desc}
+use Rattle.fd_tables.specs.declared.description.Object.{Object}
+use Rattle.fd_tables.specs.declared.description.Object.TheVariants as real_object
 use Rattle.plain_tables.specs.declared.description.Description.{Description}
 use Rattle.plain_tables.specs.declared.description.Object as plain
 use Rattle.plain_tables.specs.declared.description.Object.TheVariants.{Console, File, Stream, Socket, Listener, Datagram, Counter}

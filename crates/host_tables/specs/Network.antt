@@ -22,11 +22,11 @@ use Rattle.plain_tables.specs.declared.channel.Direction as plain_direction
 use Rattle.plain_tables.specs.declared.channel.Listening.{Listening}
 use Rattle.plain_tables.specs.Tables.{Channels, Directions, Listeners}
 use Rattle.plain_machine.specs.SocketWords.{is_pipe}
-use Rattle.wire_net.specs.declared.channel.Channel.{Channel}
-use Rattle.wire_net.specs.declared.listener.Listener.{Listener}
-use Rattle.wire_net.specs.Directions.{Direction}
-use Rattle.wire_net.specs.Channels as net
-use Rattle.wire_net.specs.Listeners as net_listeners
+use Rattle.wire_channels.specs.declared.channel.Channel.{Channel}
+use Rattle.wire_channels.specs.declared.listener.Listener.{Listener}
+use Rattle.wire_channels.specs.Directions.{Direction}
+use Rattle.wire_channels.specs.Channels as channels
+use Rattle.wire_channels.specs.Listeners as listeners
 use Rattle.wire_net.specs.Networks.{Network}
 use Rattle.wire_net.specs.Whereabouts.{whereabouts}
 use Rattle.host_tables.specs.Numbers.{node_of}
@@ -52,7 +52,7 @@ seen_channel channel conn =
     record { kind = kind_of conn.kind; first = seen_end channel conn 0; second = seen_end channel conn 1 }
 
 -- the table is read at the channels of the network alone
-pub record SameChannels (conns : Conns) (virt : Channels) (real : net.Channels) : Type 0 where
+pub record SameChannels (conns : Conns) (virt : Channels) (real : channels.Channels) : Type 0 where
   pub each : (id : ConnId) → map.get virt id
       ≡ option_and_then (λ channel. option_map (seen_channel channel) (map.get conns id)) (map.get real id)
   pub listed : (id : ConnId) → IsSome (map.get real id) → IsSome (map.get conns id)
@@ -83,13 +83,13 @@ pub record SameDirection (t : Network) (held : Option Stage) (conns : Conns) (d 
 
 -- a closed end sends no more and is not read, also on an unused direction
 pub record IsSilent (side : ℕ) (channel : Channel) : Type 0 where
-  pub ended : (net.direction_of side channel).is_ended ≡ true
-  pub unread : (net.direction_of (1 - side) channel).is_unread ≡ true
+  pub ended : (channels.direction_of side channel).is_ended ≡ true
+  pub unread : (channels.direction_of (1 - side) channel).is_unread ≡ true
 
 pub record SameDirections (t : Network) (held : Option Stage) (conns : Conns)
     (virt : Directions) : Type 0 where
   pub at : (d : Dir) → d.side < 2
-      → Agree (SameDirection t held conns d) (map.get virt d) (net.direction_at t.channels d)
+      → Agree (SameDirection t held conns d) (map.get virt d) (channels.direction_at t.channels d)
   pub no_other : (d : Dir) → 2 ≤ d.side → map.get virt d ≡ None
   pub closed : (id : ConnId) (channel : Channel) (side : ℕ) → map.get t.channels id ≡ Some channel
       → side < 2 → slice_index_or channel.open_ends side true ≡ false → IsSilent side channel
@@ -105,7 +105,7 @@ pub record SameListener (a : VirtAddr) (at : RealAddr) (x : Listening) (y : List
   pub queue : x.queue ≡ y.queue
 
 pub record SameListeners (nodes : List ℕ) (addresses : Addresses) (ports : Ports) (virt : Listeners)
-    (real : net_listeners.Listeners) : Type 0 where
+    (real : listeners.Listeners) : Type 0 where
   pub inverse : AreInverse addresses ports
   pub node : (a : VirtAddr) (at : RealAddr) → map.get addresses a ≡ Some at → at.node ≡ node_of nodes a.host
   pub each : SeenBy (map.get addresses) (map.get ports) SameListener virt real

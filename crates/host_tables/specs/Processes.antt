@@ -8,9 +8,9 @@ use Rattle.sys_abi.specs.declared.identity.VPid.{VPid}
 use Rattle.sys_abi.specs.declared.identity.Slot.{Slot}
 use Rattle.sys_abi.specs.declared.identity.RealPid.{RealPid}
 use Rattle.sys_abi.specs.declared.descriptor.Descriptor.{Descriptor}
-use Rattle.fd_book.specs.declared.real_slot.RealSlot.{RealSlot}
-use Rattle.fd_book.specs.Orders.{real_slot_cmp}
-use Rattle.fd_book.specs.Books as books
+use Rattle.fd_tables.specs.declared.real_slot.RealSlot.{RealSlot}
+use Rattle.fd_tables.specs.Orders.{real_slot_cmp}
+use Rattle.fd_tables.specs.Slots as slots
 use Rattle.proc_book.specs.declared.process.Process as real_process
 use Rattle.proc_book.specs.Ends as procs
 use Rattle.plain_tables.specs.declared.process.Process.{Process}
@@ -36,7 +36,7 @@ abbrev pub RealDescriptors : Type 0
 RealDescriptors = FinMap real_slot_cmp Descriptor
 
 abbrev pub to_slot : Pids → Slot → Option RealSlot
-to_slot pids at = option_map (λ r. books.slot r at.fd) (to_real pids at.pid)
+to_slot pids at = option_map (λ r. slots.slot r at.fd) (to_real pids at.pid)
 
 abbrev pub from_slot : Virts → RealSlot → Option Slot
 from_slot virts at = option_map (λ p. slot p at.fd) (to_virt virts at.pid)

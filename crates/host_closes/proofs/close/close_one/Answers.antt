@@ -1,6 +1,6 @@
 use Rattle.std.proofs.Common.{sym, None}
 use Rattle.std.specs.FinMap as map
-use Rattle.fd_book.specs.Books.{slot}
+use Rattle.fd_tables.specs.Slots.{slot}
 use Rattle.host_closes.proofs.ObjectsAt.{told_ok, told_err}
 use Rattle.host_closes.proofs.CloseCall.{closed_nothing, lost_none}
 use Rattle.host_closes.proofs.FinishedCloses.{finished, told_close}
