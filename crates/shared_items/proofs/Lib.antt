@@ -1,4 +1,6 @@
 mod ByteItems
+pub mod DescriptionNames
 pub mod Keys
+mod MadeNumbers
 mod Names
 pub mod Searched

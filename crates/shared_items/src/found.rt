@@ -1,14 +1,14 @@
 //! Items of lists that rise, each found by a binary search.
 
-ghost use Rattle.std.specs.Prelude.{◌≡◌};
+ghost use Rattle.std.specs.Prelude.{◌≡◌, ◌==◌};
 ghost use Rattle.std.specs.Option.{option_copied};
-ghost use Rattle.image_shared.specs.RisingLists.{FilesRise, ChannelsRise};
+ghost use Rattle.image_shared.specs.RisingLists.{FilesRise, ChannelsRise, DescriptionsRise, ProcessesRise};
 ghost use Rattle.image_shared.specs.SharedTests as field;
 ghost use Rattle.image_shared.specs.Sides.{same_channel};
 ghost use Rattle.shared_items.specs.Found.{Finds};
 
-use image_shared::{ChannelImage, FileImage};
-use sys_abi::ConnId;
+use image_shared::{ChannelImage, DescriptionImage, FileImage, ProcessEntry};
+use sys_abi::{ConnId, DescId, VPid};
 
 /// Whether a file of this number is listed.
 pub fn has_file(files: &[FileImage], number: u32) -> bool
@@ -28,6 +28,28 @@ pub fn channel_of(channels: &[ChannelImage], name: ConnId) -> Option<&ChannelIma
 {
     match channels.binary_search_by_key(&name, |channel| channel.id) {
         Ok(place) => Some(&channels[place]),
+        Err(_) => None,
+    }
+}
+
+/// Whether a description of this name is listed.
+pub fn has_description(descriptions: &[DescriptionImage], id: DescId) -> bool
+    requires { DescriptionsRise descriptions.now }
+    ensures { result ≡ field.is_description descriptions.now id.pid.0 id.num }
+{
+    match descriptions.binary_search_by_key(&id, |description| description.id) {
+        Ok(_) => true,
+        Err(_) => false,
+    }
+}
+
+/// The process of this number.
+pub fn process_of(processes: &[ProcessEntry], n: u32) -> Option<&ProcessEntry>
+    requires { ProcessesRise processes.now }
+    ensures { Finds (λ process. process.pid.0 == n) processes.now (option_copied result) }
+{
+    match processes.binary_search_by_key(&VPid(n), |process| process.pid) {
+        Ok(place) => Some(&processes[place]),
         Err(_) => None,
     }
 }

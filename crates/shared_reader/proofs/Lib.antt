@@ -1,6 +1,4 @@
 mod HolderLaws
 mod HolderPasses
 mod KnownThreads
-mod MadeNumbers
-mod Names
 mod ReadLists

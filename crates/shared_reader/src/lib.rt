@@ -7,9 +7,7 @@
 //! there account for, and what an item names is found by halving a list that rises, or looked up in a map.
 #![tactic(auto)]
 
-mod found;
 mod holders;
-mod made;
 mod process_tests;
 mod processes;
 pub mod reader;

@@ -7,9 +7,9 @@ ghost use Rattle.image_shared.specs.RisingLists.{ChannelsRise, DescriptionsRise,
 ghost use Rattle.shared_items.specs.Keys.{HasKeys};
 ghost use Rattle.shared_reader.specs.KnownThreads.{KnowsThreads};
 
-use crate::found::process_of;
-use crate::made::is_made;
 use image_shared::{ChannelImage, DescriptionImage, DescriptorEntry, ProcessEntry, ThreadEntry};
+use shared_items::found::process_of;
+use shared_items::made::is_made;
 use std::alloc::AllocError;
 use sys_abi::Life;
 use views::number_map::NumberMap;

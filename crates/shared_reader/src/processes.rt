@@ -8,13 +8,13 @@ ghost use Rattle.image_shared.specs.SharedTests as field;
 ghost use Rattle.image_shared.specs.RisingLists.{ChannelsRise, DescriptionsRise, ProcessesRise};
 ghost use Rattle.shared_reader.specs.KnownThreads.{KnowsThreads};
 
-use crate::found::has_description;
 use crate::process_tests::{
     is_descriptor_count, is_descriptor_number, is_parent, is_pending_set, is_process_count,
     is_process_number, is_state, is_thread_count, is_thread_number, note_threads,
 };
 use image_format::fields::{Fault, u8_at, u32_at};
 use image_shared::{ChannelImage, DescriptionImage, DescriptorEntry, ProcessEntry, ThreadEntry};
+use shared_items::found::has_description;
 use std::alloc::Global;
 use sys_abi::{DescId, Life, VPid};
 use views::list_of::ListOf;

@@ -7,13 +7,12 @@ ghost use Rattle.image_shared.specs.WholeShared as whole;
 ghost use Rattle.shared_objects.specs.Known.{KnowsOpened, KnowsSides};
 ghost use Rattle.shared_reader.specs.HoldersOf.{KnowsHolders, verdict};
 
-use crate::found::process_of;
 use crate::holders::{Holders, holders_of};
 use id_maps::{ByDesc, ByDir};
 use image_shared::{
     ChannelImage, DescriptionImage, FileImage, ObjectImage, ProcessEntry, Shared, SideImage,
 };
-use shared_items::found::channel_of;
+use shared_items::found::{channel_of, process_of};
 use shared_objects::{opened_of, sides_of};
 use std::alloc::{AllocError, Global};
 use sys_abi::{ConnId, Dir, VirtAddr};

@@ -3,8 +3,8 @@ use Rattle.std.proofs.lemmas.List.Sorted.{answers_always}
 use Rattle.sys_abi.proofs.OrderLaws.{conn_total}
 use Rattle.image_shared.specs.declared.shared.ChannelImage.{ChannelImage}
 use Rattle.shared_items.proofs.Searched.{parted}
-use Rattle.shared_reader.proofs.MadeNumbers.{at_number, all_below, next_other}
-use Rattle.shared_reader.proofs.made.is_above_channels.Goals as goal
+use Rattle.shared_items.proofs.MadeNumbers.{at_number, all_below, next_other}
+use Rattle.shared_items.proofs.made.is_above_channels.Goals as goal
 
 pub returns-in-Ok : goal.returns-in-Ok
 returns-in-Ok c =

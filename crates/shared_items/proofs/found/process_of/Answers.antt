@@ -4,7 +4,7 @@ use Rattle.sys_abi.proofs.OrderLaws.{vpid_total}
 use Rattle.image_shared.specs.declared.shared.ProcessEntry.{ProcessEntry}
 use Rattle.shared_items.proofs.Keys.{same_number}
 use Rattle.shared_items.proofs.Searched.{found_at, found_none, parted}
-use Rattle.shared_reader.proofs.found.process_of.Goals as goal
+use Rattle.shared_items.proofs.found.process_of.Goals as goal
 
 pub returns-in-Ok : goal.returns-in-Ok
 returns-in-Ok c =

@@ -4,8 +4,8 @@ use Rattle.sys_abi.proofs.OrderLaws.{desc_total}
 use Rattle.image_shared.specs.declared.shared.DescriptionImage.{DescriptionImage}
 use Rattle.image_shared.specs.SharedTests.{is_pair}
 use Rattle.shared_items.proofs.Searched.{is_there, is_absent, parted}
-use Rattle.shared_reader.proofs.Names.{same_desc}
-use Rattle.shared_reader.proofs.found.has_description.Goals as goal
+use Rattle.shared_items.proofs.DescriptionNames.{same_desc}
+use Rattle.shared_items.proofs.found.has_description.Goals as goal
 
 pub returns-in-Ok : goal.returns-in-Ok
 returns-in-Ok c =
