@@ -56,6 +56,7 @@ impl Descriptions {
         }
     }
 
+    /// The description of that name, with the number of descriptors that are counted of it.
     pub fn get(&self, id: DescId) -> Option<&Open>
         ensures { option_copied result ≡ map.get self.now id }
     {

@@ -84,6 +84,7 @@ impl Tables {
         let _ = &self.tables;
     }
 
+    /// The descriptor of that number of the process.
     pub fn get(&self, p: RealPid, fd: u32) -> Option<Descriptor>
         ensures at { result ≡ map.get self.now (slot p fd) }
         ensures in_range { OnSome result (fd < 256) }
