@@ -178,8 +178,10 @@ module _ (g : Given) (old : Kernel) (k : PlainKernel) (st : Stands g None old k)
             | inl here ↦ absurd (none-some e
                 (sym (get_remove_same desc_total desc_exact old.book.descriptions d.desc)
                 ∙ ap (map.get less_descs.descriptions) (sym here) ∙ at))
-            | inr differ ↦ (differ,
-                sym (get_remove_other desc_total desc_exact old.book.descriptions d.desc q differ) ∙ at)
+            | inr differ ↦ (
+              differ,
+              sym (get_remove_other desc_total desc_exact old.book.descriptions d.desc q differ) ∙ at,
+            )
           ]
 
           descs : SameDescriptions g.virts g.names g.addresses pairs' None (map.remove k.descriptions d.desc)

@@ -137,9 +137,11 @@ module _ (pairs : Pairs) (queue side : ℕ) (less : side < 2) (pair : DatagramPa
 
     told_here : (s : ℕ) → IsOpenEnd pairs q queue s → IsOpenEnd pairs' q queue s
     told_here s is =
-        let still = end_still s is in
-        (is.0, ap (option_map (told_end s)) still.0 ∙ ap (λ e. Some (e.desc, e.is_open)) still.1
-        ∙ sym (ap (option_map (told_end s)) there) ∙ is.1)
+        let still = end_still s is in (
+          is.0,
+          ap (option_map (told_end s)) still.0 ∙ ap (λ e. Some (e.desc, e.is_open)) still.1
+              ∙ sym (ap (option_map (told_end s)) there) ∙ is.1,
+        )
 
     peer_here : (s : ℕ) → IsOpenEnd pairs q queue s → peer_of pairs' q queue s ≡ peer_of pairs q queue s
     peer_here s is =
@@ -157,10 +159,10 @@ module _ (pairs : Pairs) (queue side : ℕ) (less : side < 2) (pair : DatagramPa
             told = told_here s here;
           })
       | inr apart ↦ record {
-          same = ap (λ o. plain.Datagram
-              (option_map_or (λ (x : DatagramPair). (end_of (1 - s) x).desc) o q)) (beside n apart);
-          told = (is.0, ap (option_map (told_end s)) (beside n apart) ∙ is.1);
-        }
+        same = ap (λ o. plain.Datagram
+            (option_map_or (λ (x : DatagramPair). (end_of (1 - s) x).desc) o q)) (beside n apart);
+        told = (is.0, ap (option_map (told_end s)) (beside n apart) ∙ is.1);
+      }
     ]
 
     pub still_known : (names : Names) (addresses : Addresses) (o : real_object.Object)
@@ -217,9 +219,9 @@ module _ (pairs : Pairs) (queue side : ℕ) (less : side < 2) (pair : DatagramPa
     described_by n s q at h opened apart =
         let was = same.described n s q at h opened in
         let other : (end_of s q).desc ≢ id = λ e.
-            let o = same_Some _ _ (sym (sym (ap (λ x. object_in (map.get real x)) e ∙ ap object_in is) ∙ was)
-                ∙ ap Some object_is) in
-            apart (number_of o) (side_of o) in
+        let o = same_Some _ _ (sym (sym (ap (λ x. object_in (map.get real x)) e ∙ ap object_in is) ∙ was)
+        ∙ ap Some object_is) in
+        apart (number_of o) (side_of o) in
         ap object_in (get_remove_other desc_total desc_exact real id (end_of s q).desc other) ∙ was
       where
         number_of : {a b c e : ℕ} → object.Datagram a b ≡ object.Datagram c e → a ≡ c
@@ -243,10 +245,10 @@ module _ (pairs : Pairs) (queue side : ℕ) (less : side < 2) (pair : DatagramPa
       described = λ n s q at h opened. elim (pair_was n q at) [
         | inl here ↦
             let differ : s ≢ side = λ e. true_false (sym opened
-                ∙ ap (λ (x : DatagramPair). (end_of s x).is_open) (sym here.1.0)
-                ∙ ap (λ x. (end_of x left).is_open) e ∙ closed_side side pair) in
+            ∙ ap (λ (x : DatagramPair). (end_of s x).is_open) (sym here.1.0)
+            ∙ ap (λ x. (end_of x left).is_open) e ∙ closed_side side pair) in
             let end_is : end_of s q ≡ end_of s pair =
-                ap (end_of s) (sym here.1.0) ∙ other_end side s pair less h differ in
+            ap (end_of s) (sym here.1.0) ∙ other_end side s pair less h differ in
             ap (λ e. object_in (map.get (map.remove real id) e.desc)) end_is
             ∙ described_by n s pair (ap (map.get pairs) here.0 ∙ there) h
             (sym (ap (λ e. e.is_open) end_is) ∙ opened) (λ e. differ)

@@ -178,7 +178,7 @@ module _ (t : Network) (conns : Conns) (virt : Directions) (same : SameDirection
         (record { ended = silent.ended; unread = silent.unread })
     | inr differ ↦
         let was = same.closed id channel s there less
-            (sym (get_or-set_other channel.open_ends side s false true differ) ∙ shut) in
+        (sym (get_or-set_other channel.open_ends side s false true differ) ∙ shut) in
         record { ended = was.ended; unread = was.unread }
   ]
 
@@ -190,8 +190,8 @@ module _ (t : Network) (conns : Conns) (virt : Directions) (same : SameDirection
       (λ q x s is less shut. elim (same_or_other conn_total conn_exact q id) [
         | inl at ↦
             let now : mark ≡ x = same_Some mark x
-                (sym (get_insert_same conn_total conn_exact t.channels id mark)
-                ∙ ap (map.get t'.channels) (sym at) ∙ is) in
+            (sym (get_insert_same conn_total conn_exact t.channels id mark)
+            ∙ ap (map.get t'.channels) (sym at) ∙ is) in
             subst (IsSilent s) now (silent_at s less
             (ap (λ (c : Channel). slice_index_or c.open_ends s true) now ∙ shut))
         | inr differ ↦ same.closed q x s
@@ -201,9 +201,11 @@ module _ (t : Network) (conns : Conns) (virt : Directions) (same : SameDirection
 module _ (g : Given) (real : Kernel) (k : PlainKernel) (st : Stands g None real k) (id : ConnId) (side : ℕ)
     (less : side < 2) (channel : Channel) (there : map.get real.net.channels id ≡ Some channel) where
   pub end_marked : IsSilent side channel → (c : Conn) → map.get g.conns id ≡ Some c → Stands g None
-      (record real { net = record real.net {
-        channels = map.insert real.net.channels id (channels.with_closed_end side channel);
-      } })
+      (record real {
+        net = record real.net {
+          channels = map.insert real.net.channels id (channels.with_closed_end side channel);
+        };
+      })
       (record k { channels = map.insert k.channels id (with_closed side (seen_channel channel c)) })
   end_marked silent c listed =
       net_kept g None real k st
@@ -286,12 +288,12 @@ module _ (t : Network) (conns : Conns) (virt : Directions) (same : SameDirection
         | inl at ↦ inr (both_none _ _ _
             (ap (λ x. map.get without_both (dir x e.side)) at ∙ none_here e.side less) (none_real e at))
         | inr differ ↦ inl (record {
-            virt_same = beside e (λ same. differ (ap (λ (q : Dir). q.conn) same))
-                (λ same. differ (ap (λ (q : Dir). q.conn) same));
-            real_same = ap (option_map (channels.direction_of e.side))
-                (get_remove_other conn_total conn_exact t.channels id e.conn differ);
-            same_use = refl;
-          })
+          virt_same = beside e (λ same. differ (ap (λ (q : Dir). q.conn) same))
+              (λ same. differ (ap (λ (q : Dir). q.conn) same));
+          real_same = ap (option_map (channels.direction_of e.side))
+              (get_remove_other conn_total conn_exact t.channels id e.conn differ);
+          same_use = refl;
+        })
       ])
       (λ e more. beside e (λ same. not_first e.side more (ap (λ (q : Dir). q.side) same))
       (λ same. not_second e.side more (ap (λ (q : Dir). q.side) same)))
