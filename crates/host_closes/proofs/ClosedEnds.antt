@@ -21,7 +21,6 @@ use Rattle.plain_machine.specs.Channels.{with_direction, close_side, close_pendi
 use Rattle.wire_channels.specs.declared.channel.Channel.{Channel}
 use Rattle.wire_channels.specs.Directions.{Direction, after_end, after_stop_reading}
 use Rattle.wire_channels.specs.Channels as channels
-use Rattle.fd_book.specs.Books as books
 use Rattle.wire_channels.proofs.OneDirection.{direction_beside}
 use Rattle.host_tables.specs.declared.kernel.Kernel.{Kernel}
 use Rattle.host_tables.specs.Network.{seen_channel, is_unused, SameDirection, IsSilent}
@@ -268,11 +267,11 @@ module _ (g : Given) (real : Kernel) (k : PlainKernel) (st : Stands g None real 
     directions = closed_directions_by k.directions id side o;
   }) found.seen
 
-  net_is : books.after_close side m id ≡ closed_net other
+  net_is : channels.after_close side m id ≡ closed_net other
   net_is =
       ap (λ o. channels.put_back m id (option_map (channels.without_end side) o)) there ∙ ap closed_net other_is
 
-  pub end_there : Stands g None (with_net real (books.after_close side m id)) (close_side k id side)
+  pub end_there : Stands g None (with_net real (channels.after_close side m id)) (close_side k id side)
   end_there =
       subst (λ (n : channels.Channels). Stands g None (with_net real n) (close_side k id side)) (sym net_is)
       (subst (λ (q : PlainKernel). Stands g None (with_net real (closed_net other)) q) (sym close_is)
@@ -291,14 +290,14 @@ module _ (g : Given) (real : Kernel) (k : PlainKernel) (st : Stands g None real 
       ∙ ap (option_and_then (λ channel. option_map (seen_channel channel) (map.get g.conns id))) none)
 
   by_found : (o : Option Channel) → map.get real.net.channels id ≡ o
-      → Stands g None (with_net real (books.after_close side real.net.channels id)) (close_side k id side)
+      → Stands g None (with_net real (channels.after_close side real.net.channels id)) (close_side k id side)
   by_found None is =
       subst (λ (n : channels.Channels). Stands g None (with_net real n) (close_side k id side))
       (sym (ap (λ o. channels.put_back real.net.channels id (option_map (channels.without_end side) o)) is))
       (subst (λ (q : PlainKernel). Stands g None real q) (sym (none_there is)) st)
   by_found (Some channel) is = end_there g real k st id side less channel is
 
-  pub end_closed : Stands g None (with_net real (books.after_close side real.net.channels id)) (close_side k id side)
+  pub end_closed : Stands g None (with_net real (channels.after_close side real.net.channels id)) (close_side k id side)
   end_closed = by_found (map.get real.net.channels id) refl
 
 pub ends_closed : (g : Given) (real : Kernel) (k : PlainKernel) → Stands g None real k → (queue : List ConnId)
@@ -306,5 +305,5 @@ pub ends_closed : (g : Given) (real : Kernel) (k : PlainKernel) → Stands g Non
 unfolding pending_channels pending_directions
 ends_closed g real k st [] = st
 ends_closed g real k st (id ∷ rest) =
-    ends_closed g (with_net real (books.after_close 1 real.net.channels id)) (close_side k id 1)
+    ends_closed g (with_net real (channels.after_close 1 real.net.channels id)) (close_side k id 1)
     (end_closed g real k st id 1 (omega arith)) rest
