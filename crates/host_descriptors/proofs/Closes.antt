@@ -12,7 +12,7 @@ use Rattle.sys_abi.specs.declared.errors.TheConstants.{EBADF, EINVAL}
 use Rattle.sys_abi.specs.declared.flags.TheConstants.{O_CLOEXEC}
 use Rattle.sys_abi.specs.declared.identity.VPid.{VPid}
 use Rattle.sys_abi.specs.declared.identity.RealPid.{RealPid}
-use Rattle.fd_book.specs.Books as books
+use Rattle.fd_tables.specs.Slots as slots
 use Rattle.plain_process.specs.Attempts.{Try, Fails, and_then, need}
 use Rattle.plain_machine.specs.declared.kernel.PlainKernel.{PlainKernel}
 use Rattle.plain_machine.specs.Attempts.{Served, replied}
@@ -36,13 +36,13 @@ module _ (g : Given) (real : Kernel) (k : PlainKernel) (st : Stands g None real 
       subst (Says real (answer.Fails (record { 0 = e }))) (sym is)
       (record { answer = refl; kernel = refl; bytes = refl })
 
-  bad : (f : Held → Try Served) → map.get real.book.descriptors (books.slot r fd) ≡ None
+  bad : (f : Held → Try Served) → map.get real.book.descriptors (slots.slot r fd) ≡ None
       → Says real (answer.Fails (record { 0 = EBADF })) (and_then (held k p fd) f)
   bad f none = refuses EBADF (and_then (held k p fd) f) (row_bad g real k st p r paired fd none f)
 
   -- close
 
-  pub close_bad : map.get real.book.descriptors (books.slot r fd) ≡ None
+  pub close_bad : map.get real.book.descriptors (slots.slot r fd) ≡ None
       → Says real (answer.Fails (record { 0 = EBADF })) (close_row k p fd)
   unfolding close_row
   close_bad none = bad (λ h. replied (close_fd k p fd) 0) none
@@ -70,7 +70,7 @@ module _ (g : Given) (real : Kernel) (k : PlainKernel) (st : Stands g None real 
     abbrev is_valid : Bool
     is_valid = not (to == fd) && is_cloexec_at_most flags
 
-    pub dup3_bad : map.get real.book.descriptors (books.slot r fd) ≡ None
+    pub dup3_bad : map.get real.book.descriptors (slots.slot r fd) ≡ None
         → Says real (answer.Fails (record { 0 = EBADF })) (dup3_row k p fd to flags)
     unfolding dup3_row
     dup3_bad none = bad (tested is_valid (nat_lt to DESCRIPTOR_LIMIT)) none
@@ -102,7 +102,7 @@ module _ (g : Given) (real : Kernel) (k : PlainKernel) (st : Stands g None real 
     abbrev pub moving : Try Served
     moving = and_then (held k p fd) (λ h. replied (moved_to k p h to cloexec) to)
 
-    pub moved_bad : map.get real.book.descriptors (books.slot r fd) ≡ None
+    pub moved_bad : map.get real.book.descriptors (slots.slot r fd) ≡ None
         → Says real (answer.Fails (record { 0 = EBADF })) moving
     moved_bad none = bad (λ h. replied (moved_to k p h to cloexec) to) none
 

@@ -9,6 +9,7 @@ use Rattle.sys_abi.specs.declared.errors.TheConstants.{EBADF, EMFILE}
 use Rattle.sys_abi.specs.declared.identity.VPid.{VPid}
 use Rattle.sys_abi.specs.declared.identity.RealPid.{RealPid}
 use Rattle.fd_book.specs.Books as books
+use Rattle.fd_tables.specs.Slots as slots
 use Rattle.fd_book.specs.Books.{Books, IsWhole}
 use Rattle.fd_tables.specs.Numbers.{AllUsed, IsLowestFree}
 use Rattle.plain_process.specs.Attempts.{Try, Fails, Gives, and_then}
@@ -33,7 +34,7 @@ module _ (g : Given) (real : Kernel) (k : PlainKernel) (st : Stands g None real 
   abbrev pub Says : Kernel → Attempt → Try Served → Type 0
   Says new a m = Serves ByNumber same g real new x x a m
 
-  pub serves_bad : map.get real.book.descriptors (books.slot r fd) ≡ None
+  pub serves_bad : map.get real.book.descriptors (slots.slot r fd) ≡ None
       → Says real (answer.Fails (record { 0 = EBADF })) the_row
   serves_bad none =
       subst (Says real (answer.Fails (record { 0 = EBADF })))
@@ -58,7 +59,7 @@ module _ (g : Given) (real : Kernel) (k : PlainKernel) (st : Stands g None real 
         (record { answer = refl; kernel = refl; bytes = refl })
 
     pub serves_placed : (b : Books) (to : ℕ) → IsLowestFree real.book.descriptors r from to
-        → b ≡ books.with_descriptor real.book (books.slot r to) there.descriptor.desc cloexec
+        → b ≡ books.with_descriptor real.book (slots.slot r to) there.descriptor.desc cloexec
         → Says (record real { book = b }) (answer.Gives to) the_row
     unfolding and_then
     serves_placed b to lowest after =

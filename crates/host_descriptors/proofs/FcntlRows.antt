@@ -11,7 +11,7 @@ use Rattle.views.specs.Limits.{DESCRIPTOR_LIMIT}
 use Rattle.sys_abi.specs.declared.errors.TheConstants.{EBADF, EINVAL, ESRCH}
 use Rattle.sys_abi.specs.declared.identity.VPid.{VPid}
 use Rattle.sys_abi.specs.declared.identity.RealPid.{RealPid}
-use Rattle.fd_book.specs.Books as books
+use Rattle.fd_tables.specs.Slots as slots
 use Rattle.plain_process.specs.Attempts.{Try, Fails, and_then, need}
 use Rattle.plain_machine.specs.declared.kernel.PlainKernel.{PlainKernel}
 use Rattle.plain_machine.specs.declared.commands.FcntlCommand.{FcntlCommand}
@@ -68,7 +68,7 @@ module _ (g : Given) (real : Kernel) (x : List Byte) where
 
 module _ (g : Given) (real : Kernel) (k : PlainKernel) (st : Stands g None real k) (p : VPid) (who : RealPid)
     (paired : map.get g.pids p.0 ≡ Some who) (fd argument : ℕ) (x : List Byte) where
-  pub fcntl_bad : map.get real.book.descriptors (books.slot who fd) ≡ None → (number : ℕ)
+  pub fcntl_bad : map.get real.book.descriptors (slots.slot who fd) ≡ None → (number : ℕ)
       → Serves (ValueOfCommand who (fcntl_command number)) same g real real x x
       (answer.Fails (record { 0 = EBADF })) (fcntl_row k p fd number argument)
   unfolding fcntl_row
@@ -76,7 +76,7 @@ module _ (g : Given) (real : Kernel) (k : PlainKernel) (st : Stands g None real 
       refused g real x (ValueOfCommand who (fcntl_command number)) EBADF (fcntl_row k p fd number argument)
       (row_bad g real k st p who paired fd none (λ h. fcntl_by k p fd h argument (fcntl_command number)))
 
-  module _ (h : Held) (is : held_in real.book (books.slot who fd) ≡ Some h) where
+  module _ (h : Held) (is : held_in real.book (slots.slot who fd) ≡ Some h) where
     pub past_held : {A : Type 0} (m : plain.Held → Try A) → and_then (held k p fd) m ≡ m (seen_held g real h)
     past_held m = row_told g real k st p who paired fd (there_of real who fd h is) m
 

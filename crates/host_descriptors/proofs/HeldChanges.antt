@@ -16,6 +16,8 @@ use Rattle.sys_abi.specs.declared.identity.RealPid.{RealPid}
 use Rattle.fd_tables.specs.declared.description.Desc.{Desc}
 use Rattle.fd_tables.specs.declared.real_slot.RealSlot.{RealSlot}
 use Rattle.fd_book.specs.Books as books
+use Rattle.fd_tables.specs.Parts as parts
+use Rattle.fd_tables.specs.Slots as slots
 use Rattle.fd_book.specs.Books.{Books, IsWhole}
 use Rattle.proc_book.specs.Ends.{is_live_at}
 use Rattle.plain_tables.specs.declared.process.Process.{Process}
@@ -60,9 +62,9 @@ pub held_by : (b : Books) (at : RealSlot) (h : Held) → held_in b at ≡ Some h
 held_by b at h e = by_slot b at h (map.get b.descriptors at) refl e
 
 abbrev pub there_of : (real : Kernel) (r : RealPid) (fd : ℕ) (h : Held)
-    → held_in real.book (books.slot r fd) ≡ Some h → IsThere real r fd
+    → held_in real.book (slots.slot r fd) ≡ Some h → IsThere real r fd
 there_of real r fd h e =
-    let held = held_by real.book (books.slot r fd) h e in
+    let held = held_by real.book (slots.slot r fd) h e in
     record {
       descriptor = record { desc = h.desc; cloexec = h.cloexec };
       desc = h.description;
@@ -74,15 +76,15 @@ there_of real r fd h e =
 
 module _ (g : Given) (real : Kernel) (k : PlainKernel) (st : Stands g None real k) where
   pub cloexec_kept : (p : VPid) (r : RealPid) → map.get g.pids p.0 ≡ Some r → (fd : ℕ) (h : Held)
-      → held_in real.book (books.slot r fd) ≡ Some h → (on : Bool) (b : Books)
-      → b ≡ books.with_cloexec real.book (books.slot r fd) on
+      → held_in real.book (slots.slot r fd) ≡ Some h → (on : Bool) (b : Books)
+      → b ≡ books.with_cloexec real.book (slots.slot r fd) on
       → Stands g None (record real { book = b }) (with_descriptor k p fd (record { desc = h.desc; cloexec = on }))
   unfolding books.with_cloexec
   cloexec_kept p r paired fd h held on b is =
       subst (λ (w : Books). Stands g None (record real { book = w })
       (with_descriptor k p fd (record { desc = h.desc; cloexec = on })))
-      (sym (is ∙ ap (books.same_with_cloexec real.book (books.slot r fd) on)
-      (held_by real.book (books.slot r fd) h held).slot_is))
+      (sym (is ∙ ap (books.same_with_cloexec real.book (slots.slot r fd) on)
+      (held_by real.book (slots.slot r fd) h held).slot_is))
       (put_kept g None real k st p r paired fd (record { desc = h.desc; cloexec = on }))
 
   module _ (id : DescId) (e d : Desc) (is : map.get real.book.descriptions id ≡ Some e)
@@ -102,22 +104,22 @@ module _ (g : Given) (real : Kernel) (k : PlainKernel) (st : Stands g None real 
   changed_is f id e is = ap (books.changed_or_same f real.book id) is
 
   module _ (h : Held) (there : map.get real.book.descriptions h.desc ≡ Some h.description) where
-    pub status_kept : (flags : ℕ) (b : Books) → b ≡ books.with_changed (books.with_flags flags) real.book h.desc
+    pub status_kept : (flags : ℕ) (b : Books) → b ≡ books.with_changed (parts.with_flags flags) real.book h.desc
         → Stands g None (record real { book = b }) (with_flags k (seen_held g real h) flags)
     status_kept flags b is =
         subst (λ (w : Books). Stands g None (record real { book = w }) (with_flags k (seen_held g real h) flags))
-        (sym (is ∙ changed_is (books.with_flags flags) h.desc h.description there))
-        (changed h.desc h.description (books.with_flags flags h.description) there refl
+        (sym (is ∙ changed_is (parts.with_flags flags) h.desc h.description there))
+        (changed h.desc h.description (parts.with_flags flags h.description) there refl
         (st.descriptions.owners h.desc h.description there))
 
     pub owner_kept : (owner : Option RealPid) → IsKnown g.virts owner → (b : Books)
-        → b ≡ books.with_changed (books.with_owner owner) real.book h.desc
+        → b ≡ books.with_changed (parts.with_owner owner) real.book h.desc
         → Stands g None (record real { book = b }) (with_owner k (seen_held g real h) (number_of g.virts 0 owner))
     owner_kept owner known b is =
         subst (λ (w : Books). Stands g None (record real { book = w })
         (with_owner k (seen_held g real h) (number_of g.virts 0 owner)))
-        (sym (is ∙ changed_is (books.with_owner owner) h.desc h.description there))
-        (changed h.desc h.description (books.with_owner owner h.description) there refl known)
+        (sym (is ∙ changed_is (parts.with_owner owner) h.desc h.description there))
+        (changed h.desc h.description (parts.with_owner owner h.description) there refl known)
 
   -- who may own
 

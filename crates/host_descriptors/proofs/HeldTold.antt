@@ -11,7 +11,7 @@ use Rattle.sys_abi.specs.declared.identity.DescId.{DescId}
 use Rattle.sys_abi.specs.declared.identity.VPid.{VPid}
 use Rattle.sys_abi.specs.declared.identity.RealPid.{RealPid}
 use Rattle.fd_tables.specs.declared.description.Desc.{Desc}
-use Rattle.fd_book.specs.Books as books
+use Rattle.fd_tables.specs.Slots as slots
 use Rattle.fd_book.specs.Books.{IsWhole}
 use Rattle.plain_process.specs.Attempts.{Try, Fails, Gives, and_then}
 use Rattle.plain_machine.specs.declared.kernel.PlainKernel.{PlainKernel}
@@ -25,14 +25,14 @@ use Rattle.host_tables.proofs.LookUps.{some_value, held_none, held_some}
 pub record IsThere (real : Kernel) (r : RealPid) (fd : ℕ) : Type 0 where
   pub descriptor : Descriptor
   pub desc : Desc
-  pub at : map.get real.book.descriptors (books.slot r fd) ≡ Some descriptor
+  pub at : map.get real.book.descriptors (slots.slot r fd) ≡ Some descriptor
   pub described : map.get real.book.descriptions descriptor.desc ≡ Some desc
 
 pub there_by : (real : Kernel) (r : RealPid) (fd : ℕ) → IsWhole real.book → (o : Option Descriptor)
-    → map.get real.book.descriptors (books.slot r fd) ≡ o → o ≢ None → IsThere real r fd
+    → map.get real.book.descriptors (slots.slot r fd) ≡ o → o ≢ None → IsThere real r fd
 there_by real r fd whole None is some = absurd (some refl)
 there_by real r fd whole (Some d) is some =
-    let x = some_value (map.get real.book.descriptions d.desc) (whole.described (books.slot r fd) d is) in
+    let x = some_value (map.get real.book.descriptions d.desc) (whole.described (slots.slot r fd) d is) in
     record { descriptor = d; desc = x.0; at = is; described = x.1 }
 
 module _ (g : Given) (real : Kernel) (k : PlainKernel) (st : Stands g None real k) (p : VPid) (r : RealPid)
@@ -53,7 +53,7 @@ module _ (g : Given) (real : Kernel) (k : PlainKernel) (st : Stands g None real 
   unfolding and_then
   row_told there m = ap (λ x. and_then x m) (held_told there)
 
-  pub row_bad : {A : Type 0} → map.get real.book.descriptors (books.slot r fd) ≡ None → (m : Held → Try A)
+  pub row_bad : {A : Type 0} → map.get real.book.descriptors (slots.slot r fd) ≡ None → (m : Held → Try A)
       → and_then (held k p fd) m ≡ Fails EBADF
   unfolding and_then
   row_bad none m = ap (λ x. and_then x m) (held_none g real k st p r paired fd none)

@@ -9,7 +9,7 @@ use Rattle.views.proofs.MapLaws.{true_false}
 use Rattle.sys_abi.specs.declared.maker.Maker.{Maker}
 use Rattle.sys_abi.specs.declared.identity.VPid.{VPid}
 use Rattle.sys_abi.specs.declared.identity.RealPid.{RealPid}
-use Rattle.fd_book.specs.Books as books
+use Rattle.fd_tables.specs.Slots as slots
 use Rattle.plain_tables.specs.declared.process.Process.{Process}
 use Rattle.plain_tables.specs.Tables.{FIRST_PID, slot, pid, same_host, is_live_process, lives_in}
 use Rattle.plain_tables.specs.Valid.Descriptions.{IsOwner}
@@ -55,17 +55,17 @@ module _ (g : Given) (old : Kernel) (k : PlainKernel) (st : Stands g None old k)
       ∙ sym (st.numbered.node p x.0 both.first r x.1 both.first_is to_r)
 
   module _ (whole : IsKernel k) (p : VPid) (who : RealPid) (paired : map.get g.pids p.0 ≡ Some who) (fd : ℕ)
-      (h : Held) (held : held_in old.book (books.slot who fd) ≡ Some h) where
+      (h : Held) (held : held_in old.book (slots.slot who fd) ≡ Some h) where
     plain_slot : map.get k.descriptors (slot p fd) ≡ Some (record { desc = h.desc; cloexec = h.cloexec })
     plain_slot =
         at_slot g.pids g.virts old.book.descriptors k.descriptors st.descriptors p who paired fd
-        ∙ (held_by old.book (books.slot who fd) h held).slot_is
+        ∙ (held_by old.book (slots.slot who fd) h held).slot_is
 
     plain_desc : map.get k.descriptions h.desc ≡ Some (seen_desc g.virts g.names old.datagrams None h.desc h.description)
     plain_desc =
         st.descriptions.each h.desc
         ∙ ap (option_map (seen_desc g.virts g.names old.datagrams None h.desc))
-        (held_by old.book (books.slot who fd) h held).described
+        (held_by old.book (slots.slot who fd) h held).described
 
     lives : lives_in k.processes p ≡ true
     lives = whole.descriptors.alive (slot p fd) (record { desc = h.desc; cloexec = h.cloexec }) plain_slot
@@ -75,7 +75,7 @@ module _ (g : Given) (old : Kernel) (k : PlainKernel) (st : Stands g None old k)
         (seen_desc g.virts g.names old.datagrams None h.desc h.description) plain_slot plain_desc
 
     known : IsKnown g.virts h.description.owner
-    known = st.descriptions.owners h.desc h.description (held_by old.book (books.slot who fd) h held).described
+    known = st.descriptions.owners h.desc h.description (held_by old.book (slots.slot who fd) h held).described
 
     -- a process that owns
     module _ (s : RealPid) (v : ℕ) (virt : map.get g.virts s ≡ Some v) where

@@ -3,7 +3,7 @@ ghost use Rattle.std.specs.Prelude.{◌≡◌, ◌==◌, ◌%◌, List, Some, If
 ghost use Rattle.std.specs.FinMap as map;
 ghost use Rattle.views.specs.Numbers.{Byte};
 ghost use Rattle.sys_abi.specs.declared.identity.VPid.{VPid};
-ghost use Rattle.fd_book.specs.Books as books;
+ghost use Rattle.fd_tables.specs.Slots as slots;
 ghost use Rattle.plain_machine.specs.declared.kernel.PlainKernel.{PlainKernel};
 ghost use Rattle.plain_machine.specs.Commands.{fcntl_command};
 ghost use Rattle.plain_machine.specs.Kernel.{with_descriptor};
@@ -72,7 +72,7 @@ fn dup_above(
     argument: u32,
     cloexec: bool,
 ) -> RowResult
-    requires held { held_in kernel.old.book (books.slot who fd) ≡ Some held }
+    requires held { held_in kernel.old.book (slots.slot who fd) ≡ Some held }
     ensures ok { IfOk result (λ a. Through kernel.old who (λ g k p. (x : List Byte)
         → Serves ByNumber same g kernel.old kernel.new x x a
         (rows.dup_above k p (seen_held g kernel.old held) argument cloexec))) }
@@ -96,7 +96,7 @@ fn cloexec_flag(held: Held) -> Attempt
 
 /// Whether exec closes the descriptor, by the argument's lowest bit.
 fn set_cloexec(kernel: &mut Kernel, who: RealPid, fd: u32, held: Held, argument: u32)
-    requires held { held_in kernel.old.book (books.slot who fd) ≡ Some held }
+    requires held { held_in kernel.old.book (slots.slot who fd) ≡ Some held }
     ensures { Through kernel.old who (λ g k p. Stands g None kernel.new (with_descriptor k p fd
         (record { desc = held.desc; cloexec = argument % 2 == 1 }))) }
 {

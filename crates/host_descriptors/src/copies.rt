@@ -2,7 +2,7 @@
 ghost use Rattle.std.specs.Prelude.{◌≡◌, ◌≤◌, List, IfOk, OnErr};
 ghost use Rattle.views.specs.Numbers.{Byte};
 ghost use Rattle.views.specs.Limits.{DESCRIPTOR_LIMIT};
-ghost use Rattle.fd_book.specs.Books as books;
+ghost use Rattle.fd_tables.specs.Slots as slots;
 ghost use Rattle.plain_process.specs.Attempts.{and_then};
 ghost use Rattle.plain_machine.specs.Kernel.{held};
 ghost use Rattle.plain_machine.specs.Rows.Descriptors as rows;
@@ -52,7 +52,7 @@ pub(crate) fn dup_from(
 pub fn close(kernel: &mut Kernel, who: RealPid, fd: u32) -> (Attempt, Option<Closed>)
     ensures row { Through kernel.old who (λ g k p. (x : List Byte)
         → Serves ByNumber same g kernel.old kernel.new x x result.0 (rows.close_row k p fd)) }
-    ensures told { IsToldClose kernel.old.book (books.slot who fd) result.1 }
+    ensures told { IsToldClose kernel.old.book (slots.slot who fd) result.1 }
 {
     kernel.book.whole();
     let Some(_) = kernel.book.get(who, Fd(fd)) else {

@@ -1,6 +1,6 @@
 //! What a descriptor leads to.
 ghost use Rattle.std.specs.Prelude.{◌≡◌};
-ghost use Rattle.fd_book.specs.Books as books;
+ghost use Rattle.fd_tables.specs.Slots as slots;
 ghost use Rattle.host_descriptors.specs.Held.{held_in};
 
 use fd_book::{Book, Desc};
@@ -16,7 +16,7 @@ pub struct Held {
 
 /// What a descriptor leads to, None where it is not open.
 pub(crate) fn held_at(book: &Book, who: RealPid, fd: u32) -> Option<Held>
-    ensures { result ≡ held_in book.now (books.slot who fd) }
+    ensures { result ≡ held_in book.now (slots.slot who fd) }
 {
     let desc = book.get(who, Fd(fd))?;
     let cloexec = book.cloexec(who, Fd(fd))?;

@@ -2,7 +2,7 @@
 ghost use Rattle.std.specs.Prelude.{◌≡◌, ◌≢◌, ◌<◌, List, None, IfOk, OnErr};
 ghost use Rattle.views.specs.Numbers.{Byte};
 ghost use Rattle.views.specs.Limits as limits;
-ghost use Rattle.fd_book.specs.Books as books;
+ghost use Rattle.fd_tables.specs.Slots as slots;
 ghost use Rattle.plain_process.specs.Attempts.{and_then};
 ghost use Rattle.plain_machine.specs.Attempts.{replied};
 ghost use Rattle.plain_machine.specs.Kernel.{held};
@@ -38,7 +38,7 @@ pub fn dup3(
 ) -> Result<Moved, AllocError>
     ensures ok { IfOk result (λ moved. Through kernel.old who (λ g k p. (x : List Byte)
         → Serves ByNumber same g kernel.old kernel.new x x moved.answer (rows.dup3_row k p fd to flags))) }
-    ensures told { IfOk result (λ moved. IsTold kernel.old.book (books.slot who to) moved.answer moved.closed) }
+    ensures told { IfOk result (λ moved. IsTold kernel.old.book (slots.slot who to) moved.answer moved.closed) }
     ensures err { OnErr result (kernel.new ≡ kernel.old) }
 {
     kernel.book.whole();
@@ -85,7 +85,7 @@ fn move_to(
     ensures ok { IfOk result (λ moved. Through kernel.old who (λ g k p. (x : List Byte)
         → Serves ByNumber same g kernel.old kernel.new x x moved.answer
         (and_then (held k p fd) (λ h. replied (rows.moved_to k p h to cloexec) to)))) }
-    ensures told { IfOk result (λ moved. IsTold kernel.old.book (books.slot who to) moved.answer moved.closed) }
+    ensures told { IfOk result (λ moved. IsTold kernel.old.book (slots.slot who to) moved.answer moved.closed) }
     ensures err { OnErr result (kernel.new ≡ kernel.old) }
 {
     kernel.book.whole();
