@@ -8,4 +8,5 @@ pub mod Promise
 pub mod Loads
 pub mod Ring
 pub mod Help
+pub mod AsAsked
 pub mod RingEndings

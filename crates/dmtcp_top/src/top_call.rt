@@ -2,6 +2,7 @@ ghost use Rattle.std.specs.Prelude.{◌≡◌, List, [], map, string_bytes};
 ghost use Rattle.option_words.specs.Options.{Text};
 ghost use Rattle.job_words.specs.declared.job.Job.TheVariants.{Ring, Help};
 ghost use Rattle.job_words.specs.declared.job.RingJob.{RingJob};
+ghost use Rattle.dmtcp_top.specs.AsAsked.{DoesAsAsked};
 ghost use Rattle.dmtcp_top.specs.Help.{IsHelp};
 ghost use Rattle.dmtcp_top.specs.Sessions.{outside};
 ghost use Rattle.dmtcp_top.specs.Promise.{IsPromised};
@@ -43,20 +44,10 @@ pub fn dmtcp<R: Wait + Threads + Sync, I: Inputs, O: Sink, L: Sink, F: Folder>(
 ) -> Status
     requires { trace.old.records ≡ [] }
 
-    // What the status says of the trace, the console and the log, in which order the records come, what a
-    // crash at any moment leaves of the folder of sets, and which status comes where: `specs/Promise.antt`
-    // has it field by field.
-    ensures promise { AskForOneRun (map string_bytes words.now)
-        → IsPromised result (map string_bytes words.now) trace.new.records
-        (outside (I.seen inputs.old) (O.seen out.old) (L.seen log.old) (F.seen disk.old))
-        (outside (I.seen inputs.new) (O.seen out.new) (L.seen log.new) (F.seen disk.new)) }
-
-    // The ring is a launch and a restart, and help tells the forms.
-    ensures ring { (job : RingJob) → Asks (map string_bytes words.now) (Ring job)
-        → IsRing result job trace.new.records
-        (outside (I.seen inputs.old) (O.seen out.old) (L.seen log.old) (F.seen disk.old))
-        (outside (I.seen inputs.new) (O.seen out.new) (L.seen log.new) (F.seen disk.new)) }
-    ensures help { Asks (map string_bytes words.now) Help → IsHelp result trace.new.records
+    // What one run, the ring and help are promised, field by field: `specs/AsAsked.antt`, and of a run what
+    // the status says of the trace, the console and the log, in which order the records come, what a crash at
+    // any moment leaves of the folder of sets, and which status comes where: `specs/Promise.antt`.
+    ensures answered { DoesAsAsked result (map string_bytes words.now) trace.new.records
         (outside (I.seen inputs.old) (O.seen out.old) (L.seen log.old) (F.seen disk.old))
         (outside (I.seen inputs.new) (O.seen out.new) (L.seen log.new) (F.seen disk.new)) }
 
@@ -78,6 +69,27 @@ pub fn run_words<I: Inputs, O: Sink, L: Sink, F: Folder>(
     trace: &mut Trace,
 ) -> Status
     requires { trace.old.records ≡ [] }
+    ensures answered { DoesAsAsked result (map string_bytes words.now) trace.new.records
+        (outside (I.seen inputs.old) (O.seen out.old) (L.seen log.old) (F.seen disk.old))
+        (outside (I.seen inputs.new) (O.seen out.new) (L.seen log.new) (F.seen disk.new)) }
+
+    // Without checkpoints, and without a restart, the folder is not touched.
+    ensures untouched { MakesNoCheckpoints (map string_bytes words.now) → disk.new ≡ disk.old }
+{
+    by_words(alloc, words, inputs, out, log, disk, trace)
+}
+
+/// Does what the words ask for: one run, the ring, or help.
+fn by_words<I: Inputs, O: Sink, L: Sink, F: Folder>(
+    alloc: Global,
+    words: &[String],
+    inputs: &mut I,
+    out: &mut O,
+    log: &mut L,
+    disk: &mut F,
+    trace: &mut Trace,
+) -> Status
+    requires { trace.old.records ≡ [] }
     ensures promise { AskForOneRun (map string_bytes words.now)
         → IsPromised result (map string_bytes words.now) trace.new.records
         (outside (I.seen inputs.old) (O.seen out.old) (L.seen log.old) (F.seen disk.old))
@@ -89,8 +101,6 @@ pub fn run_words<I: Inputs, O: Sink, L: Sink, F: Folder>(
     ensures help { Asks (map string_bytes words.now) Help → IsHelp result trace.new.records
         (outside (I.seen inputs.old) (O.seen out.old) (L.seen log.old) (F.seen disk.old))
         (outside (I.seen inputs.new) (O.seen out.new) (L.seen log.new) (F.seen disk.new)) }
-
-    // Without checkpoints, and without a restart, the folder is not touched.
     ensures untouched { MakesNoCheckpoints (map string_bytes words.now) → disk.new ≡ disk.old }
 {
     let job = match read_job(alloc, words) {
