@@ -12,3 +12,5 @@ pub mod MorePairs
 pub mod GrownTopics
 pub mod Waits
 pub mod PortsLeft
+pub mod Neighbours
+pub mod Replies

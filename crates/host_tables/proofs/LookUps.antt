@@ -19,7 +19,6 @@ use Rattle.sys_abi.specs.declared.errors.TheConstants.{EBADF, EMFILE}
 use Rattle.sys_abi.specs.Lives.{lives}
 use Rattle.fd_tables.specs.declared.description.Desc.{Desc}
 use Rattle.fd_tables.specs.Slots as slots
-use Rattle.fd_book.specs.Books.{IsWhole}
 use Rattle.fd_tables.specs.Numbers.{AllUsed, IsLowestFree}
 use Rattle.proc_book.specs.declared.process.Process as real_process
 use Rattle.proc_book.specs.Ends.{is_live_at}

@@ -1,0 +1,6 @@
+pub mod Parents
+pub mod Raised
+pub mod SendRows
+pub mod Reaped
+pub mod Waited
+pub mod WaitRow
