@@ -1,6 +1,5 @@
 -- The row of fcntl through the pairs, command by command.
 --     by_command                  the row is that of its command
---     gave                        a command that answers a number
 --     above_limit, above_is       the tests of a descriptor more
 --     own_refused, own_done       the test of an owner
 use Rattle.std.proofs.Common.{◌≡◌, ℕ, Bool, true, false, List, Option, Some, None, refl, sym, ap, subst}
@@ -15,7 +14,7 @@ use Rattle.fd_tables.specs.Slots as slots
 use Rattle.plain_process.specs.Attempts.{Try, Fails, and_then, need}
 use Rattle.plain_machine.specs.declared.kernel.PlainKernel.{PlainKernel}
 use Rattle.plain_machine.specs.declared.commands.FcntlCommand.{FcntlCommand}
-use Rattle.plain_machine.specs.Attempts.{Served, replied}
+use Rattle.plain_machine.specs.Attempts.{replied}
 use Rattle.plain_machine.specs.Commands.{fcntl_command}
 use Rattle.plain_machine.specs.Kernel as plain
 use Rattle.plain_machine.specs.Kernel.{held}
@@ -23,26 +22,15 @@ use Rattle.plain_machine.specs.Rows.Descriptors.{dup_from, dup_above, with_owner
 use Rattle.host_tables.specs.declared.kernel.Kernel.{Kernel}
 use Rattle.host_tables.specs.declared.attempt.Attempt.{Attempt}
 use Rattle.host_tables.specs.declared.attempt.Attempt.TheVariants as answer
-use Rattle.host_tables.specs.Serves.{ValueRelation, Serves, ByNumber, ValueOfCommand, same}
+use Rattle.host_tables.specs.Serves.{Serves, ByNumber, ValueOfCommand, same}
 use Rattle.host_tables.specs.Stands.{Given, Stands}
+use Rattle.host_tables.proofs.Replies.{refused}
 use Rattle.host_descriptors.specs.declared.held.Held.{Held}
 use Rattle.host_descriptors.specs.Held.{held_in, seen_held}
 use Rattle.host_descriptors.proofs.HeldChanges.{there_of}
 use Rattle.host_descriptors.proofs.HeldTold.{row_told, row_bad}
 
 module _ (g : Given) (real : Kernel) (x : List Byte) where
-  pub gave : (V : ValueRelation) (k : PlainKernel) (n m : ℕ) → V n m g → (new : Kernel) → Stands g None new k
-      → (a : Attempt) → a ≡ answer.Gives n → Serves V same g real new x x a (replied k m)
-  gave V k n m is new stands a gives =
-      subst (λ w. Serves V same g real new x x w (replied k m)) (sym gives)
-      (record { reply = is; bytes = refl; stands = stands })
-
-  pub refused : (V : ValueRelation) (e : ℕ) (m : Try Served) → m ≡ Fails e
-      → Serves V same g real real x x (answer.Fails (record { 0 = e })) m
-  refused V e m is =
-      subst (Serves V same g real real x x (answer.Fails (record { 0 = e }))) (sym is)
-      (record { answer = refl; kernel = refl; bytes = refl })
-
   module _ (k : PlainKernel) (p : VPid) (h : plain.Held) (argument : ℕ) where
     pub above_limit : (cloexec : Bool) → nat_lt argument DESCRIPTOR_LIMIT ≡ false
         → dup_above k p h argument cloexec ≡ Fails EINVAL

@@ -2,9 +2,9 @@
 --     held_by, there_of          what the look-up of a descriptor told
 --     cloexec_kept               a descriptor with another flag
 --     status_kept, owner_kept    a description with other flags;  with another owner
---     may_own_some, may_own_none whether a process may own
-use Rattle.std.proofs.Common.{◌≡◌, ℕ, Bool, true, false, ◌&&◌, ◌||◌, Option, Some, None, refl, sym, ap, ◌∙◌, subst}
-use Rattle.std.specs.Prelude.{◌==◌, IsSome, option_map, option_and_then, unwrap_or, if◌then◌else◌}
+--     may_own_is, may_own_nobody whether a process may own
+use Rattle.std.proofs.Common.{◌≡◌, ℕ, Bool, true, false, ◌||◌, Option, Some, None, refl, sym, ap, ◌∙◌, subst}
+use Rattle.std.specs.Prelude.{◌==◌, IsSome, option_map, option_and_then, unwrap_or}
 use Rattle.std.specs.FinMap as map
 use Rattle.std.proofs.lemmas.Option.{same_Some, none-some}
 use Rattle.std.proofs.lemmas.Bool.{eqb-true, eq-eqb}
@@ -19,20 +19,15 @@ use Rattle.fd_book.specs.Books as books
 use Rattle.fd_tables.specs.Parts as parts
 use Rattle.fd_tables.specs.Slots as slots
 use Rattle.fd_book.specs.Books.{Books, IsWhole}
-use Rattle.proc_book.specs.Ends.{is_live_at}
-use Rattle.plain_tables.specs.declared.process.Process.{Process}
-use Rattle.plain_tables.specs.Tables.{pid, same_host, is_live_process}
 use Rattle.plain_machine.specs.declared.kernel.PlainKernel.{PlainKernel}
-use Rattle.plain_machine.specs.Kernel.{with_descriptor, with_description, is_live, is_neighbour}
+use Rattle.plain_machine.specs.Kernel.{with_descriptor, with_description, is_neighbour}
 use Rattle.plain_machine.specs.Rows.Descriptors.{with_flags, with_owner, may_own}
 use Rattle.host_tables.specs.declared.kernel.Kernel.{Kernel}
 use Rattle.host_tables.specs.Datagrams.{inbox_of}
 use Rattle.host_tables.specs.Descriptions.{IsTold, seen_desc}
 use Rattle.host_tables.specs.Numbers.{IsKnown, number_of}
-use Rattle.host_tables.specs.Requests.{neighbour_of}
 use Rattle.host_tables.specs.Stands.{Given, Stands}
 use Rattle.host_tables.proofs.DescriptionChanges.{description_changed}
-use Rattle.host_tables.proofs.LookUps.{lives_of}
 use Rattle.host_tables.proofs.SlotChanges.{put_kept}
 use Rattle.host_descriptors.specs.declared.held.Held.{Held}
 use Rattle.host_descriptors.specs.Held.{held_in, seen_held}
@@ -123,60 +118,11 @@ module _ (g : Given) (real : Kernel) (k : PlainKernel) (st : Stands g None real 
 
   -- who may own
 
-  and_true : (a : Bool) → (a && true) ≡ a
-  and_true true = refl
-  and_true false = refl
-
-  and_false : (a : Bool) → (a && false) ≡ false
-  and_false true = refl
-  and_false false = refl
-
   or_false : (a b : Bool) → a ≡ false → (a || b) ≡ b
   or_false true b e = true_false e
   or_false false b e = refl
 
   module _ (p : VPid) (argument : ℕ) where
-    abbrev together : Bool
-    together = same_host (map.get k.makers p) (map.get k.makers (pid argument))
-
-    abbrev named : Bool → Option RealPid
-    named b = if b then map.get g.pids argument else None
-
-    some_by : (t : RealPid) (b : Bool) → together ≡ b → Some t ≡ named b
-        → (map.get g.pids argument ≡ Some t) × (is_neighbour k p argument ≡ is_live_at real.procs.processes t)
-    unfolding is_neighbour
-    some_by t true is e = (
-      sym e,
-      ap (λ b. is_live k (pid argument) && b) is ∙ and_true (is_live k (pid argument))
-          ∙ lives_of g real k st (pid argument) t (sym e),
-    )
-    some_by t false is e = absurd (none-some t (sym e))
-
-    pub may_own_some : (t : RealPid) → Some t ≡ neighbour_of g.pids k p argument
-        → (map.get g.pids argument ≡ Some t) × (is_neighbour k p argument ≡ is_live_at real.procs.processes t)
-    may_own_some t e = some_by t together refl e
-
-    not_live : None ≡ map.get g.pids argument → (o : Option Process) → map.get k.processes (pid argument) ≡ o
-        → is_live_process o ≡ false
-    not_live none None is = refl
-    not_live none (Some x) is =
-        no_pair (map.get g.pids argument) (sym none) (st.numbered.process (pid argument) x is)
-      where
-        no_pair : (o : Option RealPid) → o ≡ None → IsSome o → is_live_process (Some x) ≡ false
-        no_pair None e some = true_false (sym some)
-        no_pair (Some r) e some = absurd (none-some r (sym e))
-
-    none_by : (b : Bool) → together ≡ b → None ≡ named b → is_neighbour k p argument ≡ false
-    unfolding is_neighbour is_live
-    none_by true is e =
-        ap (λ b. is_live k (pid argument) && b) is ∙ and_true (is_live k (pid argument))
-        ∙ not_live e (map.get k.processes (pid argument)) refl
-    none_by false is e =
-        ap (λ b. is_live k (pid argument) && b) is ∙ and_false (is_live k (pid argument))
-
-    pub may_own_none : None ≡ neighbour_of g.pids k p argument → is_neighbour k p argument ≡ false
-    may_own_none e = none_by together refl e
-
     pub may_own_is : (argument ≡ 0 → ⊥) → (b : Bool) → is_neighbour k p argument ≡ b → may_own k p argument ≡ b
     may_own_is some b is = or_false (argument == 0) (is_neighbour k p argument) (not_zero (argument == 0) refl) ∙ is
       where

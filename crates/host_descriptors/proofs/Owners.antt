@@ -1,59 +1,28 @@
 -- The owner of a description that a process holds is of the process's node.
---     neighbours_node      two processes of one host are of one node
 --     owner_told           the number that tells an owner
 use Rattle.std.proofs.Common.{◌≡◌, ℕ, ◌≤◌, Bool, true, false, Option, Some, None, inl, inr, refl, sym, ap, ◌∙◌, subst, arith}
 use Rattle.std.specs.Prelude.{◌==◌, option_map, unwrap_or}
 use Rattle.std.specs.FinMap as map
 use Rattle.std.proofs.lemmas.Bool.{eqb-true}
-use Rattle.views.proofs.MapLaws.{true_false}
-use Rattle.sys_abi.specs.declared.maker.Maker.{Maker}
 use Rattle.sys_abi.specs.declared.identity.VPid.{VPid}
 use Rattle.sys_abi.specs.declared.identity.RealPid.{RealPid}
 use Rattle.fd_tables.specs.Slots as slots
-use Rattle.plain_tables.specs.declared.process.Process.{Process}
-use Rattle.plain_tables.specs.Tables.{FIRST_PID, slot, pid, same_host, is_live_process, lives_in}
+use Rattle.plain_tables.specs.Tables.{FIRST_PID, slot, pid, lives_in}
 use Rattle.plain_tables.specs.Valid.Descriptions.{IsOwner}
 use Rattle.plain_machine.specs.declared.kernel.PlainKernel.{PlainKernel}
 use Rattle.plain_machine.specs.Kernels.{IsKernel}
 use Rattle.host_tables.specs.declared.kernel.Kernel.{Kernel}
 use Rattle.host_tables.specs.Descriptions.{seen_desc}
-use Rattle.host_tables.specs.Numbers.{real, node_of, number_of, IsKnown}
+use Rattle.host_tables.specs.Numbers.{real, number_of, IsKnown}
 use Rattle.host_tables.specs.Serves.{ByPidOr, ByPidUnless}
 use Rattle.host_tables.specs.Stands.{Given, Stands}
 use Rattle.host_tables.proofs.LookUps.{some_value, at_slot}
+use Rattle.host_tables.proofs.Neighbours.{there_by, neighbours_node}
 use Rattle.host_descriptors.specs.declared.held.Held.{Held}
 use Rattle.host_descriptors.specs.Held.{held_in, owner_value}
 use Rattle.host_descriptors.proofs.HeldChanges.{held_by}
 
-record AreTogether (a b : Option Maker) : Type 0 where
-  pub first : Maker
-  pub second : Maker
-  pub first_is : a ≡ Some first
-  pub second_is : b ≡ Some second
-  pub host : first.host ≡ second.host
-
-together_by : (a b : Option Maker) → same_host a b ≡ true → AreTogether a b
-together_by None b e = true_false (sym e)
-together_by (Some m) None e = true_false (sym e)
-together_by (Some m) (Some n) e =
-    record { first = m; second = n; first_is = refl; second_is = refl; host = eqb-true m.host n.host e }
-
-there_by : (o : Option Process) → is_live_process o ≡ true → (x : Process) × (o ≡ Some x)
-there_by None e = true_false (sym e)
-there_by (Some x) e = (x, refl)
-
 module _ (g : Given) (old : Kernel) (k : PlainKernel) (st : Stands g None old k) where
-  pub neighbours_node : (p q : VPid) (r s : RealPid) → lives_in k.processes p ≡ true
-      → lives_in k.processes q ≡ true → same_host (map.get k.makers p) (map.get k.makers q) ≡ true
-      → map.get g.pids p.0 ≡ Some r → map.get g.pids q.0 ≡ Some s → s.node ≡ r.node
-  neighbours_node p q r s live_p live_q same to_r to_s =
-      let x = there_by (map.get k.processes p) live_p in
-      let y = there_by (map.get k.processes q) live_q in
-      let both = together_by (map.get k.makers p) (map.get k.makers q) same in
-      st.numbered.node q y.0 both.second s y.1 both.second_is to_s
-      ∙ ap (node_of old.nodes) (sym both.host)
-      ∙ sym (st.numbered.node p x.0 both.first r x.1 both.first_is to_r)
-
   module _ (whole : IsKernel k) (p : VPid) (who : RealPid) (paired : map.get g.pids p.0 ≡ Some who) (fd : ℕ)
       (h : Held) (held : held_in old.book (slots.slot who fd) ≡ Some h) where
     plain_slot : map.get k.descriptors (slot p fd) ≡ Some (record { desc = h.desc; cloexec = h.cloexec })
@@ -98,7 +67,10 @@ module _ (g : Given) (old : Kernel) (k : PlainKernel) (st : Stands g None old k)
       node_by : IsOwner k.processes k.makers p v → s.node ≡ who.node
       node_by own = elim own [
         | inl nobody ↦ absurd (not_nobody nobody)
-        | inr neighbour ↦ neighbours_node p (pid v) who s lives neighbour.0 neighbour.1 paired to_s
+        | inr neighbour ↦
+            let x = there_by (map.get k.processes p) lives in
+            let y = there_by (map.get k.processes (pid v)) neighbour.0 in
+            neighbours_node g old k st p (pid v) who s x.0 y.0 x.1 y.1 neighbour.1 paired to_s
       ]
 
       by_owner : (m : ℕ) → m ≡ v → IsOwner k.processes k.makers p m → ByPidOr 0 who s.pid m g

@@ -32,7 +32,8 @@ pub not_nobody : (n : ℕ) → FIRST_PID ≤ n → n ≡ NOBODY → ⊥
 not_nobody n h e = omega (arith, h, e)
 
 module _ (g : Given) (old : Kernel) (k : PlainKernel) (st : Stands g None old k) where
-  not_zero : (v : ℕ) (s : RealPid) → map.get g.pids v ≡ Some s → (b : Bool) → (s.pid == 0) ≡ b → (s.pid == 0) ≡ false
+  not_zero : (v : ℕ) (s : RealPid) → map.get g.pids v ≡ Some s → (b : Bool) → (s.pid == 0) ≡ b
+      → (s.pid == 0) ≡ false
   not_zero v s to_s true e = absurd (above s.pid (st.paired.handed_out v s to_s).first (eqb-true s.pid 0 e))
   not_zero v s to_s false e = e
 
@@ -43,7 +44,8 @@ module _ (g : Given) (old : Kernel) (k : PlainKernel) (st : Stands g None old k)
       subst (λ b. ByPidUnless b none who s.pid m g) (sym (not_zero m s to_s (s.pid == 0) refl))
       (to_s ∙ (λ i. Some (real (node i) s.pid)))
 
-  pub parent_of : (p : VPid) (n : ℕ) → (n ≡ NOBODY → ⊥) → (life : Life) → HasParent k.processes k.makers p n life
+  pub parent_of : (p : VPid) (n : ℕ) → (n ≡ NOBODY → ⊥) → (life : Life)
+      → HasParent k.processes k.makers p n life
       → IsParent k.processes k.makers p n
   parent_of p n some Live has = ⊎_elim (λ nobody. absurd (some nobody)) (λ is. is) has
   parent_of p n some (Zombie status) has = has.0
@@ -60,7 +62,8 @@ module _ (g : Given) (old : Kernel) (k : PlainKernel) (st : Stands g None old k)
     by_parent x is None nobody = nobody_by x.parent nobody (is_live k (pid x.parent))
     by_parent x is (Some s) virt =
         let to_s = st.paired.inverse.leads_there x.parent s virt in
-        let some : (x.parent ≡ NOBODY → ⊥) = not_nobody x.parent (st.paired.handed_out x.parent s to_s).virt in
+        let some : (x.parent ≡ NOBODY → ⊥) =
+        not_nobody x.parent (st.paired.handed_out x.parent s to_s).virt in
         let of = parent_of p x.parent some x.life (whole.parents.each p x is) in
         let y = there_by (map.get k.processes (pid x.parent)) of.alive in
         subst (λ m. ByPidOr NOBODY who s.pid m g) (sym (ap (λ b. cond b x.parent NOBODY) of.alive))

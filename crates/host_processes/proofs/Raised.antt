@@ -45,7 +45,8 @@ changed_is : {K X : Type 0} {R : K → K → Ordering} (m : map.FinMap R X) (at 
 changed_is m at f x is = ap (changed_by m at f) is
 
 -- a process that can have the signal raised is there
-pub raises : (o : Option real_process.Process) (t : Option ℕ) → option_map_or (procs.lives_with t) o false ≡ true
+pub raises : (o : Option real_process.Process) (t : Option ℕ)
+    → option_map_or (procs.lives_with t) o false ≡ true
     → (y : real_process.Process) × ((o ≡ Some y) × (procs.lives_with t y ≡ true))
 raises None t e = true_false (sym e)
 raises (Some y) t e = (y, (refl, e))
@@ -66,7 +67,8 @@ module _ (g : Given) (real : Kernel) (k : PlainKernel) (st : Stands g None real 
     (paired : map.get g.pids q.0 ≡ Some r) (s : ℕ) where
   abbrev raised_now : Option ℕ → Kernel
   raised_now t =
-      record real { procs = record real.procs { processes = at_key real.procs.processes r (procs.raised t s) } }
+      let processes = at_key real.procs.processes r (procs.raised t s) in
+      record real { procs = record real.procs { processes = processes } }
 
   -- both processes with the signal
   changed : (t : Option ℕ) (f : Process → Process) (x : Process) (y : real_process.Process)
@@ -117,13 +119,15 @@ module _ (g : Given) (real : Kernel) (k : PlainKernel) (st : Stands g None real 
               (sym (at_key_is y.0.threads u (λ set. with_signal set s) set.0 set.1))
               (SeenBy-insert nat_cmp_total nat_cmp-IsAntisymmetric nat_cmp_total nat_cmp-IsAntisymmetric
               (to_real_thread g.pids r.node) (to_virt_thread g.virts r.node)
-              (lead_thread g.pids g.virts st.paired.inverse r.node) IsSame x.0.threads y.0.threads is.threads t u
+              (lead_thread g.pids g.virts st.paired.inverse r.node) IsSame x.0.threads y.0.threads is.threads
+              t u
               leads (with_signal (signals_of t x.0) s) (with_signal set.0 s)
               (ap (λ o. with_signal (unwrap_or o 0) s) here));
         })
 
 -- the answer by the test of the process or thread
-module _ (g : Given) (real : Kernel) (x : List Byte) (r : RealPid) (t : Option ℕ) (s : ℕ) (k : PlainKernel) where
+module _ (g : Given) (real : Kernel) (x : List Byte) (r : RealPid) (t : Option ℕ) (s : ℕ)
+    (k : PlainKernel) where
   abbrev after : Bool → Kernel
   after c = record real {
     procs = record real.procs {

@@ -49,7 +49,8 @@ pub AreNumbered-less : (nodes : List ℕ) (pids : Pids) (processes : Processes) 
 AreNumbered-less nodes pids processes makers q numbered = record {
   process = λ u x is. numbered.process u x (was processes q u x is);
   thread = λ u x t is at. numbered.thread u x t (was processes q u x is) at;
-  node = λ u x m r is made leads. numbered.node u x m r (was processes q u x is) (was makers q u m made) leads;
+  node = λ u x m r is made leads.
+      numbered.node u x m r (was processes q u x is) (was makers q u m made) leads;
   thread_node = λ u x t r s is at leads thread.
       numbered.thread_node u x t r s (was processes q u x is) at leads thread;
   order = λ u w r s at_u at_w hosts leads_u leads_w less.
@@ -57,13 +58,16 @@ AreNumbered-less nodes pids processes makers q numbered = record {
       (hosts_were makers q u w _ _ refl refl hosts) leads_u leads_w less;
 }
 
-pub reaped_kept : (g : Given) (old : Kernel) (k : PlainKernel) → Stands g None old k → (q : VPid) (r : RealPid)
+pub reaped_kept : (g : Given) (old : Kernel) (k : PlainKernel) → Stands g None old k
+    → (q : VPid) (r : RealPid)
     → map.get g.pids q.0 ≡ Some r → Stands g None
-    (record old { procs = record old.procs { processes = map.remove old.procs.processes r } }) (without_process q k)
+    (record old { procs = record old.procs { processes = map.remove old.procs.processes r } })
+    (without_process q k)
 reaped_kept g old k st q r leads =
     procs_kept g None old k st (record old.procs { processes = map.remove old.procs.processes r })
     (map.remove k.processes q) (map.remove k.makers q) st.paired
     (AreNumbered-less old.nodes g.pids k.processes k.makers q st.numbered)
     (SeenBy-remove vpid_total vpid_exact real_pid_total real_pid_exact (to_real g.pids) (to_virt g.virts)
-    (lead_process g.pids g.virts st.paired.inverse) (SameProcess g.pids g.virts) k.processes old.procs.processes
+    (lead_process g.pids g.virts st.paired.inverse) (SameProcess g.pids g.virts) k.processes
+    old.procs.processes
     st.processes q r leads)

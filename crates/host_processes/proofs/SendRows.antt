@@ -95,7 +95,8 @@ module _ (g : Given) (real : Kernel) (k : PlainKernel) (st : Stands g None real 
     then = after_raise k (pid number) tid s
 
     pub tgkill_bad : may ≡ false
-        → Serves ByNumber same g real real x x (answer.Fails (record { 0 = EINVAL })) (tgkill_row k p number tid s)
+        → Serves ByNumber same g real real x x (answer.Fails (record { 0 = EINVAL }))
+        (tgkill_row k p number tid s)
     unfolding tgkill_row
     tgkill_bad e =
         refused g real x ByNumber EINVAL (tgkill_row k p number tid s) (bad_by may is_there then e)
@@ -104,13 +105,15 @@ module _ (g : Given) (real : Kernel) (k : PlainKernel) (st : Stands g None real 
     nobody e = ap (λ b. b && has_thread k (pid number) tid) e
 
     tgkill_refused : may ≡ true → is_there ≡ false
-        → Serves ByNumber same g real real x x (answer.Fails (record { 0 = ESRCH })) (tgkill_row k p number tid s)
+        → Serves ByNumber same g real real x x (answer.Fails (record { 0 = ESRCH }))
+        (tgkill_row k p number tid s)
     unfolding tgkill_row
     tgkill_refused e none =
         refused g real x ByNumber ESRCH (tgkill_row k p number tid s) (none_by may is_there then e none)
 
     pub tgkill_none : may ≡ true → None ≡ neighbour_of g.pids k p number
-        → Serves ByNumber same g real real x x (answer.Fails (record { 0 = ESRCH })) (tgkill_row k p number tid s)
+        → Serves ByNumber same g real real x x (answer.Fails (record { 0 = ESRCH }))
+        (tgkill_row k p number tid s)
     tgkill_none e none = tgkill_refused e (nobody (neighbour_none g real k st p number none))
 
     -- the caller is there too, and on the same node
@@ -147,7 +150,8 @@ module _ (g : Given) (real : Kernel) (k : PlainKernel) (st : Stands g None real 
             → to_real_thread g.pids t.node tid ≡ Some u
         leads z there = ap (λ node. to_real_thread g.pids node tid) (node_is t is z there) ∙ sym thread
 
-        by_both : (o : Option Process) (q : Option real_process.Process) → map.get k.processes (pid number) ≡ o
+        by_both : (o : Option Process) (q : Option real_process.Process)
+            → map.get k.processes (pid number) ≡ o
             → Agree (SameProcess g.pids g.virts (pid number) t) o q
             → (option_map_or procs.is_live q false && has_thread_in tid o)
             ≡ option_map_or (procs.lives_with (Some u)) q false
@@ -156,7 +160,8 @@ module _ (g : Given) (real : Kernel) (k : PlainKernel) (st : Stands g None real 
         by_both (Some z) None there agree = absurd agree
         by_both (Some z) (Some y) there agree =
             ap (λ o. procs.is_live y && is_some o)
-            (agree_same (map.get z.threads tid) (map.get y.threads u) (agree.threads.at tid u (leads z there)))
+            (agree_same (map.get z.threads tid) (map.get y.threads u)
+            (agree.threads.at tid u (leads z there)))
 
         test_is : is_there ≡ can_raise real.procs.processes t (Some u)
         test_is =
@@ -169,7 +174,8 @@ module _ (g : Given) (real : Kernel) (k : PlainKernel) (st : Stands g None real 
             (tgkill_row k p number tid s)
         unfolding tgkill_row
         tgkill_sent e =
-            subst (Serves ByNumber same g real (with_raised real t (Some u) s) x x (raise_answer real t (Some u)))
+            subst (Serves ByNumber same g real (with_raised real t (Some u) s) x x
+            (raise_answer real t (Some u)))
             (sym (sent_by may is_there then e))
             (sent g real x t (Some u) s then is_there test_is
             (λ can.

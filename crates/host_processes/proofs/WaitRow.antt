@@ -54,7 +54,8 @@ module _ (g : Given) (real : Kernel) (who : RealPid) (options : ℕ) (before : L
     row = wait4_row k p number options usage
 
     row_by : (b : Bool) → may ≡ b
-        → row ≡ and_then (need b EINVAL) (λ _. wait4_by k options (waits.wait_for k.processes p (child_of_number number)))
+        → row ≡ and_then (need b EINVAL)
+        (λ _. wait4_by k options (waits.wait_for k.processes p (child_of_number number)))
     unfolding wait4_row
     row_by b e =
         ap (λ c. and_then (need c EINVAL)
@@ -91,7 +92,8 @@ module _ (g : Given) (real : Kernel) (who : RealPid) (options : ℕ) (before : L
     first : FIRST_PID ≤ p.0
     first = (st.paired.handed_out p.0 who paired).virt
 
-    pub any_waited : may ≡ true → number ≡ ANY_CHILD → Waited (table.wait_for real.procs.processes who None) row
+    pub any_waited : may ≡ true → number ≡ ANY_CHILD
+        → Waited (table.wait_for real.procs.processes who None) row
     any_waited e any =
         subst (Waited (table.wait_for real.procs.processes who None)) (sym (row_is e None (any_is any)))
         (waited_kept g real k st whole p who paired options before
@@ -109,4 +111,5 @@ module _ (g : Given) (real : Kernel) (who : RealPid) (options : ℕ) (before : L
         (waits.wait_by p (pid number) (map.get k.processes (pid number)))
         (table.wait_by who r (map.get real.procs.processes r))
         (same_wait_by g.pids g.virts st.paired.inverse p who paired first k.processes real.procs.processes
-        st.processes (pid number) r (neighbour_some g real k st p number r is).0) (found_child k p (Some (pid number))))
+        st.processes (pid number) r (neighbour_some g real k st p number r is).0)
+        (found_child k p (Some (pid number))))

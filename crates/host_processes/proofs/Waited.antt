@@ -84,7 +84,8 @@ module _ (k : PlainKernel) (p : VPid) where
       any_found q status (waits.wait_any p (map.entries k.processes)) is (finds-wait_any p k.processes)
   found_child (Some c) q status is = one_found c q status (map.get k.processes c) refl is
 
-module _ (g : Given) (real : Kernel) (k : PlainKernel) (st : Stands g None real k) (whole : IsKernel k) (p : VPid)
+module _ (g : Given) (real : Kernel) (k : PlainKernel) (st : Stands g None real k) (whole : IsKernel k)
+    (p : VPid)
     (who : RealPid) (paired : map.get g.pids p.0 ≡ Some who) where
   -- its parent is p
   parent_is : (q : VPid) (x : Process) → map.get k.processes q ≡ Some x → is_child_of p x ≡ true
@@ -136,7 +137,8 @@ module _ (g : Given) (real : Kernel) (k : PlainKernel) (st : Stands g None real 
 
     pub waited_kept : (w : Waiting) (f : real_waiting.Waiting) → SameWait g.pids w f
         → ((q : VPid) (status : ℕ) → w ≡ plain.Ended q status → IsChild k p q) → Waited w f
-    waited_kept plain.NoChild found.NoChild same_wait child = record { answer = refl; kernel = refl; bytes = refl }
+    waited_kept plain.NoChild found.NoChild same_wait child =
+        record { answer = refl; kernel = refl; bytes = refl }
     waited_kept plain.NoChild found.NotReady same_wait child = absurd same_wait
     waited_kept plain.NoChild (found.Ended r status) same_wait child = absurd same_wait
     waited_kept plain.NotReady found.NoChild same_wait child = absurd same_wait

@@ -17,4 +17,5 @@ raise_answer real target thread = answer_by (can_raise real.procs.processes targ
 
 abbrev pub with_raised : Kernel → RealPid → Option ℕ → ℕ → Kernel
 with_raised real target thread signal =
-    record real { procs = record real.procs { processes = after_raise real.procs.processes target thread signal } }
+    let processes = after_raise real.procs.processes target thread signal in
+    record real { procs = record real.procs { processes = processes } }

@@ -12,8 +12,8 @@ use host_tables::{Attempt, Kernel};
 use sys_abi::errors::{EINVAL, ESRCH};
 use sys_abi::{Errno, RealPid, Signal};
 
-/// kill (`man 2 kill`). `target` is the real number of the process of the caller's host that the number names,
-/// None where it names none. Takes no memory.
+/// kill (`man 2 kill`). `target` is the real number of the process of the caller's host that the number
+/// names, None where it names none. Takes no memory.
 pub fn kill(kernel: &mut Kernel, number: u32, signal: u32, target: Option<RealPid>) -> Attempt
     ensures { (who : RealPid) → Through kernel.old who (λ g k p. (x : List Byte)
         → target ≡ neighbour_of g.pids k p number
@@ -28,8 +28,8 @@ pub fn kill(kernel: &mut Kernel, number: u32, signal: u32, target: Option<RealPi
     raise(kernel, target, None, signal)
 }
 
-/// tgkill (`man 2 tgkill`). `target` is as that of [`kill`], and `thread` the real number of the thread `tid`,
-/// None where it has none on the caller's node. Takes no memory.
+/// tgkill (`man 2 tgkill`). `target` is as that of [`kill`], and `thread` the real number of the thread
+/// `tid`, None where it has none on the caller's node. Takes no memory.
 pub fn tgkill(
     kernel: &mut Kernel,
     number: u32,

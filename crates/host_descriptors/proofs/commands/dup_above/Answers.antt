@@ -6,7 +6,8 @@ use Rattle.sys_abi.specs.declared.errors.TheConstants.{EINVAL}
 use Rattle.plain_machine.specs.Rows.Descriptors.{dup_from, dup_above}
 use Rattle.host_tables.specs.Serves.{Serves, ByNumber, same}
 use Rattle.host_descriptors.specs.Held.{seen_held}
-use Rattle.host_descriptors.proofs.FcntlRows.{refused, above_limit, above_is, past_held}
+use Rattle.host_tables.proofs.Replies.{refused}
+use Rattle.host_descriptors.proofs.FcntlRows.{above_limit, above_is, past_held}
 use Rattle.host_descriptors.proofs.commands.dup_above.Goals as goal
 
 pub returns-then-argument-ge-DESCRIPTOR_LIMIT-clause-ok : goal.returns-then-argument-ge-DESCRIPTOR_LIMIT-clause-ok

@@ -8,10 +8,11 @@ use Rattle.plain_machine.specs.Rows.Descriptors.{fcntl_by}
 use Rattle.host_tables.specs.declared.attempt.Attempt.TheVariants as answer
 use Rattle.host_tables.specs.Numbers.{number_of}
 use Rattle.host_tables.specs.Serves.{ByNumber, ByPidOr, ValueOfCommand}
+use Rattle.host_tables.proofs.Replies.{gave, refused}
 use Rattle.host_descriptors.specs.Held.{seen_held, owner_value}
 use Rattle.host_descriptors.proofs.HeldChanges.{none_held}
 use Rattle.host_descriptors.proofs.Owners.{owner_told}
-use Rattle.host_descriptors.proofs.FcntlRows.{gave, refused, fcntl_bad, by_command}
+use Rattle.host_descriptors.proofs.FcntlRows.{fcntl_bad, by_command}
 use Rattle.host_descriptors.proofs.commands.fcntl.Goals as goal
 
 pub returns-in_default-clause-ok : goal.returns-in_default-clause-ok

@@ -3,9 +3,11 @@ use Rattle.sys_abi.specs.declared.errors.TheConstants.{ESRCH}
 use Rattle.plain_machine.specs.Rows.Descriptors.{with_owner, set_owner}
 use Rattle.host_tables.specs.Serves.{ByNumber}
 use Rattle.host_tables.specs.Stands.{Stands}
+use Rattle.host_tables.proofs.Neighbours.{neighbour_some, neighbour_none}
+use Rattle.host_tables.proofs.Replies.{refused}
 use Rattle.host_descriptors.specs.Held.{seen_held}
-use Rattle.host_descriptors.proofs.HeldChanges.{may_own_some, may_own_none, may_own_is, may_own_nobody, known_pair}
-use Rattle.host_descriptors.proofs.FcntlRows.{refused, own_refused, own_done}
+use Rattle.host_descriptors.proofs.HeldChanges.{may_own_is, may_own_nobody, known_pair}
+use Rattle.host_descriptors.proofs.FcntlRows.{own_refused, own_done}
 use Rattle.host_descriptors.proofs.commands.set_owner.Goals as goal
 
 pub returns-then-argument-eq0 : goal.returns-then-argument-eq0
@@ -24,13 +26,13 @@ returns-in_default c g k p x whole st target =
     refused g real x ByNumber ESRCH (set_owner k p h c.args.argument)
     (own_refused g real x k p h c.args.argument
     (may_own_is g real k st p c.args.argument c.if-argument-eq0.false false
-    (may_own_none g real k st p c.args.argument (sym c.in_default.is ∙ target))))
+    (neighbour_none g real k st p c.args.argument (sym c.in_default.is ∙ target))))
 
 pub returns-then-not-is_live : goal.returns-then-not-is_live
 returns-then-not-is_live c g k p x whole st target =
     let real = c.args.kernel.now in
     let h = seen_held g real c.args.held in
-    let may = may_own_some g real k st p c.args.argument c.in-Some.owner (sym c.in-Some.is ∙ target) in
+    let may = neighbour_some g real k st p c.args.argument c.in-Some.owner (sym c.in-Some.is ∙ target) in
     refused g real x ByNumber ESRCH (set_owner k p h c.args.argument)
     (own_refused g real x k p h c.args.argument
     (may_own_is g real k st p c.args.argument c.if-argument-eq0.false false
@@ -40,7 +42,7 @@ pub returns : goal.returns
 returns c g k p x whole st target =
     let real = c.args.kernel.now in
     let h = seen_held g real c.args.held in
-    let may = may_own_some g real k st p c.args.argument c.in-Some.owner (sym c.in-Some.is ∙ target) in
+    let may = neighbour_some g real k st p c.args.argument c.in-Some.owner (sym c.in-Some.is ∙ target) in
     let known = known_pair g real k st c.args.argument c.in-Some.owner may.0 in
     own_done g real x k p h c.args.argument
     (may_own_is g real k st p c.args.argument c.if-argument-eq0.false true

@@ -8,4 +8,5 @@ use Rattle.host_processes.proofs.numbers.getpid.Goals as goal
 pub returns : goal.returns
 unfolding getpid_row
 returns c kernel g k p whole st paired x =
-    gave g kernel x (ByPid c.args.who) k c.args.who.pid p.0 paired kernel st (answer.Gives c.args.who.pid) refl
+    gave g kernel x (ByPid c.args.who) k c.args.who.pid p.0 paired kernel st
+    (answer.Gives c.args.who.pid) refl

@@ -27,7 +27,8 @@ returns c who g k p whole st paired x target thread =
     let row = tgkill_row k p c.args.number c.args.tid c.args.signal in
     let u = c.in-Some-thread.thread in
     subst (λ n. Serves ByNumber same g real n x x c.raise.result row) (sym c.raise.ensures.raised)
-    (subst (λ a. Serves ByNumber same g real (with_raised real c.in-Some.target (Some u) c.args.signal) x x a row)
+    (subst (λ a. Serves ByNumber same g real (with_raised real c.in-Some.target (Some u) c.args.signal) x x a
+    row)
     (sym c.raise.ensures.answer)
     (tgkill_sent g real k st p c.args.number c.args.signal x whole who paired c.args.tid c.in-Some.target
     (sym c.in-Some.is ∙ target) u (sym c.in-Some-thread.is ∙ thread)
