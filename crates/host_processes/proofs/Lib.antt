@@ -4,3 +4,4 @@ pub mod SendRows
 pub mod Reaped
 pub mod Waited
 pub mod WaitRow
+pub mod ThreadEnds

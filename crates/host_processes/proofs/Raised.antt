@@ -1,4 +1,5 @@
--- A signal that becomes pending, through the pairs.
+-- A process that changes, and a signal that becomes pending, through the pairs.
+--     changed                                    a process changes on both sides
 --     raised_for_process, raised_for_thread      the kernel goes on to stand
 --     sent                                       the end of the rows that raise one
 use Rattle.std.proofs.Common.{◌≡◌, ℕ, Bool, true, false, List, Option, Some, None, inl, inr, refl, sym, ap, ◌∙◌, subst}
@@ -64,66 +65,67 @@ no_more x t v w is u at = elim (same_or_other nat_cmp_total nat_cmp-IsAntisymmet
 ]
 
 module _ (g : Given) (real : Kernel) (k : PlainKernel) (st : Stands g None real k) (q : VPid) (r : RealPid)
-    (paired : map.get g.pids q.0 ≡ Some r) (s : ℕ) where
-  abbrev raised_now : Option ℕ → Kernel
-  raised_now t =
-      let processes = at_key real.procs.processes r (procs.raised t s) in
+    (paired : map.get g.pids q.0 ≡ Some r) where
+  abbrev pub changed_now : (real_process.Process → real_process.Process) → Kernel
+  changed_now h =
+      let processes = at_key real.procs.processes r h in
       record real { procs = record real.procs { processes = processes } }
 
-  -- both processes with the signal
-  changed : (t : Option ℕ) (f : Process → Process) (x : Process) (y : real_process.Process)
-      → map.get k.processes q ≡ Some x → map.get real.procs.processes r ≡ Some y → HasNoMore (f x) x
-      → SameProcess g.pids g.virts q r (f x) (procs.raised t s y)
-      → Stands g None (raised_now t) (record k { processes = changed_at k.processes q f })
-  changed t f x y is_x is_y fewer is =
-      subst (λ m. Stands g None (raised_now t) (record k { processes = m }))
+  -- a process changes on both sides
+  pub changed : (f : Process → Process) (h : real_process.Process → real_process.Process) (x : Process)
+      (y : real_process.Process) → map.get k.processes q ≡ Some x → map.get real.procs.processes r ≡ Some y
+      → HasNoMore (f x) x → SameProcess g.pids g.virts q r (f x) (h y)
+      → Stands g None (changed_now h) (record k { processes = changed_at k.processes q f })
+  changed f h x y is_x is_y fewer is =
+      subst (λ m. Stands g None (changed_now h) (record k { processes = m }))
       (sym (changed_is k.processes q f x is_x))
       (subst (λ m. Stands g None (record real { procs = record real.procs { processes = m } })
       (record k { processes = map.insert k.processes q (f x) }))
-      (sym (at_key_is real.procs.processes r (procs.raised t s) y is_y))
-      (process_changed g None real k st q r paired x (f x) (procs.raised t s y) is_x fewer is))
+      (sym (at_key_is real.procs.processes r h y is_y))
+      (process_changed g None real k st q r paired x (f x) (h y) is_x fewer is))
 
-  pub raised_for_process : can_raise real.procs.processes r None ≡ true
-      → Stands g None (raised_now None) (after_raise_for_all k q s)
-  unfolding after_raise_for_all
-  raised_for_process can =
-      let y = raises (map.get real.procs.processes r) None can in
-      let x = process_of g real k st q r paired y.0 y.1.0 in
-      let is = x.1.1 in
-      changed None (raised_for_all s) x.0 y.0 x.1.0 y.1.0 (λ t at. at) (record {
-        life = is.life;
-        pending = ap (λ set. with_signal set s) is.pending;
-        parent = is.parent;
-        threads = is.threads;
-      })
-
-  module _ (t u : ℕ) (leads : to_real_thread g.pids r.node t ≡ Some u) where
-    pub raised_for_thread : can_raise real.procs.processes r (Some u) ≡ true
-        → Stands g None (raised_now (Some u)) (after_raise k q t s)
-    unfolding after_raise
-    raised_for_thread can =
-        let y = raises (map.get real.procs.processes r) (Some u) can in
+  module _ (s : ℕ) where
+    pub raised_for_process : can_raise real.procs.processes r None ≡ true
+        → Stands g None (changed_now (procs.raised None s)) (after_raise_for_all k q s)
+    unfolding after_raise_for_all
+    raised_for_process can =
+        let y = raises (map.get real.procs.processes r) None can in
         let x = process_of g real k st q r paired y.0 y.1.0 in
         let is = x.1.1 in
-        let set = some_value (map.get y.0.threads u)
-        (and_right (procs.is_live y.0) (is_some (map.get y.0.threads u)) y.1.1) in
-        let here : map.get x.0.threads t ≡ Some set.0 =
-        agree_same (map.get x.0.threads t) (map.get y.0.threads u) (is.threads.at t u leads) ∙ set.1 in
-        changed (Some u) (raised_at t s) x.0 y.0 x.1.0 y.1.0
-        (no_more x.0 t (with_signal (signals_of t x.0) s) set.0 here) (record {
+        changed (raised_for_all s) (procs.raised None s) x.0 y.0 x.1.0 y.1.0 (λ t at. at) (record {
           life = is.life;
-          pending = is.pending;
+          pending = ap (λ set. with_signal set s) is.pending;
           parent = is.parent;
-          threads = subst (SeenBy (to_real_thread g.pids r.node) (to_virt_thread g.virts r.node) IsSame
-              (map.insert x.0.threads t (with_signal (signals_of t x.0) s)))
-              (sym (at_key_is y.0.threads u (λ set. with_signal set s) set.0 set.1))
-              (SeenBy-insert nat_cmp_total nat_cmp-IsAntisymmetric nat_cmp_total nat_cmp-IsAntisymmetric
-              (to_real_thread g.pids r.node) (to_virt_thread g.virts r.node)
-              (lead_thread g.pids g.virts st.paired.inverse r.node) IsSame x.0.threads y.0.threads is.threads
-              t u
-              leads (with_signal (signals_of t x.0) s) (with_signal set.0 s)
-              (ap (λ o. with_signal (unwrap_or o 0) s) here));
+          threads = is.threads;
         })
+
+    module _ (t u : ℕ) (leads : to_real_thread g.pids r.node t ≡ Some u) where
+      pub raised_for_thread : can_raise real.procs.processes r (Some u) ≡ true
+          → Stands g None (changed_now (procs.raised (Some u) s)) (after_raise k q t s)
+      unfolding after_raise
+      raised_for_thread can =
+          let y = raises (map.get real.procs.processes r) (Some u) can in
+          let x = process_of g real k st q r paired y.0 y.1.0 in
+          let is = x.1.1 in
+          let set = some_value (map.get y.0.threads u)
+          (and_right (procs.is_live y.0) (is_some (map.get y.0.threads u)) y.1.1) in
+          let here : map.get x.0.threads t ≡ Some set.0 =
+          agree_same (map.get x.0.threads t) (map.get y.0.threads u) (is.threads.at t u leads) ∙ set.1 in
+          changed (raised_at t s) (procs.raised (Some u) s) x.0 y.0 x.1.0 y.1.0
+          (no_more x.0 t (with_signal (signals_of t x.0) s) set.0 here) (record {
+            life = is.life;
+            pending = is.pending;
+            parent = is.parent;
+            threads = subst (SeenBy (to_real_thread g.pids r.node) (to_virt_thread g.virts r.node) IsSame
+                (map.insert x.0.threads t (with_signal (signals_of t x.0) s)))
+                (sym (at_key_is y.0.threads u (λ set. with_signal set s) set.0 set.1))
+                (SeenBy-insert nat_cmp_total nat_cmp-IsAntisymmetric nat_cmp_total nat_cmp-IsAntisymmetric
+                (to_real_thread g.pids r.node) (to_virt_thread g.virts r.node)
+                (lead_thread g.pids g.virts st.paired.inverse r.node) IsSame x.0.threads y.0.threads is.threads
+                t u
+                leads (with_signal (signals_of t x.0) s) (with_signal set.0 s)
+                (ap (λ o. with_signal (unwrap_or o 0) s) here));
+          })
 
 -- the answer by the test of the process or thread
 module _ (g : Given) (real : Kernel) (x : List Byte) (r : RealPid) (t : Option ℕ) (s : ℕ)

@@ -5,10 +5,12 @@
 //! memory.
 #![tactic(auto)]
 
+mod ending;
 mod numbers;
 mod sending;
 mod waiting;
 
+pub use ending::exit_thread;
 pub use numbers::{getpid, getppid};
 pub use sending::{kill, tgkill};
 pub use waiting::wait4;
