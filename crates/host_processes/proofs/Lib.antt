@@ -5,3 +5,4 @@ pub mod Reaped
 pub mod Waited
 pub mod WaitRow
 pub mod ThreadEnds
+pub mod ReadyWaits

@@ -121,7 +121,8 @@ module _ (g : Given) (real : Kernel) (k : PlainKernel) (st : Stands g None real 
                 (sym (at_key_is y.0.threads u (λ set. with_signal set s) set.0 set.1))
                 (SeenBy-insert nat_cmp_total nat_cmp-IsAntisymmetric nat_cmp_total nat_cmp-IsAntisymmetric
                 (to_real_thread g.pids r.node) (to_virt_thread g.virts r.node)
-                (lead_thread g.pids g.virts st.paired.inverse r.node) IsSame x.0.threads y.0.threads is.threads
+                (lead_thread g.pids g.virts st.paired.inverse r.node) IsSame x.0.threads y.0.threads
+                is.threads
                 t u
                 leads (with_signal (signals_of t x.0) s) (with_signal set.0 s)
                 (ap (λ o. with_signal (unwrap_or o 0) s) here));

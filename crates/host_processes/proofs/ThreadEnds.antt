@@ -38,7 +38,8 @@ fewer : (x : Process) (t : ℕ) → HasNoMore (without_thread_entry t x) x
 fewer x t u at = elim (same_or_other nat_cmp_total nat_cmp-IsAntisymmetric u t) [
   | inl here ↦ true_false (sym (sym (ap is_some (ap (map.get (map.remove x.threads t)) here
       ∙ get_remove_same nat_cmp_total nat_cmp-IsAntisymmetric x.threads t)) ∙ at))
-  | inr differ ↦ sym (ap is_some (get_remove_other nat_cmp_total nat_cmp-IsAntisymmetric x.threads t u differ)) ∙ at
+  | inr differ ↦
+      sym (ap is_some (get_remove_other nat_cmp_total nat_cmp-IsAntisymmetric x.threads t u differ)) ∙ at
 ]
 
 -- a process with a thread is there
@@ -55,7 +56,8 @@ not_last n m e h = grind (arith, nat_tests)
 
 module _ (g : Given) (old : Kernel) (k : PlainKernel) (st : Stands g None old k) (p : VPid) (who : RealPid)
     (paired : map.get g.pids p.0 ≡ Some who) where
-  same_count : (o : Option Process) (q : Option real_process.Process) → Agree (SameProcess g.pids g.virts p who) o q
+  same_count : (o : Option Process) (q : Option real_process.Process)
+      → Agree (SameProcess g.pids g.virts p who) o q
       → thread_count_in o ≡ option_map_or (λ y. map.len y.threads) q 0
   same_count None None is = refl
   same_count None (Some y) is = absurd is
@@ -63,7 +65,8 @@ module _ (g : Given) (old : Kernel) (k : PlainKernel) (st : Stands g None old k)
   same_count (Some x) (Some y) is = sym (same_threads g None old k st p who paired x y is)
 
   count_is : thread_count k p ≡ threads_at old.procs.processes who
-  count_is = same_count (map.get k.processes p) (map.get old.procs.processes who) (st.processes.at p who paired)
+  count_is =
+      same_count (map.get k.processes p) (map.get old.procs.processes who) (st.processes.at p who paired)
 
   module _ (t u : ℕ) (thread : map.get g.pids t ≡ Some (real who.node u)) where
     leads : to_real_thread g.pids who.node t ≡ Some u
@@ -72,9 +75,12 @@ module _ (g : Given) (old : Kernel) (k : PlainKernel) (st : Stands g None old k)
         ∙ ap (λ b. if b then Some u else None) (eq-eqb who.node who.node refl)
 
     abbrev pub ended_now : Kernel
-    ended_now = record old { procs = record old.procs { processes = after_end_thread old.procs.processes who u } }
+    ended_now =
+        let processes = after_end_thread old.procs.processes who u in
+        record old { procs = record old.procs { processes = processes } }
 
-    ended : 1 < threads_at old.procs.processes who → Stands g None ended_now (at_process k p (without_thread_entry t))
+    ended : 1 < threads_at old.procs.processes who
+        → Stands g None ended_now (at_process k p (without_thread_entry t))
     ended more =
         let y = has_threads (map.get old.procs.processes who) more in
         let x = process_of g old k st p who paired y.0 y.1 in
@@ -86,7 +92,8 @@ module _ (g : Given) (old : Kernel) (k : PlainKernel) (st : Stands g None old k)
           parent = is.parent;
           threads = SeenBy-remove nat_cmp_total nat_cmp-IsAntisymmetric nat_cmp_total nat_cmp-IsAntisymmetric
               (to_real_thread g.pids who.node) (to_virt_thread g.virts who.node)
-              (lead_thread g.pids g.virts st.paired.inverse who.node) IsSame x.0.threads y.0.threads is.threads
+              (lead_thread g.pids g.virts st.paired.inverse who.node) IsSame x.0.threads y.0.threads
+              is.threads
               t u leads;
         })
 
@@ -95,6 +102,7 @@ module _ (g : Given) (old : Kernel) (k : PlainKernel) (st : Stands g None old k)
     unfolding exit_row thread_ended
     exit_kept more code x =
         subst (λ (w : PlainKernel). Serves ByNumber same g old ended_now x x (answer.Gives 0) (replied w 0))
-        (sym (ap (λ b. if b then after_end k p (exit_status code) else at_process k p (without_thread_entry t))
+        (sym (ap (λ b. if b then after_end k p (exit_status code)
+        else at_process k p (without_thread_entry t))
         (not_last (thread_count k p) (threads_at old.procs.processes who) count_is more)))
         (record { reply = refl; bytes = refl; stands = ended more })

@@ -1,4 +1,6 @@
 -- The row of wait4 through the pairs.
+--     any_is, one_is               the child that a number names
+--     same_any, same_one           what is found on both sides
 --     wait_bad, wait_stranger      by the tests of the row
 --     any_waited, one_waited       a wait for any child, and for a named one
 --     told                         what the wait's own clauses say of it
@@ -27,9 +29,40 @@ use Rattle.host_tables.specs.Serves.{Serves, ByPidOr, same}
 use Rattle.host_tables.specs.Stands.{Given, Stands}
 use Rattle.host_tables.proofs.Neighbours.{neighbour_some}
 use Rattle.host_tables.proofs.Replies.{refused}
-use Rattle.host_tables.proofs.Waits.{same_wait_by, same_wait_any}
+use Rattle.host_tables.proofs.Waits.{SameWait, same_wait_by, same_wait_any}
 use Rattle.host_processes.specs.Waits.{wait_answer, wait_bytes, with_waited}
 use Rattle.host_processes.proofs.Waited.{found_child, stranger, waited_kept}
+
+-- the child that a number names
+pub any_is : (number : ℕ) → number ≡ ANY_CHILD → child_of_number number ≡ None
+any_is number e = ap (λ b. if b then None else Some (pid number)) (eq-eqb number ANY_CHILD e)
+
+one_by : (number : ℕ) → (number ≡ ANY_CHILD → ⊥) → (b : Bool) → (number == ANY_CHILD) ≡ b
+    → child_of_number number ≡ Some (pid number)
+one_by number other true e = absurd (other (eqb-true number ANY_CHILD e))
+one_by number other false e = ap (λ b. if b then None else Some (pid number)) e
+
+pub one_is : (number : ℕ) → (number ≡ ANY_CHILD → ⊥) → child_of_number number ≡ Some (pid number)
+one_is number other = one_by number other (number == ANY_CHILD) refl
+
+-- both sides find the same
+module _ (g : Given) (real : Kernel) (k : PlainKernel) (st : Stands g None real k) (whole : IsKernel k)
+    (p : VPid) (who : RealPid) (paired : map.get g.pids p.0 ≡ Some who) where
+  first : FIRST_PID ≤ p.0
+  first = (st.paired.handed_out p.0 who paired).virt
+
+  pub same_any : SameWait g.pids (waits.wait_any p (map.entries k.processes))
+      (table.wait_any who (map.entries real.procs.processes))
+  same_any =
+      same_wait_any g.pids g.virts st.paired.inverse p who paired first real.nodes k.processes k.makers
+      real.procs.processes st.numbered whole.parents st.processes
+
+  pub same_one : (number : ℕ) (r : RealPid) → Some r ≡ neighbour_of g.pids k p number
+      → SameWait g.pids (waits.wait_by p (pid number) (map.get k.processes (pid number)))
+      (table.wait_by who r (map.get real.procs.processes r))
+  same_one number r is =
+      same_wait_by g.pids g.virts st.paired.inverse p who paired first k.processes real.procs.processes
+      st.processes (pid number) r (neighbour_some g real k st p number r is).0
 
 module _ (g : Given) (real : Kernel) (who : RealPid) (options : ℕ) (before : List Byte) where
   abbrev pub Waited : real_waiting.Waiting → Try Served → Type 0
@@ -71,45 +104,29 @@ module _ (g : Given) (real : Kernel) (who : RealPid) (options : ℕ) (before : L
     unfolding and_then need
     wait_bad e = refused g real before (ByPidOr 0 who) EINVAL row (row_by false e)
 
-    any_is : number ≡ ANY_CHILD → child_of_number number ≡ None
-    any_is e = ap (λ b. if b then None else Some (pid number)) (eq-eqb number ANY_CHILD e)
-
-    one_by : (number ≡ ANY_CHILD → ⊥) → (b : Bool) → (number == ANY_CHILD) ≡ b
-        → child_of_number number ≡ Some (pid number)
-    one_by other true e = absurd (other (eqb-true number ANY_CHILD e))
-    one_by other false e = ap (λ b. if b then None else Some (pid number)) e
-
-    one_is : (number ≡ ANY_CHILD → ⊥) → child_of_number number ≡ Some (pid number)
-    one_is other = one_by other (number == ANY_CHILD) refl
-
     pub wait_stranger : may ≡ true → (number ≡ ANY_CHILD → ⊥) → None ≡ neighbour_of g.pids k p number
         → Serves (ByPidOr 0 who) same g real real before before (answer.Fails (record { 0 = ECHILD })) row
     wait_stranger e other none =
         refused g real before (ByPidOr 0 who) ECHILD row
-        (row_is e (Some (pid number)) (one_is other)
+        (row_is e (Some (pid number)) (one_is number other)
         ∙ ap (wait4_by k options) (stranger g real k st whole p who paired (pid number) none))
-
-    first : FIRST_PID ≤ p.0
-    first = (st.paired.handed_out p.0 who paired).virt
 
     pub any_waited : may ≡ true → number ≡ ANY_CHILD
         → Waited (table.wait_for real.procs.processes who None) row
     any_waited e any =
-        subst (Waited (table.wait_for real.procs.processes who None)) (sym (row_is e None (any_is any)))
+        subst (Waited (table.wait_for real.procs.processes who None))
+        (sym (row_is e None (any_is number any)))
         (waited_kept g real k st whole p who paired options before
         (waits.wait_any p (map.entries k.processes)) (table.wait_any who (map.entries real.procs.processes))
-        (same_wait_any g.pids g.virts st.paired.inverse p who paired first real.nodes k.processes k.makers
-        real.procs.processes st.numbered whole.parents st.processes) (found_child k p None))
+        (same_any g real k st whole p who paired) (found_child k p None))
 
     pub one_waited : may ≡ true → (number ≡ ANY_CHILD → ⊥) → (r : RealPid)
         → Some r ≡ neighbour_of g.pids k p number
         → Waited (table.wait_for real.procs.processes who (Some r)) row
     one_waited e other r is =
         subst (Waited (table.wait_for real.procs.processes who (Some r)))
-        (sym (row_is e (Some (pid number)) (one_is other)))
+        (sym (row_is e (Some (pid number)) (one_is number other)))
         (waited_kept g real k st whole p who paired options before
         (waits.wait_by p (pid number) (map.get k.processes (pid number)))
         (table.wait_by who r (map.get real.procs.processes r))
-        (same_wait_by g.pids g.virts st.paired.inverse p who paired first k.processes real.procs.processes
-        st.processes (pid number) r (neighbour_some g real k st p number r is).0)
-        (found_child k p (Some (pid number))))
+        (same_one g real k st whole p who paired number r is) (found_child k p (Some (pid number))))

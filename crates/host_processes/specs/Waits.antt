@@ -2,7 +2,8 @@
 --     wait_answer options found      its answer
 --     wait_bytes before found        the bytes in the transfer then: a status, or those before
 --     with_waited real found         the kernel then: the child that was waited for is gone
-use Rattle.std.specs.Prelude.{◌==◌, ℕ, List, if◌then◌else◌}
+--     is_answered found              the call need not wait
+use Rattle.std.specs.Prelude.{◌==◌, ℕ, Bool, true, false, List, if◌then◌else◌}
 use Rattle.views.specs.Numbers.{Byte}
 use Rattle.sys_abi.specs.declared.errors.TheConstants.{ECHILD}
 use Rattle.proc_book.specs.declared.waiting.Waiting.{Waiting}
@@ -26,3 +27,7 @@ wait_bytes before _ = before
 abbrev pub with_waited : Kernel → Waiting → Kernel
 with_waited real found =
     record real { procs = record real.procs { processes = after_wait found real.procs.processes } }
+
+abbrev pub is_answered : Waiting → Bool
+is_answered found.NotReady = false
+is_answered _ = true

@@ -11,12 +11,13 @@ ghost use Rattle.host_tables.specs.Serves.{Through, Serves, ByNumber, same};
 use host_tables::Kernel;
 use sys_abi::RealPid;
 
-/// exit (`man 2 exit`) of a thread whose process has others: the thread is gone, and the call gives 0. Answers
-/// whether it has others. The last thread takes its process with it, and nothing is changed here for it.
+/// exit (`man 2 exit`) of a thread whose process has others: the thread is gone, and the call gives 0.
+/// Answers whether it has others. The last thread takes its process with it, and nothing is changed here for
+/// it.
 pub fn exit_thread(kernel: &mut Kernel, who: RealPid, thread: u32) -> bool
     ensures others { result ≡ nat_lt 1 (threads_at kernel.old.procs.processes who) }
-    ensures row { result ≡ true → Through kernel.old who (λ g k p. (t : ThreadNumber) (code : ℕ) (x : List Byte)
-        → map.get g.pids t ≡ Some (real who.node thread)
+    ensures row { result ≡ true → Through kernel.old who (λ g k p. (t : ThreadNumber) (code : ℕ)
+        (x : List Byte) → map.get g.pids t ≡ Some (real who.node thread)
         → Serves ByNumber same g kernel.old kernel.new x x (Gives 0) (rows.exit_row k p t code)) }
     ensures kept { result ≡ false → kernel.new ≡ kernel.old }
 {

@@ -13,4 +13,4 @@ mod waiting;
 pub use ending::exit_thread;
 pub use numbers::{getpid, getppid};
 pub use sending::{kill, tgkill};
-pub use waiting::wait4;
+pub use waiting::{is_wait4_ready, wait4};

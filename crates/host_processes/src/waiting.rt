@@ -2,8 +2,10 @@
 ghost use Rattle.std.specs.Prelude.{◌≡◌};
 ghost use Rattle.proc_book.specs.Procs.{wait_for};
 ghost use Rattle.plain_machine.specs.Rows.Wait as rows;
+ghost use Rattle.plain_machine.specs.Waits as waits;
 ghost use Rattle.host_tables.specs.Requests.{neighbour_of};
 ghost use Rattle.host_tables.specs.Serves.{Through, Serves, ByPidOr, same};
+ghost use Rattle.host_processes.specs.Waits as words;
 ghost use Rattle.host_processes.specs.Waits.{wait_answer, wait_bytes, with_waited};
 
 use host_tables::{Attempt, Kernel};
@@ -44,6 +46,48 @@ pub fn wait4(
         return Attempt::Fails(Errno(ECHILD));
     };
     wait(kernel, who, Some(child), options, transfer)
+}
+
+/// Whether a wait4 doesn't wait. `target` is as that of [`wait4`].
+#[tactic(auto, unfolding(plain_machine::specs::Rows::Wait::is_wait4_ready))]
+pub fn is_wait4_ready(
+    kernel: &Kernel,
+    who: RealPid,
+    number: u32,
+    options: u32,
+    usage: u32,
+    target: Option<RealPid>,
+) -> bool
+    ensures { Through kernel.now who (λ g k p. target ≡ neighbour_of g.pids k p number
+        → result ≡ rows.is_wait4_ready k p number options usage) }
+{
+    if !may_be_asked(number, options, usage) || options == WNOHANG {
+        return true;
+    }
+    is_told(kernel, who, number, target)
+}
+
+/// Whether a child that was asked for has ended, or none is there.
+fn is_told(kernel: &Kernel, who: RealPid, number: u32, target: Option<RealPid>) -> bool
+    ensures { Through kernel.now who (λ g k p. target ≡ neighbour_of g.pids k p number
+        → result ≡ waits.is_answered (waits.wait_for k.processes p (rows.child_of_number number))) }
+{
+    if number == ANY_CHILD {
+        return is_answered(kernel.procs.look(who, None));
+    }
+    let Some(child) = target else {
+        return true;
+    };
+    is_answered(kernel.procs.look(who, Some(child)))
+}
+
+fn is_answered(found: Waiting) -> bool
+    ensures { result ≡ words.is_answered found }
+{
+    match found {
+        Waiting::NotReady => false,
+        Waiting::NoChild | Waiting::Ended(_, _) => true,
+    }
 }
 
 fn may_be_asked(number: u32, options: u32, usage: u32) -> bool
