@@ -2,7 +2,7 @@ use Rattle.std.proofs.Common.{rules, ap, ◌∙◌}
 use Rattle.sys_abi.proofs.OrderLaws.{desc_total, desc_exact}
 use Rattle.std.specs.FinMap as map
 use Rattle.std.proofs.lemmas.Map.Made.{filter_same_pairs}
-use Rattle.id_maps.proofs.RetainedKeys.{view-retain}
+use Rattle.conn_maps.proofs.RetainedKeys.{view-retain}
 use Rattle.id_maps.proofs.by_desc.ByDesc.retain.Goals as goal
 
 pub returns : goal.returns
