@@ -1,8 +1,8 @@
 -- No other call than a clone adds a thread.
 use Rattle.std.proofs.Common.{◌≡◌, ℕ, None, refl}
 use Rattle.sys_abi.specs.declared.reply.Reply.{Reply}
-use Rattle.sys_abi.specs.declared.request.Request.{Request}
-use Rattle.sys_abi.specs.declared.request.Request.TheVariants.{Clone}
+use Rattle.call_table.specs.declared.request.Request.{Request}
+use Rattle.call_table.specs.declared.request.Request.TheVariants.{Clone}
 use Rattle.plain_process.specs.Put.{added_thread}
 
 pub adds_nothing : (q : Request) (reply : Reply) → ((flags stack parent tls child : ℕ) → q ≡ Clone flags stack parent tls child → ⊥) → added_thread q reply ≡ None

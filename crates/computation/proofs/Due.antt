@@ -11,8 +11,8 @@ use Rattle.sys_abi.specs.declared.identity.VPid.{VPid}
 use Rattle.sys_abi.specs.declared.identity.Tid.{Tid}
 use Rattle.sys_abi.specs.declared.identity.Signal.{Signal}
 use Rattle.sys_abi.specs.declared.record.Record.TheVariants.{User, Call, Deliver as Delivery}
-use Rattle.sys_abi.specs.declared.request.Request.{Request}
-use Rattle.sys_abi.specs.Requests.{is_local}
+use Rattle.call_table.specs.declared.request.Request.{Request}
+use Rattle.call_table.specs.Requests.{is_local}
 use Rattle.plain_process.specs.declared.user_part.UserPart.{UserPart}
 use Rattle.plain_process.specs.Buffers.{lent}
 use Rattle.plain_process.specs.Deliveries.{traps_with}

@@ -16,8 +16,8 @@ use Rattle.sys_abi.specs.declared.identity.Tid.{Tid}
 use Rattle.sys_abi.specs.declared.identity.Signal.{Signal}
 use Rattle.sys_abi.specs.declared.record.Record.{Record}
 use Rattle.sys_abi.specs.declared.record.Record.TheVariants.{User, Call, Deliver}
-use Rattle.sys_abi.specs.declared.request.Request.{Request}
-use Rattle.sys_abi.specs.Requests.{is_local}
+use Rattle.call_table.specs.declared.request.Request.{Request}
+use Rattle.call_table.specs.Requests.{is_local}
 use Rattle.sys_abi.specs.Signals.{is_signal, has_signal}
 use Rattle.sys_abi.proofs.OrderLaws.{vpid_total, vpid_exact}
 use Rattle.trace_log.specs.Trace.{TraceState}

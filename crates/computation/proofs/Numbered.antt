@@ -8,7 +8,7 @@ use Rattle.sys_abi.specs.declared.identity.VPid.{VPid}
 use Rattle.sys_abi.specs.Orders.{vpid_cmp}
 use Rattle.sys_abi.proofs.OrderLaws.{vpid_total, vpid_exact}
 use Rattle.guest_proc.specs.Guests.{GuestPart}
-use Rattle.sys_abi.specs.declared.request.Request.{Request}
+use Rattle.call_table.specs.declared.request.Request.{Request}
 use Rattle.plain_process.specs.declared.user_part.UserPart.{UserPart}
 use Rattle.computation.specs.Parts.{Guests, grown_by, left_by}
 

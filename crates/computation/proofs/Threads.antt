@@ -16,8 +16,8 @@ use Rattle.sys_abi.specs.declared.identity.Tid.{Tid}
 use Rattle.sys_abi.specs.declared.identity.Signal.{Signal}
 use Rattle.sys_abi.specs.Orders.{vpid_cmp}
 use Rattle.sys_abi.specs.declared.record.Record.TheVariants.{Call, Deliver}
-use Rattle.sys_abi.specs.declared.request.Request.{Request}
-use Rattle.sys_abi.specs.Requests.{is_local}
+use Rattle.call_table.specs.declared.request.Request.{Request}
+use Rattle.call_table.specs.Requests.{is_local}
 use Rattle.sys_abi.specs.Signals.{has_signal, lowest_signal, without_signals}
 use Rattle.plain_process.specs.declared.user_part.UserPart.{UserPart}
 use Rattle.plain_process.specs.declared.user_part.ThreadPart.{ThreadPart}

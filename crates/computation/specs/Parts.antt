@@ -6,15 +6,15 @@
 use Rattle.std.specs.Prelude.{◌≡◌, ◌≤◌, ℕ, Bool, true, false, length, Option, Some, None, IfSome, if◌then◌else◌}
 use Rattle.std.specs.FinMap as map
 use Rattle.sys_abi.specs.declared.identity.VPid.{VPid}
-use Rattle.sys_abi.specs.declared.delivery.Delivered.{Delivered}
-use Rattle.sys_abi.specs.declared.delivery.Delivered.TheVariants.{Kills}
+use Rattle.call_table.specs.declared.delivery.Delivered.{Delivered}
+use Rattle.call_table.specs.declared.delivery.Delivered.TheVariants.{Kills}
 use Rattle.sys_abi.specs.declared.reply.Reply.{Reply}
-use Rattle.sys_abi.specs.declared.request.Request.{Request}
+use Rattle.call_table.specs.declared.request.Request.{Request}
 use Rattle.sys_abi.specs.Orders.{vpid_cmp}
 use Rattle.plain_process.specs.declared.user_part.UserPart.{UserPart}
 use Rattle.plain_process.specs.Deliveries.{Delivery, deliver, traps_with}
 use Rattle.sys_abi.specs.Clones.{clone_form}
-use Rattle.sys_abi.specs.declared.request.Request.TheVariants.{Clone}
+use Rattle.call_table.specs.declared.request.Request.TheVariants.{Clone}
 use Rattle.sys_abi.specs.declared.transfer.TheConstants.{TRANSFER_LIMIT}
 use Rattle.plain_process.specs.Buffers.{filled_spans}
 use Rattle.plain_process.specs.Put.{CanTake, added_thread, made_by}

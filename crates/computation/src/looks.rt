@@ -6,11 +6,12 @@ ghost use Rattle.plain_process.specs.Steps.{user_step};
 ghost use Rattle.plain_machine.specs.Records.{Users, is_unready, waits_at};
 ghost use Rattle.computation.specs.Turns.{signal_for};
 
+use call_table::{Request, is_local};
 use guest_proc::{Guest, Ran};
 use plain_machine::PlainKernel;
 use plain_rows::is_ready;
 use sys_abi::signals::{lowest_signal, without_signals};
-use sys_abi::{Request, Signal, Tid, VPid, is_local};
+use sys_abi::{Signal, Tid, VPid};
 
 /// The least of the signals that are pending for the thread or its process, and that the thread's mask lets through.
 pub(crate) fn signal_due(kernel: &PlainKernel, p: VPid, guest: &Guest, t: Tid) -> Option<Signal>

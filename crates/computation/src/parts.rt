@@ -12,11 +12,12 @@ ghost use Rattle.computation.specs.Sinks.{sunk, Took, TookFront};
 
 use crate::computation::Stop;
 use crate::looks::is_idle;
+use call_table::{Delivered, Request};
 use edge_io::Sink;
 use guest_proc::{Guest, Ran};
 use plain_machine::PlainKernel;
 use std::alloc::{AllocError, Global};
-use sys_abi::{Delivered, Request, Signal, Tid, VPid};
+use sys_abi::{Signal, Tid, VPid};
 
 /// Whether a thread that stands there traps with this signal.
 fn is_trapped(ran: &Ran, s: Signal) -> bool

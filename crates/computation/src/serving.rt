@@ -2,7 +2,7 @@ ghost use Rattle.std.specs.Prelude.{◌≡◌, ◌≢◌, ◌<◌, ◌≤◌, �
 ghost use Rattle.std.specs.FinMap as map;
 ghost use Rattle.views.specs.Faults.{IsFaultOf};
 ghost use Rattle.sys_abi.specs.Clones.{clone_form};
-ghost use Rattle.sys_abi.specs.Requests.{is_local};
+ghost use Rattle.call_table.specs.Requests.{is_local};
 ghost use Rattle.sys_abi.specs.declared.record.Record.TheVariants as a_record;
 ghost use Rattle.sys_abi.specs.declared.reply.Reply.TheVariants.{Value};
 ghost use Rattle.plain_process.specs.Buffers.{lent};
@@ -22,13 +22,14 @@ ghost use Rattle.computation.specs.Parts.{AsksAt, CanAnswer, Grown, Reserved, is
 
 use crate::computation::{Computation, Stop};
 use crate::parts::{reserve_for, show};
+use call_table::Request;
 use edge_io::Sink;
 use guest_proc::Guest;
 use id_maps::ByPid;
 use plain_machine::answer::Answer;
 use plain_rows::serve;
 use std::alloc::{AllocError, Global};
-use sys_abi::{CloneForm, Record, Request, Tid, Transfer, VPid, clone_form};
+use sys_abi::{CloneForm, Record, Tid, Transfer, VPid, clone_form};
 use trace_log::Trace;
 
 impl Computation {

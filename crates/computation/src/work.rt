@@ -1,7 +1,7 @@
 ghost use Rattle.std.specs.Prelude.{◌≡◌, ◌≢◌, ℕ, ◌<◌, ◌≤◌, true, Some, None, is_some, IsErrOf, OnOk, OnErr, Err, if◌then◌else◌};
 ghost use Rattle.std.specs.FinMap as map;
 ghost use Rattle.views.specs.Faults.{IsFaultOf};
-ghost use Rattle.sys_abi.specs.Requests.{is_local};
+ghost use Rattle.call_table.specs.Requests.{is_local};
 ghost use Rattle.sys_abi.specs.declared.record.Record.TheVariants as a_record;
 ghost use Rattle.plain_process.specs.Buffers.{lent};
 ghost use Rattle.plain_process.specs.declared.user_part.UserPart.{UserPart};
@@ -13,11 +13,12 @@ ghost use Rattle.computation.specs.Parts.{AsksAt, StandsAt, kernel_after, guests
 use crate::computation::{Computation, Stop};
 use crate::looks::place_after;
 use crate::parts::deliver_to;
+use call_table::{Delivered, Request, is_local};
 use edge_io::Sink;
 use guest_proc::{LendFault, Ran};
 use std::alloc::Global;
 use sys_abi::errors::EFAULT;
-use sys_abi::{Delivered, Errno, Record, Reply, Request, Signal, Tid, VPid, is_local};
+use sys_abi::{Errno, Record, Reply, Signal, Tid, VPid};
 use trace_log::Trace;
 
 /// How many instructions a thread runs at most in one record.

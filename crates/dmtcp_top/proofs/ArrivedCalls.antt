@@ -10,13 +10,13 @@ use Rattle.views.proofs.MapValues.{get-map_values}
 use Rattle.sys_abi.specs.declared.identity.VPid.{VPid}
 use Rattle.sys_abi.specs.declared.identity.Dir.{Dir}
 use Rattle.sys_abi.specs.declared.identity.VirtAddr.{VirtAddr}
-use Rattle.sys_abi.specs.declared.request.Request.{Request}
-use Rattle.sys_abi.specs.declared.request.Request.TheVariants.{Read, Write, Accept, Connect, Wait4}
+use Rattle.call_table.specs.declared.request.Request.{Request}
+use Rattle.call_table.specs.declared.request.Request.TheVariants.{Read, Write, Accept, Connect, Wait4}
 use Rattle.sys_abi.specs.declared.errors.TheConstants.{EBADF, EINVAL, ENFILE, EAFNOSUPPORT, EADDRNOTAVAIL, ECONNREFUSED}
 use Rattle.sys_abi.specs.declared.flags.TheConstants.{O_NONBLOCK}
 use Rattle.sys_abi.specs.declared.transfer.TheConstants.{TRANSFER_LIMIT}
 use Rattle.sys_abi.specs.Flags.{has_flag}
-use Rattle.sys_abi.specs.Requests.{is_local}
+use Rattle.call_table.specs.Requests.{is_local}
 use Rattle.plain_tables.specs.declared.channel.Direction.{Direction}
 use Rattle.plain_tables.specs.declared.description.Object.{Object}
 use Rattle.plain_tables.specs.declared.description.Object.TheVariants.{Console, File, Stream, Socket, Listener, Datagram, Counter}

@@ -4,8 +4,8 @@ use Rattle.std.proofs.Common.{◌≡◌, ℕ, ◌<◌, Bool, true, false, length
 use Rattle.std.specs.Prelude.{Option, Some, None, option_map, nat_lt, IfSome}
 use Rattle.std.specs.FinMap as map
 use Rattle.std.proofs.lemmas.Bool.Decides.{nat_tests}
-use Rattle.sys_abi.specs.declared.delivery.Delivered.{Delivered}
-use Rattle.sys_abi.specs.declared.delivery.Delivered.TheVariants as came
+use Rattle.call_table.specs.declared.delivery.Delivered.{Delivered}
+use Rattle.call_table.specs.declared.delivery.Delivered.TheVariants as came
 use Rattle.plain_process.specs.declared.user_part.SignalAction.{SignalAction}
 use Rattle.plain_process.specs.declared.user_part.ThreadPart.{ThreadPart}
 use Rattle.plain_process.specs.declared.user_part.UserPart.{UserPart}

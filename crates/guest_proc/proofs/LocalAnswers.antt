@@ -5,8 +5,8 @@
 use Rattle.std.proofs.Common.{◌≡◌, ℕ, List, [], true, false, refl, sym, ap, ◌∙◌}
 use Rattle.std.specs.Prelude.{Option, Some, None, is_some, Ok, Err}
 use Rattle.std.specs.FinMap as map
-use Rattle.sys_abi.specs.declared.request.Request.{Request}
-use Rattle.sys_abi.specs.declared.request.Request.TheVariants.{Clone}
+use Rattle.call_table.specs.declared.request.Request.{Request}
+use Rattle.call_table.specs.declared.request.Request.TheVariants.{Clone}
 use Rattle.sys_abi.specs.declared.reply.Errno.{Errno}
 use Rattle.sys_abi.specs.declared.reply.Reply.TheVariants.{Error}
 use Rattle.plain_process.specs.declared.user_part.UserPart.{UserPart}

@@ -6,7 +6,7 @@ use Rattle.std.specs.Cmp.{nat_cmp_total}
 use Rattle.std.specs.Ordering.{nat_cmp}
 use Rattle.std.specs.FinMap as map
 use Rattle.views.proofs.MapLaws.{get_insert_same, get_insert_other}
-use Rattle.sys_abi.specs.declared.request.Request.{Request}
+use Rattle.call_table.specs.declared.request.Request.{Request}
 use Rattle.sys_abi.specs.declared.reply.Reply.{Reply}
 use Rattle.plain_process.specs.declared.user_part.UserPart.{UserPart}
 use Rattle.plain_process.specs.declared.user_part.ThreadPart.{ThreadPart}

@@ -1,5 +1,5 @@
 -- Where a thread with these registers stands, by what its next instruction does.
-use Rattle.sys_abi.specs.Requests.{request_of}
+use Rattle.call_table.specs.Requests.{request_of}
 use Rattle.plain_process.specs.declared.regs.Regs.{Regs}
 use Rattle.plain_process.specs.Instructions.{Effect, Next, Calls, Traps}
 use Rattle.guest_proc.specs.declared.ran.Ran.{Ran}

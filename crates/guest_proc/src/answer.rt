@@ -9,8 +9,9 @@ ghost use Rattle.guest_threads.specs.Threads.{changed};
 ghost use Rattle.plain_process.specs.Rows.Mappings.{with_memory};
 
 use crate::guest::Guest;
+use call_table::Request;
 use plain_process::threads::added_thread;
-use sys_abi::{Reply, Request, Tid, Transfer};
+use sys_abi::{Reply, Tid, Transfer};
 
 impl Guest {
     /// The part after a call's answer. An exit's ends the thread, and a clone's may add one, into room that is there. Takes

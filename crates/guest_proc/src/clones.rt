@@ -6,8 +6,9 @@ ghost use Rattle.plain_process.specs.Threads.{with_called_thread, with_called_th
 ghost use Rattle.guest_proc.specs.Guests.{HasThread};
 
 use crate::guest::Guest;
+use call_table::Request;
 use std::alloc::{AllocError, Global};
-use sys_abi::{Request, Tid};
+use sys_abi::Tid;
 
 impl Guest {
     /// Makes room for one more thread and its saved contexts, if there is none.

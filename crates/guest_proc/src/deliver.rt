@@ -8,9 +8,10 @@ ghost use Rattle.guest_proc.specs.Guests.{HasThread, with_user, delivered_by, pa
 
 use crate::guest::Guest;
 use crate::ran::Ran;
+use call_table::Delivered;
 use plain_process::SignalAction;
 use plain_process::deliveries::decided;
-use sys_abi::{Delivered, Signal, Tid};
+use sys_abi::{Signal, Tid};
 
 impl Guest {
     /// What the delivery of a signal to a thread would come to.

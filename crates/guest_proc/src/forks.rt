@@ -11,8 +11,9 @@ ghost use Rattle.plain_process.specs.Rows.Mappings.{with_memory};
 ghost use Rattle.guest_proc.specs.Guests.{HasThread, with_user};
 
 use crate::guest::Guest;
+use call_table::Request;
 use std::alloc::{AllocError, Global};
-use sys_abi::{Request, Tid, VPid};
+use sys_abi::{Tid, VPid};
 
 impl Guest {
     /// The child that this thread's fork makes, while its number isn't known: its memory, break and actions are its

@@ -12,12 +12,13 @@ ghost use Rattle.image_process.specs.UserParts.{user_of, page_entry, thread_entr
 ghost use Rattle.process_memory.specs.Lending.{IsFrontOf};
 ghost use Rattle.guest_proc.specs.Guests.{HasThread};
 
+use call_table::{Given, Request};
 use elf32::Program;
 use image_process::ProcImage;
 use process_memory::{LendFault, ProcessMemory};
 use std::alloc::{AllocError, Global};
 use std::marker::Model;
-use sys_abi::{Given, Request, Tid, Transfer, VPid};
+use sys_abi::{Tid, Transfer, VPid};
 use thread_group::ThreadGroup;
 
 /// A process's own part, ready to run.

@@ -10,11 +10,12 @@ ghost use Rattle.thread_group.specs.Local.{FitsAnswer, MakesCall, answer_told};
 ghost use Rattle.guest_proc.specs.Guests.{HasThread, with_user};
 
 use crate::guest::Guest;
+use call_table::Request;
 use plain_process::handlers::{action_bytes, mask_bytes};
 use process_memory::LocalFault;
 use std::alloc::{AllocError, Global};
 use sys_abi::errors::EFAULT;
-use sys_abi::{Errno, Reply, Request, Tid};
+use sys_abi::{Errno, Reply, Tid};
 use thread_group::LocalAnswer;
 
 impl Guest {

@@ -3,10 +3,11 @@ ghost use Rattle.plain_process.specs.Steps.{effect_at};
 ghost use Rattle.guest_proc.specs.Looking.{ran_by};
 
 use crate::ran::Ran;
+use call_table::request_of;
 use guest_run::{Ram, SIGNAL_FAULT, SIGNAL_ILLEGAL, outcome_of};
 use plain_process::Regs;
 use rv_isa::{Outcome, decode};
-use sys_abi::{Signal, request_of};
+use sys_abi::Signal;
 
 /// What the instruction at these registers would come to.
 #[tactic(auto, unfolding(plain_process::specs::Steps::effect_at))]

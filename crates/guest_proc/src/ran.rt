@@ -1,9 +1,10 @@
 ghost use Rattle.std.specs.Prelude.{◌≡◌};
 ghost use Rattle.guest_proc.specs.Running.{ran_told};
 
+use call_table::{Request, request_of};
 use guest_run::Stop;
 use plain_process::Regs;
-use sys_abi::{Request, Signal, request_of};
+use sys_abi::Signal;
 
 /// Where a thread stands after it ran.
 #[derive(Clone, Copy, Debug, PartialEq, Eq)]

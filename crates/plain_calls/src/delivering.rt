@@ -6,11 +6,12 @@ ghost use Rattle.plain_steps.specs.Results.{step_told};
 ghost use Rattle.plain_process.specs.Delivered.{delivery_told, KeepsUnlessEntered};
 
 use crate::waking::stop_waiting;
+use call_table::Delivered;
 use plain_process::deliveries::{action_on, decided, handler_mask, handler_regs, interrupted};
 use plain_process::user_part::{Context, SignalAction, ThreadPart, UserPart};
 use plain_steps::steps::{UserStep, user_step};
 use std::alloc::{AllocError, Global};
-use sys_abi::{Delivered, Signal, Tid};
+use sys_abi::{Signal, Tid};
 use views::duplicate::Duplicate;
 
 /// A step of a thread and the part after it.

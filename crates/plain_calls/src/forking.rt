@@ -2,13 +2,14 @@ ghost use Rattle.std.specs.Prelude.{◌≡◌, ◌<◌, ◌^◌, IfOk, if◌then
 ghost use Rattle.plain_process.specs.Threads as words;
 ghost use Rattle.std.specs.FinMap as map;
 
+use call_table::Request;
 use plain_memory::memory::put_bytes;
 use plain_process::memory::Frame;
 use plain_process::threads::{after_call, new_clear_tid, new_regs};
 use plain_process::user_part::{ThreadPart, UserPart};
 use std::alloc::{AllocError, Global};
+use sys_abi::Tid;
 use sys_abi::flags::CLONE_CHILD_SETTID;
-use sys_abi::{Request, Tid};
 use views::duplicate::Duplicate;
 use views::list_of::ListOf;
 use views::number_map::NumberMap;

@@ -9,6 +9,7 @@ ghost use Rattle.plain_process.specs.declared.user_part.UserPart.{UserPart};
 use crate::local_handlers::{sigaction, sigprocmask, sigreturn};
 use crate::local_threads::{futex, set_tid_address};
 use crate::putting::{put, put_fault};
+use call_table::Request;
 use plain_memory::lending::lent;
 use plain_memory::local_answer::LocalAnswer;
 use plain_memory::local_memory::{brk, mmap, munmap};
@@ -16,7 +17,7 @@ use plain_process::handlers::{action_bytes, mask_bytes};
 use plain_process::user_part::UserPart;
 use std::alloc::{AllocError, Global};
 use sys_abi::errors::ENOSYS;
-use sys_abi::{Errno, Reply, Request, Tid};
+use sys_abi::{Errno, Reply, Tid};
 
 /// Makes the call of a thread that is there, but for its answer, where `given` are the bytes that the call reads.
 #[tactic(auto, unfolding(plain_process::specs::Local::local_by))]

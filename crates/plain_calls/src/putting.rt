@@ -4,6 +4,7 @@ ghost use Rattle.plain_process.specs.Put as words;
 ghost use Rattle.plain_process.specs.Threads.{new_thread};
 
 use crate::waking::end_thread;
+use call_table::Request;
 use plain_memory::lending::filled_spans;
 use plain_memory::memory::put_bytes;
 use plain_process::buffers::Spans;
@@ -13,7 +14,7 @@ use plain_process::user_part::{ThreadPart, UserPart};
 use plain_steps::steps::set_regs;
 use std::alloc::{AllocError, Global};
 use sys_abi::errors::EFAULT;
-use sys_abi::{Errno, Reply, Request, Tid};
+use sys_abi::{Errno, Reply, Tid};
 use views::list_of::ListOf;
 use views::number_map::NumberMap;
 

@@ -9,8 +9,8 @@ use Rattle.sys_abi.specs.declared.identity.Tid.{Tid}
 use Rattle.sys_abi.specs.declared.identity.Dir.{Dir}
 use Rattle.sys_abi.specs.declared.record.Record.{Record}
 use Rattle.sys_abi.specs.declared.record.Record.TheVariants.{User, Call, Deliver, Arrive, Cut, Drained, Refilled, Complete, Refused, Lapsed}
-use Rattle.sys_abi.specs.declared.request.Request.{Request}
-use Rattle.sys_abi.specs.Requests.{is_local}
+use Rattle.call_table.specs.declared.request.Request.{Request}
+use Rattle.call_table.specs.Requests.{is_local}
 use Rattle.sys_abi.specs.Signals.{has_signal}
 use Rattle.sys_abi.proofs.OrderLaws.{vpid_total, vpid_exact}
 use Rattle.plain_machine.specs.declared.plain.Plain.{Plain}

@@ -5,8 +5,8 @@ use Rattle.std.specs.Prelude.{◌==◌, Option, Some, None}
 use Rattle.std.specs.Option.{option_map}
 use Rattle.std.specs.List.{list_all}
 use Rattle.std.proofs.Math.Nat.{min-le_right}
-use Rattle.sys_abi.specs.declared.request.Request.{Request}
-use Rattle.sys_abi.specs.declared.request.Request.TheVariants.{Unlinkat, Openat, Write, Clone, Futex, RtSigaction, RtSigprocmask, Bind, Accept, Connect, Getsockname, Getpeername}
+use Rattle.call_table.specs.declared.request.Request.{Request}
+use Rattle.call_table.specs.declared.request.Request.TheVariants.{Unlinkat, Openat, Write, Clone, Futex, RtSigaction, RtSigprocmask, Bind, Accept, Connect, Getsockname, Getpeername}
 use Rattle.sys_abi.specs.declared.transfer.TheConstants.{TRANSFER_LIMIT}
 use Rattle.sys_abi.specs.declared.flags.TheConstants.{CLONE_PARENT_SETTID, CLONE_CHILD_SETTID}
 use Rattle.sys_abi.specs.declared.cloning.CloneForm.{CloneForm}

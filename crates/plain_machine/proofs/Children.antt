@@ -9,8 +9,8 @@ use Rattle.std.proofs.lemmas.List.Elements.{All-nil}
 use Rattle.views.proofs.MapLaws.{true_false}
 use Rattle.sys_abi.specs.declared.flags.TheConstants.{CLONE_CHILD_CLEARTID, CLONE_PARENT_SETTID, CLONE_CHILD_SETTID}
 use Rattle.sys_abi.specs.declared.reply.Reply.{Reply}
-use Rattle.sys_abi.specs.declared.request.Request.{Request}
-use Rattle.sys_abi.specs.declared.request.Request.TheVariants.{Clone}
+use Rattle.call_table.specs.declared.request.Request.{Request}
+use Rattle.call_table.specs.declared.request.Request.TheVariants.{Clone}
 use Rattle.sys_abi.specs.Flags.{has_flag}
 use Rattle.plain_process.specs.declared.buffers.Span.{Span}
 use Rattle.plain_process.specs.declared.user_part.UserPart.{UserPart}

@@ -8,7 +8,7 @@ use Rattle.std.proofs.lemmas.Nat.{or_lt}
 use Rattle.std.proofs.lemmas.Option.{slice_get_within, get_or_from_slice_get}
 use Rattle.std.proofs.lemmas.List.{length-set}
 use Rattle.std.proofs.lemmas.List.Elements.{All-append, All-set, All-take, All-drop}
-use Rattle.sys_abi.specs.declared.request.Request.TheVariants.{RtSigaction, RtSigprocmask, RtSigreturn}
+use Rattle.call_table.specs.declared.request.Request.TheVariants.{RtSigaction, RtSigprocmask, RtSigreturn}
 use Rattle.sys_abi.specs.declared.errors.TheConstants.{EINVAL}
 use Rattle.sys_abi.specs.declared.signals.TheConstants.{SIGKILL, SIGSTOP}
 use Rattle.sys_abi.specs.Signals.{is_signal, bit_of, without_signal, blockable}

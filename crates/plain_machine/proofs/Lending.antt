@@ -5,7 +5,7 @@ use Rattle.std.specs.Prelude.{◌==◌, Option, Some, None, All}
 use Rattle.std.specs.Option.{option_map}
 use Rattle.std.specs.List.{list_all}
 use Rattle.std.proofs.lemmas.List.Elements.{All-nil, All-cons}
-use Rattle.sys_abi.specs.declared.request.Request.{Request}
+use Rattle.call_table.specs.declared.request.Request.{Request}
 use Rattle.plain_process.specs.declared.memory.Right.TheVariants.{Read as ToRead}
 use Rattle.plain_process.specs.declared.buffers.Source.{Source}
 use Rattle.plain_process.specs.declared.buffers.Source.TheVariants.{Nothing, Bytes, Text}

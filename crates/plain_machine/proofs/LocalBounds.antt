@@ -5,12 +5,12 @@ use Rattle.std.specs.Prelude.{◌==◌, not, nat_le, nat_lt, Option, Some, None,
 use Rattle.std.specs.FinMap as map
 use Rattle.std.proofs.lemmas.Bool.Decides.{nat_tests}
 use Rattle.views.proofs.MapLaws.{true_false}
-use Rattle.sys_abi.specs.declared.request.Request.{Request}
-use Rattle.sys_abi.specs.declared.request.Request.TheVariants.{Exit, SetTidAddress, Futex, SchedYield, RtSigaction, RtSigprocmask, RtSigreturn, Gettid, Brk, Munmap, Mmap, Clone}
+use Rattle.call_table.specs.declared.request.Request.{Request}
+use Rattle.call_table.specs.declared.request.Request.TheVariants.{Exit, SetTidAddress, Futex, SchedYield, RtSigaction, RtSigprocmask, RtSigreturn, Gettid, Brk, Munmap, Mmap, Clone}
 use Rattle.sys_abi.specs.declared.reply.Reply.{Reply}
 use Rattle.sys_abi.specs.declared.reply.Reply.TheVariants.{Value}
 use Rattle.sys_abi.specs.declared.errors.TheConstants.{EAGAIN, EINVAL, ENOMEM, ENOSYS}
-use Rattle.sys_abi.specs.Requests.{is_local}
+use Rattle.call_table.specs.Requests.{is_local}
 use Rattle.plain_process.specs.declared.user_part.UserPart.{UserPart}
 use Rattle.plain_process.specs.declared.user_part.ThreadPart.{ThreadPart}
 use Rattle.plain_process.specs.Attempts.{Try, Fails, NotReady, Gives, need, found}

@@ -5,8 +5,8 @@ use Rattle.std.specs.Prelude.{Option, Some, None, is_some, All, take, drop}
 use Rattle.std.specs.FinMap as map
 use Rattle.std.proofs.lemmas.List.Elements.{All-nil, All-take, All-drop}
 use Rattle.views.proofs.MapLaws.{true_false}
-use Rattle.sys_abi.specs.declared.request.Request.{Request}
-use Rattle.sys_abi.specs.declared.request.Request.TheVariants.{Exit, Clone}
+use Rattle.call_table.specs.declared.request.Request.{Request}
+use Rattle.call_table.specs.declared.request.Request.TheVariants.{Exit, Clone}
 use Rattle.sys_abi.specs.declared.reply.Reply.{Reply}
 use Rattle.sys_abi.specs.Clones.{clone_form}
 use Rattle.sys_abi.specs.declared.cloning.CloneForm.{CloneForm}

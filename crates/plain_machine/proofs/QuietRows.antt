@@ -4,7 +4,7 @@ use Rattle.std.proofs.Common.{◌≡◌, ℕ, ◌≤◌, true, List, [], ap}
 use Rattle.std.specs.FinMap as map
 use Rattle.sys_abi.specs.declared.identity.VPid.{VPid}
 use Rattle.sys_abi.specs.declared.reply.Reply.TheVariants.{Value}
-use Rattle.sys_abi.specs.declared.request.Request.{Request}
+use Rattle.call_table.specs.declared.request.Request.{Request}
 use Rattle.plain_machine.specs.declared.kernel.PlainKernel.{PlainKernel}
 use Rattle.plain_tables.specs.Tables.{Processes, is_live_process, has_thread_in}
 use Rattle.plain_process.specs.Valid.{IsWord}

@@ -11,8 +11,8 @@ use Rattle.sys_abi.specs.declared.errors.TheConstants.{EAGAIN, EPIPE}
 use Rattle.sys_abi.specs.declared.flags.TheConstants.{O_NONBLOCK}
 use Rattle.sys_abi.specs.declared.signals.TheConstants.{SIGPIPE}
 use Rattle.sys_abi.specs.declared.reply.Reply.TheVariants.{Value}
-use Rattle.sys_abi.specs.declared.request.Request.{Request}
-use Rattle.sys_abi.specs.declared.request.Request.TheVariants.{Read}
+use Rattle.call_table.specs.declared.request.Request.{Request}
+use Rattle.call_table.specs.declared.request.Request.TheVariants.{Read}
 use Rattle.sys_abi.specs.declared.transfer.TheConstants.{TRANSFER_LIMIT}
 use Rattle.sys_abi.specs.Flags.{has_flag}
 use Rattle.plain_machine.specs.declared.kernel.PlainKernel.{PlainKernel}

@@ -7,7 +7,7 @@ use Rattle.sys_abi.specs.declared.identity.Tid.{Tid}
 use Rattle.sys_abi.specs.declared.record.Record.{Record}
 use Rattle.sys_abi.specs.declared.record.Record.TheVariants.{Call}
 use Rattle.sys_abi.specs.declared.reply.Reply.{Reply}
-use Rattle.sys_abi.specs.declared.request.Request.{Request}
+use Rattle.call_table.specs.declared.request.Request.{Request}
 use Rattle.plain_process.specs.declared.user_part.UserPart.{UserPart}
 use Rattle.plain_process.specs.Put.{made_by}
 use Rattle.plain_process.specs.Steps.{Asks, user_step}

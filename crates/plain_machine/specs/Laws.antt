@@ -4,7 +4,7 @@ use Rattle.std.specs.FinMap as map
 use Rattle.views.specs.Limits.{HOST_LIMIT, PROCESS_LIMIT}
 use Rattle.sys_abi.specs.declared.identity.VPid.{VPid}
 use Rattle.sys_abi.specs.declared.reply.Reply.{Reply}
-use Rattle.sys_abi.specs.declared.request.Request.{Request}
+use Rattle.call_table.specs.declared.request.Request.{Request}
 use Rattle.sys_abi.specs.declared.record.Record.{Record}
 use Rattle.sys_abi.specs.declared.record.Record.TheVariants.{User, Call, Deliver}
 use Rattle.plain_machine.specs.declared.plain.Plain.{Plain}

@@ -6,8 +6,8 @@ use Rattle.std.specs.Prelude.{◌≡◌, ◌≢◌, ℕ, ◌<◌, ◌≤◌, Boo
 use Rattle.std.specs.Ordering.{nat_cmp, eq_by_cmp}
 use Rattle.sys_abi.specs.declared.identity.VPid.{VPid}
 use Rattle.sys_abi.specs.declared.reply.Reply.{Reply}
-use Rattle.sys_abi.specs.declared.request.Request.{Request}
-use Rattle.sys_abi.specs.declared.request.Request.TheVariants.{Exit}
+use Rattle.call_table.specs.declared.request.Request.{Request}
+use Rattle.call_table.specs.declared.request.Request.TheVariants.{Exit}
 use Rattle.sys_abi.specs.declared.transfer.TheConstants.{TRANSFER_LIMIT}
 use Rattle.plain_tables.specs.Tables.{pid}
 use Rattle.plain_process.specs.Memory.{Memory}

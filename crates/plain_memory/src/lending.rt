@@ -4,10 +4,10 @@ ghost use Rattle.sys_abi.specs.declared.transfer.TheConstants.{TRANSFER_LIMIT};
 ghost use Rattle.plain_process.specs.Buffers as words;
 
 use crate::memory::{byte_at, bytes_at, has_bytes, load};
+use call_table::Request;
 use plain_process::buffers::{Source, Span, Spans, fills_of, length_place, reads_of, writes_of};
 use plain_process::memory::{Frame, Right};
 use std::alloc::{AllocError, Global};
-use sys_abi::Request;
 use views::list_of::ListOf;
 use views::number_map::NumberMap;
 

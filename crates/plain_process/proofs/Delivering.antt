@@ -4,8 +4,8 @@ use Rattle.std.proofs.Common.{◌≡◌, ◌≢◌, ℕ, Bool, true, false, cond
 use Rattle.std.specs.Prelude.{◌==◌, ◌&&◌, ◌||◌, Option, Some, nat_lt, length, IfSome}
 use Rattle.std.specs.FinMap as map
 use Rattle.views.specs.Limits.{CONTEXT_LIMIT}
-use Rattle.sys_abi.specs.declared.delivery.Delivered.{Delivered}
-use Rattle.sys_abi.specs.declared.delivery.Delivered.TheVariants as came
+use Rattle.call_table.specs.declared.delivery.Delivered.{Delivered}
+use Rattle.call_table.specs.declared.delivery.Delivered.TheVariants as came
 use Rattle.sys_abi.specs.Signals.{has_signal}
 use Rattle.sys_abi.specs.declared.signals.TheConstants.{SIGKILL}
 use Rattle.plain_process.specs.declared.user_part.SignalAction.{SignalAction}

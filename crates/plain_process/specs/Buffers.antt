@@ -7,8 +7,8 @@ use Rattle.std.specs.Prelude.{◌==◌, ◌||◌, ℕ, zero, suc, ◌+◌, ◌�
 use Rattle.std.specs.Option.{option_map}
 use Rattle.std.specs.List.{list_all}
 use Rattle.views.specs.Numbers.{Address, Flags, Byte}
-use Rattle.sys_abi.specs.declared.request.Request.{Request}
-use Rattle.sys_abi.specs.declared.request.Request.TheVariants.{Unlinkat, Openat, Pipe2, Read, Write, Futex, RtSigaction, RtSigprocmask, Socketpair, Bind, Accept, Connect, Getsockname, Getpeername, Clone, Wait4}
+use Rattle.call_table.specs.declared.request.Request.{Request}
+use Rattle.call_table.specs.declared.request.Request.TheVariants.{Unlinkat, Openat, Pipe2, Read, Write, Futex, RtSigaction, RtSigprocmask, Socketpair, Bind, Accept, Connect, Getsockname, Getpeername, Clone, Wait4}
 use Rattle.sys_abi.specs.declared.flags.TheConstants.{CLONE_PARENT_SETTID, CLONE_CHILD_SETTID}
 use Rattle.sys_abi.specs.declared.transfer.TheConstants.{TRANSFER_LIMIT}
 use Rattle.sys_abi.specs.declared.cloning.CloneForm.{CloneForm}

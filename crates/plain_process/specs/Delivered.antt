@@ -2,8 +2,8 @@
 --     delivery_told told user      what a delivery comes to, where user is the part after it
 --     KeepsUnlessEntered           a delivery that enters no handler has left the part as it was
 use Rattle.std.specs.Prelude.{◌≡◌}
-use Rattle.sys_abi.specs.declared.delivery.Delivered.{Delivered}
-use Rattle.sys_abi.specs.declared.delivery.Delivered.TheVariants as came
+use Rattle.call_table.specs.declared.delivery.Delivered.{Delivered}
+use Rattle.call_table.specs.declared.delivery.Delivered.TheVariants as came
 use Rattle.plain_process.specs.declared.user_part.UserPart.{UserPart}
 use Rattle.plain_process.specs.Deliveries.{Delivery, Enters, Ignores, Kills}
 

@@ -8,8 +8,8 @@ use Rattle.std.specs.FinMap as map
 use Rattle.views.specs.Numbers.{ThreadNumber, SignalNumber, Flags}
 use Rattle.views.specs.Limits.{CONTEXT_LIMIT}
 use Rattle.sys_abi.specs.Signals.{has_signal, with_signal}
-use Rattle.sys_abi.specs.declared.delivery.Delivered.{Delivered}
-use Rattle.sys_abi.specs.declared.delivery.Delivered.TheVariants as came
+use Rattle.call_table.specs.declared.delivery.Delivered.{Delivered}
+use Rattle.call_table.specs.declared.delivery.Delivered.TheVariants as came
 use Rattle.sys_abi.specs.declared.signals.TheConstants.{SIGKILL, SIGSEGV, SIGCHLD, SIGURG, SIGWINCH}
 use Rattle.sys_abi.specs.declared.flags.TheConstants.{SA_NODEFER, SA_RESTART}
 use Rattle.sys_abi.specs.declared.errors.TheConstants.{EINTR}

@@ -7,8 +7,8 @@
 use Rattle.std.specs.Prelude.{◌≡◌, ℕ, ◌-◌, List, [], ◌∷◌, length, take, drop, Option, Some, None, is_some, true}
 use Rattle.std.specs.FinMap as map
 use Rattle.views.specs.Numbers.{Address, ThreadNumber, Flags, Byte}
-use Rattle.sys_abi.specs.declared.request.Request.{Request}
-use Rattle.sys_abi.specs.declared.request.Request.TheVariants.{Exit, Clone}
+use Rattle.call_table.specs.declared.request.Request.{Request}
+use Rattle.call_table.specs.declared.request.Request.TheVariants.{Exit, Clone}
 use Rattle.sys_abi.specs.declared.reply.Reply.{Reply}
 use Rattle.sys_abi.specs.declared.reply.Reply.TheVariants.{Value}
 use Rattle.sys_abi.specs.declared.errors.TheConstants.{EFAULT}

@@ -4,8 +4,8 @@ use Rattle.std.specs.Prelude.{◌==◌, ℕ, zero, suc, Bool, Option, Some, None
 use Rattle.std.specs.List.{list_any}
 use Rattle.std.specs.FinMap as map
 use Rattle.views.specs.Numbers.{ThreadNumber}
-use Rattle.sys_abi.specs.declared.request.Request.{Request}
-use Rattle.sys_abi.specs.Requests.{request_of}
+use Rattle.call_table.specs.declared.request.Request.{Request}
+use Rattle.call_table.specs.Requests.{request_of}
 use Rattle.plain_process.specs.declared.instruction.Insn.{Insn}
 use Rattle.plain_process.specs.declared.regs.Regs.{Regs}
 use Rattle.plain_process.specs.declared.user_part.UserPart.{UserPart}

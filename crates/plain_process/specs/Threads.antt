@@ -13,8 +13,8 @@ use Rattle.std.specs.Prelude.{◌==◌, ℕ, zero, suc, ◌+◌, Bool, not, List
 use Rattle.std.specs.FinMap as map
 use Rattle.views.specs.Numbers.{Address, ThreadNumber, Flags}
 use Rattle.sys_abi.specs.declared.flags.TheConstants.{CLONE_CHILD_CLEARTID, CLONE_CHILD_SETTID, CLONE_SETTLS}
-use Rattle.sys_abi.specs.declared.request.Request.{Request}
-use Rattle.sys_abi.specs.declared.request.Request.TheVariants.{Clone}
+use Rattle.call_table.specs.declared.request.Request.{Request}
+use Rattle.call_table.specs.declared.request.Request.TheVariants.{Clone}
 use Rattle.plain_process.specs.declared.regs.Regs.{Regs}
 use Rattle.plain_process.specs.declared.user_part.UserPart.{UserPart}
 use Rattle.plain_process.specs.declared.user_part.ThreadPart.{ThreadPart}

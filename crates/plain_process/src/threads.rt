@@ -8,8 +8,9 @@ ghost use Rattle.sys_abi.specs.Flags.{has_flag};
 
 use crate::regs::Regs;
 use crate::user_part::Waiter;
+use call_table::Request;
 use sys_abi::flags::{CLONE_CHILD_CLEARTID, CLONE_SETTLS};
-use sys_abi::{CloneForm, Reply, Request, clone_form};
+use sys_abi::{CloneForm, Reply, clone_form};
 
 /// The return address, the stack pointer and the thread pointer, and the first three arguments of a call (RISC-V ELF
 /// psABI, chapter 1).

@@ -10,6 +10,7 @@ ghost use Rattle.plain_process.specs.Steps.{user_step};
 ghost use Rattle.plain_process.specs.Delivered.{delivery_told};
 ghost use Rattle.plain_replay.specs.Replays.{after_told, state_of};
 
+use call_table::{Delivered, Request, is_local};
 use id_maps::ByPid;
 use plain_calls::delivering::{deliver, look, traps_with};
 use plain_calls::forking::child_of;
@@ -26,7 +27,7 @@ use plain_steps::steps::{UserStep, user_step, user_steps};
 use plain_tables::channel::Direction;
 use std::alloc::{AllocError, Global};
 use sys_abi::signals::{has_signal, without_signals};
-use sys_abi::{Delivered, Dir, Record, Reply, Request, Signal, Tid, VPid, is_local};
+use sys_abi::{Dir, Record, Reply, Signal, Tid, VPid};
 use views::duplicate::Duplicate;
 use views::number_map::NumberMap;
 

@@ -3,9 +3,10 @@ ghost use Rattle.sys_abi.specs.declared.transfer.TheConstants.{TRANSFER_LIMIT};
 ghost use Rattle.plain_machine.specs.Serve.{serve};
 ghost use Rattle.plain_replay.specs.Answers.{served_told};
 
+use call_table::Request;
 use plain_machine::kernel::PlainKernel;
 use std::alloc::{AllocError, Global};
-use sys_abi::{Reply, Request, Tid, VPid};
+use sys_abi::{Reply, Tid, VPid};
 use views::duplicate::Duplicate;
 use views::list_of::ListOf;
 

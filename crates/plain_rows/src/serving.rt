@@ -5,6 +5,7 @@ ghost use Rattle.plain_machine.specs.Answers.{answer_told, attempt_told, KeepsUn
 
 use crate::numbers::{getpid, getppid};
 use crate::send::{kill, tgkill};
+use call_table::{Given, Request};
 use plain_files::descriptors::{close, dup, dup3, fcntl};
 use plain_files::files::{lseek, openat, unlinkat};
 use plain_forks::clone::clone;
@@ -22,7 +23,7 @@ use plain_streams::read::{is_read_ready, read};
 use plain_streams::write::{is_write_ready, write};
 use std::alloc::{AllocError, Global};
 use sys_abi::errors::ENOSYS;
-use sys_abi::{Given, Request, Tid, VPid};
+use sys_abi::{Tid, VPid};
 
 /// Serves a call of a thread, where `given` are the bytes that the call reads. It answers None where the call waits, and
 /// then the kernel part is as before. After want of memory it may be any.

@@ -10,6 +10,7 @@ ghost use Rattle.plain_ports.specs.Told.{told, told_or_waits, same_address};
 ghost use Rattle.plain_sockets.specs.Told.{accepting_told, connecting_told};
 
 use crate::changes::{Made, add_channel, add_last, count, make, set_object, take_first};
+use call_table::Given;
 use plain_machine::PlainKernel;
 use plain_machine::answer::{Answer, Attempt, RowResult};
 use plain_ports::addresses::{
@@ -23,7 +24,7 @@ use sys_abi::errors::{
     EADDRNOTAVAIL, EAFNOSUPPORT, EAGAIN, ECONNREFUSED, EINVAL, EISCONN, EMFILE, ENFILE, EOPNOTSUPP,
 };
 use sys_abi::flags::{O_NONBLOCK, O_RDWR};
-use sys_abi::{ConnId, Errno, Given, Reply, VPid, VirtAddr};
+use sys_abi::{ConnId, Errno, Reply, VPid, VirtAddr};
 use views::list_of::ListOf;
 
 /// How many channels there are at most.

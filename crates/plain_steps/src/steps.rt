@@ -6,11 +6,12 @@ ghost use Rattle.plain_steps.specs.Results.{effect_told, step_told, steps_told, 
 use crate::decoder::decoded;
 use crate::effect::Effect;
 use crate::executor::{FAULT, effect};
+use call_table::{Request, request_of};
 use plain_memory::memory::fetch;
 use plain_process::memory::Frame;
 use plain_process::regs::Regs;
 use plain_process::user_part::{ThreadPart, UserPart};
-use sys_abi::{Request, Signal, Tid, request_of};
+use sys_abi::{Signal, Tid};
 use views::number_map::NumberMap;
 
 /// SIGILL (`man 7 signal`).

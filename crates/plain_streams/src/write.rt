@@ -4,6 +4,7 @@ ghost use Rattle.plain_machine.specs.HeldTold.{held_of};
 ghost use Rattle.plain_machine.specs.Rows.Write as rows;
 ghost use Rattle.plain_machine.specs.Answers.{attempt_told, KeepsUnlessGives};
 
+use call_table::Given;
 use plain_machine::PlainKernel;
 use plain_machine::answer::{Answer, Attempt, RowResult};
 use plain_machine::descriptors::Held;
@@ -15,7 +16,7 @@ use plain_transfers::moving::{break_pipe, is_nonblocking};
 use plain_transfers::streams::{is_sendable, write_stream};
 use std::alloc::Global;
 use sys_abi::errors::{EAGAIN, EBADF};
-use sys_abi::{Dir, Given, Reply, Tid, VPid};
+use sys_abi::{Dir, Reply, Tid, VPid};
 use views::list_of::ListOf;
 
 /// write (`man 2 write`), of these bytes, by a thread that asks for so many.

@@ -4,7 +4,7 @@ use Rattle.std.specs.Prelude.{Some, None, is_some}
 use Rattle.std.specs.List.{list_all}
 use Rattle.views.proofs.MapLaws.{true_false}
 use Rattle.sys_abi.specs.declared.flags.TheConstants.{CLONE_PARENT_SETTID, CLONE_CHILD_SETTID}
-use Rattle.sys_abi.specs.declared.request.Request.TheVariants.{Clone}
+use Rattle.call_table.specs.declared.request.Request.TheVariants.{Clone}
 use Rattle.sys_abi.specs.Flags.{has_flag}
 use Rattle.plain_process.specs.declared.buffers.Span.{Span}
 use Rattle.plain_process.specs.Buffers.{span, span_if, thread_spans, reads_of, writes_of, given_of, can_write, lent}

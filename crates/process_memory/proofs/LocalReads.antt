@@ -14,8 +14,8 @@ use Rattle.plain_process.specs.declared.buffers.Source.{Source}
 use Rattle.plain_process.specs.declared.buffers.Source.TheVariants.{Nothing, Bytes}
 use Rattle.plain_process.specs.Memory.{Memory, bytes_at, load, little_endian}
 use Rattle.plain_process.specs.Buffers.{bytes_of, unless_zero, span, is_wait, reads_of, given_of, written_spans, can_write, lent}
-use Rattle.sys_abi.specs.declared.request.Request.{Request}
-use Rattle.sys_abi.specs.declared.request.Request.TheVariants.{Futex}
+use Rattle.call_table.specs.declared.request.Request.{Request}
+use Rattle.call_table.specs.declared.request.Request.TheVariants.{Futex}
 use Rattle.plain_process.specs.declared.buffers.Span.{Span}
 use Rattle.process_memory.proofs.LendLemmas.{unwritable, lent_whole}
 use Rattle.plain_process.specs.Rows.Handlers.{word_in, action_in}

@@ -14,9 +14,10 @@ use crate::buffers::{LendFault, filled_spans, lend_from, put_answer, put_bytes};
 use crate::front::front_from;
 use crate::memory::ProcessMemory;
 use crate::reads;
+use call_table::{Given, Request};
 use plain_process::SignalAction;
+use sys_abi::Transfer;
 use sys_abi::flags::CLONE_CHILD_SETTID;
-use sys_abi::{Given, Request, Transfer};
 
 impl ProcessMemory {
     /// Copies what the call reads into the transfer.

@@ -7,9 +7,10 @@ ghost use Rattle.plain_process.specs.declared.memory.Right.TheVariants.{Read as 
 ghost use Rattle.sys_abi.specs.declared.transfer.TheConstants.{TRANSFER_LIMIT};
 ghost use Rattle.process_memory.specs.Lending.{IsSpanOf, IsTextLength, CanHold, CanTake};
 
+use call_table::Request;
 use guest_mem::Space;
 use plain_process::{Right, Source, Span, Spans, fills_of, length_place, reads_of, writes_of};
-use sys_abi::{Request, Transfer};
+use sys_abi::Transfer;
 use thiserror::Error;
 
 /// Why a call's bytes were not lent.

@@ -5,9 +5,9 @@ ghost use Rattle.plain_process.specs.declared.memory.Right.TheVariants.{Read as 
 ghost use Rattle.process_memory.specs.Lending.{IsFrontOf};
 
 use crate::buffers::{can_write_all, readable_span, written_spans};
+use call_table::{Given, Request};
 use guest_mem::Space;
 use plain_process::{Right, Span, reads_of};
-use sys_abi::{Given, Request};
 
 /// How many bytes of what a call reads tell whether it waits.
 const FRONT_SIZE: u32 = 16;

@@ -8,9 +8,9 @@ ghost use Rattle.plain_process.specs.declared.memory.Right.TheVariants.{Read as 
 ghost use Rattle.process_memory.specs.Local.{NamesAction, NamesSet};
 
 use crate::buffers::{can_write_all, readable_span, written_spans};
+use call_table::Request;
 use guest_mem::Space;
 use plain_process::{SignalAction, reads_of};
-use sys_abi::Request;
 use sys_abi::signals::blockable;
 
 /// Whether each buffer of the call is readable or writable as it needs.

@@ -1,6 +1,5 @@
 pub mod Names
 pub mod Orders
-pub mod Requests
 pub mod Signals
 pub mod Clones
 pub mod Flags

@@ -6,8 +6,8 @@
 use Rattle.std.proofs.Common.{◌≡◌, ℕ, List, [], ◌∷◌, ◌++◌, length, Bool, true, false, refl, sym, ap, subst}
 use Rattle.std.specs.Prelude.{◌==◌, ◌&&◌, Option, Some, None, is_some, option_and_then, Result, Ok, Err, if◌then◌else◌}
 use Rattle.std.specs.List.{list_all}
-use Rattle.sys_abi.specs.declared.request.Request.{Request}
-use Rattle.sys_abi.specs.declared.request.Request.TheVariants.{RtSigaction, RtSigprocmask}
+use Rattle.call_table.specs.declared.request.Request.{Request}
+use Rattle.call_table.specs.declared.request.Request.TheVariants.{RtSigaction, RtSigprocmask}
 use Rattle.sys_abi.specs.declared.reply.Reply.TheVariants.{Value as ToValue}
 use Rattle.plain_process.specs.declared.memory.Right.TheVariants.{Write}
 use Rattle.plain_process.specs.declared.user_part.UserPart.{UserPart}

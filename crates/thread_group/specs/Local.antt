@@ -6,7 +6,7 @@
 --     value_answer, action_answer, mask_answer, no_answer  what each kind of call answers
 use Rattle.std.specs.Prelude.{◌≡◌, ℕ, ◌++◌, List, [], Some, None, Result, Ok, Err, IfOk}
 use Rattle.std.specs.FinMap as map
-use Rattle.sys_abi.specs.declared.request.Request.{Request}
+use Rattle.call_table.specs.declared.request.Request.{Request}
 use Rattle.sys_abi.specs.declared.reply.Reply.TheVariants.{Value as ToValue}
 use Rattle.plain_process.specs.declared.user_part.SignalAction.{SignalAction}
 use Rattle.plain_process.specs.declared.user_part.ThreadPart.{ThreadPart}

@@ -3,15 +3,16 @@ ghost use Rattle.std.specs.Prelude.{◌≡◌, is_some, true};
 ghost use Rattle.std.specs.FinMap as map;
 ghost use Rattle.plain_process.specs.Buffers as buffers;
 ghost use Rattle.plain_process.specs.Rows.Futex as futex;
-ghost use Rattle.sys_abi.specs.declared.request.Request.TheVariants.{Futex};
+ghost use Rattle.call_table.specs.declared.request.Request.TheVariants.{Futex};
 ghost use Rattle.thread_group.specs.Groups.{joined};
 ghost use Rattle.thread_group.specs.Local.{MakesCall};
 
 use crate::group::ThreadGroup;
 use crate::local_answer::{LocalAnswer, action_answer, mask_answer, no_answer, value_answer};
+use call_table::Request;
 use process_memory::{LocalFault, ProcessMemory, UNKNOWN};
 use std::alloc::Global;
-use sys_abi::{Request, Tid};
+use sys_abi::Tid;
 
 fn is_wait(operation: u32) -> bool
     ensures { result ≡ buffers.is_wait operation }

@@ -1,4 +1,5 @@
 use crate::asserting::{bytes, counts, replies, same, says};
+use call_table::Request;
 use plain_machine::{Answer, FIRST_PID, NOBODY, PlainKernel};
 use plain_replay::{Served, serve_slowly};
 use plain_rows::{is_ready, serve};
@@ -6,7 +7,7 @@ use std::alloc::{AllocError, Global};
 use std::process::Abort;
 use std::test::Fail;
 use sys_abi::errors::{EBADF, EINVAL, ESRCH};
-use sys_abi::{Errno, Reply, Request, Signal, Tid, VPid};
+use sys_abi::{Errno, Reply, Signal, Tid, VPid};
 use views::list_of::ListOf;
 
 const FIRST: VPid = VPid(FIRST_PID);

@@ -1,12 +1,13 @@
 // What calls leave and answer that a process answers alone, where one page may be read, written and executed.
 use crate::asserting::{counts, same};
 use crate::process::{THREAD, regs_of, with_one_page};
+use call_table::Request;
 use plain_calls::local::local_row;
 use plain_process::UserPart;
 use std::alloc::{AllocError, Global};
 use std::process::Abort;
 use std::test::Fail;
-use sys_abi::{Page, Request};
+use sys_abi::Page;
 
 /// That process. Its heap begins at 0x20000, and the word at 0x10000 is 5.
 fn user(alloc: Global) -> Result<Box<UserPart>, AllocError> {

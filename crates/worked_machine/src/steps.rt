@@ -1,11 +1,12 @@
 use crate::asserting::{bytes, same};
 use crate::process::{THREAD, regs_of, with_program};
+use call_table::Request;
 use plain_memory::memory::bytes_at;
 use plain_process::{Right, UserPart};
 use plain_steps::steps::{UserStep, user_step, user_steps};
 use std::process::Abort;
 use std::test::Fail;
-use sys_abi::{Request, Tid};
+use sys_abi::Tid;
 
 /// A thread makes so many steps, or stands where it doesn't go on.
 fn steps(rt: &impl Abort, user: &mut UserPart, n: u32, want: Result<(), UserStep>) {

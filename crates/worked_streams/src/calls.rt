@@ -2,13 +2,13 @@
 use crate::answers::attempt_text;
 use crate::lines::Line;
 use crate::setting::{FIRST, THREAD};
+use call_table::Given;
 use plain_machine::PlainKernel;
 use plain_streams::channels::{pipe2, socketpair};
 use plain_streams::counters::eventfd2;
 use plain_streams::read::{is_read_ready, read};
 use plain_streams::write::{is_write_ready, write};
 use std::alloc::{AllocError, Global};
-use sys_abi::Given;
 use sys_abi::transfer::TRANSFER_LIMIT;
 
 /// What the line's call answers, nothing where it is none.

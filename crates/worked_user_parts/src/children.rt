@@ -4,11 +4,12 @@ ghost use Rattle.plain_process.specs.Buffers.{lent};
 
 use crate::asserts::same;
 use crate::guests::{NEW, THREAD, WORD, image_of, started, thread_of};
+use call_table::Request;
 use guest_proc::Guest;
 use image_process::ProcImage;
 use std::alloc::Global;
 use std::test::Fail;
-use sys_abi::{Request, Transfer, VPid};
+use sys_abi::{Transfer, VPid};
 
 /// A fork whose child's number stands at a word of the child's memory, which the end of its thread clears.
 const FORK: Request = Request::Clone {

@@ -4,6 +4,7 @@ ghost use Rattle.std.specs.Prelude.{◌≡◌, IfOk};
 ghost use Rattle.guest_proc.specs.Guests.{HasThread};
 
 use crate::asserts::same;
+use call_table::Request;
 use elf32::read_elf;
 use guest_proc::{Guest, Ran};
 use image_process::ProcImage;
@@ -12,7 +13,7 @@ use plain_process::threads::added_thread;
 use std::alloc::{AllocError, Global};
 use std::process::Abort;
 use std::test::Fail;
-use sys_abi::{Reply, Request, Tid, VPid};
+use sys_abi::{Reply, Tid, VPid};
 
 /// Writes `hello` by two calls, from one segment that is the whole file, at 0x10000. The code begins at byte 84:
 /// `addi a0, zero, 1`, `auipc a1, 0`, `addi a1, a1, 32`, `addi a2, zero, 6`, `addi a7, zero, 64`, `ecall`,

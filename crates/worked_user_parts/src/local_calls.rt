@@ -1,10 +1,10 @@
 // Calls that a process answers alone, with memory to spare: pages and waiters at values worked out by hand.
 use crate::asserts::same;
 use crate::guests::{THREAD, pages, started};
+use call_table::Request;
 use guest_proc::Guest;
 use std::alloc::{AllocError, Global};
 use std::test::Fail;
-use sys_abi::Request;
 
 /// How many pages the process has after a call that it answers alone.
 fn pages_after(alloc: Global, guest: &mut Guest, call: &Request) -> Result<usize, AllocError> {

@@ -4,11 +4,12 @@ ghost use Rattle.std.specs.Prelude.{◌≤◌};
 
 use crate::asserts::same;
 use crate::guests::{NEW, THREAD, add_thread, image_of, thread_of};
+use call_table::Request;
 use elf32::read_elf;
 use guest_proc::{Guest, Ran};
 use std::alloc::Global;
 use std::test::Fail;
-use sys_abi::{Request, Signal, Tid, VPid};
+use sys_abi::{Signal, Tid, VPid};
 
 /// The head of a file of one segment, which is the whole file, at 0x10000; the program begins at 0x10054.
 const HEAD: [u8; 84] = [

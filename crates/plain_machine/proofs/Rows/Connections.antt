@@ -11,7 +11,7 @@ use Rattle.sys_abi.specs.declared.identity.VirtAddr.{VirtAddr}
 use Rattle.sys_abi.specs.declared.errors.TheConstants.{EINVAL, ENFILE, EOPNOTSUPP, EAFNOSUPPORT, EADDRNOTAVAIL, EISCONN, ECONNREFUSED}
 use Rattle.sys_abi.specs.declared.flags.TheConstants.{O_RDWR}
 use Rattle.sys_abi.specs.declared.reply.Reply.TheVariants.{Value}
-use Rattle.sys_abi.specs.declared.request.Request.TheVariants.{Accept, Connect}
+use Rattle.call_table.specs.declared.request.Request.TheVariants.{Accept, Connect}
 use Rattle.plain_machine.specs.declared.kernel.PlainKernel.{PlainKernel}
 use Rattle.plain_tables.specs.declared.channel.ChannelKind.TheVariants.{Internet}
 use Rattle.plain_tables.specs.declared.channel.Listening.{Listening}

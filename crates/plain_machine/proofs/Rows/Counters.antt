@@ -3,7 +3,7 @@ use Rattle.std.proofs.Common.{ℕ, List, refl, arith}
 use Rattle.sys_abi.specs.declared.identity.VPid.{VPid}
 use Rattle.sys_abi.specs.declared.errors.TheConstants.{EINVAL, ENFILE}
 use Rattle.sys_abi.specs.declared.flags.TheConstants.{O_RDWR, O_CLOEXEC}
-use Rattle.sys_abi.specs.declared.request.Request.TheVariants.{Eventfd2}
+use Rattle.call_table.specs.declared.request.Request.TheVariants.{Eventfd2}
 use Rattle.sys_abi.specs.Flags.{has_flag}
 use Rattle.plain_machine.specs.declared.kernel.PlainKernel.{PlainKernel}
 use Rattle.plain_tables.specs.declared.description.Object.TheVariants.{Counter}

@@ -4,7 +4,7 @@ use Rattle.std.specs.Prelude.{nat_le, None}
 use Rattle.std.proofs.lemmas.Bool.Decides.{nat_tests}
 use Rattle.sys_abi.specs.declared.identity.VPid.{VPid}
 use Rattle.sys_abi.specs.declared.reply.Reply.TheVariants.{Value}
-use Rattle.sys_abi.specs.declared.request.Request.TheVariants.{Exit, ExitGroup}
+use Rattle.call_table.specs.declared.request.Request.TheVariants.{Exit, ExitGroup}
 use Rattle.plain_machine.specs.declared.kernel.PlainKernel.{PlainKernel}
 use Rattle.plain_tables.specs.Tables.{without_thread_entry}
 use Rattle.plain_process.specs.Put.{added_thread, made_by}

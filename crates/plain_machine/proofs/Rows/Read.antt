@@ -10,7 +10,7 @@ use Rattle.sys_abi.specs.declared.identity.VPid.{VPid}
 use Rattle.sys_abi.specs.declared.identity.DescId.{DescId}
 use Rattle.sys_abi.specs.declared.identity.Dir.{Dir}
 use Rattle.sys_abi.specs.declared.errors.TheConstants.{EBADF, EINVAL, ENOTCONN}
-use Rattle.sys_abi.specs.declared.request.Request.TheVariants.{Read}
+use Rattle.call_table.specs.declared.request.Request.TheVariants.{Read}
 use Rattle.sys_abi.specs.declared.transfer.TheConstants.{TRANSFER_LIMIT}
 use Rattle.plain_machine.specs.declared.kernel.PlainKernel.{PlainKernel}
 use Rattle.plain_tables.specs.declared.channel.Direction.{Direction}

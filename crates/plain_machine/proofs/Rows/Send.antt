@@ -4,7 +4,7 @@ use Rattle.std.specs.Prelude.{Option, Some}
 use Rattle.std.specs.FinMap as map
 use Rattle.sys_abi.specs.declared.identity.VPid.{VPid}
 use Rattle.sys_abi.specs.declared.errors.TheConstants.{EINVAL, ESRCH}
-use Rattle.sys_abi.specs.declared.request.Request.TheVariants.{Kill, Tgkill}
+use Rattle.call_table.specs.declared.request.Request.TheVariants.{Kill, Tgkill}
 use Rattle.plain_machine.specs.declared.kernel.PlainKernel.{PlainKernel}
 use Rattle.plain_tables.specs.declared.process.Process.{Process}
 use Rattle.plain_tables.specs.Tables.{pid, is_live_process, raised_at, raised_for_all}

@@ -8,8 +8,8 @@ use Rattle.sys_abi.specs.declared.errors.TheConstants.{EINVAL, ENFILE, EOPNOTSUP
 use Rattle.sys_abi.specs.declared.flags.TheConstants.{O_NONBLOCK, O_CLOEXEC}
 use Rattle.sys_abi.specs.Flags.{has_flag}
 use Rattle.sys_abi.specs.declared.reply.Reply.TheVariants.{Value}
-use Rattle.sys_abi.specs.declared.request.Request.{Request}
-use Rattle.sys_abi.specs.declared.request.Request.TheVariants.{Socket as SocketCall, Bind, Listen, Getsockname, Getpeername, Setsockopt, Shutdown}
+use Rattle.call_table.specs.declared.request.Request.{Request}
+use Rattle.call_table.specs.declared.request.Request.TheVariants.{Socket as SocketCall, Bind, Listen, Getsockname, Getpeername, Setsockopt, Shutdown}
 use Rattle.plain_machine.specs.declared.kernel.PlainKernel.{PlainKernel}
 use Rattle.plain_tables.specs.declared.description.Object.{Object}
 use Rattle.plain_tables.specs.declared.description.Object.TheVariants.{Stream, Socket, Datagram}

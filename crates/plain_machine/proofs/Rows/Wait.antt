@@ -3,8 +3,8 @@ use Rattle.std.proofs.Common.{◌≡◌, ℕ, Bool, true, false, cond, List, [],
 use Rattle.std.specs.Prelude.{◌==◌, ◌||◌, not, is_some}
 use Rattle.sys_abi.specs.declared.identity.VPid.{VPid}
 use Rattle.sys_abi.specs.declared.errors.TheConstants.{ECHILD, EINVAL}
-use Rattle.sys_abi.specs.declared.request.Request.{Request}
-use Rattle.sys_abi.specs.declared.request.Request.TheVariants.{Wait4}
+use Rattle.call_table.specs.declared.request.Request.{Request}
+use Rattle.call_table.specs.declared.request.Request.TheVariants.{Wait4}
 use Rattle.plain_machine.specs.declared.kernel.PlainKernel.{PlainKernel}
 use Rattle.plain_machine.specs.declared.waiting.Waiting.{Waiting}
 use Rattle.plain_machine.specs.declared.waiting.Waiting.TheVariants.{NoChild, NotReady, Ended}

@@ -12,8 +12,8 @@ use Rattle.sys_abi.specs.declared.identity.DescId.{DescId}
 use Rattle.sys_abi.specs.declared.identity.Dir.{Dir}
 use Rattle.sys_abi.specs.declared.identity.ConnId.{ConnId}
 use Rattle.sys_abi.specs.declared.errors.TheConstants.{EBADF, EINVAL, EPIPE, EFBIG, ENOSPC, EMSGSIZE, ECONNREFUSED}
-use Rattle.sys_abi.specs.declared.request.Request.{Request}
-use Rattle.sys_abi.specs.declared.request.Request.TheVariants.{Write}
+use Rattle.call_table.specs.declared.request.Request.{Request}
+use Rattle.call_table.specs.declared.request.Request.TheVariants.{Write}
 use Rattle.sys_abi.specs.declared.reply.Reply.TheVariants.{Value}
 use Rattle.plain_machine.specs.declared.kernel.PlainKernel.{PlainKernel}
 use Rattle.plain_tables.specs.declared.channel.Channel.{Channel}

@@ -1,7 +1,7 @@
 use Rattle.std.proofs.Common.{None, sym, ap, subst, ◌∙◌}
 use Rattle.std.specs.FinMap as map
 use Rattle.views.proofs.Outcomes.{on_some}
-use Rattle.sys_abi.specs.declared.delivery.Delivered.{Delivered}
+use Rattle.call_table.specs.declared.delivery.Delivered.{Delivered}
 use Rattle.guest_proc.specs.Guests.{GuestPart}
 use Rattle.plain_machine.specs.declared.kernel.PlainKernel.{PlainKernel}
 use Rattle.computation.specs.Computations.{plain_of}

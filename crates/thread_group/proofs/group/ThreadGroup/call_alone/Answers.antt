@@ -1,6 +1,6 @@
 use Rattle.std.proofs.Common.{refl}
 use Rattle.std.specs.Prelude.{Ok}
-use Rattle.sys_abi.specs.declared.request.Request.TheVariants.{SetTidAddress, SchedYield, RtSigaction, RtSigprocmask, RtSigreturn, Gettid, Brk, Munmap, Mmap}
+use Rattle.call_table.specs.declared.request.Request.TheVariants.{SetTidAddress, SchedYield, RtSigaction, RtSigprocmask, RtSigreturn, Gettid, Brk, Munmap, Mmap}
 use Rattle.plain_process.specs.Buffers.{reads_of, given_of}
 use Rattle.plain_process.specs.Put.{added_thread}
 use Rattle.plain_process.specs.Local.{local_by}

@@ -1,5 +1,5 @@
 use Rattle.std.proofs.Common.{refl, ◌∙◌, subst}
-use Rattle.sys_abi.specs.declared.request.Request.TheVariants.{Futex}
+use Rattle.call_table.specs.declared.request.Request.TheVariants.{Futex}
 use Rattle.plain_process.specs.Put.{added_thread}
 use Rattle.plain_process.specs.Local.{local_by}
 use Rattle.process_memory.specs.Local.{DoesRow, value_told}

@@ -1,9 +1,9 @@
 -- The table of calls: which number is which call, and which arguments it takes.
 -- Source: the system call convention of RISC-V Linux (`man 2 syscall`: the number in a7, arguments in a0 to a5); the numbers are this project's list.
 use Rattle.std.specs.Prelude.{◌==◌, ℕ, Bool, true, false, List, [], ◌∷◌, slice_index, if◌then◌else◌}
-use Rattle.sys_abi.specs.declared.request.Request.{Request}
-use Rattle.sys_abi.specs.declared.request.Request.TheVariants.{Eventfd2, Dup, Dup3, Fcntl, Unlinkat, Openat, Close, Pipe2, Lseek, Read, Write, Exit, ExitGroup, SetTidAddress, Futex, SchedYield, Kill, Tgkill, RtSigaction, RtSigprocmask, RtSigreturn, Getpid, Getppid, Gettid, Socket, Socketpair, Bind, Listen, Accept, Connect, Getsockname, Getpeername, Setsockopt, Shutdown, Brk, Munmap, Clone, Mmap, Wait4, Unknown}
-use Rattle.sys_abi.specs.declared.calls.TheConstants.{EVENTFD2, DUP, DUP3, FCNTL, UNLINKAT, OPENAT, CLOSE, PIPE2, LSEEK, READ, WRITE, EXIT, EXIT_GROUP, SET_TID_ADDRESS, FUTEX, SCHED_YIELD, KILL, TGKILL, RT_SIGACTION, RT_SIGPROCMASK, RT_SIGRETURN, GETPID, GETPPID, GETTID, SOCKET, SOCKETPAIR, BIND, LISTEN, ACCEPT, CONNECT, GETSOCKNAME, GETPEERNAME, SETSOCKOPT, SHUTDOWN, BRK, MUNMAP, CLONE, MMAP, WAIT4}
+use Rattle.call_table.specs.declared.request.Request.{Request}
+use Rattle.call_table.specs.declared.request.Request.TheVariants.{Eventfd2, Dup, Dup3, Fcntl, Unlinkat, Openat, Close, Pipe2, Lseek, Read, Write, Exit, ExitGroup, SetTidAddress, Futex, SchedYield, Kill, Tgkill, RtSigaction, RtSigprocmask, RtSigreturn, Getpid, Getppid, Gettid, Socket, Socketpair, Bind, Listen, Accept, Connect, Getsockname, Getpeername, Setsockopt, Shutdown, Brk, Munmap, Clone, Mmap, Wait4, Unknown}
+use Rattle.call_table.specs.declared.calls.TheConstants.{EVENTFD2, DUP, DUP3, FCNTL, UNLINKAT, OPENAT, CLOSE, PIPE2, LSEEK, READ, WRITE, EXIT, EXIT_GROUP, SET_TID_ADDRESS, FUTEX, SCHED_YIELD, KILL, TGKILL, RT_SIGACTION, RT_SIGPROCMASK, RT_SIGRETURN, GETPID, GETPPID, GETTID, SOCKET, SOCKETPAIR, BIND, LISTEN, ACCEPT, CONNECT, GETSOCKNAME, GETPEERNAME, SETSOCKOPT, SHUTDOWN, BRK, MUNMAP, CLONE, MMAP, WAIT4}
 
 -- the call of a number with six arguments
 unfoldable pub request_by : ℕ → List ℕ → Request

@@ -1,7 +1,7 @@
 //! What is told of a thread when a signal is to be delivered to it, and of what became of it (`man 7 signal`).
 
-use crate::identity::{Signal, Tid};
 use crate::request::Request;
+use sys_abi::{Signal, Tid};
 
 /// The first 16 bytes of what a call reads from its process's memory, with zeros where it reads fewer. Whether a call
 /// waits depends on no later byte.

@@ -1,5 +1,5 @@
 ghost use Rattle.std.specs.Prelude.{◌≡◌, ℕ, slice_index};
-ghost use Rattle.sys_abi.specs.Requests as requests;
+ghost use Rattle.call_table.specs.Requests as requests;
 
 use crate::calls;
 
