@@ -31,7 +31,7 @@ use Rattle.plain_process.specs.Twins.{twin_of}
 use Rattle.plain_process.specs.Valid.{CanAdd}
 use Rattle.plain_machine.specs.declared.plain.Plain.{Plain}
 use Rattle.plain_machine.specs.declared.kernel.PlainKernel.{PlainKernel}
-use Rattle.plain_machine.specs.declared.answer.Answer.{Answer}
+use Rattle.plain_tables.specs.declared.answer.Answer.{Answer}
 use Rattle.plain_machine.specs.Answers.{answer_told, served_by}
 use Rattle.plain_machine.specs.Kernel.{is_live}
 use Rattle.plain_machine.specs.Records.{Users, with_child}

@@ -21,7 +21,7 @@ use Rattle.plain_process.specs.Put.{CanTake, added_thread, made_by}
 use Rattle.plain_process.specs.Valid.{CanAdd}
 use Rattle.sys_abi.specs.declared.cloning.CloneForm.{CloneForm}
 use Rattle.sys_abi.specs.declared.cloning.CloneForm.TheVariants.{Fork}
-use Rattle.plain_machine.specs.declared.answer.Answer.{Answer}
+use Rattle.plain_tables.specs.declared.answer.Answer.{Answer}
 use Rattle.plain_process.specs.Steps.{Asks, user_step}
 use Rattle.plain_process.specs.Threads.{child_of}
 use Rattle.plain_machine.specs.declared.kernel.PlainKernel.{PlainKernel}

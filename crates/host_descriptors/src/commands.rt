@@ -5,7 +5,7 @@ ghost use Rattle.views.specs.Numbers.{Byte};
 ghost use Rattle.sys_abi.specs.declared.identity.VPid.{VPid};
 ghost use Rattle.fd_tables.specs.Slots as slots;
 ghost use Rattle.plain_machine.specs.declared.kernel.PlainKernel.{PlainKernel};
-ghost use Rattle.plain_machine.specs.Commands.{fcntl_command};
+ghost use Rattle.plain_process.specs.Commands.{fcntl_command};
 ghost use Rattle.plain_machine.specs.Kernel.{with_descriptor};
 ghost use Rattle.plain_machine.specs.Kernels.{IsKernel};
 ghost use Rattle.plain_machine.specs.Rows.Descriptors as rows;
@@ -19,8 +19,8 @@ ghost use Rattle.host_descriptors.specs.Held.{held_in, seen_held, owner_value};
 use crate::copies::dup_from;
 use crate::held::{Held, held_at};
 use host_tables::{Attempt, Kernel, RowResult};
-use plain_machine::commands::FcntlCommand;
 use plain_machine::end::DESCRIPTOR_LIMIT;
+use plain_process::commands::FcntlCommand;
 use sys_abi::errors::{EBADF, EINVAL, ESRCH};
 use sys_abi::{Errno, Fd, RealPid};
 

@@ -35,9 +35,9 @@ use Rattle.plain_tables.specs.declared.process.Process.{Process}
 use Rattle.plain_tables.specs.Tables.{FIRST_PID, NOBODY, Processes, Makers, pid, same_host}
 use Rattle.plain_tables.specs.Ends.{is_child_of}
 use Rattle.plain_tables.specs.Valid.Processes.{IsParent, HasParent, AreParents}
-use Rattle.plain_machine.specs.declared.waiting.Waiting.{Waiting}
-use Rattle.plain_machine.specs.declared.waiting.Waiting.TheVariants as plain
-use Rattle.plain_machine.specs.Waits as waits
+use Rattle.plain_tables.specs.declared.waiting.Waiting.{Waiting}
+use Rattle.plain_tables.specs.declared.waiting.Waiting.TheVariants as plain
+use Rattle.plain_tables.specs.Waits as waits
 use Rattle.plain_machine.proofs.Leasts as plain_leasts
 use Rattle.virt_ids.specs.Pairs.{AreInverse}
 use Rattle.host_tables.specs.Numbers.{Pids, Virts, IsNumberOf, AreNumbered, node_of, to_real, to_virt}

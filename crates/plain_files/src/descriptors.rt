@@ -6,10 +6,10 @@ ghost use Rattle.plain_machine.specs.Kernel as words;
 ghost use Rattle.plain_machine.specs.Rows.Descriptors as rows;
 
 use plain_machine::PlainKernel;
-use plain_machine::answer::{Attempt, RowResult};
-use plain_machine::commands::FcntlCommand;
 use plain_machine::descriptors::Held;
 use plain_machine::end::DESCRIPTOR_LIMIT;
+use plain_process::commands::FcntlCommand;
+use plain_tables::answer::{Attempt, RowResult};
 use plain_tables::description::Description;
 use std::alloc::Global;
 use sys_abi::errors::{EBADF, EINVAL, EMFILE, ESRCH};

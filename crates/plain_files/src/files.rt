@@ -8,8 +8,8 @@ ghost use Rattle.plain_machine.specs.Start.{with_file};
 ghost use Rattle.plain_files.specs.Paths.{path_told};
 
 use plain_machine::PlainKernel;
-use plain_machine::answer::{Attempt, RowResult};
 use plain_machine::descriptors::Held;
+use plain_tables::answer::{Attempt, RowResult};
 use plain_tables::closing::drop_unkept;
 use plain_tables::description::{Description, Object};
 use std::alloc::{AllocError, Global};

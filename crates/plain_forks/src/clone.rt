@@ -5,7 +5,7 @@ ghost use Rattle.plain_machine.specs.Rows.Clone as rows;
 ghost use Rattle.plain_machine.specs.Answers.{RowTold, KeepsUnlessGives};
 
 use plain_machine::PlainKernel;
-use plain_machine::answer::{Answer, Attempt, RowResult};
+use plain_tables::answer::{Answer, Attempt, RowResult};
 use std::alloc::{AllocError, Global};
 use sys_abi::errors::{EAGAIN, EINVAL};
 use sys_abi::flags::{CLONE_CHILD_SETTID, CLONE_PARENT_SETTID};

@@ -3,8 +3,8 @@ ghost use Rattle.plain_machine.specs.Rows.End as rows;
 ghost use Rattle.plain_machine.specs.Answers.{RowTold, KeepsUnlessGives};
 
 use plain_machine::PlainKernel;
-use plain_machine::answer::Attempt;
 use plain_machine::end::exit_status;
+use plain_tables::answer::Attempt;
 use std::alloc::Global;
 use sys_abi::{Tid, VPid};
 

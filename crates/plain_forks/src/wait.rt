@@ -3,8 +3,8 @@ ghost use Rattle.plain_process.specs.Attempts.{Gives};
 ghost use Rattle.plain_machine.specs.Answers.{RowTold, KeepsUnlessGives};
 ghost use Rattle.plain_machine.specs.Rows.Wait as rows;
 
-use plain_machine::answer::{Answer, Attempt, RowResult};
 use plain_machine::{PlainKernel, Waiting};
+use plain_tables::answer::{Answer, Attempt, RowResult};
 use std::alloc::Global;
 use sys_abi::errors::{ECHILD, EINVAL};
 use sys_abi::{Reply, VPid};

@@ -14,9 +14,9 @@ use Rattle.sys_abi.proofs.OrderLaws.{vpid_total, vpid_exact}
 use Rattle.plain_tables.specs.declared.process.Process.{Process}
 use Rattle.plain_tables.specs.Tables.{Processes}
 use Rattle.plain_tables.specs.Ends.{is_child_of}
-use Rattle.plain_machine.specs.declared.waiting.Waiting.{Waiting}
-use Rattle.plain_machine.specs.declared.waiting.Waiting.TheVariants.{NoChild, NotReady, Ended}
-use Rattle.plain_machine.specs.Waits.{ended_first, wait_any}
+use Rattle.plain_tables.specs.declared.waiting.Waiting.{Waiting}
+use Rattle.plain_tables.specs.declared.waiting.Waiting.TheVariants.{NoChild, NotReady, Ended}
+use Rattle.plain_tables.specs.Waits.{ended_first, wait_any}
 
 -- the status with which a process has ended
 abbrev pub status_of : Life → Option ℕ

@@ -65,6 +65,5 @@ pub mod Asking
 pub mod Children
 pub mod ForkedKernels
 pub mod ReapedKernels
-pub mod WaitOrder
 pub mod Leasts
 pub mod Births

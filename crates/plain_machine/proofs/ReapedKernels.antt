@@ -13,8 +13,8 @@ use Rattle.sys_abi.specs.Lives.{lives}
 use Rattle.sys_abi.proofs.OrderLaws.{vpid_total, vpid_exact, slot_total, slot_exact, desc_total, desc_exact}
 use Rattle.plain_process.specs.Valid.{Each}
 use Rattle.plain_machine.specs.declared.kernel.PlainKernel.{PlainKernel}
-use Rattle.plain_machine.specs.declared.waiting.Waiting.{Waiting}
-use Rattle.plain_machine.specs.declared.waiting.Waiting.TheVariants.{NoChild, NotReady, Ended}
+use Rattle.plain_tables.specs.declared.waiting.Waiting.{Waiting}
+use Rattle.plain_tables.specs.declared.waiting.Waiting.TheVariants.{NoChild, NotReady, Ended}
 use Rattle.plain_tables.specs.declared.process.Process.{Process}
 use Rattle.sys_abi.specs.declared.descriptor.Descriptor.{Descriptor}
 use Rattle.plain_tables.specs.declared.description.Description.{Description}
@@ -22,7 +22,7 @@ use Rattle.plain_tables.specs.Tables.{FIRST_PID, Processes, pid, is_live_process
 use Rattle.plain_tables.specs.Ends.{is_child_of}
 use Rattle.plain_tables.specs.Valid.Processes.{HasParent}
 use Rattle.plain_machine.specs.Kernel.{is_live, has_thread, without_process}
-use Rattle.plain_machine.specs.Waits.{wait_of, wait_by, ended_first, wait_any, wait_for}
+use Rattle.plain_tables.specs.Waits.{wait_of, wait_by, ended_first, wait_any, wait_for}
 use Rattle.plain_machine.specs.Kernels.{IsKernel}
 use Rattle.plain_tables.proofs.Entries.{some_passes}
 use Rattle.plain_machine.proofs.KernelThreads.{SameProcesses}

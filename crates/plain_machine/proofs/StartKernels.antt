@@ -14,7 +14,8 @@ use Rattle.plain_process.specs.declared.user_part.UserPart.{UserPart}
 use Rattle.plain_tables.specs.Tables.{pid, is_live_process}
 use Rattle.plain_machine.specs.Kernel.{is_live}
 use Rattle.plain_process.specs.Start.{Launched, start_user}
-use Rattle.plain_machine.specs.Start.{NamedFile, FIRST_PID, start_process, with_process, with_processes, with_file, with_files, with_users, empty_kernel, start_kernel, start}
+use Rattle.plain_tables.specs.Start.{start_process}
+use Rattle.plain_machine.specs.Start.{NamedFile, FIRST_PID, with_process, with_processes, with_file, with_files, with_users, empty_kernel, start_kernel, start}
 use Rattle.plain_machine.specs.Valid.{IsValid, SameThreads}
 use Rattle.plain_process.specs.Valid.{IsUser, Each}
 use Rattle.plain_process.specs.Launches.{IsLaunched}

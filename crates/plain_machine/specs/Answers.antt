@@ -2,16 +2,14 @@
 --     attempt_told k given attempt      what a row came to, where k is the kernel part after it and given the call's bytes
 --     RowTold row k attempt             the same of a row that reads nothing
 --     KeepsUnlessGives attempt old new  what gives nothing has left the kernel part as it was
---     settled_told attempt              the answer: an error is one too, and there is none where the call waits
 --     answer_told k given answer        what an answer tells of the call, settled
-use Rattle.std.specs.Prelude.{◌≡◌, ℕ, false, List, [], Option, Some, None, if◌then◌else◌}
-use Rattle.sys_abi.specs.declared.reply.Reply.TheVariants.{Error}
+use Rattle.std.specs.Prelude.{◌≡◌, ℕ, List, [], Option, Some, None, if◌then◌else◌}
 use Rattle.plain_machine.specs.declared.kernel.PlainKernel.{PlainKernel}
 use Rattle.plain_process.specs.Attempts.{Try, Fails, NotReady, Gives}
 use Rattle.plain_machine.specs.Attempts.{Served}
-use Rattle.plain_machine.specs.declared.answer.Answer.{Answer}
-use Rattle.plain_machine.specs.declared.answer.Attempt.{Attempt}
-use Rattle.plain_machine.specs.declared.answer.Attempt.TheVariants as of_code
+use Rattle.plain_tables.specs.declared.answer.Answer.{Answer}
+use Rattle.plain_tables.specs.declared.answer.Attempt.{Attempt}
+use Rattle.plain_tables.specs.declared.answer.Attempt.TheVariants as of_code
 
 abbrev pub served_by : PlainKernel → List ℕ → Answer → Served
 served_by k given answer = record {
@@ -33,11 +31,6 @@ abbrev pub KeepsUnlessGives : Attempt → PlainKernel → PlainKernel → Type 0
 KeepsUnlessGives (of_code.Gives answer) old new = Unit {0}
 KeepsUnlessGives (of_code.Fails e) old new = new ≡ old
 KeepsUnlessGives of_code.NotReady old new = new ≡ old
-
-abbrev pub settled_told : Attempt → Option Answer
-settled_told (of_code.Gives answer) = Some answer
-settled_told (of_code.Fails e) = Some (record { reply = Error e; bytes = []; is_shown = false })
-settled_told of_code.NotReady = None
 
 abbrev pub answer_told : PlainKernel → List ℕ → Option Answer → Option Served
 answer_told k given None = None

@@ -15,13 +15,11 @@ pub mod Channels
 pub mod Addresses
 pub mod SocketWords
 pub mod Closing
-pub mod Commands
 pub mod HeldTold
 pub mod Making
 pub mod Transfers
 pub mod Waiting
 pub mod Ends
-pub mod Waits
 pub mod RowLaws
 pub mod StreamLaws
 pub mod Laws

@@ -7,8 +7,6 @@ use Rattle.sys_abi.specs.declared.identity.DescId.{DescId}
 use Rattle.sys_abi.specs.Orders.{vpid_cmp}
 use Rattle.sys_abi.specs.declared.flags.TheConstants.{O_RDWR}
 use Rattle.plain_process.specs.declared.user_part.UserPart.{UserPart}
-use Rattle.plain_tables.specs.declared.process.Process.{Process}
-use Rattle.sys_abi.specs.declared.life.Life.TheVariants.{Live}
 use Rattle.plain_tables.specs.declared.description.Object.TheVariants.{Console}
 use Rattle.plain_tables.specs.declared.description.Description.{Description}
 use Rattle.sys_abi.specs.declared.descriptor.Descriptor.{Descriptor}
@@ -16,6 +14,7 @@ use Rattle.plain_machine.specs.declared.kernel.PlainKernel.{PlainKernel}
 use Rattle.plain_machine.specs.declared.plain.Plain.{Plain}
 pub use Rattle.plain_tables.specs.Tables.{FIRST_PID, NOBODY}
 use Rattle.plain_tables.specs.Tables.{pid, slot}
+use Rattle.plain_tables.specs.Start.{start_process}
 use Rattle.plain_process.specs.Start.{Launched, start_user}
 
 pub record NamedFile : Type 0 where
@@ -31,9 +30,6 @@ console_description = record { object = Console; flags = O_RDWR; owner = 0 }
 
 abbrev pub console_descriptor : ℕ → Descriptor
 console_descriptor p = record { desc = console_of p; cloexec = false }
-
-abbrev pub start_process : ℕ → Process
-start_process p = record { parent = NOBODY; life = Live; pending = 0; threads = map.insert map.empty p 0 }
 
 unfoldable pub with_process : PlainKernel → ℕ → ℕ → PlainKernel
 with_process k p host = record k {

@@ -17,9 +17,7 @@
 //! Not claimed: that any hardware or kernel behaves so.
 #![tactic(auto)]
 
-pub mod answer;
 pub mod closing;
-pub mod commands;
 pub mod descriptors;
 pub mod end;
 pub mod file_laws;
@@ -35,11 +33,9 @@ pub mod stream_laws;
 pub mod threads;
 pub mod waiting;
 
-pub use answer::{Answer, Attempt, RowResult};
 pub use kernel::PlainKernel;
 pub use laws::{kernel_laws, run_laws};
 pub use plain::Plain;
-pub use plain_tables::NOBODY;
+pub use plain_tables::{Answer, Attempt, NOBODY, RowResult, Waiting};
 pub use start::FIRST_PID;
 pub use sys_abi::Life;
-pub use waiting::Waiting;

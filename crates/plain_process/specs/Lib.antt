@@ -17,3 +17,4 @@ pub mod Valid
 pub mod Launches
 pub mod Examples
 pub mod Delivered
+pub mod Commands

@@ -8,11 +8,13 @@
 //! that a run reaches.
 //!
 //! Proved: each function is the definition of its name, on the buffers of a call, the registers after a call, a clone and a
-//! handler's start, masks, actions, rights and pages. `worked_examples` pins decoding, multiplication, division, the start of
-//! the stack and the word of a reply at values worked out by hand. Not claimed: that any hardware or kernel behaves so.
+//! handler's start, masks, actions, the commands of fcntl, rights and pages. `worked_examples` pins decoding,
+//! multiplication, division, the start of the stack and the word of a reply at values worked out by hand. Not claimed:
+//! that any hardware or kernel behaves so.
 #![tactic(auto)]
 
 pub mod buffers;
+pub mod commands;
 pub mod deliveries;
 pub mod handlers;
 pub mod instruction;

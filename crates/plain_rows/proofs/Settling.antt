@@ -10,10 +10,11 @@ use Rattle.plain_process.specs.Attempts.{Try}
 use Rattle.plain_machine.specs.Attempts.{Served, refused, settled}
 use Rattle.plain_machine.specs.Serve.{serve, row}
 use Rattle.plain_machine.proofs.EachRow.{serve_is_short}
-use Rattle.plain_machine.specs.declared.answer.Answer.{Answer}
-use Rattle.plain_machine.specs.declared.answer.Attempt.{Attempt}
-use Rattle.plain_machine.specs.declared.answer.Attempt.TheVariants.{Gives, Fails, NotReady}
-use Rattle.plain_machine.specs.Answers.{served_by, answer_told, attempt_told, settled_told, KeepsUnlessGives}
+use Rattle.plain_tables.specs.declared.answer.Answer.{Answer}
+use Rattle.plain_tables.specs.declared.answer.Attempt.{Attempt}
+use Rattle.plain_tables.specs.declared.answer.Attempt.TheVariants.{Gives, Fails, NotReady}
+use Rattle.plain_tables.specs.Settled.{settled_told}
+use Rattle.plain_machine.specs.Answers.{served_by, answer_told, attempt_told, KeepsUnlessGives}
 
 settles : (old new : PlainKernel) (given : List ℕ) (attempt : Attempt) → KeepsUnlessGives attempt old new
     → settled old (attempt_told new given attempt) ≡ answer_told new given (settled_told attempt)

@@ -3,8 +3,8 @@ ghost use Rattle.std.specs.FinMap as map;
 ghost use Rattle.plain_machine.specs.Rows.Numbers as rows;
 ghost use Rattle.plain_machine.specs.Answers.{RowTold, KeepsUnlessGives};
 
-use plain_machine::answer::Attempt;
 use plain_machine::{NOBODY, PlainKernel};
+use plain_tables::answer::Attempt;
 use std::alloc::Global;
 use sys_abi::VPid;
 

@@ -3,7 +3,7 @@ ghost use Rattle.plain_machine.specs.Rows.Send as rows;
 ghost use Rattle.plain_machine.specs.Answers.{RowTold, KeepsUnlessGives};
 
 use plain_machine::PlainKernel;
-use plain_machine::answer::Attempt;
+use plain_tables::answer::Attempt;
 use std::alloc::Global;
 use sys_abi::errors::{EINVAL, ESRCH};
 use sys_abi::{Signal, Tid, VPid};

@@ -12,7 +12,6 @@ use plain_forks::clone::clone;
 use plain_forks::end::{exit, exit_group};
 use plain_forks::wait::{is_wait4_ready, wait4};
 use plain_machine::PlainKernel;
-use plain_machine::answer::{Answer, Attempt, RowResult, settled};
 use plain_sockets::connections::{accept, connect, is_accept_ready, is_connect_ready};
 use plain_sockets::sockets::{
     bind, getpeername, getsockname, listen, setsockopt, shutdown, socket,
@@ -21,6 +20,7 @@ use plain_streams::channels::{pipe2, socketpair};
 use plain_streams::counters::eventfd2;
 use plain_streams::read::{is_read_ready, read};
 use plain_streams::write::{is_write_ready, write};
+use plain_tables::answer::{Answer, Attempt, RowResult, settled};
 use std::alloc::{AllocError, Global};
 use sys_abi::errors::ENOSYS;
 use sys_abi::{Tid, VPid};

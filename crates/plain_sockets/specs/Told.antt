@@ -8,7 +8,7 @@ use Rattle.plain_process.specs.Attempts.{Try, Fails, Gives, and_then}
 use Rattle.plain_machine.specs.declared.kernel.PlainKernel.{PlainKernel}
 use Rattle.plain_tables.specs.declared.description.Object.{Object}
 use Rattle.plain_tables.specs.declared.description.Object.TheVariants.{Socket}
-use Rattle.plain_machine.specs.declared.answer.Attempt.{Attempt}
+use Rattle.plain_tables.specs.declared.answer.Attempt.{Attempt}
 use Rattle.plain_machine.specs.Answers.{attempt_told}
 use Rattle.plain_machine.specs.Attempts.{Served, replied}
 use Rattle.plain_machine.specs.Kernel as words

@@ -12,12 +12,12 @@ ghost use Rattle.plain_sockets.specs.Told.{accepting_told, connecting_told};
 use crate::changes::{Made, add_channel, add_last, count, make, set_object, take_first};
 use call_table::Given;
 use plain_machine::PlainKernel;
-use plain_machine::answer::{Answer, Attempt, RowResult};
 use plain_ports::addresses::{
     ADDRESS_SIZE, AF_INET, cut_to, end_name, family_of, named_host, port_of,
 };
 use plain_ports::look_ups::{Held, next_channel, socket_at};
 use plain_ports::ports::bound_or;
+use plain_tables::answer::{Answer, Attempt, RowResult};
 use plain_tables::{Channel, ChannelEnd, ChannelKind, Listening, Object};
 use std::alloc::{AllocError, Global};
 use sys_abi::errors::{

@@ -9,12 +9,12 @@ ghost use Rattle.plain_sockets.specs.Told.{NamedTold, bound_told, listening_told
 use crate::changes::{Made, make, set_object};
 use id_maps::ByDir;
 use plain_machine::PlainKernel;
-use plain_machine::answer::{Answer, Attempt, RowResult};
 use plain_ports::addresses::{
     ADDRESS_SIZE, AF_INET, PAIR_BYTES, cut_to, end_name, family_of, named_host, own_name, port_of,
 };
 use plain_ports::look_ups::{Held, across, host_of, socket_at};
 use plain_ports::ports::{bound_or, port_for};
+use plain_tables::answer::{Answer, Attempt, RowResult};
 use plain_tables::closing::{end_at, quiet, stop_reading_at};
 use plain_tables::{Direction, Listening, Object};
 use std::alloc::Global;

@@ -4,7 +4,7 @@ ghost use Rattle.sys_abi.specs.declared.errors.TheConstants.{EMFILE};
 ghost use Rattle.sys_abi.specs.declared.reply.Reply.TheVariants.{Value};
 ghost use Rattle.plain_process.specs.Attempts.{found};
 ghost use Rattle.plain_process.specs.Memory.{low_bytes};
-ghost use Rattle.plain_machine.specs.declared.answer.Attempt.TheVariants as an_attempt;
+ghost use Rattle.plain_tables.specs.declared.answer.Attempt.TheVariants as an_attempt;
 ghost use Rattle.plain_machine.specs.Making.{has_channel_room};
 ghost use Rattle.plain_machine.specs.Rows.Channels as rows;
 ghost use Rattle.plain_machine.specs.Answers.{RowTold, KeepsUnlessGives};
@@ -14,9 +14,9 @@ use crate::made::{
     status_flags,
 };
 use plain_machine::PlainKernel;
-use plain_machine::answer::{Answer, Attempt, RowResult};
 use plain_machine::new_end::NewEnd;
 use plain_tables::ChannelKind;
+use plain_tables::answer::{Answer, Attempt, RowResult};
 use std::alloc::{AllocError, Global};
 use sys_abi::errors::{EAFNOSUPPORT, EINVAL, EMFILE, ENFILE, EOPNOTSUPP};
 use sys_abi::flags::{O_RDWR, O_WRONLY};

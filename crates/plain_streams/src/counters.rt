@@ -4,8 +4,8 @@ ghost use Rattle.plain_machine.specs.Answers.{RowTold, KeepsUnlessGives};
 
 use crate::made::{are_making_flags, has_cloexec, status_flags};
 use plain_machine::PlainKernel;
-use plain_machine::answer::{Attempt, RowResult};
 use plain_tables::Object;
+use plain_tables::answer::{Attempt, RowResult};
 use std::alloc::Global;
 use sys_abi::errors::{EINVAL, EMFILE, ENFILE};
 use sys_abi::flags::O_RDWR;

@@ -5,9 +5,9 @@ ghost use Rattle.plain_machine.specs.Rows.Read as rows;
 ghost use Rattle.plain_machine.specs.Answers.{RowTold, KeepsUnlessGives};
 
 use plain_machine::PlainKernel;
-use plain_machine::answer::{Attempt, RowResult};
 use plain_machine::descriptors::Held;
 use plain_tables::Object;
+use plain_tables::answer::{Attempt, RowResult};
 use plain_transfers::counters::{is_counted, read_counter};
 use plain_transfers::datagrams::{has_message, read_message};
 use plain_transfers::files::read_file;

@@ -6,9 +6,9 @@ ghost use Rattle.plain_machine.specs.Answers.{attempt_told, KeepsUnlessGives};
 
 use call_table::Given;
 use plain_machine::PlainKernel;
-use plain_machine::answer::{Answer, Attempt, RowResult};
 use plain_machine::descriptors::Held;
 use plain_tables::Object;
+use plain_tables::answer::{Answer, Attempt, RowResult};
 use plain_transfers::counters::{takes_more, write_counter};
 use plain_transfers::datagrams::{takes_message, write_message};
 use plain_transfers::files::write_file;

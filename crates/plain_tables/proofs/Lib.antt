@@ -24,3 +24,4 @@ pub mod OpenedStreams
 pub mod SocketObjects
 pub mod Queues
 pub mod FewListeners
+pub mod WaitOrder

@@ -9,8 +9,8 @@ ghost use Rattle.plain_machine.specs.Answers.{RowTold, KeepsUnlessGives};
 
 use crate::moving::gift;
 use plain_machine::PlainKernel;
-use plain_machine::answer::{Attempt, RowResult};
 use plain_machine::descriptors::Held;
+use plain_tables::answer::{Attempt, RowResult};
 use plain_tables::{Description, Object};
 use std::alloc::{AllocError, Global};
 use sys_abi::errors::EINVAL;

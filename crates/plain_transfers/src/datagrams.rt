@@ -9,7 +9,7 @@ use crate::bytes::{drop_first, first_bytes};
 use crate::moving::gift;
 use id_maps::ByDesc;
 use plain_machine::PlainKernel;
-use plain_machine::answer::{Attempt, RowResult};
+use plain_tables::answer::{Attempt, RowResult};
 use std::alloc::{AllocError, Global};
 use sys_abi::DescId;
 use sys_abi::errors::{ECONNREFUSED, EMSGSIZE};

@@ -5,14 +5,14 @@ ghost use Rattle.sys_abi.specs.declared.transfer.TheConstants.{TRANSFER_LIMIT};
 ghost use Rattle.sys_abi.specs.declared.flags.TheConstants.{O_NONBLOCK};
 ghost use Rattle.sys_abi.specs.Flags.{has_flag};
 ghost use Rattle.plain_tables.specs.Tables.{changed_at, raised_at};
-ghost use Rattle.plain_machine.specs.declared.answer.Attempt.TheVariants as an_attempt;
+ghost use Rattle.plain_tables.specs.declared.answer.Attempt.TheVariants as an_attempt;
 ghost use Rattle.plain_machine.specs.Answers.{RowTold, KeepsUnlessGives};
 ghost use Rattle.plain_machine.specs.Kernel.{after_raise};
 ghost use Rattle.plain_machine.specs.Transfers.Answers as words;
 
 use id_maps::ByPid;
 use plain_machine::PlainKernel;
-use plain_machine::answer::{Answer, Attempt, RowResult};
+use plain_tables::answer::{Answer, Attempt, RowResult};
 use plain_tables::{Description, Process};
 use std::alloc::{AllocError, Global};
 use sys_abi::errors::EPIPE;

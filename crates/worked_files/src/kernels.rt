@@ -1,9 +1,9 @@
 // The first process of a kernel part, and its calls.
 use plain_files::descriptors::{close, dup, dup3, fcntl};
 use plain_files::files::{lseek, openat, unlinkat};
-use plain_machine::answer::Attempt;
 use plain_machine::{FIRST_PID, PlainKernel};
 use plain_tables::Object;
+use plain_tables::answer::Attempt;
 use std::alloc::{AllocError, Global};
 use std::test::Fail;
 use sys_abi::flags::AT_FDCWD;

@@ -1,10 +1,10 @@
 // A kernel part of two processes on two hosts, the calls of the tests, and what is asserted of their answers.
-use plain_machine::answer::{Attempt, RowResult};
 use plain_machine::{FIRST_PID, PlainKernel};
 use plain_sockets::connections::{accept, connect};
 use plain_sockets::sockets::{
     bind, getpeername, getsockname, listen, setsockopt, shutdown, socket,
 };
+use plain_tables::answer::{Attempt, RowResult};
 use plain_tables::{Description, Object};
 use std::alloc::{AllocError, Global};
 use std::process::Abort;

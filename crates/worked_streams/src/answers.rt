@@ -1,5 +1,5 @@
 //! What calls answer, as text.
-use plain_machine::answer::{Answer, Attempt};
+use plain_tables::answer::{Answer, Attempt};
 use std::alloc::{AllocError, Global};
 use sys_abi::Reply;
 

@@ -13,8 +13,8 @@ use Rattle.call_table.specs.declared.request.Request.{Request}
 use Rattle.call_table.specs.declared.request.Request.TheVariants.{Dup, Dup3, Fcntl, Close}
 use Rattle.sys_abi.proofs.OrderLaws.{slot_total, slot_exact}
 use Rattle.plain_machine.specs.declared.kernel.PlainKernel.{PlainKernel}
-use Rattle.plain_machine.specs.declared.commands.FcntlCommand.{FcntlCommand}
-use Rattle.plain_machine.specs.declared.commands.FcntlCommand.TheVariants.{DupFd, GetFd, SetFd, GetFl, SetFl, SetOwn, GetOwn, DupFdCloexec}
+use Rattle.plain_process.specs.declared.commands.FcntlCommand.{FcntlCommand}
+use Rattle.plain_process.specs.declared.commands.FcntlCommand.TheVariants.{DupFd, GetFd, SetFd, GetFl, SetFl, SetOwn, GetOwn, DupFdCloexec}
 use Rattle.sys_abi.specs.declared.maker.Maker.{Maker}
 use Rattle.sys_abi.specs.declared.descriptor.Descriptor.{Descriptor}
 use Rattle.plain_tables.specs.Tables.{pid, slot, same_host}
@@ -22,7 +22,7 @@ use Rattle.plain_tables.specs.Valid.Descriptions.{IsOwner}
 use Rattle.plain_process.specs.Attempts.{need}
 use Rattle.plain_process.specs.Valid.{IsWord}
 use Rattle.plain_machine.specs.Closing.{close_fd}
-use Rattle.plain_machine.specs.Commands.{fcntl_command}
+use Rattle.plain_process.specs.Commands.{fcntl_command}
 use Rattle.plain_machine.specs.Kernel.{Held, is_live, is_neighbour, held, free_from, with_descriptor}
 use Rattle.plain_machine.specs.Kernels.{IsKernel}
 use Rattle.plain_machine.specs.Rows.Descriptors.{dup_from, dup_row, is_cloexec_at_most, moved_to, dup3_row, dup_above, set_flags, with_flags, with_owner, may_own, set_owner, fcntl_by, fcntl_row, close_row}

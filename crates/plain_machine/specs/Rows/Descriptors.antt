@@ -8,11 +8,11 @@ use Rattle.sys_abi.specs.declared.errors.TheConstants.{EBADF, EINVAL, ESRCH}
 use Rattle.sys_abi.specs.declared.flags.TheConstants.{O_CLOEXEC}
 use Rattle.sys_abi.specs.Clones.{without_bits}
 use Rattle.plain_machine.specs.declared.kernel.PlainKernel.{PlainKernel}
-use Rattle.plain_machine.specs.declared.commands.FcntlCommand.{FcntlCommand}
-use Rattle.plain_machine.specs.declared.commands.FcntlCommand.TheVariants.{DupFd, GetFd, SetFd, GetFl, SetFl, SetOwn, GetOwn, DupFdCloexec}
+use Rattle.plain_process.specs.declared.commands.FcntlCommand.{FcntlCommand}
+use Rattle.plain_process.specs.declared.commands.FcntlCommand.TheVariants.{DupFd, GetFd, SetFd, GetFl, SetFl, SetOwn, GetOwn, DupFdCloexec}
 use Rattle.plain_process.specs.Attempts.{Try, Fails, need, ◌>>=◌, ◌>>◌}
 use Rattle.plain_machine.specs.Attempts.{Served, replied}
-use Rattle.plain_machine.specs.Commands.{fcntl_command}
+use Rattle.plain_process.specs.Commands.{fcntl_command}
 use Rattle.plain_machine.specs.Kernel.{Held, held, free_from, is_neighbour, with_descriptor, with_description}
 use Rattle.plain_machine.specs.Closing.{close_fd}
 

@@ -7,14 +7,14 @@ use Rattle.sys_abi.specs.declared.identity.VPid.{VPid}
 use Rattle.sys_abi.specs.declared.reply.Reply.TheVariants.{Value}
 use Rattle.sys_abi.specs.declared.errors.TheConstants.{ECHILD, EINVAL}
 use Rattle.plain_machine.specs.declared.kernel.PlainKernel.{PlainKernel}
-use Rattle.plain_machine.specs.declared.waiting.Waiting.{Waiting}
-use Rattle.plain_machine.specs.declared.waiting.Waiting.TheVariants as found
+use Rattle.plain_tables.specs.declared.waiting.Waiting.{Waiting}
+use Rattle.plain_tables.specs.declared.waiting.Waiting.TheVariants as found
 use Rattle.plain_tables.specs.Tables.{pid}
 use Rattle.plain_process.specs.Memory.{low_bytes}
 use Rattle.plain_process.specs.Attempts.{Try, Fails, NotReady, Gives, need, ◌>>◌}
 use Rattle.plain_machine.specs.Attempts.{Served, replied}
 use Rattle.plain_machine.specs.Kernel.{without_process}
-use Rattle.plain_machine.specs.Waits.{wait_for, is_answered}
+use Rattle.plain_tables.specs.Waits.{wait_for, is_answered}
 use Rattle.plain_machine.specs.Rows.Send.{is_above_zero}
 
 -- -1

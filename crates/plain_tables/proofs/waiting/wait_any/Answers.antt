@@ -1,8 +1,8 @@
 use Rattle.std.proofs.Common.{◌≡◌, ap, ◌∙◌}
 use Rattle.std.specs.FinMap as map
-use Rattle.plain_machine.specs.declared.waiting.Waiting.TheVariants.{NoChild}
-use Rattle.plain_machine.proofs.WaitOrder.{wait_onto, wait_onto-none, wait_onto-step, child_before, other_before}
-use Rattle.plain_machine.proofs.waiting.wait_any.Goals as goal
+use Rattle.plain_tables.specs.declared.waiting.Waiting.TheVariants.{NoChild}
+use Rattle.plain_tables.proofs.WaitOrder.{wait_onto, wait_onto-none, wait_onto-step, child_before, other_before}
+use Rattle.plain_tables.proofs.waiting.wait_any.Goals as goal
 
 pub loop-q-init : goal.loop-q-init
 loop-q-init c =

@@ -1,6 +1,6 @@
 //! The commands of fcntl (`man 2 fcntl`).
 ghost use Rattle.std.specs.Prelude.{◌≡◌};
-ghost use Rattle.plain_machine.specs.Commands as commands;
+ghost use Rattle.plain_process.specs.Commands as commands;
 
 /// What fcntl is asked for.
 #[derive(Clone, Copy)]

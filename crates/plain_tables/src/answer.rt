@@ -1,7 +1,7 @@
 ghost use Rattle.std.specs.Prelude.{◌≡◌, false, []};
 ghost use Rattle.sys_abi.specs.declared.reply.Reply.TheVariants.{Value};
-ghost use Rattle.plain_machine.specs.Answers.{settled_told};
-ghost use Rattle.plain_machine.specs.declared.answer.Attempt.TheVariants as an_attempt;
+ghost use Rattle.plain_tables.specs.Settled.{settled_told};
+ghost use Rattle.plain_tables.specs.declared.answer.Attempt.TheVariants as an_attempt;
 
 use std::alloc::{AllocError, Global};
 use sys_abi::{Errno, Reply};

@@ -10,8 +10,8 @@ use Rattle.sys_abi.specs.declared.life.Life.TheVariants.{Live, Zombie}
 use Rattle.plain_tables.specs.declared.process.Process.{Process}
 use Rattle.plain_tables.specs.Tables.{Processes}
 use Rattle.plain_tables.specs.Ends.{is_child_of}
-use Rattle.plain_machine.specs.declared.waiting.Waiting.{Waiting}
-use Rattle.plain_machine.specs.declared.waiting.Waiting.TheVariants.{NoChild, NotReady, Ended}
+use Rattle.plain_tables.specs.declared.waiting.Waiting.{Waiting}
+use Rattle.plain_tables.specs.declared.waiting.Waiting.TheVariants.{NoChild, NotReady, Ended}
 
 -- of a child that is there
 abbrev pub wait_of : VPid → Life → Waiting

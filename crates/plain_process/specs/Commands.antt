@@ -2,8 +2,8 @@
 -- Source: `man 2 fcntl`.
 --     fcntl_command number      none where no command has the number
 use Rattle.std.specs.Prelude.{◌==◌, ℕ, Option, Some, None, if◌then◌else◌}
-use Rattle.plain_machine.specs.declared.commands.FcntlCommand.{FcntlCommand}
-use Rattle.plain_machine.specs.declared.commands.FcntlCommand.TheVariants.{DupFd, GetFd, SetFd, GetFl, SetFl, SetOwn, GetOwn, DupFdCloexec}
+use Rattle.plain_process.specs.declared.commands.FcntlCommand.{FcntlCommand}
+use Rattle.plain_process.specs.declared.commands.FcntlCommand.TheVariants.{DupFd, GetFd, SetFd, GetFl, SetFl, SetOwn, GetOwn, DupFdCloexec}
 
 unfoldable pub fcntl_command : ℕ → Option FcntlCommand
 fcntl_command number =

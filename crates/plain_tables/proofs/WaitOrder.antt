@@ -3,10 +3,10 @@ use Rattle.std.proofs.Common.{◌≡◌, Bool, true, false, List, [], ◌∷◌,
 use Rattle.std.specs.Prelude.{if◌then◌else◌}
 use Rattle.sys_abi.specs.declared.identity.VPid.{VPid}
 use Rattle.plain_tables.specs.declared.process.Process.{Process}
-use Rattle.plain_machine.specs.declared.waiting.Waiting.{Waiting}
-use Rattle.plain_machine.specs.declared.waiting.Waiting.TheVariants.{NoChild}
+use Rattle.plain_tables.specs.declared.waiting.Waiting.{Waiting}
+use Rattle.plain_tables.specs.declared.waiting.Waiting.TheVariants.{NoChild}
 use Rattle.plain_tables.specs.Ends.{is_child_of}
-use Rattle.plain_machine.specs.Waits.{ended_first, wait_any}
+use Rattle.plain_tables.specs.Waits.{ended_first, wait_any}
 
 abbrev pub before : VPid → VPid × Process → Waiting → Waiting
 before p e later = if is_child_of p e.1 then ended_first e.0 e.1.life later else later
