@@ -5,7 +5,6 @@ ghost use Rattle.views.specs.NumberMap.{is_above};
 ghost use Rattle.sys_abi.specs.declared.record.Record.TheVariants as a_record;
 ghost use Rattle.plain_process.specs.Launches.{IsLaunched};
 ghost use Rattle.plain_process.specs.Start.{Launched};
-ghost use Rattle.plain_process.specs.Valid.{IsByte};
 ghost use Rattle.plain_machine.specs.Kernel.{is_live};
 ghost use Rattle.plain_machine.specs.Start.{NamedFile};
 ghost use Rattle.plain_machine.specs.Tests.{all_arrived, ended};

@@ -1,5 +1,4 @@
 ghost use Rattle.std.specs.Prelude.{◌≡◌, ◌≢◌, ◌≤◌, true, [], if◌then◌else◌, IfOk, IfSome, OnOk, OnErr, Err};
-ghost use Rattle.std.specs.FinMap as map;
 ghost use Rattle.views.specs.Faults.{IsFaultOf};
 ghost use Rattle.sys_abi.specs.declared.reply.Reply.{Reply};
 ghost use Rattle.plain_process.specs.Deliveries.{traps_with};

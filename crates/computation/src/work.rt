@@ -1,5 +1,4 @@
 ghost use Rattle.std.specs.Prelude.{◌≡◌, ◌≢◌, ℕ, ◌<◌, ◌≤◌, true, Some, None, is_some, IsErrOf, OnOk, OnErr, Err, if◌then◌else◌};
-ghost use Rattle.std.specs.FinMap as map;
 ghost use Rattle.views.specs.Faults.{IsFaultOf};
 ghost use Rattle.call_table.specs.Requests.{is_local};
 ghost use Rattle.sys_abi.specs.declared.record.Record.TheVariants as a_record;
