@@ -1,5 +1,7 @@
--- The barrier that all processes of a checkpoint keep: who belongs to the open request, and how far each has come.
--- Source: DMTCP (`Stages` names where), whose coordinator releases each of its global barriers once every process has reached it.
+-- The barrier that all processes of a checkpoint keep: who belongs to the open request, and how far each has
+-- come.
+-- Source: DMTCP (`Stages` names where), whose coordinator releases each of its global barriers once every
+-- process has reached it.
 --     BarrierState              what a contract sees of a barrier
 --     released b                the greatest stage that all members have reached, of an open request that has members
 --     waited b                  the stage after it, which the members are still to reach

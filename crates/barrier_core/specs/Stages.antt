@@ -1,5 +1,6 @@
 -- The stages of a checkpoint in their order, and the messages that send each process from one to the next.
--- Source: J. Ansel, K. Arya, G. Cooperman, "DMTCP: Transparent Checkpointing for Cluster Computations and the Desktop", IPDPS 2009, the stages of its checkpoint algorithm.
+-- Source: J. Ansel, K. Arya, G. Cooperman, "DMTCP: Transparent Checkpointing for Cluster Computations and the
+-- Desktop", IPDPS 2009, the stages of its checkpoint algorithm.
 --     order s                  a stage's place, from 1
 --     depth o                  how many stages lie behind the one that is reached, it included
 --     next_stage o, next_message o      the one after this one: the first after none, and none after the last

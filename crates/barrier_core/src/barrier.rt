@@ -9,7 +9,8 @@ use std::alloc::{AllocError, Global};
 use std::marker::Model;
 use sys_abi::VPid;
 
-/// The barrier that all processes of a checkpoint keep. Its room is taken when it is made, and no later call takes memory.
+/// The barrier that all processes of a checkpoint keep. Its room is taken when it is made, and no later call
+/// takes memory.
 #[derive(Drop)]
 pub struct Barrier {
     is_open: bool,
@@ -40,7 +41,8 @@ impl Barrier {
         })
     }
 
-    /// Opens a request, whose members are the processes that live, each once. False exactly where one is open.
+    /// Opens a request, whose members are the processes that live, each once. False exactly where one is
+    /// open.
     pub fn ask(&mut self, live: &[VPid]) -> bool
         requires { length live.now ≤ MEMBER_LIMIT }
         ensures opened { result ≡ not self.old.is_open }
@@ -56,8 +58,8 @@ impl Barrier {
         true
     }
 
-    /// Notes that a process has reached a stage. False exactly where the process does not belong to the open request,
-    /// the stage is not the one waited for, or the process has reached it.
+    /// Notes that a process has reached a stage. False exactly where the process does not belong to the open
+    /// request, the stage is not the one waited for, or the process has reached it.
     pub fn reached(&mut self, p: VPid, s: Stage) -> bool
         ensures noted { result ≡ barriers.awaits self.old p s }
         ensures refused { (result ≡ false) ↔ barriers.IsOutOfPlace self.old p s }
@@ -90,8 +92,8 @@ impl Barrier {
         self.members.remove(p);
     }
 
-    /// The greatest stage that all members have reached. None exactly where no request is open, no member is left, or
-    /// not all have reached `Suspended`.
+    /// The greatest stage that all members have reached. None exactly where no request is open, no member is
+    /// left, or not all have reached `Suspended`.
     pub fn released(&self) -> Option<Stage>
         ensures released { result ≡ barriers.released self.now }
         ensures some { IfSome result (barriers.IsReleased self.now) }
@@ -104,8 +106,9 @@ impl Barrier {
         self.members.latest_reached()
     }
 
-    /// The next message to a process, in order. `Suspend` is due from `ask` or `joined` on, each later one once the stage
-    /// before it is released. None exactly where the process is no member or no due one is left.
+    /// The next message to a process, in order. `Suspend` is due from `ask` or `joined` on, each later one
+    /// once the stage before it is released. None exactly where the process is no member or no due one is
+    /// left.
     pub fn take(&mut self, p: VPid) -> Option<Message>
         ensures due { result ≡ barriers.due self.old p }
         ensures none { (result ≡ None) ↔ barriers.HasNoneDue self.old p }
@@ -117,8 +120,8 @@ impl Barrier {
         Some(message)
     }
 
-    /// Ends the request: once all members have reached `Refilled`, or no member is left, or, to give it up, while
-    /// `Suspended` is the stage that all have reached.
+    /// Ends the request: once all members have reached `Refilled`, or no member is left, or, to give it up,
+    /// while `Suspended` is the stage that all have reached.
     pub fn close(&mut self)
         requires { barriers.IsClosable self.old }
         ensures { self.new ≡ barriers.at_rest }
@@ -141,8 +144,8 @@ impl Barrier {
         self.members.len() == 0
     }
 
-    /// Whether the process is a member that is still to reach the stage, and the stage is the one waited for: exactly
-    /// where `reached` would answer true.
+    /// Whether the process is a member that is still to reach the stage, and the stage is the one waited for:
+    /// exactly where `reached` would answer true.
     pub fn awaits(&self, p: VPid, s: Stage) -> bool
         ensures { result ≡ barriers.awaits self.now p s }
     {

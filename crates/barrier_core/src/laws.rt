@@ -10,10 +10,12 @@ pub fn barrier_laws()
     // The barrier law, whatever the number of members there is room for.
     ensures in_step { (limit : ℕ) (run : List calls.Call) → calls.AreAllowed limit run → barriers.IsLawful limit (calls.state_after run) }
 
-    // The members are the processes that lived at the request, and those that joined later, without those that left.
+    // The members are the processes that lived at the request, and those that joined later, without those
+    // that left.
     ensures members { (run : List calls.Call) (p : VPid) → is_some (map.get (calls.state_after run).members p) ≡ calls.belongs p run }
 
-    // What a process has taken since it belongs to the request are the messages up to its last one, each once.
+    // What a process has taken since it belongs to the request are the messages up to its last one, each
+    // once.
     ensures messages { (run : List calls.Call) (p : VPid) → calls.messages p run ≡ stages.messages_to (calls.last_taken (map.get (calls.state_after run).members p)) }
 
     // So they are always the first few of all messages, in order.

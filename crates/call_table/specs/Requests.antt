@@ -1,5 +1,6 @@
 -- The table of calls: which number is which call, and which arguments it takes.
--- Source: the system call convention of RISC-V Linux (`man 2 syscall`: the number in a7, arguments in a0 to a5); the numbers are this project's list.
+-- Source: the system call convention of RISC-V Linux (`man 2 syscall`: the number in a7, arguments in a0 to
+-- a5); the numbers are this project's list.
 use Rattle.std.specs.Prelude.{◌==◌, ℕ, Bool, true, false, List, [], ◌∷◌, slice_index, if◌then◌else◌}
 use Rattle.call_table.specs.declared.request.Request.{Request}
 use Rattle.call_table.specs.declared.request.Request.TheVariants.{Eventfd2, Dup, Dup3, Fcntl, Unlinkat, Openat, Close, Pipe2, Lseek, Read, Write, Exit, ExitGroup, SetTidAddress, Futex, SchedYield, Kill, Tgkill, RtSigaction, RtSigprocmask, RtSigreturn, Getpid, Getppid, Gettid, Socket, Socketpair, Bind, Listen, Accept, Connect, Getsockname, Getpeername, Setsockopt, Shutdown, Brk, Munmap, Clone, Mmap, Wait4, Unknown}

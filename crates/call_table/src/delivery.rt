@@ -1,17 +1,18 @@
-//! What is told of a thread when a signal is to be delivered to it, and of what became of it (`man 7 signal`).
+//! What is told of a thread when a signal is to be delivered to it, and of what became of it
+//! (`man 7 signal`).
 
 use crate::request::Request;
 use sys_abi::{Signal, Tid};
 
-/// The first 16 bytes of what a call reads from its process's memory, with zeros where it reads fewer. Whether a call
-/// waits depends on no later byte.
+/// The first 16 bytes of what a call reads from its process's memory, with zeros where it reads fewer.
+/// Whether a call waits depends on no later byte.
 pub type Given = [u8; 16];
 
 /// Where a thread stands when a signal is to be delivered to it.
 #[derive(Clone, Copy, Debug, PartialEq, Eq)]
 pub enum At {
-    /// Anywhere else: at an instruction that goes on, at a trap with another signal, at a call that its process answers
-    /// alone or that faults, or waiting on a word.
+    /// Anywhere else: at an instruction that goes on, at a trap with another signal, at a call that its
+    /// process answers alone or that faults, or waiting on a word.
     Code,
     /// At a trap with that very signal.
     Trap,
@@ -39,8 +40,8 @@ pub struct Delivering {
     pub result: Delivered,
 }
 
-/// A thread that can't go on by itself: its signal mask, and the call at which it stands, None for one that waits on a
-/// word.
+/// A thread that can't go on by itself: its signal mask, and the call at which it stands, None for one that
+/// waits on a word.
 #[derive(Clone, Copy, Debug, PartialEq, Eq)]
 pub struct IdleThread {
     pub tid: Tid,

@@ -3,8 +3,8 @@ ghost use Rattle.call_table.specs.Requests as requests;
 
 use crate::calls;
 
-/// A call that a guest makes: one variant for each row of the table of calls, whose fields are the row's arguments, a0
-/// first. `Unknown` has the number of a call that no row has.
+/// A call that a guest makes: one variant for each row of the table of calls, whose fields are the row's
+/// arguments, a0 first. `Unknown` has the number of a call that no row has.
 #[derive(Clone, Copy, Debug, PartialEq, Eq)]
 pub enum Request {
     Eventfd2 {
@@ -180,8 +180,8 @@ pub enum Request {
     Unknown(u32),
 }
 
-/// The call at which a thread with these registers stands: the number is in a7 (x17), the arguments are in a0 to a5 (x10
-/// to x15).
+/// The call at which a thread with these registers stands: the number is in a7 (x17), the arguments are in a0
+/// to a5 (x10 to x15).
 #[tactic(auto, unfolding(crate::specs::Requests::request_by))]
 pub fn request_of(regs: &[u32; 32]) -> Request
     ensures { result ≡ requests.request_of regs.now }

@@ -56,8 +56,8 @@ is_disk_fault _ = false
 abbrev pub CountsFaults : List Record → ℕ → ℕ → Type 0
 CountsFaults records old new = (old + count_by is_disk_fault records ≤ new) ⊎ (new ≡ 2 ^ 64 - 1)
 
--- what the checkpointer knows of the folder: its store fits, and without one the folder's set is none of a later
--- generation
+-- what the checkpointer knows of the folder: its store fits, and without one the folder's set is none of a
+-- later generation
 pub record IsKept (checkpointer : Checkpointer) (folder : SeenFolder) : Type 0 where
   pub fits : (store : Known) → checkpointer.store ≡ Some store
       → FitsFolder store folder × (next_generation store ≡ suc checkpointer.tally.greatest)

@@ -1,7 +1,8 @@
--- The order in which one thread of the host makes the records of a run: those of the rounds, and marks between
--- them wherever they may stand. What a round makes due is seen when the next record comes, so after a checkpoint
--- that the last one asked for. While a request for a checkpoint waits nobody's turn goes on: where a cut can
--- come, all bytes that are missing of a direction arrive at once, one direction after the other, in rising order.
+-- The order in which one thread of the host makes the records of a run: those of the rounds, and marks
+-- between them wherever they may stand. What a round makes due is seen when the next record comes, so after a
+-- checkpoint that the last one asked for. While a request for a checkpoint waits nobody's turn goes on: where
+-- a cut can come, all bytes that are missing of a direction arrive at once, one direction after the other, in
+-- rising order.
 --     is_due g at r                       the record may come at this state, where things have come this far
 --     standing_after schedule g at r      how far they have come after it
 --     each_is_due schedule g at records   each of the records is due when it comes, from this state and this

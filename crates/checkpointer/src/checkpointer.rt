@@ -18,8 +18,8 @@ use std::alloc::Global;
 use sys_abi::{Cause, Record};
 use trace_log::{Progress, Schedule, Tally, Trace};
 
-/// What makes a run's checkpoints: when they are asked for, where their sets go, and how far their lines on the log
-/// have come.
+/// What makes a run's checkpoints: when they are asked for, where their sets go, and how far their lines on
+/// the log have come.
 #[derive(Drop)]
 pub struct Checkpointer {
     pub schedule: Schedule,
@@ -53,8 +53,8 @@ impl Checkpointer {
         self.tally.work += 1;
     }
 
-    /// Serves the request that the last record of work made, if it made one, as far as the trace has room. Bytes may
-    /// arrive meanwhile; each process's own part stays, and whose turn it is in the rounds.
+    /// Serves the request that the last record of work made, if it made one, as far as the trace has room.
+    /// Bytes may arrive meanwhile; each process's own part stays, and whose turn it is in the rounds.
     pub fn serve<L: Sink, F: Folder>(
         &mut self,
         alloc: Global,

@@ -43,8 +43,8 @@ impl Checkpointer {
         trace.append(mark);
     }
 
-    /// Puts the marks between a cut and its outcome on the trace, as far as it has room. The bytes themselves stay
-    /// where they are.
+    /// Puts the marks between a cut and its outcome on the trace, as far as it has room. The bytes themselves
+    /// stay where they are.
     pub(crate) fn mark_bytes(&mut self, computation: &Computation, trace: &mut Trace)
         requires ready { IsReady computation.now }
         requires work { self.old.tally.work + 1 < 2 ^ 64 }

@@ -14,8 +14,8 @@ use image_codec::{SetBytes, shared_image, write_process, write_shared};
 use std::alloc::{AllocError, Global};
 use views::list_of::ListOf;
 
-/// The files of a set that spells the computation's state: the shared image, and the image of each live process in
-/// rising order of their numbers.
+/// The files of a set that spells the computation's state: the shared image, and the image of each live
+/// process in rising order of their numbers.
 pub fn images(alloc: Global, computation: &Computation) -> Result<SetBytes, AllocError>
     requires ready { IsReady computation.now }
     requires held { CanBeHeld (plain_of computation.now) }

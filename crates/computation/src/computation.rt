@@ -66,8 +66,8 @@ pub enum Did {
     Ran(Ran),
 }
 
-/// A distributed computation: the part that all processes share, each live process's own part, and the buffer of
-/// their calls.
+/// A distributed computation: the part that all processes share, each live process's own part, and the buffer
+/// of their calls.
 #[derive(Drop)]
 pub struct Computation {
     pub kernel: PlainKernel,
@@ -156,7 +156,7 @@ impl Computation {
         guest.next_thread(above)
     }
 
-    /// The least of the signals that are pending for the thread or its process, and that the thread's mask lets through.
+    /// The least of the signals pending for the thread or its process that the thread's mask lets through.
     pub fn due_signal(&self, p: VPid, t: Tid) -> Option<Signal>
         requires { IsReady self.now }
         ensures due { option_map (λ s. s.0) result ≡ due_signal (plain_of self.now) p t.0 (user_at self.now p) }
@@ -168,8 +168,8 @@ impl Computation {
         signal_due(&self.kernel, p, guest, t)
     }
 
-    /// Where the thread stands, if it can go on there: its next instruction does, or it stands at a trap or at a call
-    /// that is ready.
+    /// Where the thread stands, if it can go on there: its next instruction does, or it stands at a trap or
+    /// at a call that is ready.
     pub fn ready_at(&self, p: VPid, t: Tid) -> Option<Ran>
         requires { IsReady self.now }
         ensures goes { is_some result ≡ goes_on (plain_of self.now) p t.0 (user_at self.now p) }
@@ -199,8 +199,8 @@ impl Computation {
         !is_idle(&self.kernel, p, guest, t, ran)
     }
 
-    /// Makes one record of the thread's turn: the delivery of the signal with which the turn begins, or the call, the
-    /// trap or the quantum of instructions that is due where the thread stands.
+    /// Makes one record of the thread's turn: the delivery of the signal with which the turn begins, or the
+    /// call, the trap or the quantum of instructions that is due where the thread stands.
     pub fn work<O: Sink>(
         &mut self,
         alloc: Global,
@@ -258,7 +258,7 @@ impl Computation {
         None
     }
 
-    /// Has all bytes of a direction arrive that are missing. Takes no memory, and changes no process's own part.
+    /// Has all missing bytes of a direction arrive. Takes no memory, and changes no process's own part.
     pub fn arrive(&mut self, dir: Dir, trace: &mut Trace)
         requires ready { IsReady self.old }
         requires missing { (rest : _) × (coming (plain_of self.old) ≡ dir ∷ rest) }

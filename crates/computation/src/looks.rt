@@ -13,7 +13,7 @@ use plain_rows::is_ready;
 use sys_abi::signals::{lowest_signal, without_signals};
 use sys_abi::{Signal, Tid, VPid};
 
-/// The least of the signals that are pending for the thread or its process, and that the thread's mask lets through.
+/// The least of the signals pending for the thread or its process that the thread's mask lets through.
 pub(crate) fn signal_due(kernel: &PlainKernel, p: VPid, guest: &Guest, t: Tid) -> Option<Signal>
     ensures { (users : Users) → option_map (λ s. s.0) result
         ≡ signal_for (record { kernel = kernel.now; users = users }) p t.0

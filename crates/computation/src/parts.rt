@@ -28,8 +28,8 @@ fn is_trapped(ran: &Ran, s: Signal) -> bool
     }
 }
 
-/// Delivers a signal to a thread of a guest: that of the trap at which it stands, which stays pending where it is, or a
-/// pending one.
+/// Delivers a signal to a thread of a guest: that of the trap at which it stands, which stays pending where
+/// it is, or a pending one.
 pub(crate) fn deliver_to(
     kernel: &mut PlainKernel,
     p: VPid,

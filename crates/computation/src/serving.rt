@@ -69,7 +69,7 @@ impl Computation {
         Ok(())
     }
 
-    /// Serves a call of the kernel, and puts the child that it makes among the guests; its answer is not put yet.
+    /// Serves a kernel call, and puts the child that it makes among the guests; its answer is not put yet.
     fn serve_call(
         &mut self,
         alloc: Global,

@@ -26,8 +26,8 @@ const QUANTUM: u32 = 4_096;
 impl Computation {
     ghost use Rattle.computation.specs.Computations.{plain_of, user_at, IsReady};
 
-    /// Runs a quantum of the thread's instructions, fewer where it comes to a call or a trap, and tells where it stands
-    /// then.
+    /// Runs a quantum of the thread's instructions, fewer where it comes to a call or a trap, and tells where
+    /// it stands then.
     pub(crate) fn run_quantum(&mut self, p: VPid, t: Tid, trace: &mut Trace) -> Ran
         requires ready { IsReady self.old }
         requires runs { StandsAt (plain_of self.old).users p t.0 Ran.Whole }

@@ -1,5 +1,7 @@
--- Rows of descriptors with the kinds of what they refer to, and the least of a kind that no image of a checkpoint holds.
--- Source: `man 2 socketpair` (datagram pairs), `man 2 eventfd`; that no image holds these is this project's own rule.
+-- Rows of descriptors with the kinds of what they refer to, and the least of a kind that no image of a
+-- checkpoint holds.
+-- Source: `man 2 socketpair` (datagram pairs), `man 2 eventfd`; that no image holds these is this project's
+-- own rule.
 --     is_unsupported kind             a datagram end, or a counter
 --     comes_before row other          by the process, then by the descriptor
 --     IsLeastUnsupported rows found   found is the first unsupported row before which no unsupported one comes, or there is none

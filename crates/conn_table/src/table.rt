@@ -14,8 +14,8 @@ use id_maps::{ByConn, ByDesc, ByPid};
 use std::alloc::{AllocError, Global};
 use sys_abi::{ConnId, DescId, Fd, Kind, Maker, VPid, VirtAddr};
 
-/// The channels, the addresses of sockets and listeners, and the makers of all processes. A socket that is not bound has
-/// the address of its host with the port 0.
+/// The channels, the addresses of sockets and listeners, and the makers of all processes. A socket that is
+/// not bound has the address of its host with the port 0.
 #[derive(Drop)]
 pub struct ConnTable {
     conns: ByConn<Conn>,
@@ -61,8 +61,8 @@ impl ConnTable {
         self.conns.keys().copied().find(|id| is_above(above, *id))
     }
 
-    /// Closes a side of a channel. The channel goes when its last open end is closed. Where there is no such channel,
-    /// or no such side, nothing changes.
+    /// Closes a side of a channel. The channel goes when its last open end is closed. Where there is no such
+    /// channel, or no such side, nothing changes.
     pub fn drop_end(&mut self, id: ConnId, side: u8)
         ensures closed { side < 2 → self.new ≡ record self.old { conns = conns.after_end side self.old.conns id } }
         ensures none { 2 ≤ side → self.new ≡ self.old }
@@ -75,16 +75,16 @@ impl ConnTable {
         }
     }
 
-    /// Whether an end of a channel, a socket or a listener has the address, to which nobody else can be bound then. The
-    /// port 0, which sockets have that are not bound, is not asked for.
+    /// Whether an end of a channel, a socket or a listener has the address, to which nobody else can be bound
+    /// then. The port 0, which sockets have that are not bound, is not asked for.
     pub fn port_used(&self, a: VirtAddr) -> bool
         ensures { result ≡ conns.is_used a self.now.conns self.now.names }
     {
         is_address_of_end(&self.conns, a) || is_address_of_name(&self.names, a)
     }
 
-    /// The least process and descriptor of the rows whose kind no image of a checkpoint holds: the end of a datagram
-    /// pair, or an event counter.
+    /// The least process and descriptor of the rows whose kind no image of a checkpoint holds: the end of a
+    /// datagram pair, or an event counter.
     pub fn first_unsupported(&self, rows: &[(VPid, Fd, Kind)]) -> Option<(VPid, Fd, Kind)>
         ensures { unsupported.IsLeastUnsupported rows.now result }
     {

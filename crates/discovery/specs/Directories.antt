@@ -1,5 +1,7 @@
--- What contracts see of a directory: for each channel the address that was published last, and whether it was looked up since.
--- Source: the discovery service of DMTCP, where ends of sockets are advertised under the socket's name when a computation is restarted.
+-- What contracts see of a directory: for each channel the address that was published last, and whether it was
+-- looked up since.
+-- Source: the discovery service of DMTCP, where ends of sockets are advertised under the socket's name when a
+-- computation is restarted.
 --     Publications             from channels to what was published
 --     place_of, is_asked       the address of a channel;  whether it was looked up since it was published
 --     with_place               a channel published anew, in place of what was there

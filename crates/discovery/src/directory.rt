@@ -34,8 +34,8 @@ impl Directory {
         }
     }
 
-    /// Publishes where the channel can be reached, in place of what was published under its name before. It counts as
-    /// not looked up yet. After a failed allocation all is as before.
+    /// Publishes where the channel can be reached, in place of what was published under its name before. It
+    /// counts as not looked up yet. After a failed allocation all is as before.
     pub fn publish(&mut self, id: ConnId, at: RealAddr) -> Result<(), AllocError>
         ensures ok { OnOk result (self.new ≡ with_place self.old id at) }
         ensures err { OnErr result (self.new ≡ self.old) }
@@ -45,8 +45,8 @@ impl Directory {
         Ok(())
     }
 
-    /// Looks up where the channel can be reached: the address that was published last, and none exactly where nothing
-    /// was published under its name. Takes no memory.
+    /// Looks up where the channel can be reached: the address that was published last, and none exactly where
+    /// nothing was published under its name. Takes no memory.
     pub fn find(&mut self, id: ConnId) -> Option<RealAddr>
         ensures found { result ≡ place_of self.old id }
         ensures asked { self.new ≡ with_look_up self.old id }
@@ -54,8 +54,8 @@ impl Directory {
         look_up(&mut self.publications, id)
     }
 
-    /// Whether the channel was looked up since it was published last. A channel that wasn't published was not. Takes
-    /// no memory.
+    /// Whether the channel was looked up since it was published last. A channel that wasn't published was
+    /// not. Takes no memory.
     pub fn asked(&self, id: ConnId) -> bool
         ensures { result ≡ is_asked self.now id }
     {

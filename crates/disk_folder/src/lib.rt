@@ -6,8 +6,8 @@
 //! moment inside a call (`LeavesOnly` in `specs/Moments.antt`). A count of faults tells a failure
 //! of the disk from an answer that the code made up.
 //!
-//! Proved: laws of these definitions, of writes, cuts and stretches of calls, for the crates above. `mem_folder`
-//! has such a folder in memory, and `set_disk` one of the host.
+//! Proved: laws of these definitions, of writes, cuts and stretches of calls, for the crates above.
+//! `mem_folder` has such a folder in memory, and `set_disk` one of the host.
 #![tactic(auto)]
 
 mod disk_fault;

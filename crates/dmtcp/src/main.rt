@@ -1,15 +1,17 @@
 //! The program `dmtcp`: the top call over the host's arguments, current folder and standard streams.
 //!
-//! Its words are those after the program's own name. Inputs are files of the current folder, sets of checkpoints lie in
-//! its folder `dmtcp_set`, the console is standard output, the log standard error. The trace is written to `dmtcp.trace`
-//! where it has a record; that this fails changes nothing else. The exit status is that of the top call.
+//! Its words are those after the program's own name. Inputs are files of the current folder, sets of
+//! checkpoints lie in its folder `dmtcp_set`, the console is standard output, the log standard error. The
+//! trace is written to `dmtcp.trace` where it has a record; that this fails changes nothing else. The exit
+//! status is that of the top call.
 //!
-//! The promise is the top call's, in the crate `dmtcp_top`. Proved here: what `exit_code`, `unreadable`, `greeting` and
-//! `said` answer to what they are handed, and that the trace is empty when it is handed in. That the program ends is
-//! not: the top call may wait on the host. What is left is that these arguments, files, streams and answers are the
-//! ones handed on, and that the trace is written, since no clause can tell one stream of the host from another: the
-//! stored run shows it of the program's file and standard output, the scripts of `docs/TRIALS.md` of each status, the
-//! folder of sets, standard error and the trace. A sole word `--help` or `--version` is answered here.
+//! The promise is the top call's, in the crate `dmtcp_top`. Proved here: what `exit_code`, `unreadable`,
+//! `greeting` and `said` answer to what they are handed, and that the trace is empty when it is handed in.
+//! That the program ends is not: the top call may wait on the host. What is left is that these arguments,
+//! files, streams and answers are the ones handed on, and that the trace is written, since no clause can tell
+//! one stream of the host from another: the stored run shows it of the program's file and standard output,
+//! the scripts of `docs/TRIALS.md` of each status, the folder of sets, standard error and the trace. A sole
+//! word `--help` or `--version` is answered here.
 #![tactic(auto)]
 
 ghost use Rattle.std.specs.Prelude.{◌≡◌, ◌≢◌, [], map, string_bytes, option_map, codes};

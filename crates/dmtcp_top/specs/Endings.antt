@@ -33,8 +33,8 @@ KeepsPaceAt SinkFault session log = Stopped session log
 KeepsPaceAt Memory session log = (lines : List ℕ) × (LinesOf session.left.trace lines × Took log lines)
 KeepsPaceAt _ session log = Unit {0}
 
--- how a call came to its end with these words and this trace, from what is seen of what is outside at its start
--- to what is seen of it then
+-- how a call came to its end with these words and this trace, from what is seen of what is outside at its
+-- start to what is seen of it then
 pub record ComesToEnd (ending : Ending) (words : List Text) (trace : List Record) (before now : Outside)
     : Type 0 where
   pub start : Option Beginning

@@ -169,8 +169,8 @@ CallGoesInRounds session =
 abbrev pub RunsOn : Status → Type 0
 RunsOn status = (status ≡ Done) ⊎ (status ≡ Budget) ⊎ (status ≡ Stuck) ⊎ (status ≡ Memory)
 
--- where no sink failed the words decide whether it is Usage: exactly where they ask for nothing, also where there
--- is no memory
+-- where no sink failed the words decide whether it is Usage: exactly where they ask for nothing, also where
+-- there is no memory
 abbrev pub WordsDecide : Status → List Text → Type 0
 WordsDecide status words = (status ≡ Usage) ↔ AskNothing words
 

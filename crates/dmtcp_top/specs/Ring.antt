@@ -1,5 +1,5 @@
--- The worked ring, as it is called: a launch of its programs, and where that comes to an end with nobody alive
--- a restart from the last set. Each half is a call by itself, and nobody sees what its programs write.
+-- The worked ring, as it is called: a launch of its programs, and where that comes to an end with nobody
+-- alive a restart from the last set. Each half is a call by itself, and nobody sees what its programs write.
 --     launch_half, restart_half     the two calls
 --     value_left came               what a run left in the file `value`
 --     RingReaches status call ..    the ring came to this status, with this line on the console and on the log
@@ -81,8 +81,8 @@ abbrev pub AreLines : Status → RingCall → List ℕ → Type 0
 AreLines Memory call text = IsFrontOfLines call.launch.left.trace text
 AreLines _ call text = text ≡ log_text call.launch.left.trace
 
--- All of it was put; or the console failed at its line, or the log at its last one, whatever the status was to
--- be.
+-- All of it was put; or the console failed at its line, or the log at its last one, whatever the status was
+-- to be.
 abbrev pub Tells : Status → Status → List ℕ → List ℕ → List ℕ → Sunk → Sunk → Type 0
 Tells status reached shown text last console log =
     ((status ≡ reached) × Took console shown × Took log (text ++ last))
@@ -114,8 +114,8 @@ abbrev pub RingEnds : Status → RingCall → Sunk → Sunk → Type 0
 RingEnds SinkFault call console log = RingCutOff call console log ⊎ RingEnded SinkFault call console log
 RingEnds status call console log = RingEnded status call console log
 
--- The two halves of a call, from the folder before it to the folder after it: how each run began, if it did, and
--- its trace. The restart goes on from the folder as it is left.
+-- The two halves of a call, from the folder before it to the folder after it: how each run began, if it did,
+-- and its trace. The restart goes on from the folder as it is left.
 pub record RingHalves (ring : RingJob) (old new : SeenFolder) : Type 0 where
   pub first : Option Beginning
   pub launched : List Record

@@ -36,8 +36,8 @@ use Rattle.dmtcp_top.specs.Ends.{CameTo}
 use Rattle.dmtcp_top.specs.Endings.{ComesToEnd, IsStopped}
 use Rattle.dmtcp_top.specs.Ring.{RingCall, RingHalves, RingReaches, AreLines, RingCutOff, call_of, value_left}
 
--- what is seen at a moment of what a half is lent: inputs that hold the ring's program, a console of which nothing
--- is seen, the log and the folder
+-- what is seen at a moment of what a half is lent: inputs that hold the ring's program, a console of which
+-- nothing is seen, the log and the folder
 abbrev pub half_outside : SeenSink → SeenFolder → Outside
 half_outside log folder =
     outside (record { files = Some ring_files; faults = 0 }) (record { taken = None; faults = 0 }) log folder
@@ -64,7 +64,8 @@ pub record AreHalves (ring : RingJob) (launch restart : Job) : Type 0 where
   pub restarts : Asks (words_of_command (restart_of ring)) (Restart restart_job)
   pub quiet : restart_job.every ≡ None
 
--- the ring came to this status and this last line: what the console took, and what the log took before that line
+-- the ring came to this status and this last line: what the console took, and what the log took before that
+-- line
 pub record IsTold (status : Status) (last : List ℕ) (call : RingCall) (console log : Sunk) : Type 0 where
   pub shown : List ℕ
   pub there : RingReaches status call shown last

@@ -18,8 +18,8 @@ use run_loop::RunEnd;
 use std::alloc::Global;
 use trace_log::Trace;
 
-/// Makes the run that a job asks for, to the last line of the log, which is left out. Where nobody lives at its end it
-/// gives the computation as it is then.
+/// Makes the run that a job asks for, to the last line of the log, which is left out. Where nobody lives at
+/// its end it gives the computation as it is then.
 pub(crate) fn carry_out<'a, I: Inputs, O: Sink, L: Sink, F: Folder>(
     alloc: Global,
     job: &'a Job,

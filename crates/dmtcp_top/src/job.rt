@@ -14,8 +14,8 @@ use job_words::{
 };
 use std::alloc::Global;
 
-/// The job that the words ask for, or how the call ends without one. Whether they ask for one that is built is told
-/// without memory.
+/// The job that the words ask for, or how the call ends without one. Whether they ask for one that is built
+/// is told without memory.
 pub(crate) fn read_job<'a>(alloc: Global, words: &[String]) -> Result<Job, Ending<'a>>
     ensures found { IfOk result (Asks (map string_bytes words.now)) }
     ensures refused { IfErr result (λ ending. RefusesWords ending (map string_bytes words.now)) }

@@ -33,8 +33,8 @@ pub struct Values {
     pub restarted: ListOf<u8>,
 }
 
-/// The worked ring: a launch of its programs, and where that comes to its end with nobody alive a restart from the
-/// last set. A line on the console tells what both left.
+/// The worked ring: a launch of its programs, and where that comes to its end with nobody alive a restart
+/// from the last set. A line on the console tells what both left.
 pub(crate) fn run_ring<O: Sink, L: Sink, F: Folder>(
     alloc: Global,
     ring: RingJob,
@@ -141,8 +141,8 @@ fn both_halves<'a, L: Sink, F: Folder>(
     })
 }
 
-/// A half of a ring, to the last line of the log. Where nobody lives at its end it gives what was left in the file of
-/// the value.
+/// A half of a ring, to the last line of the log. Where nobody lives at its end it gives what was left in the
+/// file of the value.
 fn half<'a, L: Sink, F: Folder>(
     alloc: Global,
     job: &'a Job,

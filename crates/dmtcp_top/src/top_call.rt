@@ -24,10 +24,11 @@ use trace_log::Trace;
 
 /// Does what the words of a command line ask for.
 ///
-/// `launch` runs the programs in the inputs that its words name, with their arguments and files, until nobody lives or
-/// can go on, or the trace has no room. `restart` goes on in the same way from the last complete set in `disk`. After
-/// every so many records of work, where the words ask for it, a set of the whole state goes to `disk`. `ring` does both
-/// with a job of its own, and tells on `out` what it came to; `help` tells the forms of the command line there.
+/// `launch` runs the programs in the inputs that its words name, with their arguments and files, until nobody
+/// lives or can go on, or the trace has no room. `restart` goes on in the same way from the last complete set
+/// in `disk`. After every so many records of work, where the words ask for it, a set of the whole state goes
+/// to `disk`. `ring` does both with a job of its own, and tells on `out` what it came to; `help` tells the
+/// forms of the command line there.
 ///
 /// The bytes that the programs write go to `out`. `log` gets a line for each checkpoint, and how the call
 /// ended in one last line. `trace` gets a record for each step of the run and a mark for each stage of a

@@ -1,4 +1,5 @@
--- What a step of an agent does to the network, and what a move of bytes from queue to queue does while agents drain.
+-- What a step of an agent does to the network, and what a move of bytes from queue to queue does while agents
+-- drain.
 --     IsStepOf p x before after y      a step of p on a direction with these notes: it takes bytes only from the front of the receiver's queue, and only for
 --                                      the reading end, adds bytes only at the back of the sender's, and only for the sending end, and the list grows by
 --                                      a stretch of what was taken

@@ -1,6 +1,7 @@
 -- What an agent does in a drain with one direction of a live channel.
--- Source: the DMTCP paper (IPDPS 2009), "drain kernel buffers": each side sends a cookie and reads until it has read the other's. That the count of
--- bytes is known at the suspension, and what a cookie has, is this project's own profile.
+-- Source: the DMTCP paper (IPDPS 2009), "drain kernel buffers": each side sends a cookie and reads until it
+-- has read the other's. That the count of bytes is known at the suspension, and what a cookie has, is this
+-- project's own profile.
 --     cookie id                  a magic word, and the name of the channel
 --     unread x, unsent x         how many bytes the reading agent has still to read, cookie and all;  what is left of the cookie
 --     reads p x direction        how many bytes p reads in a step

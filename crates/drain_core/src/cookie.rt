@@ -1,12 +1,13 @@
-//! The marker that an agent sends behind the last byte of a direction, as DMTCP's agents do. The reading agent does not look
-//! at it: it knows since the drain began how many bytes stand before it, keeps these, and has finished when it has read so
-//! many more as a cookie has.
+//! The marker that an agent sends behind the last byte of a direction, as DMTCP's agents do. The reading
+//! agent does not look at it: it knows since the drain began how many bytes stand before it, keeps these, and
+//! has finished when it has read so many more as a cookie has.
 ghost use Rattle.std.specs.Prelude.{◌≡◌};
 ghost use Rattle.drain_core.specs.Tasks as words;
 
 use sys_abi::ConnId;
 
-/// The cookie of a channel: a magic word, the process that made the channel, and that process's running number.
+/// The cookie of a channel: a magic word, the process that made the channel, and that process's running
+/// number.
 pub(crate) fn cookie_of(conn: ConnId) -> [u8; 16]
     ensures { result ≡ words.cookie conn }
 {

@@ -42,7 +42,8 @@ impl Model for Drain {
 }
 
 impl Drain {
-    /// Begins a drain of the network, whose ends' agents are listed, in a room that names its directions. Takes no memory.
+    /// Begins a drain of the network, whose ends' agents are listed, in a room that names its directions.
+    /// Takes no memory.
     pub fn begin(room: CutRoom, net: &Net, ends: &[AgentEnd]) -> Drain
         requires whole { room.is_whole ≡ true }
         requires ends { IsFor net.now.channels ends.now }
@@ -65,8 +66,8 @@ impl Drain {
         }
     }
 
-    /// One step of an agent on all directions whose ends it acts for: it reads what has come, up to the end of the cookie,
-    /// and sends what is left of its own, as far as there is room. Takes no memory.
+    /// One step of an agent on all directions whose ends it acts for: it reads what has come, up to the end
+    /// of the cookie, and sends what is left of its own, as far as there is room. Takes no memory.
     pub fn step(&mut self, net: &mut Net, agent: RealPid) -> Stepped
         requires { words.Fits net.old.channels self.old }
         ensures answer { result ≡ words.step_answer agent net.old.channels self.old }
@@ -101,8 +102,8 @@ impl Drain {
         self.notes.iter().any(|notes| is_left(notes, agent))
     }
 
-    /// Whether all agents have finished, and all bytes that no agent drains have reached their receivers' queues: false
-    /// exactly where work is left, and then somebody goes on.
+    /// Whether all agents have finished, and all bytes that no agent drains have reached their receivers'
+    /// queues: false exactly where work is left, and then somebody goes on.
     pub fn is_done(&self, net: &Net) -> bool
         requires { words.Fits net.now.channels self.now }
         ensures done { result ≡ words.is_done net.now.channels self.now }
@@ -112,7 +113,8 @@ impl Drain {
         all_finished(&self.notes, net)
     }
 
-    /// What the network held, and the room, which names the same directions and is whole no longer. Takes no memory.
+    /// What the network held, and the room, which names the same directions and is whole no longer. Takes no
+    /// memory.
     pub fn finish(self, net: &Net) -> (DrainedNet, CutRoom)
         requires fits { words.Fits net.now.channels self }
         requires done { words.is_done net.now.channels self ≡ true }
@@ -120,8 +122,8 @@ impl Drain {
         ensures given { openings.IsGiven net.now self }
         ensures room { result.1 ≡ record { lengths = names_of self; is_whole = false } }
 
-        // The lists are what a refill asks of them: each says truly of its direction where its bytes are, no two are of one
-        // direction, and each noted direction of the network has one.
+        // The lists are what a refill asks of them: each says truly of its direction where its bytes are, no
+        // two are of one direction, and each noted direction of the network has one.
         ensures drained { IsDrained net.now.channels result.0.lists }
         ensures whole { (d : Dir) → d.side < 2 → IsSome (direction_at net.now.channels d) → words.has_notes d self ≡ true → IsSome (list_on d result.0.lists) }
 

@@ -24,8 +24,8 @@ pub(crate) fn is_left(notes: &DirNotes, agent: RealPid) -> bool
     is_agent(notes.sender, agent) && !has_sent(notes)
 }
 
-/// Whether the agents have finished with the direction, or, where none drains it, all its bytes have reached the
-/// receiver's queue.
+/// Whether the agents have finished with the direction, or, where none drains it, all its bytes have reached
+/// the receiver's queue.
 pub(crate) fn is_finished(notes: &DirNotes, net: &Net) -> bool
     requires { notes.now.dir.side < 2 }
     ensures { result ≡ words.is_finished net.now.channels notes.now }

@@ -8,8 +8,8 @@ ghost use Rattle.drain_core.specs.Openings as words;
 use sys_abi::Transfer;
 use wire_net::{DirBytes, DirNotes, Net, Room};
 
-/// The list of a direction: what its agent read, or, where no agent did, what can be read. None where its channel is not
-/// there.
+/// The list of a direction: what its agent read, or, where no agent did, what can be read. None where its
+/// channel is not there.
 fn take_list(notes: &mut DirNotes, net: &Net, transfer: &mut Transfer) -> Option<DirBytes>
     requires noted { IsNoted notes.old }
     requires fits { IsInStep net.now.channels notes.old }

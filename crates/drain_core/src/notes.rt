@@ -67,7 +67,8 @@ fn rest_of(cookie: &[u8], sent: usize) -> &[u8]
     &cookie[sent..]
 }
 
-/// The agent of the sending end sends what is left of the cookie, as far as there is room. Answers how many bytes.
+/// The agent of the sending end sends what is left of the cookie, as far as there is room. Answers how many
+/// bytes.
 fn send_cookie(notes: &mut DirNotes, net: &mut Net) -> u32
     requires noted { IsNoted notes.old }
     requires flows { IfSome (direction_at net.old.channels notes.old.dir) IsFlowing }

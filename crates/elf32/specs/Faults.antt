@@ -25,7 +25,8 @@ first_some [] = None
 first_some (None ∷ faults) = first_some faults
 first_some (Some fault ∷ _) = Some fault
 
--- a result of trying these rules: a value where each holds, else the first fault. Want of memory may stand in place of either
+-- a result of trying these rules: a value where each holds, else the first fault. Want of memory may stand in
+-- place of either
 abbrev pub Reports : {A : Type 0} → Result A ElfFault → Option ElfFault → Type 0
 Reports (Ok value) first = first ≡ None
 Reports (Err fault) first = (fault ≡ no_memory) ⊎ (first ≡ Some fault)

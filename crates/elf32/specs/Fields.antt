@@ -1,5 +1,6 @@
--- Fields of an ELF file, by their place in it. The data encoding is ELFDATA2LSB: the least significant byte stands first
--- (System V ABI, chapter 4, "Data Encoding"). An Elf32_Half has 2 bytes; an Elf32_Word, Elf32_Addr or Elf32_Off has 4.
+-- Fields of an ELF file, by their place in it. The data encoding is ELFDATA2LSB: the least significant byte
+-- stands first (System V ABI, chapter 4, "Data Encoding"). An Elf32_Half has 2 bytes; an Elf32_Word,
+-- Elf32_Addr or Elf32_Off has 4.
 --     half_at file place, word_at file place     the field that begins at this byte
 use Rattle.std.specs.Prelude.{ℕ, ◌+◌, List, slice_range}
 use Rattle.std.specs.Int.{w16, w32, from_le_bytes}

@@ -1,4 +1,5 @@
--- Pages: page p has the 4,096 addresses from 4096 * p on. An address has 32 bits, so the pages are those below 2 ^ 20.
+-- Pages: page p has the 4,096 addresses from 4096 * p on. An address has 32 bits, so the pages are those
+-- below 2 ^ 20.
 --     range_of segment             the addresses of a segment
 --     touches segment p            some address of the segment is in page p
 --     page_count segments          how many pages some of the segments touch, each counted once

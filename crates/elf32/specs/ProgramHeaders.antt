@@ -1,4 +1,5 @@
--- The program header table: entries of type Elf32_Phdr (System V ABI, chapter 5, "Program Header"), from byte e_phoff on.
+-- The program header table: entries of type Elf32_Phdr (System V ABI, chapter 5, "Program Header"), from byte
+-- e_phoff on.
 --     place_of file i          the byte at which the header of this index begins
 --     program_header file i    its fields
 --     describes_memory h       it describes a piece of memory: its type is PT_LOAD, and p_memsz is not 0

@@ -1,4 +1,5 @@
--- The rules of a file, each a test that gives no fault where the rule holds, in the order in which they are tried.
+-- The rules of a file, each a test that gives no fault where the rule holds, in the order in which they are
+-- tried.
 --     file_header_rules file        those of the ELF header
 --     program_header_rules file n   those of the first n program headers, one header after the other
 --     entry_rule file               that of the address of the first instruction
@@ -27,9 +28,10 @@ bytes_are file place (byte ∷ bytes) reason =
     first_some
     (needs (slice_index file place == byte) reason place ∷ bytes_are file (place + 1) bytes reason ∷ [])
 
--- e_ident begins with ELFMAG, 7F and "ELF". EI_CLASS is ELFCLASS32, EI_DATA ELFDATA2LSB and EI_VERSION EV_CURRENT, all 1.
--- EM_RISCV is 243, ET_EXEC 2. Of e_flags the RISC-V ELF psABI gives bit 0 to RVC, bits 1 and 2 to the floating point ABI
--- and bit 3 to RVE. An Elf32_Phdr has 32 bytes. The format has no limit of 64 program headers: that one is this crate's
+-- e_ident begins with ELFMAG, 7F and "ELF". EI_CLASS is ELFCLASS32, EI_DATA ELFDATA2LSB and EI_VERSION
+-- EV_CURRENT, all 1. EM_RISCV is 243, ET_EXEC 2. Of e_flags the RISC-V ELF psABI gives bit 0 to RVC, bits 1
+-- and 2 to the floating point ABI and bit 3 to RVE. An Elf32_Phdr has 32 bytes. The format has no limit of 64
+-- program headers: that one is this crate's
 abbrev pub file_header_rules : List Byte → List (Option ElfFault)
 file_header_rules file =
     needs (nat_le 52 (length file)) Short (length file)
@@ -58,7 +60,8 @@ is_well_placed file h =
     && nat_le 0x1000 h.vaddr
     && nat_le (h.vaddr + h.memsz) 0x4000_0000
 
--- the rules of a header at this place that describes memory, after headers that describe the segments `before`
+-- the rules of a header at this place that describes memory, after headers that describe the segments
+-- `before`
 unfoldable pub memory_rules : List Byte → List MemorySegment → ℕ → ProgramHeader → List (Option ElfFault)
 memory_rules file before place h =
     needs (is_well_placed file h) Segment place

@@ -1,5 +1,6 @@
 -- What contracts see of a book, and what its calls leave.
--- Source: `man 2 open` (descriptors and open descriptions), `man 2 dup`, `man 2 close`, `man 2 fcntl` (F_DUPFD).
+-- Source: `man 2 open` (descriptors and open descriptions), `man 2 dup`, `man 2 close`, `man 2 fcntl`
+-- (F_DUPFD).
 --     Books                       descriptions by their names, and descriptors by process and number
 --     is_held, lost               whether a descriptor refers to a description;  the description, where none does
 --     with_descriptor             a descriptor put at a number
@@ -92,7 +93,8 @@ same_with_cloexec b at on (Some d) = with_descriptor b at d.desc on
 unfoldable pub with_cloexec : Books → RealSlot → Bool → Books
 with_cloexec b at on = same_with_cloexec b at on (map.get b.descriptors at)
 
--- each descriptor has one of the 256 numbers and refers to a description that is there, and each description has a descriptor
+-- each descriptor has one of the 256 numbers and refers to a description that is there, and each description
+-- has a descriptor
 pub record IsWhole (b : Books) : Type 0 where
   pub below : AreInRange b.descriptors
   pub described : (at : RealSlot) (d : Descriptor) → map.get b.descriptors at ≡ Some d → IsSome (map.get b.descriptions d.desc)

@@ -18,7 +18,8 @@ pub record IsCounted (descriptors : FinMap real_slot_cmp Descriptor) (descriptio
   pub counts : (id : DescId) → holders_of (map.get descriptions id) ≡ count_by (refers_to id) (map.values descriptors)
   pub held : (id : DescId) (o : Open) → map.get descriptions id ≡ Some o → 0 < o.holders
 
--- what is true of a book's parts: the descriptors, the descriptions with their numbers, and how many descriptors there are
+-- what is true of a book's parts: the descriptors, the descriptions with their numbers, and how many
+-- descriptors there are
 pub record IsBook (descriptors : FinMap real_slot_cmp Descriptor) (descriptions : FinMap desc_cmp Open) (count : ℕ) : Type 0 where
   pub counted : IsCounted descriptors descriptions
   pub in_all : count ≡ map.len descriptors

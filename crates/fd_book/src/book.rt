@@ -15,8 +15,8 @@ use sys_abi::{DescId, Descriptor, Fd, RealPid};
 pub struct Book {
     pub(crate) tables: Tables,
     pub(crate) descriptions: Descriptions,
-    /// How many descriptors there are. At the greatest number of 64 bits a further one is answered as want of memory,
-    /// which no machine has.
+    /// How many descriptors there are. At the greatest number of 64 bits a further one is answered as want of
+    /// memory, which no machine has.
     pub(crate) count: u64,
 }
 
@@ -46,7 +46,8 @@ impl Book {
         }
     }
 
-    /// Sets what the description stands for. Where there is none of that name, nothing changes. Takes no memory.
+    /// Sets what the description stands for. Where there is none of that name, nothing changes. Takes no
+    /// memory.
     #[tactic(auto, unfolding(crate::specs::Books::with_changed))]
     pub fn set_object(&mut self, id: DescId, object: Object)
         ensures { self.new ≡ with_changed (with_object object) self.old id }
@@ -62,8 +63,8 @@ impl Book {
         }
     }
 
-    /// Sets the access mode and status flags of the description. Where there is none of that name, nothing changes.
-    /// Takes no memory.
+    /// Sets the access mode and status flags of the description. Where there is none of that name, nothing
+    /// changes. Takes no memory.
     #[tactic(auto, unfolding(crate::specs::Books::with_changed))]
     pub fn set_flags(&mut self, id: DescId, flags: u32)
         ensures { self.new ≡ with_changed (with_flags flags) self.old id }
@@ -79,8 +80,8 @@ impl Book {
         }
     }
 
-    /// Sets the owner of the description (`man 2 fcntl`, F_SETOWN). Where there is none of that name, nothing changes.
-    /// Takes no memory.
+    /// Sets the owner of the description (`man 2 fcntl`, F_SETOWN). Where there is none of that name, nothing
+    /// changes. Takes no memory.
     #[tactic(auto, unfolding(crate::specs::Books::with_changed))]
     pub fn set_owner(&mut self, id: DescId, owner: Option<RealPid>)
         ensures { self.new ≡ with_changed (with_owner owner) self.old id }

@@ -12,8 +12,8 @@ use std::alloc::AllocError;
 use sys_abi::{DescId, Descriptor, Fd, RealPid};
 
 impl Book {
-    /// Closes the descriptor, and tells the description that lost its last one by that, which is gone (`man 2 close`).
-    /// Takes no memory.
+    /// Closes the descriptor, and tells the description that lost its last one by that, which is gone
+    /// (`man 2 close`). Takes no memory.
     ///
     /// # Errors
     /// `BadFd` where the descriptor is not open.
@@ -29,8 +29,8 @@ impl Book {
         }
     }
 
-    /// Gives the child, which has no descriptor, the descriptors of the process, which refer to the same descriptions
-    /// (`man 2 fork`). After a failed allocation all is as before.
+    /// Gives the child, which has no descriptor, the descriptors of the process, which refer to the same
+    /// descriptions (`man 2 fork`). After a failed allocation all is as before.
     pub fn fork_table(&mut self, p: RealPid, child: RealPid) -> Result<(), AllocError>
         requires { NoneOpen self.old.descriptors child 0 }
         ensures same { OnOk result ((fd : ℕ) →
@@ -50,8 +50,8 @@ impl Book {
         Ok(())
     }
 
-    /// Closes the lowest descriptor of the process, and tells it with the description that lost its last one by that,
-    /// which is gone. Takes no memory.
+    /// Closes the lowest descriptor of the process, and tells it with the description that lost its last one
+    /// by that, which is gone. Takes no memory.
     pub fn end_table(&mut self, p: RealPid) -> Option<(Fd, Option<DescId>)>
         ensures lowest { MatchOption result (NoneOpen self.old.descriptors p 0)
             (λ closed. IsLowestOpen self.old.descriptors p 0 closed.0.0) }

@@ -38,8 +38,8 @@ impl Book {
         Ok(Fd(fd))
     }
 
-    /// Puts a descriptor of the description at a number that is free. Where there is no description of that name, it is
-    /// made; else it stays as it is. After a failed allocation all is as before.
+    /// Puts a descriptor of the description at a number that is free. Where there is no description of that
+    /// name, it is made; else it stays as it is. After a failed allocation all is as before.
     #[tactic(auto, unfolding(crate::specs::Books::with_new))]
     pub fn place_at(
         &mut self,
@@ -60,11 +60,12 @@ impl Book {
         }
     }
 
-    /// Puts a second descriptor of the same description at the lowest free number, without close-on-exec (`man 2 dup`).
+    /// Puts a second descriptor of the same description at the lowest free number, without close-on-exec
+    /// (`man 2 dup`).
     ///
     /// # Errors
-    /// `BadFd` where the descriptor is not open, else `TooMany` where no number is free. After an error all is as
-    /// before.
+    /// `BadFd` where the descriptor is not open, else `TooMany` where no number is free. After an error all
+    /// is as before.
     pub fn dup(&mut self, p: RealPid, fd: Fd) -> Result<Fd, BookFault>
         ensures bad { (result ≡ Err BookFault.BadFd) ↔ (map.get self.old.descriptors (slot p fd.0) ≡ None) }
         ensures too_many { (result ≡ Err BookFault.TooMany)
@@ -77,11 +78,12 @@ impl Book {
         self.dup_from(p, fd, 0, false)
     }
 
-    /// Puts a second descriptor of the same description at the lowest free number from `min` on (`man 2 fcntl`, F_DUPFD).
+    /// Puts a second descriptor of the same description at the lowest free number from `min` on
+    /// (`man 2 fcntl`, F_DUPFD).
     ///
     /// # Errors
-    /// `BadFd` where the descriptor is not open, else `TooMany` where no number from `min` on is free. After an error all
-    /// is as before.
+    /// `BadFd` where the descriptor is not open, else `TooMany` where no number from `min` on is free. After
+    /// an error all is as before.
     pub fn dup_from(&mut self, p: RealPid, fd: Fd, min: u32, cloexec: bool) -> Result<Fd, BookFault>
         ensures bad { (result ≡ Err BookFault.BadFd) ↔ (map.get self.old.descriptors (slot p fd.0) ≡ None) }
         ensures too_many { (result ≡ Err BookFault.TooMany)
@@ -101,8 +103,8 @@ impl Book {
         Ok(Fd(to))
     }
 
-    /// Puts a second descriptor of the same description at the number `to`, where what was open there is closed first
-    /// (`man 2 dup3`). Tells the description that lost its last descriptor by that.
+    /// Puts a second descriptor of the same description at the number `to`, where what was open there is
+    /// closed first (`man 2 dup3`). Tells the description that lost its last descriptor by that.
     ///
     /// # Errors
     /// `BadFd` where the descriptor is not open. After an error all is as before.

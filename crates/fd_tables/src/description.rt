@@ -34,8 +34,8 @@ impl Object {
     }
 }
 
-/// An open description (`man 2 open`): its object, access mode and status flags, and the process that F_SETOWN set as
-/// its owner.
+/// An open description (`man 2 open`): its object, access mode and status flags, and the process that
+/// F_SETOWN set as its owner.
 #[derive(Clone, Copy, Debug, PartialEq, Eq)]
 pub struct Desc {
     pub object: Object,

@@ -139,8 +139,8 @@ impl Tables {
         set_place(&mut self.tables, p, fd, None);
     }
 
-    /// Gives the child, which has no descriptor, the descriptors of the process. After a failed allocation all is as
-    /// before.
+    /// Gives the child, which has no descriptor, the descriptors of the process. After a failed allocation
+    /// all is as before.
     pub fn copy(&mut self, p: RealPid, child: RealPid) -> Result<(), AllocError>
         requires { NoneOpen self.old child 0 }
         ensures same { OnOk result ((fd : ℕ) → map.get self.new (slot child fd) ≡ map.get self.old (slot p fd)) }

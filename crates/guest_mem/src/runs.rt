@@ -16,8 +16,8 @@ const FIRST_PAGE: usize = 0x40000;
 const END_PAGE: usize = 0x70000;
 
 impl Space {
-    /// The lowest page of a mapping from which so many are free, if there is one. The walk jumps over each page that is
-    /// there once.
+    /// The lowest page of a mapping from which so many are free, if there is one. The walk jumps over each
+    /// page that is there once.
     pub fn free_run(&self, count: u32) -> Option<u32>
         ensures run { result ≡ free_run self.now count }
         ensures free { IfSome result (λ page. IsFree self.now page count) }
@@ -47,8 +47,8 @@ impl Space {
         }
     }
 
-    /// Puts zeroed pages at so many numbers from one on, in the place of those that stand there. Where some do, it works on
-    /// a copy, so that after a failed allocation all is as before.
+    /// Puts zeroed pages at so many numbers from one on, in the place of those that stand there. Where some
+    /// do, it works on a copy, so that after a failed allocation all is as before.
     pub fn put_zeroed(
         &mut self,
         alloc: Global,

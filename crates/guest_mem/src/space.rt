@@ -96,7 +96,8 @@ impl Space {
         }
     }
 
-    /// The number that the `size` bytes at an address spell, the least significant first. It needs the right to read.
+    /// The number that the `size` bytes at an address spell, the least significant first. It needs the right
+    /// to read.
     #[inline(always)]
     pub fn load(&self, address: u32, size: u32) -> Result<u32, MemFault>
         requires { (size ≡ 1) ⊎ (size ≡ 2) ⊎ (size ≡ 4) }
@@ -229,8 +230,8 @@ impl Space {
         }
     }
 
-    /// Puts the first `size` bytes of a number at an address, the least significant first. It needs the right to write.
-    /// A refused store writes no byte.
+    /// Puts the first `size` bytes of a number at an address, the least significant first. It needs the right
+    /// to write. A refused store writes no byte.
     #[inline(always)]
     pub fn store(&mut self, address: u32, size: u32, value: u32) -> Result<(), MemFault>
         requires { (size ≡ 1) ⊎ (size ≡ 2) ⊎ (size ≡ 4) }
@@ -282,7 +283,8 @@ impl Space {
             .write(address / 4096, (address % 4096) as usize, piece);
     }
 
-    /// Makes the pages of a range this space's own, so that writes to them take no memory. It needs the right to write.
+    /// Makes the pages of a range this space's own, so that writes to them take no memory. It needs the right
+    /// to write.
     pub fn own_pages(&mut self, address: u32, n: u32) -> Result<(), MemFault>
         ensures contents { self.new ≡ self.old }
         ensures refused { result_err result ≡ refusal self.old right.Write address n }
@@ -372,7 +374,8 @@ impl Space {
         self.frames.remove(page);
     }
 
-    /// Puts zeroed pages at so many numbers from one on (`man 2 mmap`, anonymous). After a refusal all is as before.
+    /// Puts zeroed pages at so many numbers from one on (`man 2 mmap`, anonymous). After a refusal all is as
+    /// before.
     pub fn map(&mut self, page: u32, count: u32, rights: u8) -> Result<(), MemFault>
         requires numbers { page + count ≤ 2 ^ 20 }
         requires rights { rights < 8 }
@@ -413,8 +416,8 @@ impl Space {
         Ok(())
     }
 
-    /// Takes the pages of so many numbers from one on away (`man 2 munmap`); those that are missing are passed over, in
-    /// time that is bounded by what the table holds and not by the count.
+    /// Takes the pages of so many numbers from one on away (`man 2 munmap`); those that are missing are
+    /// passed over, in time that is bounded by what the table holds and not by the count.
     pub fn unmap(&mut self, page: u32, count: u32)
         requires { page + count ≤ 2 ^ 20 }
         ensures { self.new ≡ without_pages self.old page count }

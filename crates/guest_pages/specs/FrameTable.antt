@@ -1,4 +1,5 @@
--- The frames of a table of rows, each of 1,024 places: page number q stands in row q / 1024 at place q % 1024.
+-- The frames of a table of rows, each of 1,024 places: page number q stands in row q / 1024 at place
+-- q % 1024.
 --     cell_at rows number               what stands there
 --     with_cell memory number cell      the memory with this frame at the number, or with none there
 --     frames_of rows                    the memory that the rows are

@@ -82,8 +82,8 @@ impl FrameBlock {
         access::put_number(frame, offset, size, value);
     }
 
-    /// Puts the first `size` bytes of a number into the frame at a place, where there is one that may be written, and tells
-    /// whether.
+    /// Puts the first `size` bytes of a number into the frame at a place, where there is one that may be
+    /// written, and tells whether.
     #[inline(always)]
     pub fn store(&mut self, at: usize, offset: usize, size: u32, value: u32) -> bool
         requires size { (size ≡ 1) ⊎ (size ≡ 2) ⊎ (size ≡ 4) }

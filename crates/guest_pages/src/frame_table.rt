@@ -82,8 +82,8 @@ impl FrameTable {
         self.get(page).is_some()
     }
 
-    /// Puts a frame at a number, in the place of the one that stands there. After a failed allocation the table is as
-    /// before.
+    /// Puts a frame at a number, in the place of the one that stands there. After a failed allocation the
+    /// table is as before.
     pub fn insert(&mut self, page: u32, frame: Frame) -> Result<(), AllocError>
         requires { map.len self.old < 2 ^ 32 }
         ensures ok { OnOk result (self.new ≡ map.insert self.old page frame) }

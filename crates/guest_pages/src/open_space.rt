@@ -11,8 +11,8 @@ use plain_process::{Frame, Right};
 use std::marker::Model;
 use sys_abi::page::PAGE_SIZE;
 
-/// The pages of a space, of which one that may be executed stands apart: its words are fetched with no look-up, while the
-/// others are written. To a caller it is the whole memory.
+/// The pages of a space, of which one that may be executed stands apart: its words are fetched with no
+/// look-up, while the others are written. To a caller it is the whole memory.
 #[derive(Drop)]
 pub struct OpenSpace {
     pub(crate) blocks: Vec<FrameBlock>,
@@ -84,8 +84,8 @@ impl OpenSpace {
         }
     }
 
-    /// Puts the first `size` bytes of a number at an address, where they lie in one page that may be written and doesn't
-    /// stand apart, and tells whether.
+    /// Puts the first `size` bytes of a number at an address, where they lie in one page that may be written
+    /// and doesn't stand apart, and tells whether.
     #[inline(always)]
     pub fn store(&mut self, address: u32, size: u32, value: u32) -> bool
         requires { (size ≡ 1) ⊎ (size ≡ 2) ⊎ (size ≡ 4) }

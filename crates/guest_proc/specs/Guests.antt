@@ -1,4 +1,5 @@
--- A guest as its callers see it: its virtual number, its user part and its room for threads; and what a run tells of where a thread stands.
+-- A guest as its callers see it: its virtual number, its user part and its room for threads; and what a run
+-- tells of where a thread stands.
 use Rattle.std.specs.Prelude.{◌≡◌, ℕ, true, is_some, refl}
 use Rattle.std.specs.Coded.{Coded, code_by, coded×, coded_ℕ}
 use Rattle.std.specs.Ordering.{nat_cmp}

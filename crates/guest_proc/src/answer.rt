@@ -14,8 +14,8 @@ use plain_process::threads::added_thread;
 use sys_abi::{Reply, Tid, Transfer};
 
 impl Guest {
-    /// The part after a call's answer. An exit's ends the thread, and a clone's may add one, into room that is there. Takes
-    /// no memory.
+    /// The part after a call's answer. An exit's ends the thread, and a clone's may add one, into room that
+    /// is there. Takes no memory.
     pub fn answer(&mut self, t: Tid, request: &Request, reply: Reply, transfer: &Transfer)
         requires writable { CanTake self.old.user.memory (filled_spans self.old.user.memory request.now) transfer.now }
         requires added { CanAdd self.old.user request.now reply }

@@ -19,8 +19,8 @@ impl Guest {
         self.group.reserve(alloc)
     }
 
-    /// Adds the thread that a clone makes of its caller, which still stands at the call, into room that is there. The new
-    /// thread goes on after the call, with 0 in a0. Takes no memory.
+    /// Adds the thread that a clone makes of its caller, which still stands at the call, into room that is
+    /// there. The new thread goes on after the call, with 0 in a0. Takes no memory.
     #[tactic(auto, unfolding(plain_process::specs::Put::added_thread, plain_process::specs::Threads::with_called_thread))]
     pub fn add_thread(&mut self, t: Tid, new: Tid, request: &Request)
         requires thread { HasThread self.old.user t.0 }

@@ -25,7 +25,8 @@ impl Guest {
         decided(action, s, mask, count, self.traps_with(t, s))
     }
 
-    /// Delivers a signal to a thread, which waits on a word or stands at a call that isn't ready, or doesn't. Takes no memory.
+    /// Delivers a signal to a thread, which waits on a word or stands at a call that isn't ready, or doesn't.
+    /// Takes no memory.
     pub fn deliver(&mut self, t: Tid, s: Signal, not_ready: bool) -> Delivered
         requires { HasThread self.old.user t.0 }
         ensures told { result ≡ delivered_by (words.deliver self.old.user t.0 s.0 not_ready) }

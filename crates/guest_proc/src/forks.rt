@@ -16,8 +16,8 @@ use std::alloc::{AllocError, Global};
 use sys_abi::{Tid, VPid};
 
 impl Guest {
-    /// The child that this thread's fork makes, while its number isn't known: its memory, break and actions are its
-    /// parent's, and its one thread stands at the call still.
+    /// The child that this thread's fork makes, while its number isn't known: its memory, break and actions
+    /// are its parent's, and its one thread stands at the call still.
     pub fn fork_guest(&self, alloc: Global, t: Tid) -> Result<Guest, AllocError>
         ensures { IfOk result (λ guest. guest ≡ record { pid = self.now.pid; user = twin_of self.now.user t.0; spare = 0 }) }
     {
@@ -28,8 +28,8 @@ impl Guest {
         })
     }
 
-    /// Gives the child that `fork_guest` made the number that its parent's call answers: a fork that has all buffers that
-    /// it needs. The child's thread then stands behind the call. Takes no memory.
+    /// Gives the child that `fork_guest` made the number that its parent's call answers: a fork that has all
+    /// buffers that it needs. The child's thread then stands behind the call. Takes no memory.
     #[tactic(auto, unfolding(plain_process::specs::Put::made_by, plain_process::specs::Threads::child_of))]
     pub fn settle(&mut self, child: VPid, request: &Request)
         requires fork { made_by request.now (Value child.0) ≡ Some child.0 }

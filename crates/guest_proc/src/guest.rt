@@ -41,8 +41,8 @@ impl Model for Guest {
 }
 
 impl Guest {
-    /// The start of a program with these argument strings, each with its zero byte, the name first: its one thread has the
-    /// process's own number.
+    /// The start of a program with these argument strings, each with its zero byte, the name first: its one
+    /// thread has the process's own number.
     #[tactic(auto, unfolding(plain_process::specs::Start::start_user))]
     pub fn load(
         alloc: Global,
@@ -63,7 +63,8 @@ impl Guest {
         })
     }
 
-    /// The image of the process: copies of all that its part holds, in rising order of the numbers of pages and threads.
+    /// The image of the process: copies of all that its part holds, in rising order of the numbers of pages
+    /// and threads.
     #[tactic(auto, unfolding(image_process::specs::UserParts::user_of))]
     pub fn image(&self, alloc: Global) -> Result<ProcImage, AllocError>
         ensures pid { IfOk result (λ image. image.pid ≡ self.now.pid) }
@@ -139,7 +140,8 @@ impl Guest {
     ///
     /// # Errors
     ///
-    /// `Fault` exactly where some buffer of the call is not readable or writable as it needs; the transfer is as before.
+    /// `Fault` exactly where some buffer of the call is not readable or writable as it needs; the transfer is
+    /// as before.
     pub fn lend(
         &mut self,
         t: Tid,
@@ -155,8 +157,8 @@ impl Guest {
         self.memory.lend(request, transfer)
     }
 
-    /// The front of the bytes that `lend` would lend, with zeros where they are fewer; None where it would answer a fault.
-    /// Whether the call waits hangs on no later byte.
+    /// The front of the bytes that `lend` would lend, with zeros where they are fewer; None where it would
+    /// answer a fault. Whether the call waits hangs on no later byte.
     pub fn front(&self, request: &Request) -> Option<Given>
         ensures fault { (result ≡ None) ↔ (lent self.now.user.memory request.now ≡ None) }
         ensures front { IfSome result (λ front. (given : List ℕ)

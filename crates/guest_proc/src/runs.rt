@@ -25,8 +25,8 @@ impl Guest {
         self.group.waits(t)
     }
 
-    /// Runs instructions of a thread, at most `quantum` of them, until one asks for a call or traps. Tells how many it ran
-    /// and where the thread stands then: `Whole` exactly where it ran all of them.
+    /// Runs instructions of a thread, at most `quantum` of them, until one asks for a call or traps. Tells
+    /// how many it ran and where the thread stands then: `Whole` exactly where it ran all of them.
     pub fn run(&mut self, t: Tid, quantum: u32) -> (u32, Ran)
         requires thread { HasThread self.old.user t.0 }
         requires some { 1 ≤ quantum }
@@ -60,7 +60,8 @@ impl Guest {
         (count, ran_of(stop, &regs))
     }
 
-    /// Where a thread stands: `Whole` exactly where its next instruction goes on. Changes nothing and takes no memory.
+    /// Where a thread stands: `Whole` exactly where its next instruction goes on. Changes nothing and takes
+    /// no memory.
     pub fn look(&self, t: Tid) -> Ran
         requires { HasThread self.now.user t.0 }
         ensures { result ≡ ran_at (user_step self.now.user t.0) }

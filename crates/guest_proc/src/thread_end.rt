@@ -7,8 +7,8 @@ use crate::guest::Guest;
 use sys_abi::Tid;
 
 impl Guest {
-    /// Ends a thread: the word that it is to clear is 0, and the first that waits there goes on. Tells whether no thread is
-    /// left. Takes no memory.
+    /// Ends a thread: the word that it is to clear is 0, and the first that waits there goes on. Tells
+    /// whether no thread is left. Takes no memory.
     pub fn end_thread(&mut self, t: Tid) -> bool
         ensures part { self.new ≡ with_user self.old (words.after_thread_end self.old.user t.0) }
         ensures last { IsTrue result ↔ (map.len self.new.user.threads ≡ 0) }

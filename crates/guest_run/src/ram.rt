@@ -54,8 +54,8 @@ impl Ram {
     }
 }
 
-/// The memory of a stretch of instructions: the page of their code stands apart, so that it is fetched from with no look-up
-/// while the others are written. What it can't do at speed it refuses.
+/// The memory of a stretch of instructions: the page of their code stands apart, so that it is fetched from
+/// with no look-up while the others are written. What it can't do at speed it refuses.
 #[derive(Drop)]
 pub struct OpenRam {
     space: OpenSpace,

@@ -40,7 +40,8 @@ fn instruction(regs: &mut Regs, ram: &mut Ram) -> Outcome
     exec(insn, regs, ram)
 }
 
-/// One instruction at the program counter, on a copy of the registers, so that those of the loop are lent to nothing else.
+/// One instruction at the program counter, on a copy of the registers, so that those of the loop are lent to
+/// nothing else.
 #[inline(always)]
 fn instruction_apart(regs: &mut Regs, ram: &mut Ram) -> Outcome
     ensures outcome { IsOutcome result (effect_at regs.old ram.old) regs.new ram.new }

@@ -6,8 +6,8 @@ use crate::ram::{OpenRam, Ram};
 use plain_process::Regs;
 use rv_step::step;
 
-/// Instructions in a row, at most `room` of them, whose words lie in the page that stands apart: how many. None of them
-/// stores into that page.
+/// Instructions in a row, at most `room` of them, whose words lie in the page that stands apart: how many.
+/// None of them stores into that page.
 #[inline(always)]
 fn stretch_in(regs: &mut Regs, ram: &mut OpenRam, room: u32) -> u32
     requires { IsZeroHeld regs.old.x }
@@ -30,8 +30,8 @@ fn stretch_in(regs: &mut Regs, ram: &mut OpenRam, room: u32) -> u32
     room
 }
 
-/// The same from the program counter on: none where its page is missing or may not be executed, or where the place of x0
-/// holds another number than 0, as an image may have it.
+/// The same from the program counter on: none where its page is missing or may not be executed, or where the
+/// place of x0 holds another number than 0, as an image may have it.
 #[inline(always)]
 pub fn stretch(regs: &mut Regs, ram: &mut Ram, room: u32) -> u32
     ensures run { HasRun result regs.old ram.old regs.new ram.new }

@@ -11,7 +11,8 @@ use plain_process::{Context, SignalAction};
 use sys_abi::Signal;
 
 impl Threads {
-    /// Saves what the handler of a signal interrupts, and has the thread go on in the handler, if it is there.
+    /// Saves what the handler of a signal interrupts, and has the thread go on in the handler, if it is
+    /// there.
     pub fn enter_handler(&mut self, t: u32, action: SignalAction, s: Signal, is_unready: bool)
         requires { IfSome (map.get self.old.threads t) (λ thread. length thread.contexts < CONTEXT_LIMIT) }
         ensures { self.new ≡ at_thread self.old t (λ thread. entered thread action s.0 is_unready) }

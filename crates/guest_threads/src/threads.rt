@@ -26,7 +26,8 @@ use std::alloc::{AllocError, Global};
 use std::marker::Model;
 use views::list_of::ListOf;
 
-/// The threads of a process by their numbers, each with room for 64 saved contexts, and the room for one more or for none.
+/// The threads of a process by their numbers, each with room for 64 saved contexts, and the room for one more
+/// or for none.
 #[derive(Drop)]
 pub struct Threads {
     rows: Vec<Row>,
@@ -227,7 +228,8 @@ impl Threads {
         }
     }
 
-    /// The one thread that is there goes on as a fork's child with this number, behind the call with these arguments.
+    /// The one thread that is there goes on as a fork's child with this number, behind the call with these
+    /// arguments.
     pub fn settle(&mut self, number: u32, flags: u32, stack: u32, tls: u32, child_tid: u32)
         ensures threads { (t : ℕ) (caller : ThreadPart) → self.old.threads ≡ alone t (Some caller)
             → self.new.threads ≡ alone number (Some (child_thread caller flags stack tls child_tid)) }

@@ -33,8 +33,8 @@ pub fn object_at(book: &Book, who: RealPid, fd: u32) -> Option<Object>
     }
 }
 
-/// What a book's change left to do: with the description that lost its last descriptor goes what it was of. Takes
-/// no memory.
+/// What a book's change left to do: with the description that lost its last descriptor goes what it was of.
+/// Takes no memory.
 pub fn finish(kernel: &mut Kernel, lost: Option<DescId>, object: Option<Object>) -> Option<Closed>
     ensures told { result ≡ closed_of lost object }
     ensures goes { IfSome result (λ closed. HasLetGo kernel.old kernel.new closed.object) }

@@ -101,8 +101,8 @@ impl<V> ByDesc<V> {
         self.entries.retain(|key, _| keep(*key));
     }
 
-    /// Keeps the entries at whose values the closure answers true, each with the value that the closure leaves there.
-    /// Takes no memory.
+    /// Keeps the entries at whose values the closure answers true, each with the value that the closure
+    /// leaves there. Takes no memory.
     pub fn retain_values<F: FnMut(&DescId, &mut V) -> bool>(&mut self, keep: F)
     where
         V: Drop,

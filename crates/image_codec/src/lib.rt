@@ -1,15 +1,16 @@
-//! The files of a checkpoint set and the plain state for which they stand: what the crates below say of each file, put
-//! together.
+//! The files of a checkpoint set and the plain state for which they stand: what the crates below say of each
+//! file, put together.
 //!
-//! The shared image stands for a kernel part: [`shared_image`] makes the one of a kernel part, and [`restored_kernel`] the
-//! kernel part of one. `specs/Sets.antt` says which plain state a whole set spells. The values of files, with their writers,
-//! are those of `image_format` (the manifest), `image_shared`, `shared_writer` and `image_process`, handed on from here; the
-//! reader of the shared image stands in `shared_reader`.
+//! The shared image stands for a kernel part: [`shared_image`] makes the one of a kernel part, and
+//! [`restored_kernel`] the kernel part of one. `specs/Sets.antt` says which plain state a whole set spells.
+//! The values of files, with their writers, are those of `image_format` (the manifest), `image_shared`,
+//! `shared_writer` and `image_process`, handed on from here; the reader of the shared image stands in
+//! `shared_reader`.
 //!
-//! Proved: all of that, for every value and all bytes, [`file_laws`], [`image_laws`] and of whole sets [`set_laws`]: every
-//! valid state has a set, where no datagram end or event counter is open and all bytes have arrived, and what a set spells
-//! is such a state. Not proved here: that an image is that of a running process. The formats are this project's own
-//! (`docs/FORMATS.md`) and restate no standard.
+//! Proved: all of that, for every value and all bytes, [`file_laws`], [`image_laws`] and of whole sets
+//! [`set_laws`]: every valid state has a set, where no datagram end or event counter is open and all bytes
+//! have arrived, and what a set spells is such a state. Not proved here: that an image is that of a running
+//! process. The formats are this project's own (`docs/FORMATS.md`) and restate no standard.
 #![tactic(auto)]
 
 pub mod kernel_image;

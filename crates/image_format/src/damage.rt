@@ -3,8 +3,9 @@ ghost use Rattle.std.specs.Prelude.{◌≡◌, ◌-◌, ◌≤◌, length};
 use std::alloc::AllocError;
 use thiserror::Error;
 
-/// Where a set is damaged: a file of the slot, by its index (0 the manifest, 1 the shared image, then the images of
-/// processes), and the offset in bytes of the first field whose value is not allowed after the fields before it.
+/// Where a set is damaged: a file of the slot, by its index (0 the manifest, 1 the shared image, then the
+/// images of processes), and the offset in bytes of the first field whose value is not allowed after the
+/// fields before it.
 #[derive(Clone, Copy, Debug, PartialEq, Eq)]
 pub struct Damage {
     pub file: u32,

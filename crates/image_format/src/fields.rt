@@ -1,5 +1,5 @@
-// Single fields at the front of the bytes that are left. A reader answers the field and what follows it; a writer puts the
-// field at the end. A number has its least significant byte first.
+// Single fields at the front of the bytes that are left. A reader answers the field and what follows it; a
+// writer puts the field at the end. A number has its least significant byte first.
 ghost use Rattle.std.specs.Prelude.{◌≡◌, ◌++◌, length, IfOk, OnOk};
 ghost use Rattle.image_format.specs.Fields.{is_bytes};
 ghost use Rattle.image_format.specs.Format.{any, raw, unsigned, n8, n16, n32, n64, number_text};

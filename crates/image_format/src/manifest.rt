@@ -14,7 +14,8 @@ use crate::fields::{
 use std::alloc::{AllocError, Global};
 use views::list_of::ListOf;
 
-/// What a manifest tells of its set: the generation, and for each further file of the slot its length in bytes.
+/// What a manifest tells of its set: the generation, and for each further file of the slot its length in
+/// bytes.
 #[derive(Debug, PartialEq, Eq, Drop)]
 pub struct Manifest {
     pub generation: u64,

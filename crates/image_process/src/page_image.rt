@@ -124,7 +124,8 @@ fn next_after(limit: u64, next: u64, page: &PageImage) -> u64
     }
 }
 
-/// Whether each page is there that holds a byte from the break's start to below the break. The pages are in rising order.
+/// Whether each page is there that holds a byte from the break's start to below the break. The pages are in
+/// rising order.
 #[tactic(auto, using(crate::proofs::HeapWalk::walk_more, crate::proofs::HeapWalk::walk_all, crate::proofs::HeapWalk::heap_found))]
 pub(crate) fn has_heap(start: u32, end: u32, pages: &[PageImage]) -> bool
     requires order { start ≤ end }

@@ -161,8 +161,8 @@ fn read_image(
     }
 }
 
-/// The image of a process that this file of a set spells: of the live processes of the shared image in order, the first one's
-/// is file 2.
+/// The image of a process that this file of a set spells: of the live processes of the shared image in order,
+/// the first one's is file 2.
 pub fn read_process(
     alloc: Global,
     file: u32,

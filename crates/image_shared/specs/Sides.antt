@@ -1,5 +1,5 @@
--- Which open descriptions name a side of a channel: a stream that is its end, and a listener in whose queue it
--- waits to be accepted, which side 1 alone can.
+-- Which open descriptions name a side of a channel: a stream that is its end, and a listener in whose queue
+-- it waits to be accepted, which side 1 alone can.
 --     is_side_named descriptions conn side      some description of the list names it
 -- Source: docs/FORMATS.md, "Shared image".
 use Rattle.std.specs.Prelude.{◌==◌, ◌&&◌, ℕ, Bool, false, List}

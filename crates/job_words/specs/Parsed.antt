@@ -1,5 +1,5 @@
--- The options of a restart and of a ring as `clap` parses them: a long option a number, with its default, and no other
--- argument.
+-- The options of a restart and of a ring as `clap` parses them: a long option a number, with its default, and
+-- no other argument.
 use Rattle.std.specs.Prelude.{◌≡◌, ℕ, ◌<◌, ◌^◌, true, List, [], ◌∷◌, codes, Option, Some}
 use Rattle.std.specs.Fmt.{decimal}
 use Rattle.clap.specs.Walk.{Rule}

@@ -1,6 +1,7 @@
--- The words of programs: a host's number, a colon, the name of the program's file, and each argument after a comma. A
--- name may hold a colon, since the first one ends the host. Neither a name nor an argument holds a comma; an argument
--- may be empty. The started program finds its name and its arguments as C does: each with a zero byte at its end.
+-- The words of programs: a host's number, a colon, the name of the program's file, and each argument after a
+-- comma. A name may hold a colon, since the first one ends the host. Neither a name nor an argument holds a
+-- comma; an argument may be empty. The started program finds its name and its arguments as C does: each with
+-- a zero byte at its end.
 use Rattle.std.specs.Prelude.{◌≢◌, ℕ, ◌+◌, ◌<◌, ◌≤◌, max, List, [], ◌∷◌, ◌++◌, length, fold, All}
 use Rattle.std.specs.List.{flat_map}
 use Rattle.std.specs.Fmt.{decimal}

@@ -48,7 +48,8 @@ pub struct RingOutline {
     pub workers: u32,
 }
 
-/// The outline of the job that the words ask for. Takes no memory. Of words that ask for none it tells nothing.
+/// The outline of the job that the words ask for. Takes no memory. Of words that ask for none it tells
+/// nothing.
 pub fn outline_words(words: &[String]) -> Outline
     ensures { (job : Job) → IsJob (map string_bytes words.now) job → result ≡ outline_of job }
 {

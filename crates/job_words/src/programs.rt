@@ -82,8 +82,8 @@ fn larger(hosts: u32, host: u32) -> u32
     if hosts <= host { host + 1 } else { hosts }
 }
 
-/// How many nodes a launch of these programs has, where so many are asked for. `None` exactly where the words are of
-/// no programs that it may have.
+/// How many nodes a launch of these programs has, where so many are asked for. `None` exactly where the words
+/// are of no programs that it may have.
 pub(crate) fn nodes_for(asked: Option<u32>, words: &[String]) -> Option<u32>
     ensures some { IfSome result (λ nodes. (programs : List ProgramText) × IsNodesOf asked (texts_of words.now) programs × (nodes ≡ unwrap_or asked (hosts_of programs))) }
     ensures none { IfNone result ((programs : List ProgramText) → IsNodesOf asked (texts_of words.now) programs → ⊥) }

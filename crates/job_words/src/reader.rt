@@ -17,8 +17,8 @@ const LEAST_RING: u32 = 2;
 
 const GREATEST_RING: u32 = 16;
 
-/// The job that the words ask for, which are those after the program's own name. `Usage` exactly where the words are of
-/// no command; it never gives way to want of memory. `help` alone wants none.
+/// The job that the words ask for, which are those after the program's own name. `Usage` exactly where the
+/// words are of no command; it never gives way to want of memory. `help` alone wants none.
 pub fn read_words(alloc: Global, words: &[String]) -> Result<Job, WordFault>
     ensures found { IfOk result (IsJob (map string_bytes words.now)) }
     ensures usage { (result ≡ Err Usage) ↔ SpellNothing (map string_bytes words.now) }

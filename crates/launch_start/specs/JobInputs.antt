@@ -57,8 +57,8 @@ pub record AreInputs (files : Option NamedFiles) (job : LaunchJob) (inputs : Job
   pub programs_told :
       All (λ (input : ProgramInput). IsContent files input.program.name input.content) inputs.programs
 
--- why a launch is refused: an input that could not be read or is not held, a program that breaks a rule of its
--- format, files of too many bytes in all
+-- why a launch is refused: an input that could not be read or is not held, a program that breaks a rule of
+-- its format, files of too many bytes in all
 pub data Refusal : Type 0 where
   unread : Text → Refusal
   missing : Text → Refusal

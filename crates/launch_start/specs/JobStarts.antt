@@ -88,8 +88,8 @@ pub record IsStartOf (c : Computation) (read : JobInputs) : Type 0 where
   pub files : AreNamed (map named_file read.files)
   pub programs : All CanLaunch (map launched read.programs)
 
--- these were read, nothing was wrong with any of them, and as long as the files have not too many bytes the start is
--- that of them
+-- these were read, nothing was wrong with any of them, and as long as the files have not too many bytes the
+-- start is that of them
 pub record HasRead (files : Option NamedFiles) (start : JobStart) (read : JobInputs) : Type 0 where
   pub files_told : All (λ (input : FileInput). IsContent files input.name input.content) read.files
   pub programs_told : All (λ (input : ProgramInput). IsContent files input.program.name input.content) read.programs

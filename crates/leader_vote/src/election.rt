@@ -7,8 +7,8 @@ ghost use Rattle.leader_vote.specs.Elections.{leader_of, after_vote, after_vote_
 use fd_book::Book;
 use sys_abi::{DescId, Fd, RealPid};
 
-/// The process sets itself as the owner of each description that it holds, in place of the owner that it has. Takes no
-/// memory.
+/// The process sets itself as the owner of each description that it holds, in place of the owner that it has.
+/// Takes no memory.
 pub fn vote(book: &mut Book, p: RealPid)
     ensures voted { book.new ≡ after_vote book.old p }
     ensures leads { (id : DescId) → IsHolder book.old.descriptors id p → leader_of book.new id ≡ Some p }
@@ -20,8 +20,8 @@ pub fn vote(book: &mut Book, p: RealPid)
     }
 }
 
-/// The process that leads the description: its owner, and none exactly where it has none or isn't there. Takes no
-/// memory.
+/// The process that leads the description: its owner, and none exactly where it has none or isn't there.
+/// Takes no memory.
 pub fn leader(book: &Book, d: DescId) -> Option<RealPid>
     ensures { result ≡ leader_of book.now d }
 {

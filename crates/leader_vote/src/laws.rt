@@ -1,7 +1,7 @@
 ghost use Rattle.leader_vote.specs.Elections.{LastVoterLeads, NoneWithoutVote, VotesGiveLeaders, OwnersAlone, OneMoreVote, TestsHolders};
 
-/// What elections come to, for every book, every list of voters and every list of pending connections. It does
-/// nothing.
+/// What elections come to, for every book, every list of voters and every list of pending connections. It
+/// does nothing.
 pub fn leader_laws()
     // The last voter among the holders leads, and nobody exactly where no holder has voted.
     ensures last { LastVoterLeads }

@@ -1,6 +1,6 @@
--- The options of a command line. A word is the list of its bytes. An option is two words, its name and its value; a
--- number is written in decimal, without a sign and without leading zeros. Each option is given at most once, but for
--- `--file`.
+-- The options of a command line. A word is the list of its bytes. An option is two words, its name and its
+-- value; a number is written in decimal, without a sign and without leading zeros. Each option is given at
+-- most once, but for `--file`.
 --
 --     option        of                       range
 --     --nodes       launch, restart          1 to 16

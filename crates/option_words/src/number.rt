@@ -1,7 +1,8 @@
 ghost use Rattle.std.specs.Prelude.{◌≡◌, ◌≤◌, ◌<◌, ◌^◌, ℕ, IfSome, IfNone};
 ghost use Rattle.std.specs.Fmt.{decimal};
 
-/// The number in a word, if it is from `least` to `greatest`. It is decimal, without a sign and without leading zeros.
+/// The number in a word, if it is from `least` to `greatest`. It is decimal, without a sign and without
+/// leading zeros.
 pub fn number_in(word: &str, least: u32, greatest: u32) -> Option<u32>
     ensures some { IfSome result (λ n. (least ≤ n) × (n ≤ greatest) × (word.now ≡ decimal n)) }
     ensures none { IfNone result ((n : ℕ) → least ≤ n → n ≤ greatest → word.now ≡ decimal n → ⊥) }

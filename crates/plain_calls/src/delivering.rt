@@ -40,8 +40,8 @@ pub fn traps_with(alloc: Global, user: &UserPart, t: Tid, s: Signal) -> Result<b
     }
 }
 
-/// Delivers a signal to a thread, which waits on a word or stands at a call that isn't ready, or doesn't. A delivery that
-/// enters no handler leaves the part as it was.
+/// Delivers a signal to a thread, which waits on a word or stands at a call that isn't ready, or doesn't. A
+/// delivery that enters no handler leaves the part as it was.
 #[tactic(auto, unfolding(plain_process::specs::Deliveries::deliver))]
 pub fn deliver(
     alloc: Global,

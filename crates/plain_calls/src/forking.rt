@@ -14,8 +14,8 @@ use views::duplicate::Duplicate;
 use views::list_of::ListOf;
 use views::number_map::NumberMap;
 
-/// The part of the child that a fork makes of a process, of which the child has the calling thread alone, under its own
-/// number (`man 2 fork`). The process's part is that before the call's answer.
+/// The part of the child that a fork makes of a process, of which the child has the calling thread alone,
+/// under its own number (`man 2 fork`). The process's part is that before the call's answer.
 pub fn child_of(
     alloc: Global,
     user: &UserPart,

@@ -2,8 +2,9 @@
 //!
 //! Each function computes the definition of its name in `plain_process`, in place where that changes a value.
 //!
-//! Proved: `local_row` is a call that the process answers alone, `put` and `put_fault` what an answer changes, `child_of` the
-//! part of a child, and `deliver` what a signal comes to; an error and a delivery that enters no handler change nothing.
+//! Proved: `local_row` is a call that the process answers alone, `put` and `put_fault` what an answer
+//! changes, `child_of` the part of a child, and `deliver` what a signal comes to; an error and a delivery
+//! that enters no handler change nothing.
 #![tactic(auto)]
 
 pub mod delivering;

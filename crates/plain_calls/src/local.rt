@@ -19,7 +19,8 @@ use std::alloc::{AllocError, Global};
 use sys_abi::errors::ENOSYS;
 use sys_abi::{Errno, Reply, Tid};
 
-/// Makes the call of a thread that is there, but for its answer, where `given` are the bytes that the call reads.
+/// Makes the call of a thread that is there, but for its answer, where `given` are the bytes that the call
+/// reads.
 #[tactic(auto, unfolding(plain_process::specs::Local::local_by))]
 fn local_by(
     alloc: Global,

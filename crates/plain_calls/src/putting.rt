@@ -18,8 +18,8 @@ use sys_abi::{Errno, Reply, Tid};
 use views::list_of::ListOf;
 use views::number_map::NumberMap;
 
-/// The part after a call's answer: a0 holds the reply, the bytes stand where the call asked for them, and the thread goes
-/// on after the call. An exit's answer ends the thread, and a clone's may add one.
+/// The part after a call's answer: a0 holds the reply, the bytes stand where the call asked for them, and the
+/// thread goes on after the call. An exit's answer ends the thread, and a clone's may add one.
 #[tactic(auto, unfolding(plain_process::specs::Put::put))]
 pub fn put(
     alloc: Global,
@@ -64,8 +64,8 @@ fn word_of(reply: Reply) -> u32
     }
 }
 
-/// Puts the bytes of an answer where the call asked for them: into the first span, and where there are two, the last ones
-/// into the second.
+/// Puts the bytes of an answer where the call asked for them: into the first span, and where there are two,
+/// the last ones into the second.
 fn put_spans(memory: &mut NumberMap<Frame>, spans: Spans, bytes: &[u8])
     requires { length bytes.now < 2 ^ 32 }
     ensures { memory.new ≡ words.with_spans memory.old (buffers.listed spans) bytes.now }

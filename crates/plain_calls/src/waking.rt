@@ -75,8 +75,8 @@ fn clear_word(alloc: Global, user: &mut UserPart, address: u32)
     wake_first(alloc, user, address);
 }
 
-/// Ends a thread: it is gone, the word that its end clears is 0, and who has waited longest there is awake. Takes no
-/// memory.
+/// Ends a thread: it is gone, the word that its end clears is 0, and who has waited longest there is awake.
+/// Takes no memory.
 #[tactic(auto, unfolding(plain_process::specs::Threads::after_thread_end))]
 pub fn end_thread(alloc: Global, user: &mut UserPart, t: Tid)
     ensures { user.new ≡ words.after_thread_end user.old t.0 }

@@ -37,7 +37,8 @@ subject (Call p t) = Some p
 subject (Deliver p t s) = Some p
 subject _ = None
 
--- a record of one process leaves the part of every other process that lives after it, but for one that it made
+-- a record of one process leaves the part of every other process that lives after it, but for one that it
+-- made
 abbrev pub RecordIsLocal : Type 0
 RecordIsLocal =
     (g next : Plain) (r : Record) (q : VPid) → step g r ≡ Some next → subject r ≢ Some q → q ≢ pid g.kernel.next_id → is_live next.kernel q ≡ true → map.get next.users q ≡ map.get g.users q

@@ -1,5 +1,5 @@
--- One record from a plain state: which state follows and what goes to the console, or nothing where the record
--- is no step of that state.
+-- One record from a plain state: which state follows and what goes to the console, or nothing where the
+-- record is no step of that state.
 --     outcome g r      both      step g r      the state alone
 use Rattle.std.specs.Prelude.{◌==◌, ◌&&◌, ◌||◌, ℕ, ◌+◌, Bool, true, false, not, nat_le, List, [], length, Option, Some, None, is_some, option_and_then, if◌then◌else◌}
 use Rattle.std.specs.Option.{option_map}

@@ -64,8 +64,8 @@ impl PlainKernel {
         self.let_go(alloc, id, description.object);
     }
 
-    /// Closes a descriptor of the process, if it is there; the last one of a description takes with it what that stands
-    /// for (`man 2 close`). Takes no memory.
+    /// Closes a descriptor of the process, if it is there; the last one of a description takes with it what
+    /// that stands for (`man 2 close`). Takes no memory.
     #[tactic(auto, unfolding(crate::specs::Closing::close_fd))]
     pub fn close_descriptor(&mut self, alloc: Global, p: VPid, fd: u32)
         ensures { self.new ≡ words.close_fd self.old p fd }

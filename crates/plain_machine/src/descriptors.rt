@@ -107,8 +107,8 @@ impl PlainKernel {
         Ok(())
     }
 
-    /// A new description, which nobody owns, behind a new descriptor. After want of memory the kernel part may
-    /// be any.
+    /// A new description, which nobody owns, behind a new descriptor. After want of memory the kernel part
+    /// may be any.
     pub fn place(
         &mut self,
         p: VPid,

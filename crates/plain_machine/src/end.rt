@@ -19,9 +19,9 @@ pub fn exit_status(code: u32) -> u32
 }
 
 impl PlainKernel {
-    /// Ends a process: its descriptors close, what it owned has no owner, its children have no parent and its zombies
-    /// go; then it is a zombie with this status, of which its live parent hears by a signal, or without one it is gone.
-    /// Takes no memory.
+    /// Ends a process: its descriptors close, what it owned has no owner, its children have no parent and its
+    /// zombies go; then it is a zombie with this status, of which its live parent hears by a signal, or
+    /// without one it is gone. Takes no memory.
     #[tactic(auto, unfolding(crate::specs::Ends::after_end))]
     pub fn end_process(&mut self, alloc: Global, p: VPid, status: u32)
         ensures { self.new ≡ words.after_end self.old p status }

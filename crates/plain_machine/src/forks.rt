@@ -19,7 +19,8 @@ impl PlainKernel {
         }
     }
 
-    /// A child of the process more, with the next number, on its host and with its descriptors (`man 2 fork`).
+    /// A child of the process more, with the next number, on its host and with its descriptors
+    /// (`man 2 fork`).
     #[tactic(auto, unfolding(crate::specs::Ends::after_fork))]
     pub fn add_child(&mut self, alloc: Global, p: VPid) -> Result<(), AllocError>
         requires { self.old.next_id + 1 < 2 ^ 32 }

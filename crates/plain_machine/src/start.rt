@@ -37,8 +37,9 @@ impl PlainKernel {
         }
     }
 
-    /// Adds a live process with one thread of its own number, the console on descriptors 0, 1 and 2, and nobody for a
-    /// parent; the next process or thread gets the number after it. Without memory the kernel part is as before.
+    /// Adds a live process with one thread of its own number, the console on descriptors 0, 1 and 2, and
+    /// nobody for a parent; the next process or thread gets the number after it. Without memory the kernel
+    /// part is as before.
     #[tactic(auto, unfolding(crate::specs::Start::with_process))]
     pub fn add_process(&mut self, alloc: Global, p: u32, host: u32) -> Result<(), AllocError>
         requires { p + 1 < 2 ^ 32 }

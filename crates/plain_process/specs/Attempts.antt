@@ -1,4 +1,5 @@
--- A call's row: tests in order, each of which may refuse with an error number, then the effect; or the call isn't ready.
+-- A call's row: tests in order, each of which may refuse with an error number, then the effect; or the call
+-- isn't ready.
 --     need, refuse_if, found      a test that refuses
 use Rattle.std.specs.Prelude.{ℕ, Bool, true, false, Option, Some, None}
 

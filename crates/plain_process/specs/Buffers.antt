@@ -1,5 +1,7 @@
--- The buffers of a call: which bytes it reads from its process's memory, and which its answer may write there.
--- Source: `man 2` of each call; a length is cut to 65,536, and a path ends with its first zero byte, within 256 bytes.
+-- The buffers of a call: which bytes it reads from its process's memory, and which its answer may write
+-- there.
+-- Source: `man 2` of each call; a length is cut to 65,536, and a path ends with its first zero byte, within
+-- 256 bytes.
 --     reads_of q      what the call reads      writes_of q size      what its answer may write, where size is the length of the address that it writes
 --     fills_of q size      what of that its answer fills in its own process
 --     lent memory q   the bytes that it reads, none where some buffer isn't readable or writable as needed (EFAULT)

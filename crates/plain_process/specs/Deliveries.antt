@@ -1,6 +1,7 @@
 -- What the delivery of a signal to a thread does to its process's part.
--- Source: `man 7 signal`, `man 2 sigaction`, `man 2 sigreturn`; that contexts are kept in the process, at most 64 for a thread, and that the process ends
--- with the signal's number as its status are this project's own rules.
+-- Source: `man 7 signal`, `man 2 sigaction`, `man 2 sigreturn`; that contexts are kept in the process, at
+-- most 64 for a thread, and that the process ends with the signal's number as its status are this project's
+-- own rules.
 --     deliver user t s is_unready      what a signal comes to, where t waits on a word or stands at a call that isn't ready, or doesn't
 --     delivered_told                   the same without the part that it leaves
 use Rattle.std.specs.Prelude.{◌==◌, ◌&&◌, ◌||◌, ℕ, ◌-◌, ◌*◌, ◌/◌, Bool, true, false, nat_lt, bit_or, [], ◌∷◌, ◌++◌, length, slice_get, Option, Some, None, unwrap_or, if◌then◌else◌}
@@ -49,7 +50,8 @@ interrupted is_unready flags regs =
     not_restarted : ℕ → Bool
     not_restarted flags = if has_flag flags SA_RESTART then false else true
 
--- the handler begins with the signal in a0, on a stack that is a multiple of 16, and returns to the page with the return code
+-- the handler begins with the signal in a0, on a stack that is a multiple of 16, and returns to the page with
+-- the return code
 abbrev pub RETURN_ADDRESS : ℕ
 RETURN_ADDRESS = 0x80000000
 

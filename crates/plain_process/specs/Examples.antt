@@ -1,4 +1,5 @@
--- Worked examples of the definitions, each value worked out by hand from the manual that its definition restates.
+-- Worked examples of the definitions, each value worked out by hand from the manual that its definition
+-- restates.
 use Rattle.std.specs.Prelude.{◌≡◌, ℕ, ◌-◌, ◌^◌, [], ◌∷◌, codes, ◌++◌, Some, None, pos, negsuc}
 use Rattle.sys_abi.specs.declared.reply.Reply.TheVariants.{Value}
 use Rattle.plain_process.specs.declared.instruction.Insn.{Insn}

@@ -1,6 +1,8 @@
--- The instruction table of RV32I and M: which words are which instruction, with which operands, and what it does.
--- Source: RISC-V unprivileged manual, chapter 2 (RV32I), chapter 13 (M), section 2.2 and 2.3 (formats), and the opcode map of chapter 34.
--- Fields are quotients and remainders by powers of two, results whole numbers modulo 2^32.
+-- The instruction table of RV32I and M: which words are which instruction, with which operands, and what it
+-- does.
+-- Source: RISC-V unprivileged manual, chapter 2 (RV32I), chapter 13 (M), section 2.2 and 2.3 (formats), and
+-- the opcode map of chapter 34. Fields are quotients and remainders by powers of two, results whole numbers
+-- modulo 2^32.
 --     encoding op      format, opcode, funct3 and funct7      mask_of, match_of      the bits that are fixed, and their values
 --     row_of w         the instruction whose fixed bits w has      decoded w      the instruction with its operands
 use Rattle.std.specs.Prelude.{◌==◌, ℕ, ◌+◌, ◌-◌, ◌*◌, ◌/◌, ◌%◌, ◌^◌, Bool, ℤ, pos, ◌*ℤ◌, bit_and, bit_or, bit_xor, int_lt, int_div, int_rem, nat_lt, not, List, [], ◌∷◌, find, Option, Some, None, true, false, if◌then◌else◌}
@@ -14,7 +16,8 @@ use Rattle.plain_process.specs.declared.regs.Regs.{Regs}
 use Rattle.plain_process.specs.Memory.{Memory, load, store}
 use Rattle.plain_process.specs.Registers.{reg, with_reg, at_pc, next_pc}
 
--- which fields an instruction has besides its opcode; a shift's amount stands where rs2 does, and a whole word has none
+-- which fields an instruction has besides its opcode; a shift's amount stands where rs2 does, and a whole
+-- word has none
 pub data Format : Type 0 where
   R : Format
   I : Format

@@ -1,5 +1,6 @@
 -- Memory: pages by number, each with its rights and 4,096 bytes. Addresses count bytes.
--- Source: RISC-V unprivileged manual, section 1.4 (memory) and 2.6 (loads and stores, little-endian); rights as ELF's p_flags.
+-- Source: RISC-V unprivileged manual, section 1.4 (memory) and 2.6 (loads and stores, little-endian); rights
+-- as ELF's p_flags.
 --     byte_at memory right a, bytes_at memory right a n      what stands there, where each byte's page is there and has the right
 --     with_bytes memory a bytes      the bytes stand from a on; pages that aren't there stay away
 --     load, fetch, store      accesses of a word's bytes, none where one of them isn't allowed

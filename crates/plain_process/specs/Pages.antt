@@ -1,5 +1,6 @@
 -- Pages by their numbers, as calls add them and take them away.
--- Source: `man 2 brk`, `man 2 mmap`, `man 2 munmap`; the places of the heap and of mappings and the limit of pages are this project's own.
+-- Source: `man 2 brk`, `man 2 mmap`, `man 2 munmap`; the places of the heap and of mappings and the limit of
+-- pages are this project's own.
 --     is_free memory page count            none of the pages is there
 --     without_pages memory page count      the memory without these pages
 --     free_run memory count                the lowest run of so many pages for a mapping, if there is one

@@ -1,4 +1,5 @@
--- The part of a process after a call's answer: a0 holds the answer, the thread goes on after the call, and the bytes stand where the call asked for them.
+-- The part of a process after a call's answer: a0 holds the answer, the thread goes on after the call, and
+-- the bytes stand where the call asked for them.
 -- Source: the system call convention of RISC-V Linux (`man 2 syscall`), `man 2 exit`, `man 2 clone`.
 --     put user t q reply bytes      after the answer of a call
 --     added_thread q reply          the number of the thread that the answer adds

@@ -1,4 +1,5 @@
--- Registers x0 to x31, where x0 reads 0 and is never written, and the program counter (unprivileged manual, section 2.1).
+-- Registers x0 to x31, where x0 reads 0 and is never written, and the program counter (unprivileged manual,
+-- section 2.1).
 use Rattle.std.specs.Prelude.{◌==◌, ℕ, ◌+◌, ◌%◌, ◌^◌, slice_index, slice_set, if◌then◌else◌}
 use Rattle.views.specs.Numbers.{Address}
 use Rattle.plain_process.specs.declared.regs.Regs.{Regs}

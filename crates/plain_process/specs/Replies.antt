@@ -1,5 +1,6 @@
 -- The word that a reply puts into a0.
--- Source: the system call convention of RISC-V Linux (`man 2 syscall`): an error is the negative of its number.
+-- Source: the system call convention of RISC-V Linux (`man 2 syscall`): an error is the negative of its
+-- number.
 use Rattle.std.specs.Prelude.{ℕ, ◌-◌, ◌%◌, ◌^◌}
 use Rattle.sys_abi.specs.declared.reply.Reply.{Reply}
 use Rattle.sys_abi.specs.declared.reply.Reply.TheVariants.{Value, Error}

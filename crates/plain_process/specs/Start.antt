@@ -1,6 +1,7 @@
--- The start of a process: its program's segments, its stack with its arguments, and the page to which a signal handler returns.
--- Source: System V ABI, chapter 5 (program loading), chapter 3 of its supplements (process initialization), and the RISC-V ELF psABI (the stack
--- pointer is a multiple of 16).
+-- The start of a process: its program's segments, its stack with its arguments, and the page to which a
+-- signal handler returns.
+-- Source: System V ABI, chapter 5 (program loading), chapter 3 of its supplements (process initialization),
+-- and the RISC-V ELF psABI (the stack pointer is a multiple of 16).
 --     start_user program arguments t      the part of a process whose one thread has the number t
 use Rattle.std.specs.Prelude.{◌==◌, ◌&&◌, ◌≤◌, All, ℕ, zero, suc, ◌+◌, ◌-◌, ◌*◌, ◌/◌, ◌^◌, max, nat_le, nat_lt, Bool, true, false, List, [], ◌∷◌, ◌++◌, find, fold, length, take, drop, replicate, slice_index, slice_set, Option, Some, None, if◌then◌else◌}
 use Rattle.std.specs.List.{flat_map}
@@ -18,7 +19,8 @@ use Rattle.plain_process.specs.declared.user_part.ThreadPart.{ThreadPart}
 use Rattle.plain_process.specs.declared.user_part.SignalAction.{SignalAction}
 use Rattle.plain_process.specs.Memory.{Memory, low_bytes}
 
--- a program to start: its host, its file, and its argument strings in order, the name first, each with its zero byte
+-- a program to start: its host, its file, and its argument strings in order, the name first, each with its
+-- zero byte
 pub record Launched : Type 0 where
   pub host : ℕ
   pub program : Program
@@ -94,7 +96,8 @@ string_places address fresh [] = []
 string_places address true (byte ∷ rest) = address ∷ string_places (address + 1) (byte == 0) rest
 string_places address false (byte ∷ rest) = string_places (address + 1) (byte == 0) rest
 
--- argc, the pointers to the arguments, and four zero words: the ends of the arguments, the environment and the auxiliary vector
+-- argc, the pointers to the arguments, and four zero words: the ends of the arguments, the environment and
+-- the auxiliary vector
 abbrev pub start_words : List ℕ → List ℕ
 start_words places = length places ∷ places ++ 0 ∷ 0 ∷ 0 ∷ 0 ∷ []
 

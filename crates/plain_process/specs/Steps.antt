@@ -1,4 +1,5 @@
--- What the next instruction of a thread does to its process's part: the fetch at the program counter, the row of the word there, its effect.
+-- What the next instruction of a thread does to its process's part: the fetch at the program counter, the row
+-- of the word there, its effect.
 -- Source: unprivileged manual, section 1.6 (exceptions, traps, and interrupts) and chapter 2.
 use Rattle.std.specs.Prelude.{◌==◌, ℕ, zero, suc, Bool, Option, Some, None, option_and_then, if◌then◌else◌}
 use Rattle.std.specs.List.{list_any}
@@ -41,7 +42,8 @@ instructions (suc n) regs memory =
     option_and_then (λ before. running_after (effect_at before.regs before.memory))
     (instructions n regs memory)
 
--- where a thread of a process stands: its next instruction goes on, asks for a call or traps; it waits on a word; or there is no such thread
+-- where a thread of a process stands: its next instruction goes on, asks for a call or traps; it waits on a
+-- word; or there is no such thread
 pub data UserStep : Type 0 where
   Stepped : UserPart → UserStep
   Asks : Request → UserStep

@@ -1,5 +1,7 @@
--- Words on a thread and on the threads of a process: a call's answer, waiting and waking, the end of a thread, a new thread.
--- Source: `man 2 futex` (FUTEX_WAIT, FUTEX_WAKE), `man 2 clone`, `man 2 set_tid_address` (the word that a thread's end clears).
+-- Words on a thread and on the threads of a process: a call's answer, waiting and waking, the end of a
+-- thread, a new thread.
+-- Source: `man 2 futex` (FUTEX_WAIT, FUTEX_WAKE), `man 2 clone`, `man 2 set_tid_address` (the word that a
+-- thread's end clears).
 --     after_call thread value           it has the answer, and goes on after the call
 --     waiting user t address            it waits on the word, after those that wait already
 --     awake user t                      it waits no more, and its call answers 0
@@ -83,7 +85,8 @@ thread_end_by user t (Some thread) = after_clearing (without_thread user t) thre
 unfoldable pub after_thread_end : UserPart → ThreadNumber → UserPart
 after_thread_end user t = thread_end_by user t (map.get user.threads t)
 
--- a new thread: the caller's registers after the call, but a0 is 0, the stack and the thread pointer are those that the call names; the caller's mask
+-- a new thread: the caller's registers after the call, but a0 is 0, the stack and the thread pointer are
+-- those that the call names; the caller's mask
 
 abbrev pub with_reg_if : Bool → Regs → ℕ → ℕ → Regs
 with_reg_if wanted regs i value = if wanted then with_reg regs i value else regs
@@ -125,8 +128,8 @@ with_called_thread user t new (Clone flags stack parent_tid tls child_tid) =
     with_called_thread_by user new flags stack tls child_tid (map.get user.threads t)
 with_called_thread user t new _ = user
 
--- a fork's child: its one thread goes on as its caller would, but with the answer 0, with the caller's mask and contexts; no thread waits; its number stands
--- in its memory where the flags ask for that
+-- a fork's child: its one thread goes on as its caller would, but with the answer 0, with the caller's mask
+-- and contexts; no thread waits; its number stands in its memory where the flags ask for that
 abbrev pub child_thread : ThreadPart → Flags → Address → Address → Address → ThreadPart
 child_thread caller flags stack tls child_tid = record {
   regs = new_regs (after_call caller 0).regs flags stack tls;

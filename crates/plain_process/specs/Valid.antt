@@ -1,4 +1,5 @@
--- What holds of the part of each process that a run reaches: a fact a topic, each over the maps that it speaks of.
+-- What holds of the part of each process that a run reaches: a fact a topic, each over the maps that it
+-- speaks of.
 -- Source: the limits of docs/MACHINE.md.
 --     IsUser user      of one process's part      IsRequest q     of a call that a thread asks for
 --     CanAdd user q reply      of a process whose thread gets this answer
@@ -61,7 +62,8 @@ pub record IsWaiter (threads : map.FinMap nat_cmp ThreadPart) (waiter : Waiter) 
   pub thread : is_some (map.get threads waiter.tid) ≡ true
   pub address : IsWord waiter.address
 
--- of the pages from the break's start to below 0x40000000 those are there that hold a byte below the break, and no others
+-- of the pages from the break's start to below 0x40000000 those are there that hold a byte below the break,
+-- and no others
 abbrev pub IsHeap : Memory → Address → Address → Type 0
 IsHeap memory break_start break_end =
     (place : ℕ) → break_start ≤ 4096 * place → place < 0x40000

@@ -1,5 +1,5 @@
-//! What the delivery of a signal comes to, and what it does to a thread's registers and its mask (`man 7 signal`,
-//! `man 2 sigaction`).
+//! What the delivery of a signal comes to, and what it does to a thread's registers and its mask
+//! (`man 7 signal`, `man 2 sigaction`).
 ghost use Rattle.std.specs.Prelude.{◌≡◌, ℕ, ◌-◌, Bool, length, slice_get, unwrap_or};
 ghost use Rattle.plain_process.specs.Deliveries as words;
 ghost use Rattle.plain_process.specs.Start.{default_action};
@@ -45,7 +45,8 @@ pub fn is_ignored(action: SignalAction, s: Signal) -> bool
         || (action.handler == 0 && (s.0 == SIGCHLD || s.0 == SIGURG || s.0 == SIGWINCH))
 }
 
-/// The registers that a handler interrupts: a call that isn't ready answers EINTR, unless it is to begin again.
+/// The registers that a handler interrupts: a call that isn't ready answers EINTR, unless it is to begin
+/// again.
 pub fn interrupted(is_unready: bool, flags: u32, regs: Regs) -> Regs
     ensures { result ≡ words.interrupted is_unready flags regs }
 {
@@ -79,8 +80,8 @@ pub fn handler_mask(mask: u32, action: SignalAction, s: Signal) -> u32
     }
 }
 
-/// What the delivery of a signal comes to, for a thread with this mask and so many saved contexts, that traps with the
-/// signal or doesn't.
+/// What the delivery of a signal comes to, for a thread with this mask and so many saved contexts, that traps
+/// with the signal or doesn't.
 pub fn decided(
     action: SignalAction,
     s: Signal,

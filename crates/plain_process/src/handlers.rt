@@ -1,4 +1,5 @@
-//! What the calls on signal handlers and masks read, write and change (`man 2 sigaction`, `man 2 sigprocmask`).
+//! What the calls on signal handlers and masks read, write and change (`man 2 sigaction`,
+//! `man 2 sigprocmask`).
 ghost use Rattle.std.specs.Prelude.{◌≡◌, ◌<◌, ◌^◌, ◌++◌, slice_index};
 ghost use Rattle.plain_process.specs.Memory.{low_bytes};
 ghost use Rattle.plain_process.specs.Rows.Handlers as handlers;

@@ -51,7 +51,8 @@ pub enum Op {
     Ebreak,
 }
 
-/// An instruction with its operands. A field that its format does not have is 0; `imm` is the immediate with its sign.
+/// An instruction with its operands. A field that its format does not have is 0; `imm` is the immediate with
+/// its sign.
 #[derive(Clone, Copy, Debug, PartialEq, Eq)]
 pub struct Insn {
     pub op: Op,

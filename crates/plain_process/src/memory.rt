@@ -2,7 +2,8 @@ use std::alloc::{AllocError, Global};
 use sys_abi::Page;
 use views::duplicate::Duplicate;
 
-/// What an access needs of its page: a load reads, a store writes, a fetch executes (ELF's `PF_R`, `PF_W`, `PF_X`).
+/// What an access needs of its page: a load reads, a store writes, a fetch executes (ELF's `PF_R`, `PF_W`,
+/// `PF_X`).
 #[derive(Clone, Copy, Debug, PartialEq, Eq)]
 pub enum Right {
     Read,

@@ -1,5 +1,5 @@
-//! What a call's answer, a clone and a wake do to a thread's registers and to the list of those that wait (`man 2 clone`,
-//! `man 2 futex`).
+//! What a call's answer, a clone and a wake do to a thread's registers and to the list of those that wait
+//! (`man 2 clone`, `man 2 futex`).
 ghost use Rattle.std.specs.Prelude.{◌≡◌, ◌<◌, if◌then◌else◌};
 ghost use Rattle.plain_process.specs.Put.{added_thread, added_by, made_as, made_by};
 ghost use Rattle.plain_process.specs.Registers as registers;
@@ -12,8 +12,8 @@ use call_table::Request;
 use sys_abi::flags::{CLONE_CHILD_CLEARTID, CLONE_SETTLS};
 use sys_abi::{CloneForm, Reply, clone_form};
 
-/// The return address, the stack pointer and the thread pointer, and the first three arguments of a call (RISC-V ELF
-/// psABI, chapter 1).
+/// The return address, the stack pointer and the thread pointer, and the first three arguments of a call
+/// (RISC-V ELF psABI, chapter 1).
 pub(crate) const RA: usize = 1;
 
 pub(crate) const SP: usize = 2;

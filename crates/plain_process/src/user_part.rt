@@ -12,8 +12,8 @@ pub struct Context {
     pub mask: u32,
 }
 
-/// A thread of a process: its registers, its signal mask, the word that its end clears (0: none), and the contexts that
-/// its handlers interrupted, oldest first.
+/// A thread of a process: its registers, its signal mask, the word that its end clears (0: none), and the
+/// contexts that its handlers interrupted, oldest first.
 #[derive(Debug, Drop)]
 pub struct ThreadPart {
     pub regs: Regs,
@@ -22,7 +22,8 @@ pub struct ThreadPart {
     pub contexts: ListOf<Context>,
 }
 
-/// What a process does on a signal: handler (0 default, 1 ignore, else its address), flags, and mask while it runs.
+/// What a process does on a signal: handler (0 default, 1 ignore, else its address), flags, and mask while it
+/// runs.
 #[derive(Clone, Copy, Debug, PartialEq, Eq)]
 pub struct SignalAction {
     pub handler: u32,
@@ -37,8 +38,9 @@ pub struct Waiter {
     pub address: u32,
 }
 
-/// The part of a process that only its own instructions and the answers to its calls change: memory by page number, the
-/// break, threads by number, what it does on the signals 1 to 31, and who waits on its words, in waking order.
+/// The part of a process that only its own instructions and the answers to its calls change: memory by page
+/// number, the break, threads by number, what it does on the signals 1 to 31, and who waits on its words, in
+/// waking order.
 #[derive(Drop)]
 pub struct UserPart {
     pub memory: NumberMap<Frame>,

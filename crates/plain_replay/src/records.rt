@@ -142,7 +142,8 @@ fn answer(
     serve(alloc, g, p, t, &user, request, given.as_slice())
 }
 
-/// Has the kernel part serve a call of a thread of this part, where `given` are the bytes that the call reads.
+/// Has the kernel part serve a call of a thread of this part, where `given` are the bytes that the call
+/// reads.
 fn serve(
     alloc: Global,
     g: &mut Plain,
@@ -189,7 +190,8 @@ fn answered(
     Ok(after)
 }
 
-/// Adds the part of the child that an answer makes, if it makes one, under the number that was next before the call.
+/// Adds the part of the child that an answer makes, if it makes one, under the number that was next before
+/// the call.
 fn add_child(
     alloc: Global,
     users: &mut ByPid<UserPart>,

@@ -25,8 +25,8 @@ use std::alloc::{AllocError, Global};
 use sys_abi::errors::ENOSYS;
 use sys_abi::{Tid, VPid};
 
-/// Serves a call of a thread, where `given` are the bytes that the call reads. It answers None where the call waits, and
-/// then the kernel part is as before. After want of memory it may be any.
+/// Serves a call of a thread, where `given` are the bytes that the call reads. It answers None where the call
+/// waits, and then the kernel part is as before. After want of memory it may be any.
 pub fn serve(
     kernel: &mut PlainKernel,
     alloc: Global,
@@ -45,7 +45,8 @@ pub fn serve(
     Ok(settled(alloc, attempt))
 }
 
-/// Whether a call of a thread doesn't wait, by the first 16 bytes that it reads, with zeros where it reads fewer.
+/// Whether a call of a thread doesn't wait, by the first 16 bytes that it reads, with zeros where it reads
+/// fewer.
 pub fn is_ready(kernel: &PlainKernel, p: VPid, t: Tid, request: &Request, front: &Given) -> bool
     ensures { (given : List ℕ) → words.front_of given ≡ front.now
         → is_some (words.serve kernel.now p t.0 request.now given) ≡ result }

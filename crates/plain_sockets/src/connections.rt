@@ -30,8 +30,8 @@ use views::list_of::ListOf;
 /// How many channels there are at most.
 const CHANNEL_LIMIT: usize = 256;
 
-/// What an accept finds before it changes anything: the free descriptor, the listener's address, and the first
-/// connection that waits there.
+/// What an accept finds before it changes anything: the free descriptor, the listener's address, and the
+/// first connection that waits there.
 #[derive(Clone, Copy)]
 pub struct Accepting {
     pub fd: u32,
@@ -39,7 +39,8 @@ pub struct Accepting {
     pub conn: ConnId,
 }
 
-/// What a connect finds before it changes anything: the socket's description, its address, and the listener's.
+/// What a connect finds before it changes anything: the socket's description, its address, and the
+/// listener's.
 #[derive(Clone, Copy)]
 pub struct Connecting {
     pub held: Held,

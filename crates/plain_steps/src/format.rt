@@ -1,5 +1,5 @@
-/// Which fields an instruction has besides its opcode (unprivileged manual, sections 2.2 and 2.3). A shift's amount stands
-/// where rs2 does, and a whole word has none.
+/// Which fields an instruction has besides its opcode (unprivileged manual, sections 2.2 and 2.3). A shift's
+/// amount stands where rs2 does, and a whole word has none.
 #[derive(Clone, Copy)]
 pub enum Format {
     R,

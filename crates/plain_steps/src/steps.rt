@@ -31,7 +31,8 @@ pub enum UserStep {
     NoThread,
 }
 
-/// Does the instruction at which these registers stand. A call and a trap leave registers and memory as they were.
+/// Does the instruction at which these registers stand. A call and a trap leave registers and memory as they
+/// were.
 #[tactic(auto, unfolding(plain_process::specs::Steps::effect_at))]
 pub fn effect_at(regs: &mut Regs, memory: &mut NumberMap<Frame>) -> Effect
     ensures effect { words.effect_at regs.old memory.old ≡ effect_told result regs.new memory.new }
@@ -86,7 +87,8 @@ pub fn set_regs(threads: &mut NumberMap<ThreadPart>, t: Tid, regs: Regs)
     }
 }
 
-/// So many steps of a thread in a row. Where it makes fewer, the error tells where it stands after those that it makes.
+/// So many steps of a thread in a row. Where it makes fewer, the error tells where it stands after those that
+/// it makes.
 #[tactic(auto, unfolding(plain_process::specs::Steps::user_steps))]
 pub fn user_steps(n: u32, user: &mut UserPart, t: Tid) -> Result<(), UserStep>
     ensures steps { words.user_steps n user.old t.0 ≡ steps_told result user.new }

@@ -20,7 +20,8 @@ pub struct ChannelEnd {
     pub is_open: bool,
 }
 
-/// A channel without its bytes: its kind and its sides 0 and 1. Side 0 of an internet connection is the client's.
+/// A channel without its bytes: its kind and its sides 0 and 1. Side 0 of an internet connection is the
+/// client's.
 #[derive(Clone, Copy, Debug, PartialEq, Eq)]
 pub struct Channel {
     pub kind: ChannelKind,
@@ -28,8 +29,8 @@ pub struct Channel {
     pub second: ChannelEnd,
 }
 
-/// A direction of a channel: the bytes sent and not yet read, in order, how many of them can be read now, whether its
-/// sender sends no more, and whether its receiver reads no more.
+/// A direction of a channel: the bytes sent and not yet read, in order, how many of them can be read now,
+/// whether its sender sends no more, and whether its receiver reads no more.
 #[derive(Drop)]
 pub struct Direction {
     pub left: ListOf<u8>,

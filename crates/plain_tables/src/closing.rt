@@ -113,7 +113,8 @@ pub fn close_channel(channels: &mut ByConn<Channel>, conn: ConnId, side: u8)
     }
 }
 
-/// The directions after a side of a channel closes, where `channels` are as they were before. Takes no memory.
+/// The directions after a side of a channel closes, where `channels` are as they were before. Takes no
+/// memory.
 #[tactic(auto, unfolding(crate::specs::Closing::closed_directions))]
 pub fn close_directions(
     channels: &ByConn<Channel>,

@@ -23,8 +23,8 @@ pub enum Object {
     Counter { value: u64 },
 }
 
-/// An open description (`man 2 open`): its object, access mode and status flags, and the owner set by F_SETOWN (0:
-/// nobody).
+/// An open description (`man 2 open`): its object, access mode and status flags, and the owner set by
+/// F_SETOWN (0: nobody).
 #[derive(Clone, Copy, Debug, PartialEq, Eq)]
 pub struct Description {
     pub object: Object,

@@ -1,13 +1,14 @@
-//! What stands in the tables of a kernel part, on plain data: processes, descriptors, open descriptions, channels; and
-//! what a call answers, apart from the change of the kernel part.
+//! What stands in the tables of a kernel part, on plain data: processes, descriptors, open descriptions,
+//! channels; and what a call answers, apart from the change of the kernel part.
 //!
-//! `specs/` has the words on them, each over the table that it speaks of: `Tables` and `Objects` those on what stands
-//! there, `Start` what a process begins with, `Closing`, `Ends` and `Waits` those on closes, on the ends of processes and
-//! on waits for them, and in `specs/Valid/` what holds of the tables of every kernel part, a topic a record over its own
-//! tables. Source: `man 2 open`, `man 2 credentials`, `man 2 wait4`, `man 7 signal`.
+//! `specs/` has the words on them, each over the table that it speaks of: `Tables` and `Objects` those on
+//! what stands there, `Start` what a process begins with, `Closing`, `Ends` and `Waits` those on closes, on
+//! the ends of processes and on waits for them, and in `specs/Valid/` what holds of the tables of every
+//! kernel part, a topic a record over its own tables. Source: `man 2 open`, `man 2 credentials`,
+//! `man 2 wait4`, `man 7 signal`.
 //!
-//! Proved: each function is the word of its name, and what may want memory leaves its table as it was where there is none;
-//! `proofs/` has what each word keeps of each topic.
+//! Proved: each function is the word of its name, and what may want memory leaves its table as it was where
+//! there is none; `proofs/` has what each word keeps of each topic.
 #![tactic(auto)]
 
 pub mod answer;

@@ -3,8 +3,9 @@ use sys_abi::Life;
 use views::duplicate::Duplicate;
 use views::number_map::NumberMap;
 
-/// A process as the kernel knows it: its parent (1: nobody), its life, the signals that are pending for it, and for each
-/// of its threads those that are pending for it. Bit s - 1 of a set of signals stands for signal s.
+/// A process as the kernel knows it: its parent (1: nobody), its life, the signals that are pending for it,
+/// and for each of its threads those that are pending for it. Bit s - 1 of a set of signals stands for signal
+/// s.
 #[derive(Drop)]
 pub struct Process {
     pub parent: u32,

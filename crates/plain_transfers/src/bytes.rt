@@ -56,8 +56,8 @@ pub(crate) fn append(list: &mut ListOf<u8>, alloc: Global, bytes: &[u8]) -> Resu
     Ok(())
 }
 
-/// Puts a piece in its place over what is there and past the end; zeros fill a gap before it. After want of memory the
-/// list may hold any bytes.
+/// Puts a piece in its place over what is there and past the end; zeros fill a gap before it. After want of
+/// memory the list may hold any bytes.
 pub(crate) fn put_piece(
     list: &mut ListOf<u8>,
     alloc: Global,

@@ -29,7 +29,8 @@ pub fn is_counted(value: u64, count: u32) -> bool
     count < COUNTER_SIZE || value != 0
 }
 
-/// Whether a write of so many bytes, of which these are the first, to a counter of that value has an answer yet.
+/// Whether a write of so many bytes, of which these are the first, to a counter of that value has an answer
+/// yet.
 pub fn takes_more(value: u64, count: u32, front: &[u8]) -> bool
     ensures { result ≡ words.takes_more value count front.now }
 {

@@ -1,5 +1,6 @@
 -- What the end of a process does to all processes.
--- Source: `man 2 exit`, `man 2 wait4`; that the zombies of a parent that ends go with it is this project's own rule.
+-- Source: `man 2 exit`, `man 2 wait4`; that the zombies of a parent that ends go with it is this project's
+-- own rule.
 --     orphaned p m          p's children have no parent, and its zombies are gone
 --     after_end m p status  then its live parent gets the signal of a child's end and p stays as a zombie; without a live parent it is gone
 use Rattle.std.specs.Prelude.{ℕ, Bool, false, not, ◌&&◌, Option, Some, None, if◌then◌else◌}

@@ -1,5 +1,6 @@
 -- All processes of all nodes, and what calls do to them.
--- Source: `man 2 wait4`, `man 2 kill`; that a node's numbers rise and the limits are this project's own rules.
+-- Source: `man 2 wait4`, `man 2 kill`; that a node's numbers rise and the limits are this project's own
+-- rules.
 --     next_of t node                    the number that the node hands out next
 --     has_number t node                 the node is there and has a number left
 --     after_start, after_add_thread     a process more, or a thread more, with that number

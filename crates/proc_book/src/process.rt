@@ -107,7 +107,8 @@ impl Process {
         }
     }
 
-    /// Takes a pending signal away, of the thread if it has it and else of the process. Answers whether it was pending.
+    /// Takes a pending signal away, of the thread if it has it and else of the process. Answers whether it
+    /// was pending.
     pub(crate) fn take(&mut self, t: u32, s: Signal) -> bool
         ensures had { result ≡ words.has_either t s.0 self.old }
         ensures taken { self.new ≡ words.after_take t s.0 self.old }

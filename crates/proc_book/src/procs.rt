@@ -135,8 +135,8 @@ impl Procs {
         Ok(number)
     }
 
-    /// Makes a signal pending for a process, or for this thread of it alone. No signal, such as 0, only asks whether it
-    /// lives.
+    /// Makes a signal pending for a process, or for this thread of it alone. No signal, such as 0, only asks
+    /// whether it lives.
     pub fn raise(&mut self, p: RealPid, t: Option<u32>, s: Signal) -> Result<(), ProcFault>
         ensures answer { result ≡ (if words.can_raise self.old.processes p t then Ok tt else Err ProcFault.NoProcess) }
         ensures raised { self.new ≡ record self.old { processes = words.after_raise self.old.processes p t s.0 } }
@@ -148,7 +148,8 @@ impl Procs {
         Ok(())
     }
 
-    /// Takes a pending signal away, of the thread if it has it and else of its process. Answers whether it was pending.
+    /// Takes a pending signal away, of the thread if it has it and else of its process. Answers whether it
+    /// was pending.
     pub fn take(&mut self, p: RealPid, t: u32, s: Signal) -> bool
         ensures had { result ≡ words.is_taken self.old.processes p t s.0 }
         ensures taken { self.new ≡ record self.old { processes = words.after_take self.old.processes p t s.0 } }
@@ -186,8 +187,8 @@ impl Procs {
         end_thread_at(&mut self.processes, p, t);
     }
 
-    /// The process ends, if it lives: its children have no parent any more and its zombies are gone; its live parent gets
-    /// a signal and it stays as a zombie, without a live parent it is gone.
+    /// The process ends, if it lives: its children have no parent any more and its zombies are gone; its live
+    /// parent gets a signal and it stays as a zombie, without a live parent it is gone.
     pub fn end_process(&mut self, p: RealPid, status: u32)
         ensures { self.new ≡ record self.old { processes = after_end self.old.processes p status } }
     {
@@ -242,7 +243,8 @@ impl Procs {
         wait_for(&self.processes, p, child)
     }
 
-    /// Waits for this child, or for any: the least one that has ended is gone then. Answers it with its status.
+    /// Waits for this child, or for any: the least one that has ended is gone then. Answers it with its
+    /// status.
     pub fn wait(&mut self, p: RealPid, child: Option<RealPid>) -> Result<(RealPid, u32), ProcFault>
         ensures answer { result ≡ words.waited (words.wait_for self.old.processes p child) }
         ensures least { child ≡ None → Finds self.old.processes p (words.wait_for self.old.processes p child) }

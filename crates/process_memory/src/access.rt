@@ -24,7 +24,8 @@ impl ProcessMemory {
     ///
     /// # Errors
     ///
-    /// `Fault` exactly where some buffer of the call is not readable or writable as it needs; the transfer is as before.
+    /// `Fault` exactly where some buffer of the call is not readable or writable as it needs; the transfer is
+    /// as before.
     pub fn lend(&self, request: &Request, transfer: &mut Transfer) -> Result<(), LendFault>
         ensures ok { OnOk result (lent self.now.pages request.now ≡ Some transfer.new) }
         ensures fault { (result ≡ Err LendFault.Fault) ↔ (lent self.now.pages request.now ≡ None) }
@@ -34,7 +35,8 @@ impl ProcessMemory {
         lend_from(&self.ram.space, request, transfer)
     }
 
-    /// The front of the bytes that `lend` would lend, with zeros where they are fewer; None where it would answer a fault.
+    /// The front of the bytes that `lend` would lend, with zeros where they are fewer; None where it would
+    /// answer a fault.
     pub fn front(&self, request: &Request) -> Option<Given>
         ensures fault { (result ≡ None) ↔ (lent self.now.pages request.now ≡ None) }
         ensures front { IfSome result (λ front. (given : List ℕ)

@@ -27,8 +27,8 @@ pub enum LendFault {
 /// How many bytes a path has at most, its zero byte included.
 const PATH_LIMIT: u32 = 256;
 
-/// How many bytes the text at an address has, its zero byte included and at most `PATH_LIMIT`; none where one of them
-/// can't be read.
+/// How many bytes the text at an address has, its zero byte included and at most `PATH_LIMIT`; none where one
+/// of them can't be read.
 fn text_length(space: &Space, address: u32) -> Option<u32>
     ensures { IsTextLength space.now address result (buffers.text_at space.now address 256) }
 {
@@ -121,8 +121,8 @@ pub fn put_bytes(space: &mut Space, address: u32, bytes: &[u8])
     }
 }
 
-/// Puts the bytes of an answer where the call asked for them: into the first span, and where there are two, the last ones
-/// into the second.
+/// Puts the bytes of an answer where the call asked for them: into the first span, and where there are two,
+/// the last ones into the second.
 pub fn put_answer(space: &mut Space, spans: Spans, bytes: &[u8])
     requires { CanTake space.old (buffers.listed spans) bytes.now }
     ensures { space.new ≡ with_spans space.old (buffers.listed spans) bytes.now }

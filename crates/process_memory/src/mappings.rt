@@ -31,7 +31,8 @@ const READ_WRITE: u8 = 6;
 /// MAP_PRIVATE and MAP_ANONYMOUS.
 const MAP_FLAGS: u32 = 0x22;
 
-/// Puts the heap's pages up to a break, or takes those above it away. After a failed allocation all is as before.
+/// Puts the heap's pages up to a break, or takes those above it away. After a failed allocation all is as
+/// before.
 fn heap_to(alloc: Global, space: &mut Space, old: u32, new: u32) -> Result<(), AllocError>
     requires old { old ≤ 2 ^ 20 }
     requires new { new ≤ 2 ^ 20 }

@@ -36,8 +36,8 @@ impl Model for ProcessMemory {
 }
 
 impl ProcessMemory {
-    /// The memory of a program at its start, with these argument strings, each with its zero byte. The break starts behind
-    /// the program, and stands there.
+    /// The memory of a program at its start, with these argument strings, each with its zero byte. The break
+    /// starts behind the program, and stands there.
     pub fn load(
         alloc: Global,
         program: &Program,
@@ -62,8 +62,8 @@ impl ProcessMemory {
         })
     }
 
-    /// The memory of an image's pages, which it takes as they are, with this break. Of two pages of one number the earlier
-    /// one counts.
+    /// The memory of an image's pages, which it takes as they are, with this break. Of two pages of one
+    /// number the earlier one counts.
     pub fn of_images(
         alloc: Global,
         pages: ListOf<PageImage>,
@@ -128,8 +128,8 @@ impl ProcessMemory {
         &self.ram
     }
 
-    /// Runs instructions on these registers, at most `quantum` of them, until one asks for a call or traps, and tells how
-    /// many it ran and why it stopped.
+    /// Runs instructions on these registers, at most `quantum` of them, until one asks for a call or traps,
+    /// and tells how many it ran and why it stopped.
     pub fn run(&mut self, regs: &mut Regs, quantum: u32) -> (u32, Stop)
         ensures run { HasRun result.0 regs.old self.old.pages regs.new self.new.pages }
         ensures stop { IsStop result.1 (effect_at regs.new self.new.pages) }

@@ -1,5 +1,5 @@
--- What a borrow of a value in a map does to the map. Each word says: the map behind s has at the key the last value written through r, and
--- is unchanged if r is `None`.
+-- What a borrow of a value in a map does to the map. Each word says: the map behind s has at the key the last
+-- value written through r, and is unchanged if r is `None`.
 --     LendsByRealPid, LendsByRealAddress V s key r
 use Rattle.std.specs.Prelude.{◌≡◌, Option, OnSome}
 use Rattle.std.specs.Borrow.{Fml, RattleType, MutBor, LendsSo}

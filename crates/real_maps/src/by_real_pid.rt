@@ -11,7 +11,8 @@ use std::collections::btree_map::{Iter, Keys, Values};
 use std::marker::Model;
 use sys_abi::RealPid;
 
-/// A map from process numbers that nodes handed out, which contracts see as a finite map in the order of `RealPid`.
+/// A map from process numbers that nodes handed out, which contracts see as a finite map in the order of
+/// `RealPid`.
 #[derive(Drop)]
 pub struct ByRealPid<V> {
     entries: BTreeMap<RealPid, V>,
@@ -83,8 +84,8 @@ impl<V> ByRealPid<V> {
         self.entries.remove(&key)
     }
 
-    /// Keeps the entries at whose values the closure answers true, each with the value that the closure leaves there.
-    /// Takes no memory.
+    /// Keeps the entries at whose values the closure answers true, each with the value that the closure
+    /// leaves there. Takes no memory.
     pub fn retain_values<F: FnMut(&RealPid, &mut V) -> bool>(&mut self, keep: F)
     where
         V: Drop,

@@ -35,7 +35,8 @@ agents_among whole (x ∷ notes) = if is_some x.sender then with_held (notes_at 
 abbrev pub agents_of : Notes → Agents
 agents_of notes = agents_among notes notes
 
--- the bytes of a direction in a refill, wherever they are: what was drained of it, or what stands in the network
+-- the bytes of a direction in a refill, wherever they are: what was drained of it, or what stands in the
+-- network
 abbrev pub own_bytes : Option DirNotes → List ℕ → List ℕ
 own_bytes None bytes = bytes
 own_bytes (Some x) bytes = if is_some x.sender then x.drained.items else bytes

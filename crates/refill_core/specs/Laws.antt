@@ -1,5 +1,5 @@
--- What steps of agents and moves of bytes from queue to queue do while agents refill, how a refill begins, and what it
--- holds all along.
+-- What steps of agents and moves of bytes from queue to queue do while agents refill, how a refill begins,
+-- and what it holds all along.
 --     acts p found       p acts for the end that sends the direction with these notes
 --     IsNotedStep before after x y
 --                        the notes x may become y, by the bytes that can be read off the other direction before and

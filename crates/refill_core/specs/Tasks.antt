@@ -1,8 +1,10 @@
--- What an agent does in a refill with the two directions of a live channel, of which it sends the one and reads the other.
--- Source: the DMTCP paper (IPDPS 2009), "refill kernel buffers": drained bytes are sent back to the side that sent them, which sends them again. The
--- frame in which they go back is this project's own profile.
--- x has the notes on the direction that the agent sends, y those on the other one. The bytes that were drained of a direction go back in a frame on
--- the other one; behind the frame of y's bytes x's own are sent again.
+-- What an agent does in a refill with the two directions of a live channel, of which it sends the one and
+-- reads the other.
+-- Source: the DMTCP paper (IPDPS 2009), "refill kernel buffers": drained bytes are sent back to the side that
+-- sent them, which sends them again. The frame in which they go back is this project's own profile.
+-- x has the notes on the direction that the agent sends, y those on the other one. The bytes that were
+-- drained of a direction go back in a frame on the other one; behind the frame of y's bytes x's own are sent
+-- again.
 --     header x, frame x          the length of the drained bytes, and these behind it
 --     sent_in_all x y            all that is sent on the direction
 --     has_back x                 the whole frame with its bytes was read

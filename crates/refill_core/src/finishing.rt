@@ -54,7 +54,8 @@ pub(crate) fn has_work_left(all: &[DirNotes], agent: RealPid) -> bool
     false
 }
 
-/// Whether the agents have refilled the direction, if they do, and all its bytes have reached the receiver's queue.
+/// Whether the agents have refilled the direction, if they do, and all its bytes have reached the receiver's
+/// queue.
 fn is_finished(all: &[DirNotes], notes: &DirNotes, net: &Net) -> bool
     requires noted { All IsNoted all.now }
     requires own { IsNoted notes.now }

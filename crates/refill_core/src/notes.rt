@@ -58,7 +58,8 @@ fn behind(piece: &[u8], count: usize) -> &[u8]
     &piece[count..]
 }
 
-/// The agent of the sending end reads what has come of the frame with the direction's own bytes. Answers how many bytes.
+/// The agent of the sending end reads what has come of the frame with the direction's own bytes. Answers how
+/// many bytes.
 pub(crate) fn read_frame(
     notes: &mut DirNotes,
     net: &mut Net,

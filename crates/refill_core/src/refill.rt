@@ -36,8 +36,9 @@ impl Model for Refill {
 }
 
 impl Refill {
-    /// Begins a refill of what was drained: the bytes of each list that were not left in place go back to its direction.
-    /// The room names each direction, and what is drained has a list of each; the ends' agents are listed. Takes no memory.
+    /// Begins a refill of what was drained: the bytes of each list that were not left in place go back to its
+    /// direction. The room names each direction, and what is drained has a list of each; the ends' agents are
+    /// listed. Takes no memory.
     pub fn begin(room: CutRoom, drained: DrainedNet, ends: &[AgentEnd]) -> Refill
         requires naming { IsNamingLists room.lengths drained.lists }
         requires few { All (λ list. length list.bytes ≤ QUEUE_LIMIT) drained.lists }
@@ -67,10 +68,10 @@ impl Refill {
         }
     }
 
-    /// One step of an agent: for each direction that it sends, one after the other, it reads what has come of the frame
-    /// with the direction's own bytes, and sends the next piece (the length, the rest of the frame, or its own bytes) as
-    /// far as there is room. It sends the frame of the other direction first, and its own bytes once they are back. Takes
-    /// no memory.
+    /// One step of an agent: for each direction that it sends, one after the other, it reads what has come of
+    /// the frame with the direction's own bytes, and sends the next piece (the length, the rest of the frame,
+    /// or its own bytes) as far as there is room. It sends the frame of the other direction first, and its
+    /// own bytes once they are back. Takes no memory.
     pub fn step(&mut self, net: &mut Net, agent: RealPid) -> Stepped
         requires { words.Fits net.old.channels self.old }
         ensures answer { result ≡ work.step_answer agent (state self.old net.old) }
@@ -105,8 +106,9 @@ impl Refill {
         has_work_left(&self.notes, agent)
     }
 
-    /// Whether all agents have finished, and all bytes have reached their receivers' queues: false exactly where work is
-    /// left, and then somebody goes on. Where it is done, all bytes of each direction can be read.
+    /// Whether all agents have finished, and all bytes have reached their receivers' queues: false exactly
+    /// where work is left, and then somebody goes on. Where it is done, all bytes of each direction can be
+    /// read.
     pub fn is_done(&self, net: &Net) -> bool
         requires { words.Fits net.now.channels self.now }
         ensures done { result ≡ work.is_done net.now.channels self.now }

@@ -21,8 +21,8 @@ pub(crate) fn place_of(all: &[DirNotes], d: Dir) -> Option<usize>
     None
 }
 
-/// An agent's turn on the direction of the notes at a place, if it sends it: it reads off the other direction before it
-/// sends on this one. Answers whether it moved bytes.
+/// An agent's turn on the direction of the notes at a place, if it sends it: it reads off the other direction
+/// before it sends on this one. Answers whether it moved bytes.
 fn step_on(
     all: &mut [DirNotes],
     place: usize,

@@ -1,4 +1,5 @@
--- What an instruction does, from what it computes of its operands (RISC-V unprivileged manual, chapters 2 and 13).
+-- What an instruction does, from what it computes of its operands (RISC-V unprivileged manual, chapters 2 and
+-- 13).
 --     size_of width                          how many bytes an access of this width has
 --     effect_of_computed c rd regs memory    the effect of what was computed, with this destination
 use Rattle.std.specs.Prelude.{ℕ}

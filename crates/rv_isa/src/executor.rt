@@ -15,8 +15,9 @@ use sys_abi::Signal;
 /// The signal of EBREAK: SIGTRAP (`man 7 signal`).
 pub const BREAKPOINT: Signal = Signal(5);
 
-/// Does one instruction: registers and memory are then those of its effect, and the program counter stands at the next
-/// one. A call, a trap and want of memory leave both as they were. An instruction that has no word is done all the same.
+/// Does one instruction: registers and memory are then those of its effect, and the program counter stands at
+/// the next one. A call, a trap and want of memory leave both as they were. An instruction that has no word
+/// is done all the same.
 #[inline]
 pub fn exec<M: GuestMemory>(insn: Insn, regs: &mut Regs, memory: &mut M) -> Outcome
     ensures outcome { IsOutcome result (effect insn regs.old (M.memory memory.old)) regs.new (M.memory memory.new) }

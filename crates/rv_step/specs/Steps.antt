@@ -1,4 +1,5 @@
--- What a step tells of an instruction's effect, where the registers are a list and the program counter stands beside it.
+-- What a step tells of an instruction's effect, where the registers are a list and the program counter stands
+-- beside it.
 --     regs_at x pc                            these registers, with this program counter
 --     effect_by_fields o f g w regs m         the effect of a word with opcode o, funct3 f and funct7 g
 --     effect_by_key key w regs m              the same, where the key is bits 2 to 6 of the opcode and 32 times funct3

@@ -203,8 +203,9 @@ fn computed(x: &mut [u32; 32], pc: u32, word: u32, funct3: u32) -> Option<u32>
     written(x, pc, rd(word), value)
 }
 
-/// The instruction of a word by its key: bits 2 to 6 of the opcode, whose lowest two are set, and 32 times funct3. Its rows
-/// are told apart by one jump, as this match and that of [`step_in_registers`] are one once they are inlined.
+/// The instruction of a word by its key: bits 2 to 6 of the opcode, whose lowest two are set, and 32 times
+/// funct3. Its rows are told apart by one jump, as this match and that of [`step_in_registers`] are one once
+/// they are inlined.
 #[inline(always)]
 fn step_by<M: GuestMemory>(
     x: &mut [u32; 32],
@@ -269,9 +270,10 @@ fn step_in_registers(x: &mut [u32; 32], pc: u32, word: u32, key: u32) -> Option<
     }
 }
 
-/// Does the instruction of a word on registers and memory, where it goes on and its row is among those for speed, and tells
-/// the address of the next one: what `decode` and `exec` of `rv_isa` do, with one jump and no instruction
-/// between them. Calls, traps, fences, words without a row and accesses that fail are left to these: then nothing has changed.
+/// Does the instruction of a word on registers and memory, where it goes on and its row is among those for
+/// speed, and tells the address of the next one: what `decode` and `exec` of `rv_isa` do, with one jump and
+/// no instruction between them. Calls, traps, fences, words without a row and accesses that fail are left to
+/// these: then nothing has changed.
 #[inline(always)]
 pub fn step<M: GuestMemory>(x: &mut [u32; 32], pc: u32, memory: &mut M, word: u32) -> Option<u32>
     requires { IsZeroHeld x.old }

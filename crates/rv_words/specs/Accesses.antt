@@ -1,4 +1,5 @@
--- Loads and stores of a guest's memory, as their callers are answered (RISC-V unprivileged manual, section 2.6).
+-- Loads and stores of a guest's memory, as their callers are answered (RISC-V unprivileged manual, section
+-- 2.6).
 --     IsLoaded answer value      the answer is the value that stands there, or Fault where there is none
 --     IsStored answer after memory      the answer says whether the store was made, and then memory is what it left
 use Rattle.std.specs.Prelude.{◌≡◌, ◌⊎◌, ℕ, Result, Ok, Err, Option, Some, None}

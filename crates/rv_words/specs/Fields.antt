@@ -1,4 +1,5 @@
--- The instruction table by the fields of a word: opcode o, funct3 f and funct7 g (RISC-V unprivileged manual, section 2.2).
+-- The instruction table by the fields of a word: opcode o, funct3 f and funct7 g (RISC-V unprivileged manual,
+-- section 2.2).
 --     row_at o f g w      the instruction whose fixed fields are these, where w is the whole word
 use Rattle.std.specs.Prelude.{◌==◌, ◌&&◌, ◌%◌, ℕ, Bool, find, Option}
 use Rattle.plain_process.specs.declared.instruction.Insn.{Insn}

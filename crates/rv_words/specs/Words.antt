@@ -1,5 +1,5 @@
--- The word that an instruction's operands fill in, each cut to the width of its place (RISC-V unprivileged manual, sections
--- 2.2 and 2.3). Where a word is the instruction, it is this one.
+-- The word that an instruction's operands fill in, each cut to the width of its place (RISC-V unprivileged
+-- manual, sections 2.2 and 2.3). Where a word is the instruction, it is this one.
 --     joined c d f a b g      the word with these fields: opcode, rd, funct3, rs1, rs2 and funct7
 --     word_of insn            the word of an instruction
 use Rattle.std.specs.Prelude.{ℕ, ◌+◌, ◌*◌, ◌%◌, ◌^◌}

@@ -208,7 +208,8 @@ pub fn encode(insn: Insn) -> u32
     filled_word(&insn)
 }
 
-/// Whether an instruction has a word: its operands fit their places, and those that its format doesn't have are 0.
+/// Whether an instruction has a word: its operands fit their places, and those that its format doesn't have
+/// are 0.
 pub fn is_valid(insn: Insn) -> bool
     ensures { IsTrue result ↔ IsValid insn }
 {

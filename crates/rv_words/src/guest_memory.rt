@@ -15,7 +15,8 @@ pub enum AccessFault {
     Memory,
 }
 
-/// The memory that instructions load from and store to, at any address, aligned or not. Numbers are little-endian.
+/// The memory that instructions load from and store to, at any address, aligned or not. Numbers are
+/// little-endian.
 pub trait GuestMemory {
     ghost memory: { Self → Memory };
 

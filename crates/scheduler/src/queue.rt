@@ -6,7 +6,8 @@ use std::marker::Model;
 /// How many numbers a queue holds at most: there are so many processes, and fewer threads of one.
 pub const QUEUE_LIMIT: usize = 128;
 
-/// The numbers of those whose turn is still to come, in order. Its room is taken once, so that a round takes no memory.
+/// The numbers of those whose turn is still to come, in order. Its room is taken once, so that a round takes
+/// no memory.
 #[derive(Drop)]
 pub struct Queue {
     numbers: Vec<u32>,

@@ -20,8 +20,8 @@ use std::alloc::{AllocError, Global};
 use sys_abi::{Dir, Tid, VPid};
 use trace_log::Trace;
 
-/// A thread's turn in a round: what comes next in it, the signal that is delivered first or where the thread stands, and
-/// whether the thread has run its quantum.
+/// A thread's turn in a round: what comes next in it, the signal that is delivered first or where the thread
+/// stands, and whether the thread has run its quantum.
 #[derive(Clone, Copy, Debug, PartialEq, Eq)]
 pub struct Turn {
     pub process: VPid,
@@ -59,8 +59,8 @@ pub enum Made {
     Work,
 }
 
-/// The rounds, as far as they have come: the threads of the process whose turn it is and the processes of the round
-/// whose turn is still to come.
+/// The rounds, as far as they have come: the threads of the process whose turn it is and the processes of the
+/// round whose turn is still to come.
 #[derive(Drop)]
 pub struct Rounds {
     pub come: Come,
@@ -81,8 +81,8 @@ impl Rounds {
         })
     }
 
-    /// Chooses what is due next, None where nothing is: nobody lives, or nobody can go on and no byte is missing. Takes
-    /// no memory. Where a thread stands after its quantum it is told, and not looked at again.
+    /// Chooses what is due next, None where nothing is: nobody lives, or nobody can go on and no byte is
+    /// missing. Takes no memory. Where a thread stands after its quantum it is told, and not looked at again.
     pub fn choose(&mut self, computation: &Computation) -> Option<Chosen>
         requires ready { IsReady computation.now }
         requires told { IsToldOf self.old.come (plain_of computation.now).users }
@@ -161,8 +161,8 @@ impl Rounds {
         }
     }
 
-    /// What is due after a quantum that left the thread there: the rest of its turn, where it stands at a call or a trap
-    /// and can go on, or else what follows the turn.
+    /// What is due after a quantum that left the thread there: the rest of its turn, where it stands at a
+    /// call or a trap and can go on, or else what follows the turn.
     fn after_quantum(&mut self, computation: &Computation, turn: Turn, ran: Ran) -> Option<Chosen>
         requires ready { IsReady computation.now }
         requires stands { StandsAt (plain_of computation.now).users turn.process turn.thread.0 ran }

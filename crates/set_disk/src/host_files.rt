@@ -99,7 +99,8 @@ pub fn write_file<R: Files>(rt: &R, path: &str, at: u64, bytes: &[u8]) -> Result
     }
 }
 
-/// Writes at an offset and cuts what lies beyond, and makes the file if it is not there. Answers whether it was made.
+/// Writes at an offset and cuts what lies beyond, and makes the file if it is not there. Answers whether it
+/// was made.
 ///
 /// The file keeps its blocks where it stays as long, which makes this much quicker than a cut and a write.
 pub fn overwrite_file<R: Files>(

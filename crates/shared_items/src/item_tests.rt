@@ -103,7 +103,8 @@ pub fn is_channel_number(front: &[ChannelImage], maker: u32, n: u32) -> bool
     }
 }
 
-/// Whether so many bytes may be left in a direction: of one that is read no more none, nor of a pipe's reading side.
+/// Whether so many bytes may be left in a direction: of one that is read no more none, nor of a pipe's
+/// reading side.
 pub fn is_left_count(kind: u8, side: u8, flags: u8, n: u32) -> bool
     ensures { result ≡ field.is_left_count kind side flags n }
 {

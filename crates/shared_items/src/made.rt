@@ -1,5 +1,6 @@
-//! Whether a process made no channel and no description with a number from its next one on. The names rise, so the first
-//! one from that number on is found by a binary search: if it is of another process, so are all behind it.
+//! Whether a process made no channel and no description with a number from its next one on. The names rise,
+//! so the first one from that number on is found by a binary search: if it is of another process, so are all
+//! behind it.
 
 ghost use Rattle.std.specs.Prelude.{◌≡◌};
 ghost use Rattle.image_shared.specs.RisingLists.{ChannelsRise, DescriptionsRise};

@@ -20,8 +20,8 @@ use views::list_of::ListOf;
 
 const LAST_KIND: u8 = 4;
 
-/// What the tests of a description look up: the files, the channels, and of the descriptions before it the sides of
-/// channels that they name and the addresses that they have.
+/// What the tests of a description look up: the files, the channels, and of the descriptions before it the
+/// sides of channels that they name and the addresses that they have.
 #[derive(Clone, Copy)]
 struct Known<'a> {
     files: &'a [FileImage],

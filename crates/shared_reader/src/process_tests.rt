@@ -84,8 +84,8 @@ pub fn is_parent(front: &[ProcessEntry], n: u32) -> bool
     n == NOBODY || is_alive(front, n)
 }
 
-/// Whether the state may be that of a process of this number: one that lives has given out no greater number, and a
-/// zombie has a parent.
+/// Whether the state may be that of a process of this number: one that lives has given out no greater number,
+/// and a zombie has a parent.
 pub fn is_state(
     channels: &[ChannelImage],
     descriptions: &[DescriptionImage],

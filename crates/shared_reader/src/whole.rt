@@ -148,8 +148,8 @@ fn are_rightly_named(
         .all(|channel| is_rightly_named(descriptions, sides, channel))
 }
 
-/// Whether a description with these holders is rightly held: all are of one host, and so are its owner and what it
-/// stands for.
+/// Whether a description with these holders is rightly held: all are of one host, and so are its owner and
+/// what it stands for.
 fn is_held_by(
     channels: &[ChannelImage],
     processes: &[ProcessEntry],

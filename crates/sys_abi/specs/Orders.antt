@@ -1,5 +1,6 @@
--- The orders of the numbers that name processes and addresses, real or not, descriptors, descriptions, channels and directions: by their parts in turn,
--- as their derived comparisons have them. Beside each its code, by which it may be the key of a finite map that is a model's value.
+-- The orders of the numbers that name processes and addresses, real or not, descriptors, descriptions,
+-- channels and directions: by their parts in turn, as their derived comparisons have them. Beside each its
+-- code, by which it may be the key of a finite map that is a model's value.
 use Rattle.std.specs.declared.cmp.Ordering.{Ordering}
 use Rattle.std.specs.Ordering.{nat_cmp, ordering_then}
 use Rattle.std.specs.Coded.{Coded}

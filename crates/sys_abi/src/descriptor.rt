@@ -2,7 +2,8 @@ use crate::identity::DescId;
 use std::alloc::{AllocError, Global};
 use views::duplicate::Duplicate;
 
-/// A descriptor (`man 2 open`): the open description that it refers to, and its close-on-exec flag (`man 2 fcntl`).
+/// A descriptor (`man 2 open`): the open description that it refers to, and its close-on-exec flag
+/// (`man 2 fcntl`).
 #[derive(Clone, Copy, Debug, PartialEq, Eq)]
 pub struct Descriptor {
     pub desc: DescId,

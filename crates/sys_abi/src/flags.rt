@@ -1,4 +1,5 @@
-//! Flag bits of calls, of open descriptions and of signal handlers (`man 2 open`, `man 2 clone`, `man 2 sigaction`).
+//! Flag bits of calls, of open descriptions and of signal handlers (`man 2 open`, `man 2 clone`,
+//! `man 2 sigaction`).
 
 pub const O_WRONLY: u32 = 1;
 

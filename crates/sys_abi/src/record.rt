@@ -21,11 +21,12 @@ pub enum Cause {
     Memory,
 }
 
-/// One event of a run. `User`, `Call` and `Deliver` are work, `Arrive` moves bytes, and the others are marks, which
-/// change nothing.
+/// One event of a run. `User`, `Call` and `Deliver` are work, `Arrive` moves bytes, and the others are marks,
+/// which change nothing.
 #[derive(Clone, Copy, Debug, PartialEq, Eq)]
 pub enum Record {
-    /// Thread `t` of `p` ran `n` instructions: 4,096, or from 1 to 4,095 with a call or a trap right after them.
+    /// Thread `t` of `p` ran `n` instructions: 4,096, or from 1 to 4,095 with a call or a trap right after
+    /// them.
     User { p: VPid, t: Tid, n: u32 },
     /// The call at which `t` stands was served.
     Call { p: VPid, t: Tid },

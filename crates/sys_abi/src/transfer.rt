@@ -6,7 +6,8 @@ use std::marker::Model;
 /// How many bytes a call moves at most.
 pub const TRANSFER_LIMIT: usize = 65_536;
 
-/// The bytes that a call reads from its process or gives to it: a list of at most 65,536 bytes, whose room is taken once.
+/// The bytes that a call reads from its process or gives to it: a list of at most 65,536 bytes, whose room is
+/// taken once.
 #[derive(Debug, Drop)]
 pub struct Transfer {
     bytes: Vec<u8>,

@@ -1,4 +1,5 @@
--- The threads of a process with what they share, as their callers see them, and the user part that they make with a memory.
+-- The threads of a process with what they share, as their callers see them, and the user part that they make
+-- with a memory.
 --     joined memory group      the user part of a process with this memory and these threads
 --     with_change group t change      with a change of one thread, if it is there
 --     with_threads user threads       the user part with these threads

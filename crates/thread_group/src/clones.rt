@@ -25,8 +25,8 @@ impl ThreadGroup {
         self.threads.reserve(alloc)
     }
 
-    /// Adds the thread that a clone with these arguments makes of its caller, which still stands at the call, into room that
-    /// is there. Takes no memory.
+    /// Adds the thread that a clone with these arguments makes of its caller, which still stands at the call,
+    /// into room that is there. Takes no memory.
     pub fn add_called(&mut self, t: Tid, new: u32, flags: u32, stack: u32, tls: u32, child_tid: u32)
         requires thread { is_some (map.get self.old.threads t.0) ≡ true }
         requires free { map.get self.old.threads new ≡ None }
@@ -44,8 +44,8 @@ impl ThreadGroup {
         self.insert(new, regs, mask, clear_tid);
     }
 
-    /// Adds the thread that a clone with these arguments makes of its caller, whose call has its answer, into room that is
-    /// there. Takes no memory.
+    /// Adds the thread that a clone with these arguments makes of its caller, whose call has its answer, into
+    /// room that is there. Takes no memory.
     pub fn add_clone(&mut self, t: Tid, new: u32, flags: u32, stack: u32, tls: u32, child_tid: u32)
         requires thread { is_some (map.get self.old.threads t.0) ≡ true }
         requires free { map.get self.old.threads new ≡ None }
@@ -71,8 +71,8 @@ impl ThreadGroup {
         self.threads.insert(t, regs, mask, clear_tid);
     }
 
-    /// The group that a fork's child begins with: a copy of its caller alone, with what the process does on signals, and
-    /// nobody waits.
+    /// The group that a fork's child begins with: a copy of its caller alone, with what the process does on
+    /// signals, and nobody waits.
     pub fn twin(&self, alloc: Global, t: Tid) -> Result<ThreadGroup, AllocError>
         ensures { IfOk result (λ twin. twin ≡ record {
           threads = alone t.0 (map.get self.now.threads t.0);
@@ -88,7 +88,8 @@ impl ThreadGroup {
         })
     }
 
-    /// The one thread that is there goes on as a fork's child with this number, behind the call with these arguments.
+    /// The one thread that is there goes on as a fork's child with this number, behind the call with these
+    /// arguments.
     pub fn settle(&mut self, number: u32, flags: u32, stack: u32, tls: u32, child_tid: u32)
         ensures threads { (t : ℕ) (caller : ThreadPart) → self.old.threads ≡ alone t (Some caller)
             → self.new.threads ≡ alone number (Some (child_thread caller flags stack tls child_tid)) }

@@ -20,7 +20,8 @@ use sys_abi::{Signal, Tid};
 use views::duplicate::Duplicate;
 use views::list_of::ListOf;
 
-/// The threads of a process and what they share: what the process does on each signal, and who waits on its words.
+/// The threads of a process and what they share: what the process does on each signal, and who waits on its
+/// words.
 #[derive(Drop)]
 pub struct ThreadGroup {
     pub(crate) threads: Threads,
@@ -44,8 +45,8 @@ impl Model for ThreadGroup {
 }
 
 impl ThreadGroup {
-    /// The one thread of a program at its start, which has this number. On each signal the process does the default, and
-    /// nobody waits.
+    /// The one thread of a program at its start, which has this number. On each signal the process does the
+    /// default, and nobody waits.
     pub fn load(
         alloc: Global,
         t: Tid,

@@ -1,5 +1,5 @@
-//! rt_sigaction, rt_sigprocmask and rt_sigreturn (`man 2 sigaction`, `man 2 sigprocmask`, `man 2 sigreturn`), and the entry
-//! into a handler (`man 7 signal`).
+//! rt_sigaction, rt_sigprocmask and rt_sigreturn (`man 2 sigaction`, `man 2 sigprocmask`, `man 2 sigreturn`),
+//! and the entry into a handler (`man 7 signal`).
 ghost use Rattle.std.specs.Prelude.{◌≡◌, ◌==◌, ◌<◌, ◌&&◌, ◌||◌, ◌-◌, ℕ, List, length, not, nat_le, slice_set, is_some, true, Some, IfSome, if◌then◌else◌};
 ghost use Rattle.std.specs.FinMap as map;
 ghost use Rattle.sys_abi.specs.Signals.{is_signal as is_number};
@@ -45,8 +45,8 @@ fn put_action(actions: &mut ListOf<SignalAction>, signal: u32, action: SignalAct
 }
 
 impl ThreadGroup {
-    /// Enters the handler of a signal: saves what it interrupts, and has the thread go on in the handler. It waits no more.
-    /// Takes no memory.
+    /// Enters the handler of a signal: saves what it interrupts, and has the thread go on in the handler. It
+    /// waits no more. Takes no memory.
     pub fn enter(&mut self, t: Tid, s: Signal, is_unready: bool)
         requires { IfSome (map.get self.old.threads t.0) (λ thread. length thread.contexts < CONTEXT_LIMIT) }
         ensures entered { (memory : MemoryPart) → joined memory self.new

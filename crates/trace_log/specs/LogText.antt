@@ -17,7 +17,8 @@ use Rattle.sys_abi.specs.declared.record.Kind.{Kind}
 use Rattle.sys_abi.specs.declared.record.Kind.TheVariants.{Console, File, Stream, Socket, Listener, Datagram, Counter}
 use Rattle.trace_log.specs.declared.log_lines.Progress.{Progress}
 
--- a checkpoint is refused for a datagram pair or an event counter alone. The other kinds have a text so that each record has its line
+-- a checkpoint is refused for a datagram pair or an event counter alone. The other kinds have a text so that
+-- each record has its line
 unfoldable pub kind_text : Kind → List Byte
 kind_text Console = codes "the console"
 kind_text File = codes "a file"

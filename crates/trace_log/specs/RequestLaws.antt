@@ -71,7 +71,8 @@ CountsCuts =
     (schedule : Schedule) (start last : Plain) (later : Requests) (trace : List Record) →
     RunsTo schedule start trace last later → later.tally.greatest ≡ schedule.opening + count_by is_cut trace
 
--- where no request is open, a work record makes one exactly where it brings their number to a multiple of `every` and there is a generation left
+-- where no request is open, a work record makes one exactly where it brings their number to a multiple of
+-- `every` and there is a generation left
 abbrev pub RequestsAtMultiples : Type 0
 RequestsAtMultiples =
     (schedule : Schedule) (start g : Plain) (now : Requests) (trace : List Record) (r : Record) →
@@ -104,7 +105,8 @@ MarksFollowCuts =
     (schedule : Schedule) (start last g : Plain) (later : Requests) (trace : List Record) (generation : ℕ) →
     RunsTo schedule start trace last later → (cut : CutAt start trace generation g) → FollowsCut generation (cut_marks g) cut.rest
 
--- a cut's state has nothing on the way and nothing that no image holds, and its generation is above the opening one
+-- a cut's state has nothing on the way and nothing that no image holds, and its generation is above the
+-- opening one
 pub record IsCut (schedule : Schedule) (later : Requests) (generation : ℕ) (g : Plain) : Type 0 where
   pub held : CanBeHeld g
   pub arrived : full_arrive g ≡ g
@@ -136,7 +138,8 @@ pub record StandsAt (start : Plain) (trace : List Record) (r : Record) (g : Plai
   pub whole : trace ≡ front ++ r ∷ rest
   pub there : run start front ≡ Some g
 
--- a request lapses where nobody lives, and is refused for what no image holds, or else, also after its cut, where an image would hold all that there is
+-- a request lapses where nobody lives, and is refused for what no image holds, or else, also after its cut,
+-- where an image would hold all that there is
 abbrev pub FitsOutcome : Plain → Record → Type 0
 FitsOutcome g Lapsed = ended g ≡ true
 FitsOutcome g (Refused (Unsupported p fd kind)) = IsUnsupported g p fd kind
@@ -163,7 +166,8 @@ OnlyLastIsOpen =
     (schedule : Schedule) (start last : Plain) (later : Requests) (front mid rest : List Record) (r s : Record) →
     RunsTo schedule start (front ++ r ∷ (mid ++ s ∷ rest)) last later → MakesRequest schedule start front r → MakesRequest schedule start (front ++ r ∷ mid) s → list_any is_outcome mid ≡ true
 
--- a trace without a mark has an open request once it has as many work records as the schedule says, where there is a generation left
+-- a trace without a mark has an open request once it has as many work records as the schedule says, where
+-- there is a generation left
 abbrev pub StaysOpen : Type 0
 StaysOpen =
     (schedule : Schedule) (start last : Plain) (later : Requests) (trace : List Record) (every : ℕ) →

@@ -1,4 +1,5 @@
--- How a request goes on, record by record, each of which the contract of `request_steps` promises: the record may stand there, and what it leads to.
+-- How a request goes on, record by record, each of which the contract of `request_steps` promises: the record
+-- may stand there, and what it leads to.
 use Rattle.std.specs.Prelude.{◌≡◌, ℕ, ◌+◌, ◌<◌, true, false, List, [], ◌∷◌, ◌⊎◌, Some}
 use Rattle.sys_abi.specs.declared.identity.VPid.{VPid}
 use Rattle.sys_abi.specs.declared.identity.Fd.{Fd}

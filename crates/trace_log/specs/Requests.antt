@@ -1,4 +1,5 @@
--- How requests for checkpoints stand in a trace: when one is made, and which records may come from there to its outcome.
+-- How requests for checkpoints stand in a trace: when one is made, and which records may come from there to
+-- its outcome.
 --     MayStand g now r         the record may stand in a trace where the state is g and its requests have come this far
 --     next_requests            how far they have come after the record
 --     RunsTo                   the trace is a run whose records may all stand where they do, and it comes to this state and this far
@@ -45,7 +46,8 @@ first_tally schedule = record { work = 0; greatest = schedule.opening; is_unfini
 abbrev pub one_more_work : Tally → Tally
 one_more_work tally = record tally { work = tally.work + 1 }
 
--- the count goes on at each work record, a cut has the greatest generation so far, and its set is finished once it is complete
+-- the count goes on at each work record, a cut has the greatest generation so far, and its set is finished
+-- once it is complete
 unfoldable pub tally_after : Tally → Record → Tally
 tally_after tally (User p t n) = one_more_work tally
 tally_after tally (Call p t) = one_more_work tally
@@ -58,7 +60,8 @@ abbrev pub is_multiple_of : Option ℕ → ℕ → Bool
 is_multiple_of None n = false
 is_multiple_of (Some every) n = n % every == 0
 
--- the work record just counted asks for a checkpoint, unless a request is open: their number is a multiple of `every`, and there is a generation left
+-- the work record just counted asks for a checkpoint, unless a request is open: their number is a multiple of
+-- `every`, and there is a generation left
 unfoldable pub asks : Schedule → Tally → Bool
 asks schedule tally = is_multiple_of schedule.every tally.work && nat_lt tally.greatest (2 ^ 64 - 2)
 
@@ -108,8 +111,9 @@ abbrev pub IsUnsupported : Plain → VPid → Fd → Kind → Type 0
 IsUnsupported g p fd kind =
     (ended g ≡ false) × (unsupported g ≡ Some (record { slot = slot p fd.0; kind = kind }))
 
--- what may come while a request waits: at most two work records of each process, those that were made meanwhile included, and arrivals. Then the cut, at
--- which all bytes have arrived, or a refusal, or that nobody lives
+-- what may come while a request waits: at most two work records of each process, those that were made
+-- meanwhile included, and arrivals. Then the cut, at which all bytes have arrived, or a refusal, or that
+-- nobody lives
 abbrev pub MayAnswer : Plain → Tally → List VPid → Record → Type 0
 MayAnswer g tally since (User p t n) = records_made_by p since < 2
 MayAnswer g tally since (Call p t) = records_made_by p since < 2
@@ -165,7 +169,8 @@ next_requests schedule g now r =
     let tally = tally_after now.tally r in
     record { tally = tally; phase = phase_after now.phase (asks schedule tally) g r }
 
--- from this state and thus far, the records are steps that may stand where they do, to that state and thus far
+-- from this state and thus far, the records are steps that may stand where they do, to that state and thus
+-- far
 unfoldable pub LeadsTo : Schedule → Plain → Requests → List Record → Plain → Requests → Type 0
 LeadsTo schedule g now [] last later = (g ≡ last) × (now ≡ later)
 LeadsTo schedule g now (r ∷ rest) last later =

@@ -1,4 +1,5 @@
--- How a trace's file spells a record, in 16 bytes: kind u8, x u8, fd u16, a u32, b u32, n u32, little-endian. Fields that aren't named here are 0.
+-- How a trace's file spells a record, in 16 bytes: kind u8, x u8, fd u16, a u32, b u32, n u32, little-endian.
+-- Fields that aren't named here are 0.
 --     kind     record                           fields
 --     1 2 3    User, Call, Deliver              a the process, b the thread; n the count; x the signal
 --     4 6 7    Arrive, Drained, Refilled        a the channel's process, b its number, x the side, n the bytes
@@ -69,8 +70,8 @@ abbrev pub spellings : List Record → List ℕ
 spellings [] = []
 spellings (r ∷ rs) = spelling r ++ spellings rs
 
--- what has to hold for a record to have a spelling, beyond what the types of its numbers say: a descriptor fits its field, a signal is one, and an
--- unsupported kind has a number
+-- what has to hold for a record to have a spelling, beyond what the types of its numbers say: a descriptor
+-- fits its field, a signal is one, and an unsupported kind has a number
 abbrev pub is_spellable : Record → Bool
 is_spellable (Deliver p t s) = nat_le 1 s.0 && nat_le s.0 31
 is_spellable (Refused (Unsupported p fd kind)) = nat_lt fd.0 (2 ^ 16) && nat_lt 0 (kind_number kind)
@@ -92,7 +93,8 @@ IsInRange (Complete generation) = generation < 2 ^ 64
 IsInRange (Refused (Unsupported p fd kind)) = (p.0 < 2 ^ 32) × (fd.0 < 2 ^ 32)
 IsInRange _ = Unit {0}
 
--- a record has a spelling where its numbers fit their fields, its signal is from 1 to 31 and, for an unsupported one, its kind is listed
+-- a record has a spelling where its numbers fit their fields, its signal is from 1 to 31 and, for an
+-- unsupported one, its kind is listed
 pub record HasSpelling (r : Record) : Type 0 where
   pub in_range : IsInRange r
   pub spellable : IsTrue (is_spellable r)
@@ -111,7 +113,8 @@ pub record Spell (rs : List Record) (bytes : List ℕ) : Type 0 where
 abbrev pub BeginsWithNone : List ℕ → Type 0
 BeginsWithNone bytes = (r : Record) (rest : List ℕ) → HasSpelling r → spelling r ++ rest ≡ bytes → ⊥
 
--- up to this place the bytes are those of records, and what follows there, which is something, doesn't begin with one
+-- up to this place the bytes are those of records, and what follows there, which is something, doesn't begin
+-- with one
 pub record IsBadAt (bytes : List ℕ) (place : ℕ) : Type 0 where
   pub before : List Record
   pub rest : List ℕ

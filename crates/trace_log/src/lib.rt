@@ -1,5 +1,5 @@
-//! The trace of a run: its records in order, the bytes that spell them, the lines of its log, and where the marks of
-//! checkpoints may stand in it.
+//! The trace of a run: its records in order, the bytes that spell them, the lines of its log, and where the
+//! marks of checkpoints may stand in it.
 //!
 //! A [`Trace`] is a list of records with room for a number of further ones. The room is made
 //! beforehand, so that to append a record takes no memory and can't fail. `to_bytes` gives the bytes
@@ -8,9 +8,10 @@
 //! lines that a run writes on its log for the checkpoints in its trace. [`Schedule`] and [`Tally`] tell
 //! after which work record a request is made, and which generation its cut gets.
 //!
-//! Proved: all of that, that a record has one spelling and different records differ in theirs, and the laws of
-//! [`request_laws`] on the definition of a trace with its requests (`specs/Requests.antt`). Not proved here: that
-//! a trace which is handed in follows that definition. All formats are this project's own and restate no standard.
+//! Proved: all of that, that a record has one spelling and different records differ in theirs, and the laws
+//! of [`request_laws`] on the definition of a trace with its requests (`specs/Requests.antt`). Not proved
+//! here: that a trace which is handed in follows that definition. All formats are this project's own and
+//! restate no standard.
 #![tactic(auto)]
 
 mod fields;

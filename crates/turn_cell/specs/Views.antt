@@ -1,4 +1,5 @@
--- What a pass is seen as: `cell_of` is the cell that it is of, `seen_by` a beginning of the history, `held_by` what stands under its numbers.
+-- What a pass is seen as: `cell_of` is the cell that it is of, `seen_by` a beginning of the history,
+-- `held_by` what stands under its numbers.
 use Rattle.std.specs.Prelude.{◌≡◌, Bool, true, false, List, [], ◌∷◌, length, Option, None}
 use Rattle.std.specs.Ordering.{nat_cmp}
 use Rattle.std.specs.FinMap.{FinMap}
@@ -44,7 +45,8 @@ module _ {E P : Type 0} where
     abbrev pub IsIdle : Seat S (View E P) → Type 0
     IsIdle s = (length s.me.1 ≡ 0) × (is_waiting s.me.0.turn ≡ true)
 
-  -- it has its turn, its slot is empty, and this value may come back: it goes on from what the pass found, and keeps what the pass does not hold
+  -- it has its turn, its slot is empty, and this value may come back: it goes on from what the pass found,
+  -- and keeps what the pass does not hold
   module _ {S : Type 0} (history : S → List E) (parts : S → FinMap nat_cmp P) where
     pub record HasIt (s : Seat (Option S) (View E P)) (x : S) : Type 0 where
       pub log : List E

@@ -28,8 +28,8 @@ pub struct TurnCell<S: Turned> {
 }
 
 impl<S: Turned> TurnCell<S> {
-    /// A cell with this value, and the pass that has seen all of its history and holds all of its numbers. Where there is
-    /// no memory for it the value comes back.
+    /// A cell with this value, and the pass that has seen all of its history and holds all of its numbers.
+    /// Where there is no memory for it the value comes back.
     pub fn new(alloc: Global, state: S) -> Result<(TurnCell<S>, Pass<S>), (S, AllocError)>
         ensures cell { IfOk result (λ made. cell_of made.1.seat ≡ made.0.table.shared.table_id) }
         ensures seen { IfOk result (λ made. seen_by made.1.seat ≡ S.history state) }
@@ -60,9 +60,9 @@ impl<S: Turned> TurnCell<S> {
         (TurnCell { table }, seat)
     }
 
-    /// Does one act on the value, once it is this pass's turn. The pass that comes back has seen the history with the act.
-    /// It holds the numbers that it held, but for those under which nothing stands any more, and each at which something
-    /// stands that had nothing before.
+    /// Does one act on the value, once it is this pass's turn. The pass that comes back has seen the history
+    /// with the act. It holds the numbers that it held, but for those under which nothing stands any more,
+    /// and each at which something stands that had nothing before.
     pub fn turn<A: Act<S>, R: Wait>(&self, rt: &R, pass: Pass<S>, act: A) -> (Pass<S>, A::Out)
         requires cell { cell_of pass.seat ≡ self.now.table.shared.table_id }
         requires holds { HoldsAll (held_by pass.seat) (A.changes act) }
@@ -118,8 +118,8 @@ impl<S: Turned> TurnCell<S> {
         Pass { seat }
     }
 
-    /// Gives the value out, once nobody has a turn any more. Its history begins with what the pass had seen, and what the
-    /// pass holds stands there.
+    /// Gives the value out, once nobody has a turn any more. Its history begins with what the pass had seen,
+    /// and what the pass holds stands there.
     pub fn close<R: Wait>(self, rt: &R, pass: Pass<S>) -> S
         requires cell { cell_of pass.seat ≡ self.table.shared.table_id }
         ensures { Knows (seen_by pass.seat) (held_by pass.seat) (S.history result) (S.parts result) }

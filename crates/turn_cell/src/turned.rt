@@ -16,8 +16,8 @@ pub trait Turned {
     ghost parts: { Self → map.FinMap nat_cmp Self.Part };
 }
 
-/// What is done in one turn. It only lengthens the history, and may change what stands under the numbers that it names
-/// or put something under a number that had nothing.
+/// What is done in one turn. It only lengthens the history, and may change what stands under the numbers that
+/// it names or put something under a number that had nothing.
 pub trait Act<S: Turned> {
     /// What it answers.
     type Out;

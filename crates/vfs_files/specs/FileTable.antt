@@ -1,5 +1,6 @@
 -- All files: numbers under names, bytes under numbers, and the number that the next new file gets.
--- Source: `man 2 open` (O_CREAT, O_EXCL, ENOENT, EEXIST, ENOSPC), `man 2 ftruncate`, `man 2 unlink`; the limits are this project's own.
+-- Source: `man 2 open` (O_CREAT, O_EXCL, ENOENT, EEXIST, ENOSPC), `man 2 ftruncate`, `man 2 unlink`; the
+-- limits are this project's own.
 --     contents files file                 the bytes of a file, none where it is not there
 --     with_write, truncated               the files after a write, and after one was made empty
 --     is_too_big files file at piece      no room for the write; an empty piece always has room

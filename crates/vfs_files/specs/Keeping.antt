@@ -6,7 +6,8 @@ use Rattle.vfs_files.specs.declared.limits.TheConstants.{FILE_LIMIT, TOTAL_LIMIT
 use Rattle.vfs_files.specs.Names.{Names, IsNamedOnce}
 use Rattle.vfs_files.specs.FileTable.{FileTable, Contents, bytes_of, AllBelow}
 
--- the sum that is kept beside the files is theirs, there are no more than there may be, a name's file is there, and no number is used up
+-- the sum that is kept beside the files is theirs, there are no more than there may be, a name's file is
+-- there, and no number is used up
 pub record IsKept (all : Names) (files : Contents) (next_file total : ℕ) : Type 0 where
   pub sum : total ≡ bytes_of files
   pub limit : total ≤ TOTAL_LIMIT
@@ -14,7 +15,8 @@ pub record IsKept (all : Names) (files : Contents) (next_file total : ℕ) : Typ
   pub named : (name : List ℕ) (file : ℕ) → map.get all name ≡ Some file → is_some (map.get files file) ≡ true
   pub below : AllBelow files next_file
 
--- what callers learn of it: a name's file is there, no file has two names, no number is used up, and nothing is past the limits
+-- what callers learn of it: a name's file is there, no file has two names, no number is used up, and nothing
+-- is past the limits
 pub record IsWhole (t : FileTable) : Type 0 where
   pub named : (name : List ℕ) (file : ℕ) → map.get t.names name ≡ Some file → is_some (map.get t.files file) ≡ true
   pub once : IsNamedOnce t.names

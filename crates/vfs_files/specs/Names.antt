@@ -1,5 +1,6 @@
 -- The names of files. A file has at most one.
--- Source: `man 2 open`, `man 2 unlink`; that a file has one name at most, and no links, is this project's own rule.
+-- Source: `man 2 open`, `man 2 unlink`; that a file has one name at most, and no links, is this project's own
+-- rule.
 --     Names                       the number of the file of each name
 --     IsNameOf names file name    the name of the file, or the empty one where it has none
 --     without_file names file     the names of the other files

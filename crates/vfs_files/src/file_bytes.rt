@@ -53,8 +53,8 @@ impl FileBytes {
         self.bytes.as_slice()
     }
 
-    /// Writes the piece, unless all files would have too many bytes then or it would end too far. Answers how many
-    /// bytes all files have then, from how many they have.
+    /// Writes the piece, unless all files would have too many bytes then or it would end too far. Answers how
+    /// many bytes all files have then, from how many they have.
     pub fn write_within(&mut self, total: u64, at: u32, piece: &[u8]) -> Result<u64, FileFault>
         requires among { length self.old ≤ total }
         requires limit { total ≤ TOTAL_LIMIT }
@@ -78,7 +78,8 @@ impl FileBytes {
         Ok(sum)
     }
 
-    /// Writes over what is there and past the end. Zeros fill a gap before the piece; an empty piece fills none.
+    /// Writes over what is there and past the end. Zeros fill a gap before the piece; an empty piece fills
+    /// none.
     fn write_at(&mut self, at: usize, piece: &[u8]) -> Result<(), AllocError>
         requires { at < 2 ^ 32 }
         ensures ok { OnOk result (self.new ≡ written at piece.now self.old) }

@@ -64,8 +64,8 @@ impl Files {
         self.names.whole();
     }
 
-    /// The number of the file of that name. With O_CREAT an empty file is made where there is none, with O_EXCL beside
-    /// it one has to be made. Other flags mean nothing here: O_TRUNC is the caller's.
+    /// The number of the file of that name. With O_CREAT an empty file is made where there is none, with
+    /// O_EXCL beside it one has to be made. Other flags mean nothing here: O_TRUNC is the caller's.
     pub fn open_file(&mut self, name: &[u8], flags: u32) -> Result<u32, FileFault>
         ensures refused { IfSome (table.open_refusal self.old name.now flags) (λ fault. result ≡ Err fault) }
         ensures granted { IfNone (table.open_refusal self.old name.now flags) (IsOkUnless result FileFault.Memory) }
@@ -107,8 +107,8 @@ impl Files {
         Ok(file)
     }
 
-    /// Puts the bytes of a file from an offset on, at most n, in the place of what the transfer holds. A file that is
-    /// not there gives none.
+    /// Puts the bytes of a file from an offset on, at most n, in the place of what the transfer holds. A file
+    /// that is not there gives none.
     pub fn read_at(&self, file: u32, at: u32, n: u32, xfer: &mut Transfer)
         requires { n ≤ 65536 }
         ensures { xfer.new ≡ read_from at n (table.contents self.now.files file) }

@@ -5,10 +5,10 @@
 //! whose fields have these types is, in a contract, a record of lists and maps, and no second
 //! record is written for it. [`duplicate::Duplicate`] copies such a struct whole.
 //!
-//! `specs/Faults.antt` has the words on counts of faults: a count rose, and a result has a fault
-//! only where it rose. `specs/Limits.antt` says how much there is at most, and `specs/Numbers.antt`
-//! names numbers of one kind, for all definitions above. `proofs/` has the laws of finite maps that the crates above cite, and how an
-//! ordered map of another key type is seen as a finite map.
+//! `specs/Faults.antt` has the words on counts of faults: a count rose, and a result has a fault only where
+//! it rose. `specs/Limits.antt` says how much there is at most, and `specs/Numbers.antt` names numbers of one
+//! kind, for all definitions above. `proofs/` has the laws of finite maps that the crates above cite, and how
+//! an ordered map of another key type is seen as a finite map.
 //!
 //! `specs/Seen.antt` says what it is for two maps under different keys to stand for each other
 //! (`SeenBy`), through ways between their keys that lead back. `proofs/Seen.antt` has what a change

@@ -11,8 +11,8 @@ use std::marker::Model;
 use sys_abi::{RealAddr, RealPid, VirtAddr};
 use views::number_map::NumberMap;
 
-/// The pairs of virtual and real numbers of processes and threads, and of virtual and real addresses. A look-up on
-/// either side goes down a tree.
+/// The pairs of virtual and real numbers of processes and threads, and of virtual and real addresses. A
+/// look-up on either side goes down a tree.
 #[derive(Drop)]
 pub struct Ids {
     real_pids: NumberMap<RealPid>,

@@ -1,15 +1,15 @@
 //! Pairs of virtual and real numbers.
 //!
-//! A guest keeps its virtual process and thread numbers and its virtual addresses over a restart, while the nodes
-//! hand out new real ones. [`Ids`] holds which is paired with which, and is asked on either side.
+//! A guest keeps its virtual process and thread numbers and its virtual addresses over a restart, while the
+//! nodes hand out new real ones. [`Ids`] holds which is paired with which, and is asked on either side.
 //!
-//! A contract sees an `Ids` as four finite maps: from virtual numbers and from virtual addresses to the real ones, and
-//! the two that lead back. `add_pid` and `add_addr` refuse exactly where either side is in a pair already, and a look-up
-//! exactly where there is no pair.
+//! A contract sees an `Ids` as four finite maps: from virtual numbers and from virtual addresses to the real
+//! ones, and the two that lead back. `add_pid` and `add_addr` refuse exactly where either side is in a pair
+//! already, and a look-up exactly where there is no pair.
 //!
-//! Proved: all of that, that each way leads back (`whole` tells it), and that after any refusal all is as before. To
-//! take a pair out needs no memory, and neither does a look-up: neither has an answer for want of it. Not proved: how
-//! long a call takes; a look-up goes down a tree. Nothing here restates a standard.
+//! Proved: all of that, that each way leads back (`whole` tells it), and that after any refusal all is as
+//! before. To take a pair out needs no memory, and neither does a look-up: neither has an answer for want of
+//! it. Not proved: how long a call takes; a look-up goes down a tree. Nothing here restates a standard.
 #![tactic(auto)]
 
 pub mod id_fault;

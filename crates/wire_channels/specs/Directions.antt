@@ -1,6 +1,7 @@
--- A direction of a channel: the bytes that its sender sent and its receiver has not read, in three queues that they pass in turn, and what calls do
--- to it.
--- Source: `man 2 send`, `man 2 recv`, `man 2 shutdown`; that bytes wait in three queues is this project's own rule.
+-- A direction of a channel: the bytes that its sender sent and its receiver has not read, in three queues
+-- that they pass in turn, and what calls do to it.
+-- Source: `man 2 send`, `man 2 recv`, `man 2 shutdown`; that bytes wait in three queues is this project's own
+-- rule.
 --     standing direction               how many bytes stand in the three queues
 --     room direction                   how many more they hold
 --     send_answer direction n          what sending n bytes answers: how many are taken, or why none is

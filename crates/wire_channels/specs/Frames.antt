@@ -1,5 +1,5 @@
--- What stays of channels where bytes only pass on: which are there, which directions are ended or unread, and which ends
--- are open.
+-- What stays of channels where bytes only pass on: which are there, which directions are ended or unread, and
+-- which ends are open.
 -- Source: `man 2 shutdown`, `man 2 close`.
 --     flags_of direction        whether it is ended, and whether it is unread
 --     frame_of channel          the flags of its two directions, and which ends are open

@@ -102,8 +102,8 @@ impl Channel {
         self.second.move_bytes(from, n)
     }
 
-    /// Closes the end of a side: its outgoing direction is ended, its incoming one unread. Answers whether an end is open
-    /// then.
+    /// Closes the end of a side: its outgoing direction is ended, its incoming one unread. Answers whether an
+    /// end is open then.
     pub(crate) fn close_end(&mut self, side: u8) -> bool
         requires { side < 2 }
         ensures open { result ≡ words.is_open (words.without_end side self.old) }

@@ -69,8 +69,8 @@ pub fn stop_reading_on(channels: &mut ByConn<Channel>, d: Dir)
     }
 }
 
-/// Moves the first bytes of a queue of the direction, at most `n`, to the next queue. Answers how many; 0 where the
-/// channel is not there. Takes no memory.
+/// Moves the first bytes of a queue of the direction, at most `n`, to the next queue. Answers how many; 0
+/// where the channel is not there. Takes no memory.
 pub fn move_on(channels: &mut ByConn<Channel>, d: Dir, from: Place, n: u32) -> u32
     ensures moved { result ≡ min n (length (answers.bytes_on from (words.direction_at channels.old d))) }
     ensures after { channels.new ≡ words.at_direction channels.old d (lanes.after_move from n) }

@@ -21,7 +21,8 @@ fn split_at_count<'a>(front: &'a [u8], back: &'a [u8], count: usize) -> (&'a [u8
     }
 }
 
-/// Moves the first bytes, at most `n`, behind those of another queue, which has room for them. Answers how many.
+/// Moves the first bytes, at most `n`, behind those of another queue, which has room for them. Answers how
+/// many.
 pub(crate) fn move_front(from: &mut Ring, to: &mut Ring, n: usize) -> usize
     requires { length to.old.items + min n (length from.old.items) ≤ to.old.capacity }
     ensures count { result ≡ min n (length from.old.items) }

@@ -1,5 +1,6 @@
 -- The room that the agents of a checkpoint need.
--- Source: the DMTCP paper (IPDPS 2009), "drain kernel buffers" and "refill kernel buffers"; that all of it is taken first is this project's own rule.
+-- Source: the DMTCP paper (IPDPS 2009), "drain kernel buffers" and "refill kernel buffers"; that all of it is
+-- taken first is this project's own rule.
 --     names_of notes          the directions with the length of the list that may come back
 --     new_notes named         nothing is noted of the direction, and there is room for two lists of the length
 --     new_parts lengths       all room for these directions

@@ -1,5 +1,6 @@
 -- Lists of the ends of channels with the processes that act for them in a checkpoint.
--- Source: the DMTCP paper (IPDPS 2009), "elect shared file descriptor leaders": a leader drains and refills what it leads.
+-- Source: the DMTCP paper (IPDPS 2009), "elect shared file descriptor leaders": a leader drains and refills
+-- what it leads.
 --     is_end_at id side e        it is the end of that side of the channel
 --     agent_of ends id side      who acts for an end, if it is listed and somebody does
 --     IsFor m ends               the list fits the network: it names both ends of each channel, and an end for which nobody acts sends no more and is

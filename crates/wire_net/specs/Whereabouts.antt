@@ -1,11 +1,12 @@
 -- Where the bytes of a direction are while agents hold a part of them.
--- Source: the DMTCP paper (IPDPS 2009), stages "drain" and "refill"; cookies and frames are this project's own profile.
+-- Source: the DMTCP paper (IPDPS 2009), stages "drain" and "refill"; cookies and frames are this project's
+-- own profile.
 --     stream direction            the bytes in its three queues, oldest first
 --     Held                        what agents hold of a direction, and which bytes of the queues are its own
 --     Agents                      what they hold of each direction; of one that is not there they hold nothing
 --     whereabouts t agents d      the bytes of the direction, oldest first
--- While a checkpoint drains or refills, the queues also carry what is no part of the direction: a cookie behind its last byte, and the frame by which
--- bytes of the other direction go back, behind its length.
+-- While a checkpoint drains or refills, the queues also carry what is no part of the direction: a cookie
+-- behind its last byte, and the frame by which bytes of the other direction go back, behind its length.
 use Rattle.std.specs.Prelude.{ℕ, ◌-◌, List, [], ◌++◌, take, drop, Option, Some, None}
 use Rattle.std.specs.FinMap as map
 use Rattle.sys_abi.specs.declared.identity.Dir.{Dir}

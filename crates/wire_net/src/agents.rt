@@ -54,7 +54,8 @@ fn end_of(ends: &[AgentEnd], conn: ConnId, side: u8) -> Option<&AgentEnd>
     ends.iter().find(|end| end.is_at(conn, side))
 }
 
-/// The process that acts for an end of a channel, by a list of ends: none where the end is not listed, or nobody does.
+/// The process that acts for an end of a channel, by a list of ends: none where the end is not listed, or
+/// nobody does.
 pub fn agent_of(ends: &[AgentEnd], conn: ConnId, side: u8) -> Option<RealPid>
     ensures { result ≡ words.agent_of ends.now conn side }
 {

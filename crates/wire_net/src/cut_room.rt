@@ -7,7 +7,8 @@ use std::marker::Model;
 use sys_abi::{Dir, RealPid, Transfer};
 use views::list_of::ListOf;
 
-/// The bytes of a direction that were taken off it for a checkpoint, or that stay in it and were only looked at.
+/// The bytes of a direction that were taken off it for a checkpoint, or that stay in it and were only looked
+/// at.
 #[derive(Drop)]
 pub struct DirBytes {
     pub dir: Dir,
@@ -49,9 +50,9 @@ pub struct RoomParts {
     pub lists: Room<DirBytes>,
 }
 
-/// All room that the agents of a checkpoint need, taken before it begins. A contract sees the directions that it names
-/// with their lengths, and whether it is whole, which it is until its lists were handed out. That of what comes back is
-/// there all the time.
+/// All room that the agents of a checkpoint need, taken before it begins. A contract sees the directions that
+/// it names with their lengths, and whether it is whole, which it is until its lists were handed out. That of
+/// what comes back is there all the time.
 #[derive(Drop)]
 pub struct CutRoom {
     parts: RoomParts,

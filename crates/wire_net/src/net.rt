@@ -80,7 +80,8 @@ impl Net {
         Ok(())
     }
 
-    /// Listens at the next port of the node at which nobody listens (`man 2 listen`). So many connections may wait there.
+    /// Listens at the next port of the node at which nobody listens (`man 2 listen`). So many connections may
+    /// wait there.
     ///
     /// # Errors
     /// `PortUsed` where somebody listens at each of its ports.
@@ -103,8 +104,8 @@ impl Net {
     /// Makes a channel, whose side 1 waits to be accepted at the port, behind the others (`man 2 connect`).
     ///
     /// # Errors
-    /// `Refused` where nobody listens there; else `TooMany` where 256 channels stand; else `NotReady` where as many
-    /// connections wait as may.
+    /// `Refused` where nobody listens there; else `TooMany` where 256 channels stand; else `NotReady` where
+    /// as many connections wait as may.
     pub fn connect(&mut self, id: ConnId, to: RealAddr) -> Result<(), NetFault>
         requires { IsNone (map.get self.old.channels id) }
         ensures refused { IfSome (words.connect_refusal self.old to) (λ fault. result ≡ Err fault) }
@@ -149,8 +150,8 @@ impl Net {
     /// Takes as much of the piece as there is room for (`man 2 send`). Takes no memory.
     ///
     /// # Errors
-    /// `NotConnected` where the channel is not there; else `Ended` where the direction is ended or unread; else `NotReady`
-    /// where there is no room and the piece is not empty.
+    /// `NotConnected` where the channel is not there; else `Ended` where the direction is ended or unread;
+    /// else `NotReady` where there is no room and the piece is not empty.
     pub fn send(&mut self, d: Dir, piece: &[u8]) -> Result<u32, NetFault>
         requires { d.side < 2 }
         ensures answer { result ≡ answers.send_answer_on (channels.direction_at self.old.channels d) (length piece.now) }
@@ -162,8 +163,9 @@ impl Net {
         send_on(&mut self.channels, d, piece)
     }
 
-    /// Reads at most `n` bytes from the receiver's queue, in the place of what the transfer holds (`man 2 recv`). It
-    /// answers 0 where `n` is 0, and where the direction is ended and nothing stands in it. Takes no memory.
+    /// Reads at most `n` bytes from the receiver's queue, in the place of what the transfer holds
+    /// (`man 2 recv`). It answers 0 where `n` is 0, and where the direction is ended and nothing stands in
+    /// it. Takes no memory.
     ///
     /// # Errors
     /// `NotConnected` where the channel is not there; else `NotReady` where nothing can be read yet.
@@ -189,7 +191,8 @@ impl Net {
         end_on(&mut self.channels, d);
     }
 
-    /// The receiver of the direction reads no more (`SHUT_RD`), and what stood in it is gone. Takes no memory.
+    /// The receiver of the direction reads no more (`SHUT_RD`), and what stood in it is gone. Takes no
+    /// memory.
     pub fn stop_reading(&mut self, d: Dir)
         requires { d.side < 2 }
         ensures { self.new ≡ record self.old { channels = channels.at_direction self.old.channels d directions.after_stop_reading } }
@@ -197,8 +200,8 @@ impl Net {
         stop_reading_on(&mut self.channels, d);
     }
 
-    /// Closes the end of a side: its outgoing direction is ended, its incoming one unread. The channel is gone when its
-    /// last open end is closed. Takes no memory.
+    /// Closes the end of a side: its outgoing direction is ended, its incoming one unread. The channel is
+    /// gone when its last open end is closed. Takes no memory.
     pub fn close_end(&mut self, id: ConnId, side: u8)
         requires { side < 2 }
         ensures { self.new ≡ record self.old { channels = channels.after_close side self.old.channels id } }
@@ -206,8 +209,8 @@ impl Net {
         drop_end(&mut self.channels, id, side);
     }
 
-    /// Nobody listens at the port any more, and the accepting ends of the connections that wait there are closed. Takes no
-    /// memory.
+    /// Nobody listens at the port any more, and the accepting ends of the connections that wait there are
+    /// closed. Takes no memory.
     pub fn close_listener(&mut self, at: RealAddr)
         ensures { self.new ≡ record self.old {
           listeners = map.remove self.old.listeners at;
@@ -219,14 +222,15 @@ impl Net {
         }
     }
 
-    /// Moves the first bytes of a queue of the direction, at most `n`, to the next queue. Answers how many. Takes no memory.
+    /// Moves the first bytes of a queue of the direction, at most `n`, to the next queue. Answers how many.
+    /// Takes no memory.
     pub fn move_bytes(&mut self, d: Dir, from: Place, n: u32) -> u32
         requires { d.side < 2 }
         ensures moved { result ≡ min n (length (answers.bytes_on from (channels.direction_at self.old.channels d))) }
         ensures after { self.new ≡ record self.old { channels = channels.at_direction self.old.channels d (directions.after_move from n) } }
 
-        // The same channels are there, with the same directions ended or unread and the same ends open. Where no byte
-        // moves nothing changes.
+        // The same channels are there, with the same directions ended or unread and the same ends open. Where
+        // no byte moves nothing changes.
         ensures frame { SameFrames self.old.channels self.new.channels }
         ensures still { result ≡ 0 → self.new ≡ self.old }
     {

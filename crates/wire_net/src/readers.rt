@@ -18,7 +18,8 @@ impl Net {
         self.channels.contains_key(id)
     }
 
-    /// Puts what can be read of a direction in the place of what the transfer holds, and leaves it. Takes no memory.
+    /// Puts what can be read of a direction in the place of what the transfer holds, and leaves it. Takes no
+    /// memory.
     pub fn peek(&self, d: Dir, xfer: &mut Transfer)
         requires side { d.side < 2 }
         requires there { IsSome (map.get self.now.channels d.conn) }
@@ -52,7 +53,8 @@ impl Net {
         }
     }
 
-    /// Whether bytes may still pass both ways: the channel is there, and neither direction is ended or unread.
+    /// Whether bytes may still pass both ways: the channel is there, and neither direction is ended or
+    /// unread.
     pub fn is_live(&self, id: ConnId) -> bool
         ensures { result ≡ channels.is_live_at self.now.channels id }
     {
@@ -74,7 +76,8 @@ impl Net {
         }
     }
 
-    /// How many bytes the direction has taken since its channel was made, held at the greatest number of 64 bits.
+    /// How many bytes the direction has taken since its channel was made, held at the greatest number of 64
+    /// bits.
     pub fn carried(&self, d: Dir) -> u64
         requires { d.side < 2 }
         ensures { result ≡ option_map_or (λ direction. direction.carried) (channels.direction_at self.now.channels d) 0 }

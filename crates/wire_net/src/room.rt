@@ -76,8 +76,8 @@ impl<T> Room<T> {
 }
 
 impl<T: Drop> Room<T> {
-    /// Exchanges what it holds with a list, whose buffer it takes along. Its room is then as long as the list was. Takes no
-    /// memory.
+    /// Exchanges what it holds with a list, whose buffer it takes along. Its room is then as long as the list
+    /// was. Takes no memory.
     pub fn exchange(&mut self, list: &mut ListOf<T>)
         ensures taken { self.new ≡ reserve list.old (length list.old) }
         ensures left { list.new ≡ self.old.items }

@@ -1,4 +1,5 @@
-//! Worked calls on descriptors and files of a kernel part: each error in its order, and what each call leaves.
+//! Worked calls on descriptors and files of a kernel part: each error in its order, and what each call
+//! leaves.
 //!
 //! Each test is named by what it shows. Nothing is proved here but that the tests are safe and end.
 #![tactic(auto)]

@@ -1,7 +1,8 @@
-//! Worked calls that make, await and end processes, on a kernel part of plain data, and the guest of a fork's child.
+//! Worked calls that make, await and end processes, on a kernel part of plain data, and the guest of a fork's
+//! child.
 //!
-//! What is expected comes from the table of calls (docs/CALLS.md), worked out by hand. Each test is named by what it shows.
-//! Nothing is proved here but that the tests are safe and end.
+//! What is expected comes from the table of calls (docs/CALLS.md), worked out by hand. Each test is named by
+//! what it shows. Nothing is proved here but that the tests are safe and end.
 #![tactic(auto)]
 
 #[cfg(test)]

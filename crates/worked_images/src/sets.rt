@@ -9,8 +9,8 @@ use std::process::Abort;
 use std::test::Fail;
 use views::list_of::ListOf;
 
-/// The image of two processes that live and a zombie: 40000 with the console on 0, 1 and 2, its child 40001 with it
-/// on 0, and its child 40002, which has ended with status 7.
+/// The image of two processes that live and a zombie: 40000 with the console on 0, 1 and 2, its child 40001
+/// with it on 0, and its child 40002, which has ended with status 7.
 const THREE: [u8; 216] = [
     b'D', b'M', b'T', b'S', b'H', b'R', b'0', b'1', 0x43, 0x9C, 0, 0, 1, 0, 0, 0,
     // No file, no channel, and the console, open for both.
@@ -30,7 +30,8 @@ const THREE: [u8; 216] = [
     0, 0, 0, 0, 0,
 ];
 
-/// The image of a process with one thread of its own number, and no page but the one that a handler returns to.
+/// The image of a process with one thread of its own number, and no page but the one that a handler returns
+/// to.
 fn process_bytes(alloc: Global, pid: u32) -> Result<Vec<u8>, AllocError> {
     let mut bytes = b"DMTPRC01".to_vec(alloc)?;
     // The process, its break from 0 to 0, and the page 0x80000 with rights 5: `addi a7, zero, 139`, `ecall`.

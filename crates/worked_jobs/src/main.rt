@@ -1,8 +1,10 @@
-//! Worked command lines of larger jobs: reads words from standard input, and prints the job that they ask for.
+//! Worked command lines of larger jobs: reads words from standard input, and prints the job that they ask
+//! for.
 //!
-//! Each line is a case. Its words stand between single spaces, so two spaces have an empty word between them; `\s` is a
-//! space in a word, and `\0` a zero byte. `stdin` has the cases, each of the lines of usage breaking one rule of the
-//! grammar, and `stdout` what comes of each. Nothing is proved here but that the program is safe and ends.
+//! Each line is a case. Its words stand between single spaces, so two spaces have an empty word between them;
+//! `\s` is a space in a word, and `\0` a zero byte. `stdin` has the cases, each of the lines of usage
+//! breaking one rule of the grammar, and `stdout` what comes of each. Nothing is proved here but that the
+//! program is safe and ends.
 #![tactic(auto)]
 
 use job_words::{

@@ -1,5 +1,5 @@
-//! Worked runs of the plain machine on plain data: calls on a kernel part, a thread's steps, calls that a process answers
-//! alone, and replays.
+//! Worked runs of the plain machine on plain data: calls on a kernel part, a thread's steps, calls that a
+//! process answers alone, and replays.
 //!
 //! Each test is named by what it shows. Nothing is proved here but that the tests are safe and end.
 #![tactic(auto)]

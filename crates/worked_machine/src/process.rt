@@ -1,4 +1,5 @@
-// The process of the tests: one page that may be read, written and executed, and one thread at its first byte.
+// The process of the tests: one page that may be read, written and executed, and one thread at its first
+// byte.
 use plain_process::{Frame, Regs, ThreadPart, UserPart};
 use std::alloc::{AllocError, Global};
 use std::test::Fail;

@@ -1,5 +1,5 @@
-//! Calls of the network alone. A call that only gave up for want of memory would meet its contract, so each is made here
-//! with memory to spare.
+//! Calls of the network alone. A call that only gave up for want of memory would meet its contract, so each
+//! is made here with memory to spare.
 ghost use Rattle.std.specs.Prelude.{◌<◌};
 
 use crate::channel::{CONN, FIRST, SECOND, one_channel};

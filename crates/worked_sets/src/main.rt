@@ -1,18 +1,18 @@
 //! Prints of each case on standard input what its shared image or its set spells, or where it is damaged.
 //!
-//! A case is a line `NAME: HOW`. HOW is one of these, in which bytes are words of hex digits, and `COUNT*DIGITS` is so
-//! many times the same:
+//! A case is a line `NAME: HOW`. HOW is one of these, in which bytes are words of hex digits, and
+//! `COUNT*DIGITS` is so many times the same:
 //! - `bytes BYTES`: the shared image has these bytes, and the lines below edit this image;
 //! - `kernel`: it is that image, told as the kernel part for which it stands;
-//! - `with EDIT..`: it is that image after one edit and the next, each `PLACE:COUNT:DIGITS`, which puts bytes in the place
-//!   of so many others;
+//! - `with EDIT..`: it is that image after one edit and the next, each `PLACE:COUNT:DIGITS`, which puts bytes
+//!   in the place of so many others;
 //! - `field PLACE:SIZE NUMBER..`: it is that image with each of these numbers in the field there;
 //! - `turn BITS`: it is that image with these bits of one byte turned, of each byte;
 //! - `fronts`: it is each shorter front of that image;
 //! - `set BYTES / BYTES ..`: the set has that image and these images of processes.
 //!
-//! An image comes back where it spells a kernel part, and the image of this is written as the same bytes. Of numbers and
-//! of turned bytes a line is told for each run of those of which the same comes.
+//! An image comes back where it spells a kernel part, and the image of this is written as the same bytes. Of
+//! numbers and of turned bytes a line is told for each run of those of which the same comes.
 #![tactic(auto)]
 
 use std::alloc::Global;

@@ -55,7 +55,8 @@ fn binds(rt: HostRuntime) -> Result<(), Fail> {
 /// Port 32768 of 10.0.0.4, the first automatic one.
 const AUTOMATIC: &[u8] = &[2, 0, 0x80, 0, 10, 0, 0, 4, 0, 0, 0, 0, 0, 0, 0, 0];
 
-/// 3 listens at the first automatic port, and 4 connects from the second, which stays used while the connection waits.
+/// 3 listens at the first automatic port, and 4 connects from the second, which stays used while the
+/// connection waits.
 const TAKES_PORTS: &[Step] = &[
     (STREAM, Gives(3)),
     (STREAM, Gives(4)),

@@ -1,4 +1,5 @@
-//! Worked calls on internet sockets, on plain data: each error in its order, what each call leaves, and when it waits.
+//! Worked calls on internet sockets, on plain data: each error in its order, what each call leaves, and when
+//! it waits.
 //!
 //! Each test is named by what it shows. Nothing is proved here but that the tests are safe and end.
 #![tactic(auto)]

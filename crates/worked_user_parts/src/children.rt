@@ -1,4 +1,5 @@
-// What no clause can say: that a fork's child is made with memory to spare; and its part at values worked out by hand.
+// What no clause can say: that a fork's child is made with memory to spare; and its part at values worked out
+// by hand.
 ghost use Rattle.std.specs.Prelude.{◌≡◌, is_some, OnOk, true};
 ghost use Rattle.plain_process.specs.Buffers.{lent};
 

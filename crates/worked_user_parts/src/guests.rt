@@ -15,9 +15,9 @@ use std::process::Abort;
 use std::test::Fail;
 use sys_abi::{Reply, Tid, VPid};
 
-/// Writes `hello` by two calls, from one segment that is the whole file, at 0x10000. The code begins at byte 84:
-/// `addi a0, zero, 1`, `auipc a1, 0`, `addi a1, a1, 32`, `addi a2, zero, 6`, `addi a7, zero, 64`, `ecall`,
-/// `addi a0, zero, 0`, `addi a7, zero, 94`, `ecall`.
+/// Writes `hello` by two calls, from one segment that is the whole file, at 0x10000. The code begins at byte
+/// 84: `addi a0, zero, 1`, `auipc a1, 0`, `addi a1, a1, 32`, `addi a2, zero, 6`, `addi a7, zero, 64`,
+/// `ecall`, `addi a0, zero, 0`, `addi a7, zero, 94`, `ecall`.
 const HELLO: [u8; 126] = [
     0x7F, 0x45, 0x4C, 0x46, 0x01, 0x01, 0x01, 0x00, 0x00, 0x00, 0x00, 0x00, 0x00, 0x00, 0x00, 0x00,
     0x02, 0x00, 0xF3, 0x00, 0x01, 0x00, 0x00, 0x00, 0x54, 0x00, 0x01, 0x00, 0x34, 0x00, 0x00, 0x00,

@@ -1,5 +1,5 @@
-//! Worked calls on what a guest is made of: its memory, and its own part with its threads; and programs that write their own
-//! code.
+//! Worked calls on what a guest is made of: its memory, and its own part with its threads; and programs that
+//! write their own code.
 //!
 //! Each test is named by what it shows. Nothing is proved here but that the tests are safe and end.
 #![tactic(auto)]

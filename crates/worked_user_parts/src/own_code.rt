@@ -1,5 +1,6 @@
-// Programs that write their own code: the next instruction reads the word as the store left it, whoever stored it. Each was
-// assembled by a stock assembler (binutils 2.40), for one page to read, write and execute.
+// Programs that write their own code: the next instruction reads the word as the store left it, whoever
+// stored it. Each was assembled by a stock assembler (binutils 2.40), for one page to read, write and
+// execute.
 ghost use Rattle.std.specs.Prelude.{◌≤◌};
 
 use crate::asserts::same;
@@ -101,7 +102,8 @@ const CALLER: [u32; 12] = [
     0x0000_0000,
 ];
 
-/// Counts in a loop, over whose jump the handler behind it stores `ecall`. The action lies behind the handler.
+/// Counts in a loop, over whose jump the handler behind it stores `ecall`. The action lies behind the
+/// handler.
 const HANDLED: [u32; 12] = [
     0x0015_0513,
     0xFFDF_F06F,

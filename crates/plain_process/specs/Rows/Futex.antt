@@ -1,5 +1,5 @@
--- futex(address, operation, value, timeout) (`man 2 futex`): WAIT waits unless the word differs, WAKE wakes so many. Other operations are none,
--- and no wait has a timeout.
+-- futex(address, operation, value, timeout) (`man 2 futex`): WAIT waits unless the word differs, WAKE wakes
+-- so many. Other operations are none, and no wait has a timeout.
 use Rattle.std.specs.Prelude.{◌==◌, ◌&&◌, ◌||◌, ℕ, ◌%◌, Bool, List, if◌then◌else◌}
 use Rattle.views.specs.Numbers.{Address, ThreadNumber, Byte}
 use Rattle.sys_abi.specs.declared.errors.TheConstants.{EAGAIN, EINVAL, ENOSYS}

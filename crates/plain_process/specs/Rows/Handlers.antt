@@ -1,6 +1,7 @@
--- rt_sigaction(s, action, old_action, size), rt_sigprocmask(how, set, old_set, size), rt_sigreturn() (`man 2 sigaction`, `man 2 sigprocmask`,
--- `man 2 sigreturn`). An action in memory is its handler, its flags (4 bytes each) and its mask (8 bytes), a set 8 bytes, of which the first 4 are kept.
--- The signals SIGKILL and SIGSTOP, and those above 31, are dropped from masks.
+-- rt_sigaction(s, action, old_action, size), rt_sigprocmask(how, set, old_set, size), rt_sigreturn()
+-- (`man 2 sigaction`, `man 2 sigprocmask`, `man 2 sigreturn`). An action in memory is its handler, its flags
+-- (4 bytes each) and its mask (8 bytes), a set 8 bytes, of which the first 4 are kept. The signals SIGKILL
+-- and SIGSTOP, and those above 31, are dropped from masks.
 use Rattle.std.specs.Prelude.{◌==◌, ◌&&◌, ◌||◌, ℕ, ◌-◌, nat_le, bit_or, Bool, not, List, ◌++◌, length, take, drop, slice_get, slice_set, Option, if◌then◌else◌}
 use Rattle.views.specs.Numbers.{Address, ThreadNumber, SignalNumber, Byte}
 use Rattle.sys_abi.specs.Signals.{is_signal, blockable, without_signals}

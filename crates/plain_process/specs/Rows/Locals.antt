@@ -1,4 +1,5 @@
--- What a call leaves and gives that its process answers alone: the process's part, and an answer, unless the thread has none yet.
+-- What a call leaves and gives that its process answers alone: the process's part, and an answer, unless the
+-- thread has none yet.
 use Rattle.std.specs.Prelude.{ℕ, List, []}
 use Rattle.views.specs.Numbers.{Byte}
 use Rattle.plain_process.specs.declared.user_part.UserPart.{UserPart}

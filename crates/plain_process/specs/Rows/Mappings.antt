@@ -1,5 +1,6 @@
--- brk(address), munmap(address, length), mmap(address, length, protection, flags, ..) (`man 2 brk`, `man 2 mmap`). The heap begins at the break's start,
--- and its pages can be read and written. A mapping is anonymous and private, at the lowest place where it fits.
+-- brk(address), munmap(address, length), mmap(address, length, protection, flags, ..) (`man 2 brk`,
+-- `man 2 mmap`). The heap begins at the break's start, and its pages can be read and written. A mapping is
+-- anonymous and private, at the lowest place where it fits.
 use Rattle.std.specs.Prelude.{◌==◌, ◌&&◌, ℕ, ◌+◌, ◌-◌, ◌*◌, ◌/◌, ◌%◌, nat_le, nat_lt, Bool, not, [], Option, None, if◌then◌else◌}
 use Rattle.std.specs.FinMap as map
 use Rattle.views.specs.Numbers.{Address, Flags}
@@ -15,7 +16,8 @@ use Rattle.plain_process.specs.Rows.Locals.{Local, local_reply}
 abbrev pub with_memory : UserPart → Memory → UserPart
 with_memory user memory = record user { memory = memory }
 
--- the heap's pages up to a break: those below stay, those above are taken away, and those that are missing are added
+-- the heap's pages up to a break: those below stay, those above are taken away, and those that are missing
+-- are added
 abbrev pub heap_to : Memory → ℕ → ℕ → Memory
 heap_to memory old new =
     if nat_le old new then with_pages memory old (new - old) 6 [] else without_pages memory new (old - new)
