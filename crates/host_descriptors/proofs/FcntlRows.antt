@@ -13,9 +13,9 @@ use Rattle.sys_abi.specs.declared.identity.RealPid.{RealPid}
 use Rattle.fd_tables.specs.Slots as slots
 use Rattle.plain_process.specs.Attempts.{Try, Fails, and_then, need}
 use Rattle.plain_machine.specs.declared.kernel.PlainKernel.{PlainKernel}
-use Rattle.plain_machine.specs.declared.commands.FcntlCommand.{FcntlCommand}
+use Rattle.plain_process.specs.declared.commands.FcntlCommand.{FcntlCommand}
 use Rattle.plain_machine.specs.Attempts.{replied}
-use Rattle.plain_machine.specs.Commands.{fcntl_command}
+use Rattle.plain_process.specs.Commands.{fcntl_command}
 use Rattle.plain_machine.specs.Kernel as plain
 use Rattle.plain_machine.specs.Kernel.{held}
 use Rattle.plain_machine.specs.Rows.Descriptors.{dup_from, dup_above, with_owner, may_own, set_owner, fcntl_by, fcntl_row}

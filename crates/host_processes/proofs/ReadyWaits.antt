@@ -9,11 +9,11 @@ use Rattle.proc_book.specs.declared.waiting.Waiting.TheVariants as found
 use Rattle.proc_book.specs.Procs as table
 use Rattle.plain_tables.specs.Tables.{pid}
 use Rattle.plain_machine.specs.declared.kernel.PlainKernel.{PlainKernel}
-use Rattle.plain_machine.specs.declared.waiting.Waiting.{Waiting}
-use Rattle.plain_machine.specs.declared.waiting.Waiting.TheVariants as plain
+use Rattle.plain_tables.specs.declared.waiting.Waiting.{Waiting}
+use Rattle.plain_tables.specs.declared.waiting.Waiting.TheVariants as plain
 use Rattle.plain_machine.specs.Kernels.{IsKernel}
 use Rattle.plain_machine.specs.Rows.Wait.{ANY_CHILD, child_of_number}
-use Rattle.plain_machine.specs.Waits as waits
+use Rattle.plain_tables.specs.Waits as waits
 use Rattle.host_tables.specs.declared.kernel.Kernel.{Kernel}
 use Rattle.host_tables.specs.Numbers.{Pids}
 use Rattle.host_tables.specs.Requests.{neighbour_of}

@@ -20,7 +20,7 @@ use Rattle.plain_machine.specs.declared.kernel.PlainKernel.{PlainKernel}
 use Rattle.plain_machine.specs.Attempts.{Served}
 use Rattle.plain_machine.specs.Kernels.{IsKernel}
 use Rattle.plain_machine.specs.Rows.Wait.{ANY_CHILD, may_be_asked, child_of_number, wait4_by, wait4_row}
-use Rattle.plain_machine.specs.Waits as waits
+use Rattle.plain_tables.specs.Waits as waits
 use Rattle.host_tables.specs.declared.kernel.Kernel.{Kernel}
 use Rattle.host_tables.specs.declared.attempt.Attempt.{Attempt}
 use Rattle.host_tables.specs.declared.attempt.Attempt.TheVariants as answer

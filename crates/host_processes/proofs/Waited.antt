@@ -24,12 +24,12 @@ use Rattle.plain_tables.specs.Tables.{NOBODY, same_host}
 use Rattle.plain_tables.specs.Ends.{is_child_of}
 use Rattle.plain_tables.specs.Valid.Processes.{IsParent}
 use Rattle.plain_machine.specs.declared.kernel.PlainKernel.{PlainKernel}
-use Rattle.plain_machine.specs.declared.waiting.Waiting.{Waiting}
-use Rattle.plain_machine.specs.declared.waiting.Waiting.TheVariants as plain
+use Rattle.plain_tables.specs.declared.waiting.Waiting.{Waiting}
+use Rattle.plain_tables.specs.declared.waiting.Waiting.TheVariants as plain
 use Rattle.plain_machine.specs.Attempts.{replied}
 use Rattle.plain_machine.specs.Kernels.{IsKernel}
 use Rattle.plain_machine.specs.Rows.Wait.{WNOHANG, wait4_by}
-use Rattle.plain_machine.specs.Waits as waits
+use Rattle.plain_tables.specs.Waits as waits
 use Rattle.plain_machine.proofs.Leasts.{status_at, finding, finds-wait_any}
 use Rattle.host_tables.specs.declared.kernel.Kernel.{Kernel}
 use Rattle.host_tables.specs.declared.attempt.Attempt.TheVariants as answer

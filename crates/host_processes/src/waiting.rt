@@ -2,7 +2,7 @@
 ghost use Rattle.std.specs.Prelude.{◌≡◌};
 ghost use Rattle.proc_book.specs.Procs.{wait_for};
 ghost use Rattle.plain_machine.specs.Rows.Wait as rows;
-ghost use Rattle.plain_machine.specs.Waits as waits;
+ghost use Rattle.plain_tables.specs.Waits as waits;
 ghost use Rattle.host_tables.specs.Requests.{neighbour_of};
 ghost use Rattle.host_tables.specs.Serves.{Through, Serves, ByPidOr, same};
 ghost use Rattle.host_processes.specs.Waits as words;
