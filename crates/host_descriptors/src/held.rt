@@ -15,7 +15,7 @@ pub struct Held {
 }
 
 /// What a descriptor leads to, None where it is not open.
-pub(crate) fn held_at(book: &Book, who: RealPid, fd: u32) -> Option<Held>
+pub fn held_at(book: &Book, who: RealPid, fd: u32) -> Option<Held>
     ensures { result ≡ held_in book.now (slots.slot who fd) }
 {
     let desc = book.get(who, Fd(fd))?;

@@ -13,5 +13,5 @@ mod moves;
 
 pub use commands::fcntl;
 pub use copies::{close, dup};
-pub use held::Held;
+pub use held::{Held, held_at};
 pub use moves::{Moved, dup3};
