@@ -53,7 +53,7 @@ module _ (g : Given) (held : Option Stage) (real : Kernel) (k : PlainKernel) (st
   }
 
   pub procs_kept : (t : ProcTable) (processes : plain.Processes) (makers : plain.Makers)
-      → ArePaired g.pids g.virts t.next → AreNumbered real.nodes g.pids processes makers
+      → ArePaired g.pids g.virts g.next t.next → AreNumbered real.nodes g.pids processes makers
       → SameProcesses g.pids g.virts processes t.processes
       → Stands g held (record real { procs = t }) (record k { processes = processes; makers = makers })
   procs_kept t processes makers paired numbered same = record {

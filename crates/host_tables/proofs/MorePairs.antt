@@ -82,7 +82,7 @@ set_here xs i n h = get_or-set_same xs i n 0 h
 set_beside : (xs : List ℕ) (i j n : ℕ) → i ≢ j → slice_index (slice_set xs i n) j ≡ slice_index xs j
 set_beside xs i j n h = get_or-set_other xs i j n 0 (λ e. h (sym e))
 
-module _ (pids : Pids) (virts : Virts) (next : List ℕ) (v node : ℕ) (paired : ArePaired pids virts next)
+module _ (pids : Pids) (virts : Virts) (given next : List ℕ) (v node : ℕ) (paired : ArePaired pids virts given next)
     (first : FIRST_PID ≤ v) (there : node < length next) (positive : 1 ≤ slice_index next node)
     (below : (w : ℕ) (s : RealPid) → map.get pids w ≡ Some s → w < v) where
   abbrev pub born : RealPid
@@ -139,7 +139,10 @@ module _ (pids : Pids) (virts : Virts) (next : List ℕ) (v node : ℕ) (paired 
     below = at_node (s.node) s.pid before.below;
   }
 
-  pub ArePaired-more : ArePaired (map.insert pids v born) (map.insert virts born v) next'
+  abbrev pub given' : List ℕ
+  given' = slice_set given node (slice_index next node + 1)
+
+  pub ArePaired-more : ArePaired (map.insert pids v born) (map.insert virts born v) given' next'
   ArePaired-more = record {
     inverse = more_pairs pids virts paired.inverse v born new_virt new_real;
     handed_out = λ w s is.
@@ -148,4 +151,5 @@ module _ (pids : Pids) (virts : Virts) (next : List ℕ) (v node : ℕ) (paired 
               (subst (λ (x : RealPid). IsHandedOut next' v x) (sym here.1) own)
           | inr before ↦ later w s (paired.handed_out w s before.1)
         ];
+    next_is = ap (λ xs. slice_set xs node (slice_index next node + 1)) paired.next_is;
   }

@@ -40,7 +40,6 @@ pub record IsSound (real : Kernel) : Type 0 where
       → IsThere real.files.files real.net.listeners real.datagrams d.object
   pub alive : (at : RealSlot) (d : Descriptor) → map.get real.book.descriptors at ≡ Some d
       → is_live_at real.procs.processes at.pid ≡ true
-  pub nodes : real.net.nodes ≡ length real.procs.next
 
 pub record IsAsking (t : ProcTable) (who : RealPid) (thread : ThreadNumber) : Type 0 where
   pub node : who.node < length t.next
@@ -77,7 +76,7 @@ IsFresh real who (Pipe2 flags ids) = AreNewChannel real.book real.net ids
 IsFresh real who (Socket domain socket_type protocol id) = IsNewDesc real.book id
 IsFresh real who (Socketpair domain socket_type protocol streams datagrams) =
     AreNewChannel real.book real.net streams × AreNewPair real.book datagrams
-IsFresh real who (Accept fd id) = IsNewDesc real.book id
-IsFresh real who (Connect fd to channel port_free) = IsNewConn real.net channel
+IsFresh real who (Accept fd id of_pipe) = IsNewDesc real.book id
+IsFresh real who (Connect fd to channel port_free of_pipe) = IsNewConn real.net channel
 IsFresh real who (Clone flags) = next_of real.procs who.node < 2 ^ 32
 IsFresh real who _ = Unit {0}

@@ -3,7 +3,8 @@
 --     node_of nodes host             the node of a host
 --     IsNumberOf virts none o n      the virtual number of a real one, or this number for none
 --     to_real, to_virt, ..           the ways from either side to the other
---     ArePaired pids virts next      each pair leads back, and each real number was handed out
+--     ArePaired pids virts given next      each pair leads back, each real number was handed out, and the nodes'
+--                                    next numbers are those given
 --     AreNumbered nodes pids ..      each process and thread has a pair, of the node of its host, and those of
 --                                    one host's processes keep their order
 --     HasRoom next_id next           each node has as many numbers left as there are virtual ones to come
@@ -70,9 +71,10 @@ pub record IsHandedOut (next : List ℕ) (v : ℕ) (r : RealPid) : Type 0 where
   pub first : 1 ≤ r.pid
   pub below : r.pid < slice_index next r.node
 
-pub record ArePaired (pids : Pids) (virts : Virts) (next : List ℕ) : Type 0 where
+pub record ArePaired (pids : Pids) (virts : Virts) (given next : List ℕ) : Type 0 where
   pub inverse : AreInverse pids virts
   pub handed_out : (v : ℕ) (r : RealPid) → map.get pids v ≡ Some r → IsHandedOut next v r
+  pub next_is : next ≡ given
 
 pub record AreNumbered (nodes : List ℕ) (pids : Pids) (processes : Processes) (makers : Makers) : Type 0 where
   pub process : (p : VPid) (x : Process) → map.get processes p ≡ Some x → IsSome (map.get pids p.0)

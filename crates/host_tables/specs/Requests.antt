@@ -1,9 +1,10 @@
 -- A call over real numbers, and the plain call that it is.
 --     plain_of length req           the plain call; what no row reads is 0, and length is that of a connect's
 --                                   address
+--     leads_to_pipe k p fd          a descriptor that is open leads to an end of a pipe
 --     IsNamed g k who p length given req      what it names is what is paired with what the guest names, and
 --                                   the numbers for new things are the next ones of their process
-use Rattle.std.specs.Prelude.{◌≡◌, ◌==◌, ◌||◌, ℕ, ◌+◌, ◌<◌, nat_le, nat_lt, not, Bool, true, List, Option, Some, None, IsSome, is_some, option_and_then, Result, Ok, Err, if◌then◌else◌}
+use Rattle.std.specs.Prelude.{◌≡◌, ◌==◌, ◌||◌, ℕ, ◌+◌, ◌<◌, nat_le, nat_lt, not, Bool, true, false, List, Option, Some, None, IsSome, is_some, option_and_then, Result, Ok, Err, if◌then◌else◌}
 use Rattle.std.specs.FinMap as map
 use Rattle.views.specs.Numbers.{Byte}
 use Rattle.sys_abi.specs.declared.identity.VPid.{VPid}
@@ -25,6 +26,7 @@ use Rattle.plain_machine.specs.Addresses.{AF_INET, ADDRESS_SIZE, Endpoint, endpo
 use Rattle.plain_machine.specs.Kernel.{Held, held, made_of, has_numbers}
 use Rattle.plain_machine.specs.Making.{desc_id, conn_id}
 use Rattle.plain_machine.specs.Rows.Clone.{LAST_ID}
+use Rattle.plain_machine.specs.SocketWords.{is_pipe_channel}
 use Rattle.host_tables.specs.declared.request.ChannelIds.{ChannelIds}
 use Rattle.host_tables.specs.declared.request.PairIds.{PairIds}
 use Rattle.host_tables.specs.declared.request.RealRequest.{RealRequest}
@@ -55,11 +57,11 @@ plain_of length Getppid = plain.Getppid
 plain_of length (Socket domain socket_type protocol id) = plain.Socket domain socket_type protocol
 plain_of length (Socketpair domain socket_type protocol streams datagrams) =
     plain.Socketpair domain socket_type protocol 0
-plain_of length (Listen fd backlog port_free) = plain.Listen fd backlog
-plain_of length (Accept fd id) = plain.Accept fd 0 0
-plain_of length (Connect fd to channel port_free) = plain.Connect fd 0 length
-plain_of length (Setsockopt fd) = plain.Setsockopt fd 0 0 0 0
-plain_of length (Shutdown fd how) = plain.Shutdown fd how
+plain_of length (Listen fd backlog port_free of_pipe) = plain.Listen fd backlog
+plain_of length (Accept fd id of_pipe) = plain.Accept fd 0 0
+plain_of length (Connect fd to channel port_free of_pipe) = plain.Connect fd 0 length
+plain_of length (Setsockopt fd of_pipe) = plain.Setsockopt fd 0 0 0 0
+plain_of length (Shutdown fd how of_pipe) = plain.Shutdown fd how
 plain_of length (Clone flags) = plain.Clone flags 0 0 0 0
 plain_of length (Wait4 number options usage target) = plain.Wait4 number 0 options usage
 plain_of length (Unknown number) = plain.Unknown number
@@ -119,6 +121,18 @@ pub record ConnectNames (g : Given) (k : PlainKernel) (length : ℕ) (given : Li
   pub to_is : to ≡ target_of g.addresses own length given
   pub port_is : port_free ≡ has_port k own
 
+-- an end of a pipe is no socket
+abbrev pub is_pipe_end : PlainKernel → Object → Bool
+is_pipe_end k (object.Stream conn side) = is_pipe_channel (map.get k.channels conn)
+is_pipe_end k _ = false
+
+abbrev pub holds_pipe : PlainKernel → Try Held → Bool
+holds_pipe k (Gives h) = is_pipe_end k h.description.object
+holds_pipe k _ = false
+
+abbrev pub leads_to_pipe : PlainKernel → VPid → ℕ → Bool
+leads_to_pipe k p fd = holds_pipe k (held k p fd)
+
 -- only numbers and addresses that are in use are paired
 abbrev pub AreBelow : Given → ℕ → Type 0
 AreBelow g next_id = (v : ℕ) (r : RealPid) → map.get g.pids v ≡ Some r → v < next_id
@@ -138,11 +152,15 @@ IsNamed g k who p length given (Tgkill number tid s target thread) =
 IsNamed g k who p length given (Socket domain socket_type protocol id) = id ≡ next_desc k p
 IsNamed g k who p length given (Socketpair domain socket_type protocol streams datagrams) =
     (streams ≡ next_channel k p) × (datagrams ≡ next_pair k p)
-IsNamed g k who p length given (Listen fd backlog port_free) =
-    IfHeld (held k p fd) (λ own. port_free ≡ has_port k own) × AreListened g k
-IsNamed g k who p length given (Accept fd id) = id ≡ next_desc k p
-IsNamed g k who p length given (Connect fd to channel port_free) =
-    (channel ≡ next_conn k p) × IfHeld (held k p fd) (ConnectNames g k length given to port_free)
+IsNamed g k who p length given (Listen fd backlog port_free of_pipe) =
+    (of_pipe ≡ leads_to_pipe k p fd)
+    × (IfHeld (held k p fd) (λ own. port_free ≡ has_port k own) × AreListened g k)
+IsNamed g k who p length given (Accept fd id of_pipe) = (of_pipe ≡ leads_to_pipe k p fd) × (id ≡ next_desc k p)
+IsNamed g k who p length given (Connect fd to channel port_free of_pipe) =
+    (of_pipe ≡ leads_to_pipe k p fd)
+    × ((channel ≡ next_conn k p) × IfHeld (held k p fd) (ConnectNames g k length given to port_free))
+IsNamed g k who p length given (Setsockopt fd of_pipe) = of_pipe ≡ leads_to_pipe k p fd
+IsNamed g k who p length given (Shutdown fd how of_pipe) = of_pipe ≡ leads_to_pipe k p fd
 IsNamed g k who p length given (Clone flags) = (nat_lt k.next_id LAST_ID ≡ true) × AreBelow g k.next_id
 IsNamed g k who p length given (Wait4 number options usage target) =
     target ≡ neighbour_of g.pids k p number

@@ -129,7 +129,7 @@ abbrev pub ValueOf : RealPid → RealRequest → ValueRelation
 ValueOf who (Fcntl fd command argument target) = ValueOfCommand who (fcntl_command command)
 ValueOf who Getpid = ByPid who
 ValueOf who Getppid = ByPidOr NOBODY who
-ValueOf who (Listen fd backlog port_free) = ByPort
+ValueOf who (Listen fd backlog port_free of_pipe) = ByPort
 ValueOf who (Clone flags) = ByPid who
 ValueOf who (Wait4 number options usage target) = ByPidOr 0 who
 ValueOf who _ = ByNumber
@@ -174,9 +174,9 @@ GivenAfter who k p length given (Socket domain socket_type protocol id) n m g =
     with_new_name g id (address_at (host_of k p) 0)
 GivenAfter who k p length given (Socketpair domain socket_type protocol streams datagrams) n m g =
     if socket_type % 16 == STREAMS then with_new_channel g streams PAIR else g
-GivenAfter who k p length given (Listen fd backlog port_free) n m g =
+GivenAfter who k p length given (Listen fd backlog port_free of_pipe) n m g =
     with_listening g (record { node = who.node; port = n }) (listened_at k p fd)
-GivenAfter who k p length given (Connect fd to channel port_free) n m g =
+GivenAfter who k p length given (Connect fd to channel port_free of_pipe) n m g =
     with_connection g channel (connecting_of k p fd length (endpoint_of given))
 GivenAfter who k p length given (Clone flags) n m g = with_number g m (real who.node n)
 GivenAfter who k p length given _ n m g = g

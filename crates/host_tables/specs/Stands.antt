@@ -1,9 +1,9 @@
 -- What it is for a kernel over real numbers to stand for a plain kernel part.
---     Given                     the pairs, and the kinds and addresses of channels and sockets, by which it
---                               does
+--     Given                     the pairs, the number that each node hands out next, and the kinds and addresses
+--                               of channels and sockets, by which it does
 --     Stands g held real k      it does, while a stage of a checkpoint holds this of it
 --     with_number, with_place, with_name, with_conn      one thing more is given
-use Rattle.std.specs.Prelude.{◌≡◌, ℕ, true, [], ◌∷◌, Option}
+use Rattle.std.specs.Prelude.{◌≡◌, ℕ, ◌+◌, true, List, [], ◌∷◌, slice_set, Option}
 use Rattle.std.specs.FinMap as map
 use Rattle.sys_abi.specs.declared.identity.DescId.{DescId}
 use Rattle.sys_abi.specs.declared.identity.ConnId.{ConnId}
@@ -24,6 +24,7 @@ use Rattle.host_tables.specs.Network.{Conns, Ports, SameChannels, SameDirections
 pub record Given : Type 0 where
   pub pids : Pids
   pub virts : Virts
+  pub next : List ℕ
   pub addresses : Addresses
   pub ports : Ports
   pub conns : Conns
@@ -37,7 +38,7 @@ pub record SameFiles (t : FileTable) (names : plain.Names) (files : plain.Files)
 
 -- each topic over the maps that it reads
 pub record Stands (g : Given) (held : Option Stage) (real : Kernel) (k : PlainKernel) : Type 0 where
-  pub paired : ArePaired g.pids g.virts real.procs.next
+  pub paired : ArePaired g.pids g.virts g.next real.procs.next
   pub numbered : AreNumbered real.nodes g.pids k.processes k.makers
   pub processes : SameProcesses g.pids g.virts k.processes real.procs.processes
   pub descriptors : SameDescriptors g.pids g.virts k.descriptors real.book.descriptors
@@ -50,7 +51,11 @@ pub record Stands (g : Given) (held : Option Stage) (real : Kernel) (k : PlainKe
   pub listeners : SameListeners real.nodes g.addresses g.ports k.listeners real.net.listeners
 
 abbrev pub with_number : Given → ℕ → RealPid → Given
-with_number g v r = record g { pids = map.insert g.pids v r; virts = map.insert g.virts r v }
+with_number g v r = record g {
+  pids = map.insert g.pids v r;
+  virts = map.insert g.virts r v;
+  next = slice_set g.next r.node (r.pid + 1);
+}
 
 abbrev pub with_place : Given → VirtAddr → RealAddr → Given
 with_place g a at = record g { addresses = map.insert g.addresses a at; ports = map.insert g.ports at a }

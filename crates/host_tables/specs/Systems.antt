@@ -33,6 +33,7 @@ abbrev pub given_of : System → Given
 given_of s = record {
   pids = s.ids.pids;
   virts = s.ids.virts;
+  next = s.kernel.procs.next;
   addresses = s.ids.addresses;
   ports = s.ids.ports;
   conns = s.conns.conns;

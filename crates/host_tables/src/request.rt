@@ -21,7 +21,8 @@ pub struct PairIds {
 ///
 /// `target` is the real number of the process that the guest's `number` or `argument` names, and None where
 /// the caller's host has no process of that number. The numbers that new descriptions and channels get are
-/// None where their process has none left to give out.
+/// None where their process has none left to give out. `of_pipe` tells whether the descriptor leads to an end
+/// of a pipe, which is no socket: the kernel doesn't keep what kind a channel is of.
 #[derive(Clone, Copy)]
 pub enum RealRequest {
     Eventfd2 {
@@ -113,11 +114,13 @@ pub enum RealRequest {
         fd: u32,
         backlog: u32,
         port_free: bool,
+        of_pipe: bool,
     },
     /// Gives no address.
     Accept {
         fd: u32,
         id: Option<DescId>,
+        of_pipe: bool,
     },
     /// `to` is the port at which the address that the guest names is listened, None where nobody listens
     /// there, or why the bytes are no address. `port_free` tells whether the socket has a port, or its host a
@@ -127,13 +130,16 @@ pub enum RealRequest {
         to: Result<Option<RealAddr>, Errno>,
         channel: Option<ConnId>,
         port_free: bool,
+        of_pipe: bool,
     },
     Setsockopt {
         fd: u32,
+        of_pipe: bool,
     },
     Shutdown {
         fd: u32,
         how: u32,
+        of_pipe: bool,
     },
     /// Answers the real number, and gives no bytes.
     Clone {

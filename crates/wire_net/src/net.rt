@@ -86,7 +86,6 @@ impl Net {
     /// # Errors
     /// `PortUsed` where somebody listens at each of its ports.
     pub fn listen(&mut self, node: u32, backlog: u32) -> Result<RealAddr, NetFault>
-        requires { node < self.old.nodes }
         ensures used { (result ≡ Err NetFault.PortUsed) ↔ listeners.AllPortsUsed self.old.listeners node self.old.port_base }
         ensures fault { IfErr result (λ fault. (fault ≡ NetFault.PortUsed) ⊎ (fault ≡ NetFault.Memory)) }
         ensures port { IfOk result (listeners.IsNextPort self.old.listeners node self.old.port_base) }
