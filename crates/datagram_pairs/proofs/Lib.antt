@@ -1,1 +1,3 @@
 pub mod ClosedPairs
+pub mod FreeNumbers
+pub mod SentMessages

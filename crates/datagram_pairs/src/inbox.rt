@@ -1,6 +1,6 @@
-ghost use Rattle.std.specs.Prelude.{◌≡◌, []};
+ghost use Rattle.std.specs.Prelude.{◌≡◌, [], ◌∷◌, ◌++◌, length, drop, slice_get, OnOk, OnErr};
 
-use std::alloc::Global;
+use std::alloc::{AllocError, Global};
 use std::collections::VecDeque;
 use std::marker::Model;
 use views::list_of::ListOf;
@@ -26,5 +26,28 @@ impl Inbox {
         Inbox {
             messages: VecDeque::new(alloc),
         }
+    }
+
+    pub fn len(&self) -> usize
+        ensures { result ≡ length self.now }
+    {
+        self.messages.len()
+    }
+
+    /// Puts a message behind the others. After a failed allocation the inbox is as before.
+    pub(crate) fn push_last(&mut self, message: ListOf<u8>) -> Result<(), AllocError>
+        ensures ok { OnOk result (self.new ≡ self.old ++ message ∷ []) }
+        ensures err { OnErr result (self.new ≡ self.old) }
+    {
+        self.messages.push_back(message)?;
+        Ok(())
+    }
+
+    /// Takes out the oldest message.
+    pub(crate) fn pop_first(&mut self) -> Option<ListOf<u8>>
+        ensures first { result ≡ slice_get self.old 0 }
+        ensures rest { self.new ≡ drop 1 self.old }
+    {
+        self.messages.pop_front()
     }
 }

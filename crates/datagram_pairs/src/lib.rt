@@ -7,6 +7,8 @@
 
 mod closing;
 mod inbox;
+mod messages;
+mod opening;
 mod pairs;
 
 pub use inbox::Inbox;

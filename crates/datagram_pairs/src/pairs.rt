@@ -1,3 +1,6 @@
+ghost use Rattle.std.specs.Prelude.{◌≡◌};
+ghost use Rattle.std.specs.FinMap as map;
+
 use crate::inbox::Inbox;
 use std::alloc::Global;
 use std::marker::Model;
@@ -39,4 +42,16 @@ impl Model for DatagramPairs {
     ghost coded = { map.code coded_ℕ pair.the_row.coded };
 
     ghost view = { λ a. a.pairs };
+}
+
+impl DatagramPairs {
+    /// No pairs. It holds no memory yet.
+    pub fn new(alloc: Global) -> DatagramPairs
+        ensures { result ≡ map.empty }
+    {
+        DatagramPairs {
+            alloc,
+            pairs: NumberMap::new(alloc),
+        }
+    }
 }
