@@ -1,0 +1,5 @@
+pub mod LowestCloses
+pub mod Disowned
+pub mod FewerProcesses
+pub mod Left
+pub mod ExitRows
