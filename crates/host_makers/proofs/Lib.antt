@@ -1,0 +1,11 @@
+pub mod Undone
+pub mod FreePlaces
+pub mod TwoPlaced
+pub mod NewDescriptions
+pub mod NewDatagrams
+pub mod Answered
+pub mod MadeRows
+pub mod MadeCalls
+pub mod ChannelRows
+pub mod ChannelCalls
+pub mod PairRows
