@@ -1,0 +1,11 @@
+pub mod UsedDirections
+pub mod DirectionBytes
+pub mod ReadRows
+pub mod Readiness
+pub mod WriteRows
+pub mod BrokenPipes
+pub mod ShutEnds
+pub mod SocketLookUps
+pub mod PipeLookUps
+pub mod SocketRows
+pub mod CounterRows

@@ -1,0 +1,84 @@
+//! A write to a channel (`man 2 write`, `man 7 pipe`).
+ghost use Rattle.std.specs.Prelude.{◌≡◌, ◌<◌, false, None, Some};
+ghost use Rattle.std.specs.FinMap as map;
+ghost use Rattle.views.specs.Numbers.{ThreadNumber};
+ghost use Rattle.plain_machine.specs.declared.kernel.PlainKernel.{PlainKernel};
+ghost use Rattle.plain_machine.specs.Channels.{direction_at};
+ghost use Rattle.plain_machine.specs.Transfers.Streams as streams;
+ghost use Rattle.plain_tables.specs.Objects.{dir};
+ghost use Rattle.host_tables.specs.Conditions.{IsAsking};
+ghost use Rattle.host_tables.specs.Network.{is_unused};
+ghost use Rattle.host_tables.specs.Numbers.{real};
+ghost use Rattle.host_tables.specs.Serves.{Through, Serves, ByNumber, same};
+ghost use Rattle.host_tables.specs.Stands.{Given, Stands};
+ghost use Rattle.host_streams.specs.Lanes as words;
+
+use crate::broken::broken_pipe;
+use crate::lanes::{is_broken_at, standing_at};
+use host_tables::{Attempt, Kernel};
+use sys_abi::errors::EPIPE;
+use sys_abi::{ConnId, Dir, Errno, RealPid, Transfer};
+use wire_net::Net;
+
+/// A direction holds at most so many bytes.
+const DIRECTION_LIMIT: u32 = 65_536;
+
+/// Whether a write of so many bytes, at the end of that side, has an answer yet.
+pub fn is_sendable(kernel: &Kernel, conn: ConnId, side: u8, count: u32) -> bool
+    ensures { (g : Given) (k : PlainKernel) → Stands g None kernel.now k
+        → is_unused g.conns (dir conn side) ≡ false
+        → result ≡ streams.is_sendable count (direction_at k (dir conn side)) }
+{
+    if side > 1 {
+        return true;
+    }
+    can_send(&kernel.net, Dir { conn, side }, count)
+}
+
+fn can_send(net: &Net, to: Dir, count: u32) -> bool
+    requires { to.side < 2 }
+    ensures { result ≡ words.can_send net.now to count }
+{
+    let is_there = net.has(to.conn);
+    let is_broken = is_broken_at(net, to);
+    let standing = standing_at(net, to);
+    !is_there || count == 0 || is_broken || standing < DIRECTION_LIMIT
+}
+
+/// A write of the bytes in the transfer, by a thread that asks for so many, at the end of that side
+/// (`man 2 write`). Takes no memory.
+pub fn write_stream(
+    kernel: &mut Kernel,
+    who: RealPid,
+    thread: u32,
+    conn: ConnId,
+    side: u8,
+    count: u32,
+    transfer: &Transfer,
+) -> Attempt
+    requires { IsAsking kernel.old.procs who thread }
+    ensures row { Through kernel.old who (λ g k p. (t : ThreadNumber)
+        → map.get g.pids t ≡ Some (real who.node thread) → is_unused g.conns (dir conn side) ≡ false
+        → Serves ByNumber same g kernel.old kernel.new transfer.now transfer.now result
+        (streams.write_stream k p t (dir conn side) count transfer.now)) }
+    ensures nodes { kernel.new.net.nodes ≡ kernel.old.net.nodes }
+    ensures next { kernel.new.procs.next ≡ kernel.old.procs.next }
+{
+    if side > 1 {
+        return Attempt::Fails(Errno(EPIPE));
+    }
+    if !kernel.net.has(conn) {
+        return Attempt::Fails(Errno(EPIPE));
+    }
+    if count == 0 {
+        return Attempt::Gives(0);
+    }
+    let to = Dir { conn, side };
+    if is_broken_at(&kernel.net, to) {
+        return broken_pipe(kernel, who, thread);
+    }
+    match kernel.net.send(to, transfer.as_slice()) {
+        Ok(sent) => Attempt::Gives(sent),
+        Err(_) => Attempt::Gives(0),
+    }
+}
