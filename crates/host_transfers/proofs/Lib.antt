@@ -1,0 +1,7 @@
+pub mod InboxChanges
+pub mod MessageTests
+pub mod MessageRows
+pub mod Accesses
+pub mod Objects
+pub mod ReadRows
+pub mod WriteRows
