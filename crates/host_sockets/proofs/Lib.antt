@@ -1,0 +1,16 @@
+pub mod Tries
+pub mod SocketTold
+pub mod Rows
+pub mod BoundPorts
+pub mod ListenTests
+pub mod PlacesListened
+pub mod Listens
+pub mod FreeNumbers
+pub mod ListenersTold
+pub mod AcceptTests
+pub mod Accepts
+pub mod ConnectTests
+pub mod Connects
+pub mod ListenRows
+pub mod AcceptRows
+pub mod ConnectRows
