@@ -23,11 +23,19 @@ impl Twins {
     fn neighbour(&self, p: VPid, number: u32) -> Option<RealPid> {
         let own = self.plain.makers.get(p)?.host;
         let other = self.plain.makers.get(VPid(number))?.host;
-        if own == other { self.real_pid(number) } else { None }
+        if own == other {
+            self.real_pid(number)
+        } else {
+            None
+        }
     }
 
     fn numbered(&self, p: VPid, place: u32) -> Option<(VPid, u32)> {
-        if self.plain.has_numbers(p) { Some((p, self.plain.made_of(p) + place)) } else { None }
+        if self.plain.has_numbers(p) {
+            Some((p, self.plain.made_of(p) + place))
+        } else {
+            None
+        }
     }
 
     fn desc(&self, p: VPid, place: u32) -> Option<DescId> {
@@ -94,7 +102,10 @@ impl Twins {
         let Some(host) = named_host(host_of(&self.plain, p), given) else {
             return Ok(None);
         };
-        let address = VirtAddr { host, port: port_of(given) };
+        let address = VirtAddr {
+            host,
+            port: port_of(given),
+        };
         match self.system.ids.real_addr(address) {
             Ok(at) => Ok(Some(at)),
             Err(_) => Ok(None),
@@ -104,21 +115,44 @@ impl Twins {
     /// The call over real numbers, None for those that need nothing of the kernel but descriptors.
     pub fn real_request(&self, p: VPid, request: &Request, given: &[u8]) -> Option<RealRequest> {
         let asked = match *request {
-            Request::Eventfd2 { value, flags } => RealRequest::Eventfd2 { value, flags, id: self.desc(p, 0) },
+            Request::Eventfd2 { value, flags } => RealRequest::Eventfd2 {
+                value,
+                flags,
+                id: self.desc(p, 0),
+            },
             Request::Dup { fd } => RealRequest::Dup { fd },
             Request::Dup3 { fd, to, flags } => RealRequest::Dup3 { fd, to, flags },
-            Request::Fcntl { fd, command, argument } => RealRequest::Fcntl {
+            Request::Fcntl {
+                fd,
+                command,
+                argument,
+            } => RealRequest::Fcntl {
                 fd,
                 command,
                 argument,
                 target: self.neighbour(p, argument),
             },
-            Request::Unlinkat { directory, flags, .. } => RealRequest::Unlinkat { directory, flags },
-            Request::Openat { directory, flags, .. } => {
-                RealRequest::Openat { directory, flags, id: self.desc(p, 0) }
+            Request::Unlinkat {
+                directory,
+                flags,
+                ..
+            } => RealRequest::Unlinkat { directory, flags },
+            Request::Openat {
+                directory,
+                flags,
+                ..
+            } => {
+                RealRequest::Openat {
+                    directory,
+                    flags,
+                    id: self.desc(p, 0),
+                }
             }
             Request::Close { fd } => RealRequest::Close { fd },
-            Request::Pipe2 { flags, .. } => RealRequest::Pipe2 { flags, ids: self.channel(p) },
+            Request::Pipe2 { flags, .. } => RealRequest::Pipe2 {
+                flags,
+                ids: self.channel(p),
+            },
             Request::Lseek { fd, offset, whence } => RealRequest::Lseek { fd, offset, whence },
             Request::Read { fd, count, .. } => RealRequest::Read { fd, count },
             Request::Write { fd, count, .. } => RealRequest::Write { fd, count },
@@ -132,7 +166,11 @@ impl Twins {
     fn other_request(&self, p: VPid, request: &Request, given: &[u8]) -> Option<RealRequest> {
         let asked = match *request {
             Request::Kill { pid, signal } => {
-                RealRequest::Kill { number: pid, signal, target: self.neighbour(p, pid) }
+                RealRequest::Kill {
+                    number: pid,
+                    signal,
+                    target: self.neighbour(p, pid),
+                }
             }
             Request::Tgkill { pid, tid, signal } => {
                 let node = self.real_pid(p.0)?.node;
@@ -140,14 +178,34 @@ impl Twins {
                     Some(real) if real.node == node => Some(real.pid),
                     _ => None,
                 };
-                RealRequest::Tgkill { number: pid, tid, signal, target: self.neighbour(p, pid), thread }
+                RealRequest::Tgkill {
+                    number: pid,
+                    tid,
+                    signal,
+                    target: self.neighbour(p, pid),
+                    thread,
+                }
             }
             Request::Getpid => RealRequest::Getpid,
             Request::Getppid => RealRequest::Getppid,
-            Request::Socket { domain, socket_type, protocol } => {
-                RealRequest::Socket { domain, socket_type, protocol, id: self.desc(p, 0) }
+            Request::Socket {
+                domain,
+                socket_type,
+                protocol,
+            } => {
+                RealRequest::Socket {
+                    domain,
+                    socket_type,
+                    protocol,
+                    id: self.desc(p, 0),
+                }
             }
-            Request::Socketpair { domain, socket_type, protocol, .. } => RealRequest::Socketpair {
+            Request::Socketpair {
+                domain,
+                socket_type,
+                protocol,
+                ..
+            } => RealRequest::Socketpair {
                 domain,
                 socket_type,
                 protocol,
@@ -155,9 +213,18 @@ impl Twins {
                 datagrams: self.pair_ids(p),
             },
             Request::Listen { fd, backlog } => {
-                RealRequest::Listen { fd, backlog, port_free: self.port_free(p, fd), of_pipe: self.of_pipe(p, fd) }
+                RealRequest::Listen {
+                    fd,
+                    backlog,
+                    port_free: self.port_free(p, fd),
+                    of_pipe: self.of_pipe(p, fd),
+                }
             }
-            Request::Accept { fd, .. } => RealRequest::Accept { fd, id: self.desc(p, 0), of_pipe: self.of_pipe(p, fd) },
+            Request::Accept { fd, .. } => RealRequest::Accept {
+                fd,
+                id: self.desc(p, 0),
+                of_pipe: self.of_pipe(p, fd),
+            },
             Request::Connect { fd, length, .. } => RealRequest::Connect {
                 fd,
                 to: self.place(p, length, given),
@@ -165,11 +232,28 @@ impl Twins {
                 port_free: self.port_free(p, fd),
                 of_pipe: self.of_pipe(p, fd),
             },
-            Request::Setsockopt { fd, .. } => RealRequest::Setsockopt { fd, of_pipe: self.of_pipe(p, fd) },
-            Request::Shutdown { fd, how } => RealRequest::Shutdown { fd, how, of_pipe: self.of_pipe(p, fd) },
+            Request::Setsockopt { fd, .. } => RealRequest::Setsockopt {
+                fd,
+                of_pipe: self.of_pipe(p, fd),
+            },
+            Request::Shutdown { fd, how } => RealRequest::Shutdown {
+                fd,
+                how,
+                of_pipe: self.of_pipe(p, fd),
+            },
             Request::Clone { flags, .. } => RealRequest::Clone { flags },
-            Request::Wait4 { pid, options, usage, .. } => {
-                RealRequest::Wait4 { number: pid, options, usage, target: self.neighbour(p, pid) }
+            Request::Wait4 {
+                pid,
+                options,
+                usage,
+                ..
+            } => {
+                RealRequest::Wait4 {
+                    number: pid,
+                    options,
+                    usage,
+                    target: self.neighbour(p, pid),
+                }
             }
             Request::Unknown(number) => RealRequest::Unknown(number),
             _ => return None,

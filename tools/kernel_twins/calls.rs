@@ -108,7 +108,12 @@ fn bare(alloc: Global, request: Request) -> Result<Asked, AllocError> {
 }
 
 /// A call of the process.
-pub fn ask(alloc: Global, kernel: &PlainKernel, p: VPid, random: &mut Random) -> Result<Asked, AllocError> {
+pub fn ask(
+    alloc: Global,
+    kernel: &PlainKernel,
+    p: VPid,
+    random: &mut Random,
+) -> Result<Asked, AllocError> {
     match random.below(100) {
         0..=19 => ask_transfer(alloc, random),
         20..=39 => ask_descriptors(alloc, kernel, random),
@@ -125,14 +130,29 @@ fn ask_transfer(alloc: Global, random: &mut Random) -> Result<Asked, AllocError>
     if random.once_in(2) {
         let length = if count > 65_536 { 65_536 } else { count };
         return Ok(Asked {
-            request: Request::Write { fd, buffer: 0, count },
+            request: Request::Write {
+                fd,
+                buffer: 0,
+                count,
+            },
             given: data(alloc, random, length)?,
         });
     }
-    bare(alloc, Request::Read { fd, buffer: 0, count })
+    bare(
+        alloc,
+        Request::Read {
+            fd,
+            buffer: 0,
+            count,
+        },
+    )
 }
 
-fn ask_descriptors(alloc: Global, kernel: &PlainKernel, random: &mut Random) -> Result<Asked, AllocError> {
+fn ask_descriptors(
+    alloc: Global,
+    kernel: &PlainKernel,
+    random: &mut Random,
+) -> Result<Asked, AllocError> {
     let fd = descriptor(random);
     let request = match random.below(9) {
         0 | 1 => Request::Dup { fd },
@@ -147,7 +167,11 @@ fn ask_descriptors(alloc: Global, kernel: &PlainKernel, random: &mut Random) -> 
                 8 => number(kernel, random),
                 _ => random.of(&[0, 1, 5, 0x800, 0xC00, 256, 0xFFFF_FFFF]),
             };
-            Request::Fcntl { fd, command, argument }
+            Request::Fcntl {
+                fd,
+                command,
+                argument,
+            }
         }
         _ => Request::Close { fd },
     };
@@ -157,7 +181,10 @@ fn ask_descriptors(alloc: Global, kernel: &PlainKernel, random: &mut Random) -> 
 fn ask_making(alloc: Global, random: &mut Random) -> Result<Asked, AllocError> {
     let flags = random.of(&[0, 0, 0x800, 0x8_0000, 0x8_0800, 1]);
     let request = match random.below(5) {
-        0 => Request::Eventfd2 { value: random.of(&[0, 1, 7, 0xFFFF_FFFF]), flags },
+        0 => Request::Eventfd2 {
+            value: random.of(&[0, 1, 7, 0xFFFF_FFFF]),
+            flags,
+        },
         1 | 2 => Request::Pipe2 { fds: 0, flags },
         _ => Request::Socketpair {
             domain: random.of(&[1, 1, 1, 1, 1, 2, 3]),
@@ -182,24 +209,68 @@ fn ask_sockets(alloc: Global, random: &mut Random) -> Result<Asked, AllocError> 
             },
         ),
         5..=7 => Ok(Asked {
-            request: Request::Bind { fd, address: 0, length: random.of(&[16, 16, 16, 28, 8]) },
+            request: Request::Bind {
+                fd,
+                address: 0,
+                length: random.of(&[16, 16, 16, 28, 8]),
+            },
             given: address(alloc, random)?,
         }),
-        8..=10 => bare(alloc, Request::Listen { fd, backlog: random.of(&[0, 1, 2, 5, 200, 0xFFFF_FFFF]) }),
-        11..=13 => bare(alloc, Request::Accept { fd, address: 0, length: 0 }),
+        8..=10 => bare(
+            alloc,
+            Request::Listen {
+                fd,
+                backlog: random.of(&[0, 1, 2, 5, 200, 0xFFFF_FFFF]),
+            },
+        ),
+        11..=13 => bare(
+            alloc,
+            Request::Accept {
+                fd,
+                address: 0,
+                length: 0,
+            },
+        ),
         14..=16 => Ok(Asked {
-            request: Request::Connect { fd, address: 0, length: random.of(&[16, 16, 16, 16, 8]) },
+            request: Request::Connect {
+                fd,
+                address: 0,
+                length: random.of(&[16, 16, 16, 16, 8]),
+            },
             given: address(alloc, random)?,
         }),
         17 => Ok(Asked {
             request: match random.below(2) {
-                0 => Request::Getsockname { fd, address: 4, length: 4 },
-                _ => Request::Getpeername { fd, address: 4, length: 4 },
+                0 => Request::Getsockname {
+                    fd,
+                    address: 4,
+                    length: 4,
+                },
+                _ => Request::Getpeername {
+                    fd,
+                    address: 4,
+                    length: 4,
+                },
             },
             given: word(alloc)?,
         }),
-        18 => bare(alloc, Request::Setsockopt { fd, level: 1, name: 2, value: 3, length: 4 }),
-        _ => bare(alloc, Request::Shutdown { fd, how: random.of(&[0, 1, 2, 3]) }),
+        18 => bare(
+            alloc,
+            Request::Setsockopt {
+                fd,
+                level: 1,
+                name: 2,
+                value: 3,
+                length: 4,
+            },
+        ),
+        _ => bare(
+            alloc,
+            Request::Shutdown {
+                fd,
+                how: random.of(&[0, 1, 2, 3]),
+            },
+        ),
     }
 }
 
@@ -207,18 +278,36 @@ fn ask_files(alloc: Global, random: &mut Random) -> Result<Asked, AllocError> {
     let directory = if random.once_in(20) { 5 } else { AT_FDCWD };
     match random.below(6) {
         0..=2 => Ok(Asked {
-            request: Request::Openat { directory, path: 0, flags: random.of(&OPEN_FLAGS), mode: 0 },
+            request: Request::Openat {
+                directory,
+                path: 0,
+                flags: random.of(&OPEN_FLAGS),
+                mode: 0,
+            },
             given: name(alloc, random)?,
         }),
         3 => Ok(Asked {
-            request: Request::Unlinkat { directory, path: 0, flags: random.of(&[0, 0, 0, 1]) },
+            request: Request::Unlinkat {
+                directory,
+                path: 0,
+                flags: random.of(&[0, 0, 0, 1]),
+            },
             given: name(alloc, random)?,
         }),
         _ => bare(
             alloc,
             Request::Lseek {
                 fd: descriptor(random),
-                offset: random.of(&[0, 1, 5, 100, 0x7FFF_FFFF, 0xFFFF_FFFF, 0xFFFF_FFF0, 0x7FFF_FFF0]),
+                offset: random.of(&[
+                    0,
+                    1,
+                    5,
+                    100,
+                    0x7FFF_FFFF,
+                    0xFFFF_FFFF,
+                    0xFFFF_FFF0,
+                    0x7FFF_FFF0,
+                ]),
                 whence: random.of(&[0, 1, 2, 3]),
             },
         ),
@@ -239,11 +328,22 @@ fn ask_processes(
             tls: 0,
             child_tid: 0,
         },
-        7 => Request::Exit { code: random.below(300) },
-        8 if random.once_in(2) => Request::ExitGroup { code: random.below(300) },
-        9..=11 => Request::Kill { pid: number(kernel, random), signal: random.of(&[0, 10, 12, 31, 32, 19]) },
+        7 => Request::Exit {
+            code: random.below(300),
+        },
+        8 if random.once_in(2) => Request::ExitGroup {
+            code: random.below(300),
+        },
+        9..=11 => Request::Kill {
+            pid: number(kernel, random),
+            signal: random.of(&[0, 10, 12, 31, 32, 19]),
+        },
         12..=13 => Request::Tgkill {
-            pid: if random.once_in(2) { p.0 } else { number(kernel, random) },
+            pid: if random.once_in(2) {
+                p.0
+            } else {
+                number(kernel, random)
+            },
             tid: number(kernel, random),
             signal: random.of(&[0, 10, 12, 31, 32]),
         },
@@ -251,7 +351,11 @@ fn ask_processes(
         15 | 16 => Request::Getppid,
         17 => Request::Unknown(random.below(500)),
         _ => Request::Wait4 {
-            pid: if random.once_in(3) { number(kernel, random) } else { 0xFFFF_FFFF },
+            pid: if random.once_in(3) {
+                number(kernel, random)
+            } else {
+                0xFFFF_FFFF
+            },
             status: 0,
             options: random.of(&[0, 1, 1, 2]),
             usage: if random.once_in(20) { 1 } else { 0 },

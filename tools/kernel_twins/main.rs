@@ -1,5 +1,5 @@
-//! Reads seeds from standard input, one a line, and for each has a plain kernel part and a kernel over real numbers
-//! serve the same calls, which look random; it prints where the two differ.
+//! Reads trials from standard input, a seed and a number of turns a line, and for each has a plain kernel part
+//! and a kernel over real numbers serve the same calls, which look random; it prints where the two differ.
 #![tactic(auto)]
 
 mod asking;
@@ -57,17 +57,31 @@ fn run(alloc: Global, trial: Trial, tally: &mut Tally) -> Result<Outcome, Fault>
     for turn in 0..trial.turns {
         match twins.turn(alloc, &mut random, &mut transfer, tally) {
             Ok(true) => {}
-            Ok(false) => return Ok(Outcome { turns: turn, parted: None }),
+            Ok(false) => return Ok(Outcome {
+                turns: turn,
+                parted: None,
+            }),
             Err(Fault::Memory) => return Err(Fault::Memory),
-            Err(fault) => return Ok(Outcome { turns: turn, parted: Some(fault) }),
+            Err(fault) => return Ok(Outcome {
+                turns: turn,
+                parted: Some(fault),
+            }),
         }
     }
-    Ok(Outcome { turns: trial.turns, parted: None })
+    Ok(Outcome {
+        turns: trial.turns,
+        parted: None,
+    })
 }
 
 fn main(rt: HostRuntime) -> io::Result<()> {
     let alloc = rt.alloc();
-    let mut tally = Tally { served: 0, failed: 0, waited: 0, moved: 0 };
+    let mut tally = Tally {
+        served: 0,
+        failed: 0,
+        waited: 0,
+        moved: 0,
+    };
     for line in rt.lines(alloc) {
         let line = line?;
         let Some(trial) = trial_of(line.as_str()) else {
@@ -76,7 +90,10 @@ fn main(rt: HostRuntime) -> io::Result<()> {
         match run(alloc, trial, &mut tally) {
             Ok(outcome) => match outcome.parted {
                 None => println!(rt; "{}: alike for {} turns", trial.seed, outcome.turns)?,
-                Some(fault) => println!(rt; "{}: PARTED at {}: {:?}", trial.seed, outcome.turns, fault)?,
+                Some(fault) => println!(rt;
+                    "{}: PARTED at {}: {:?}",
+                    trial.seed, outcome.turns, fault
+                )?,
             },
             Err(_) => return Err(io::ErrorKind::OutOfMemory.into()),
         }

@@ -136,19 +136,31 @@ impl Twins {
 
     fn is_description(&self, id: DescId, plain: Description, desc: Desc) -> Result<bool, Fault> {
         let owner = self.number(desc.owner, 0)?;
-        Ok(owner == plain.owner && desc.flags == plain.flags && self.is_object(id, plain.object, desc.object))
+        Ok(
+            owner == plain.owner
+                && desc.flags == plain.flags
+                && self.is_object(id, plain.object, desc.object),
+        )
     }
 
     fn is_object(&self, id: DescId, plain: PlainObject, object: Object) -> bool {
         let conns = &self.system.conns;
         match (plain, object) {
             (PlainObject::Console, Object::Console) => true,
-            (PlainObject::File { number, offset }, Object::File { number: own, offset: at }) => {
-                number == own && offset == at
-            }
-            (PlainObject::Stream { conn, side }, Object::Stream { conn: own, side: at }) => {
-                conn == own && side == at
-            }
+            (
+                PlainObject::File { number, offset },
+                Object::File {
+                    number: own,
+                    offset: at,
+                },
+            ) => { number == own && offset == at }
+            (
+                PlainObject::Stream { conn, side },
+                Object::Stream {
+                    conn: own,
+                    side: at,
+                },
+            ) => { conn == own && side == at }
             (PlainObject::Socket { address }, Object::Socket) => conns.name(id) == Some(address),
             (PlainObject::Listener { address }, Object::Listener { at }) => {
                 let here = match self.system.ids.real_addr(address) {
@@ -221,8 +233,8 @@ impl Twins {
         let total = counts[0] as u64 + counts[1] as u64 + counts[2] as u64;
         let has_flags = is_unused
             || (net.is_ended(dir) == direction.ended && net.is_unread(dir) == direction.unread);
-        let has_counts =
-            total == direction.left.len() as u64 && counts[2] as u64 == direction.arrived;
+        let has_counts = total == direction.left.len() as u64
+            && counts[2] as u64 == direction.arrived;
         if !has_flags || !has_counts {
             return Err(Fault::Directions);
         }

@@ -129,7 +129,14 @@ impl Twins {
         if let Some(request) = &real {
             reply = self.call_real(who, thread.pid, request, asked.given.as_slice(), transfer)?;
         }
-        let answer = serve(&mut self.plain, alloc, p, t, &asked.request, asked.given.as_slice())?;
+        let answer = serve(
+            &mut self.plain,
+            alloc,
+            p,
+            t,
+            &asked.request,
+            asked.given.as_slice(),
+        )?;
         let Some(request) = real else {
             return self.follow(alloc);
         };
@@ -187,11 +194,23 @@ impl Twins {
             return Ok(());
         };
         match *request {
-            RealRequest::Clone { .. } => self.pair(value, RealPid { node: who.node, pid: number }),
+            RealRequest::Clone { .. } => self.pair(
+                value,
+                RealPid {
+                    node: who.node,
+                    pid: number,
+                },
+            ),
             RealRequest::Listen { fd, .. } => match self.plain.description_at(p, fd) {
                 Some(description) => match description.object {
                     Object::Listener { address } => {
-                        self.pair_place(address, RealAddr { node: who.node, port: number })
+                        self.pair_place(
+                            address,
+                            RealAddr {
+                                node: who.node,
+                                port: number,
+                            },
+                        )
                     }
                     _ => Err(Fault::Answer),
                 },
@@ -225,8 +244,19 @@ impl Twins {
         if is_same { Ok(()) } else { Err(Fault::Answer) }
     }
 
-    fn is_value(&self, who: RealPid, request: &RealRequest, plain: &Request, n: u32, m: u32) -> bool {
-        let by_pid = self.real_pid(m) == Some(RealPid { node: who.node, pid: n });
+    fn is_value(
+        &self,
+        who: RealPid,
+        request: &RealRequest,
+        plain: &Request,
+        n: u32,
+        m: u32,
+    ) -> bool {
+        let by_pid = self.real_pid(m)
+            == Some(RealPid {
+                node: who.node,
+                pid: n,
+            });
         match (*request, *plain) {
             (RealRequest::Getpid, _) => by_pid,
             (RealRequest::Clone { .. }, _) => by_pid,
@@ -252,7 +282,11 @@ impl Twins {
             (Some(answer), _) if !answer.bytes.is_empty() => answer.bytes.as_slice(),
             _ => before,
         };
-        if transfer.as_slice() == wanted { Ok(()) } else { Err(Fault::Bytes) }
+        if transfer.as_slice() == wanted {
+            Ok(())
+        } else {
+            Err(Fault::Bytes)
+        }
     }
 }
 
