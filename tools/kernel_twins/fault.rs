@@ -1,4 +1,6 @@
+use conn_table::ConnFault;
 use std::alloc::AllocError;
+use virt_ids::IdFault;
 
 /// Why a trial came to no end.
 #[derive(Clone, Copy, Debug, PartialEq, Eq)]
@@ -23,5 +25,23 @@ pub enum Fault {
 impl From<AllocError> for Fault {
     fn from(_: AllocError) -> Fault {
         Fault::Memory
+    }
+}
+
+impl From<IdFault> for Fault {
+    fn from(fault: IdFault) -> Fault {
+        match fault {
+            IdFault::Memory => Fault::Memory,
+            IdFault::Unknown | IdFault::Taken => Fault::Pair,
+        }
+    }
+}
+
+impl From<ConnFault> for Fault {
+    fn from(fault: ConnFault) -> Fault {
+        match fault {
+            ConnFault::Memory => Fault::Memory,
+            ConnFault::Taken => Fault::Pair,
+        }
     }
 }

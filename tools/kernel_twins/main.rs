@@ -81,6 +81,7 @@ fn main(rt: HostRuntime) -> io::Result<()> {
         failed: 0,
         waited: 0,
         moved: 0,
+        wanted: 0,
     };
     for line in rt.lines(alloc) {
         let line = line?;

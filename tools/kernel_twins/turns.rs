@@ -22,6 +22,8 @@ pub struct Tally {
     pub failed: u32,
     pub waited: u32,
     pub moved: u32,
+    /// The kernel over real numbers wanted for memory, and nothing had changed.
+    pub wanted: u32,
 }
 
 impl Twins {
@@ -127,7 +129,14 @@ impl Twins {
         let real = self.real_request(p, &asked.request, asked.given.as_slice());
         let mut reply = KernelReply::NotReady;
         if let Some(request) = &real {
-            reply = self.call_real(who, thread.pid, request, asked.given.as_slice(), transfer)?;
+            reply = self.call_real(
+                who,
+                thread.pid,
+                request,
+                asked.given.as_slice(),
+                transfer,
+                tally,
+            )?;
         }
         let answer = serve(
             &mut self.plain,
@@ -162,6 +171,7 @@ impl Twins {
         request: &RealRequest,
         given: &[u8],
         transfer: &mut Transfer,
+        tally: &mut Tally,
     ) -> Result<KernelReply, Fault> {
         transfer.clear();
         transfer.put(given);
@@ -173,6 +183,7 @@ impl Twins {
             return Err(Fault::Bytes);
         }
         self.compare_all(transfer)?;
+        tally.wanted += 1;
         transfer.clear();
         transfer.put(given);
         Ok(serve_real(&mut self.system.kernel, who, thread, request, transfer))

@@ -78,18 +78,14 @@ impl Twins {
 
     /// Pairs a number.
     pub fn pair(&mut self, number: u32, real: RealPid) -> Result<(), Fault> {
-        let Ok(()) = self.system.ids.add_pid(number, real) else {
-            return Err(Fault::Pair);
-        };
+        self.system.ids.add_pid(number, real)?;
         keep(&mut self.numbers, number)?;
         Ok(())
     }
 
     /// Pairs an address.
     pub fn pair_place(&mut self, address: VirtAddr, at: RealAddr) -> Result<(), Fault> {
-        let Ok(()) = self.system.ids.add_addr(address, at) else {
-            return Err(Fault::Pair);
-        };
+        self.system.ids.add_addr(address, at)?;
         keep(&mut self.places, address)?;
         Ok(())
     }
@@ -117,9 +113,7 @@ impl Twins {
                     addr: [channel.first.address, channel.second.address],
                     open_ends: [true, true],
                 };
-                let Ok(()) = self.system.conns.add(conn) else {
-                    return Err(Fault::Pair);
-                };
+                self.system.conns.add(conn)?;
             }
         }
         self.drop_stale(alloc)
