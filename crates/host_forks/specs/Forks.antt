@@ -2,12 +2,15 @@
 -- Source: `man 2 fork` (descriptors refer to the same descriptions), `man 2 clone`.
 --     HasShared child parent old new      the child has its parent's descriptors, and nobody else has others
 --     paired_with who                     the new number, of who's node, is paired with the plain machine's
+--     IsNext next a                       a number that is given is this one
 use Rattle.std.specs.Prelude.{◌≡◌, ◌≢◌, ℕ}
 use Rattle.std.specs.FinMap as map
 use Rattle.sys_abi.specs.declared.identity.RealPid.{RealPid}
 use Rattle.fd_tables.specs.declared.real_slot.RealSlot.{RealSlot}
 use Rattle.fd_tables.specs.Slots.{slot}
 use Rattle.fd_book.specs.Books.{Books}
+use Rattle.host_tables.specs.declared.attempt.Attempt.{Attempt}
+use Rattle.host_tables.specs.declared.attempt.Attempt.TheVariants as answer
 use Rattle.host_tables.specs.Numbers.{real}
 use Rattle.host_tables.specs.Serves.{After}
 use Rattle.host_tables.specs.Stands.{with_number}
@@ -19,3 +22,7 @@ pub record HasShared (child parent : RealPid) (old new : Books) : Type 0 where
 
 abbrev pub paired_with : RealPid → After
 paired_with who n m g = with_number g m (real who.node n)
+
+abbrev pub IsNext : ℕ → Attempt → Type 0
+IsNext next (answer.Gives n) = n ≡ next
+IsNext next _ = Unit {0}

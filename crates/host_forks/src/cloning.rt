@@ -8,7 +8,7 @@ ghost use Rattle.plain_machine.specs.Rows.Clone.{LAST_ID};
 ghost use Rattle.host_tables.specs.Conditions.{IsSound};
 ghost use Rattle.host_tables.specs.Requests.{AreBelow};
 ghost use Rattle.host_tables.specs.Serves.{Through, Serves, ByPid, silent};
-ghost use Rattle.host_forks.specs.Forks.{paired_with};
+ghost use Rattle.host_forks.specs.Forks.{paired_with, IsNext};
 
 use crate::forking::start_child;
 use host_tables::{Attempt, Kernel, RowResult};
@@ -17,8 +17,8 @@ use std::alloc::AllocError;
 use sys_abi::errors::{EAGAIN, EINVAL};
 use sys_abi::{CloneForm, Errno, RealPid, clone_form};
 
-/// clone (`man 2 clone`): a child, or a thread of the caller. Answers its real number, which is paired with
-/// the plain machine's next one then, and gives no bytes.
+/// clone (`man 2 clone`): a child, or a thread of the caller. Answers its real number, the next one of its
+/// node, which is paired with the plain machine's next one then, and gives no bytes.
 pub fn clone(kernel: &mut Kernel, who: RealPid, flags: u32) -> RowResult
     requires sound { IsSound kernel.old }
     requires node { who.node < length kernel.old.procs.next }
@@ -29,6 +29,7 @@ pub fn clone(kernel: &mut Kernel, who: RealPid, flags: u32) -> RowResult
         → nat_lt k.next_id LAST_ID ≡ true → AreBelow g k.next_id
         → Serves (ByPid who) (paired_with who) g kernel.old kernel.new x x a
         (silent (rows.clone_row k p flags)))) }
+    ensures number { IfOk result (IsNext (next_of kernel.old.procs who.node)) }
     ensures err { OnErr result (kernel.new ≡ kernel.old) }
 {
     match clone_form(flags) {
@@ -49,6 +50,7 @@ fn fork(kernel: &mut Kernel, who: RealPid) -> RowResult
         → nat_lt k.next_id LAST_ID ≡ true → AreBelow g k.next_id
         → Serves (ByPid who) (paired_with who) g kernel.old kernel.new x x a
         (silent (rows.clone_process k p flags)))) }
+    ensures number { IfOk result (IsNext (next_of kernel.old.procs who.node)) }
     ensures err { OnErr result (kernel.new ≡ kernel.old) }
 {
     if kernel.procs.is_full() {
@@ -72,6 +74,7 @@ fn add_thread(kernel: &mut Kernel, who: RealPid) -> RowResult
         → nat_lt k.next_id LAST_ID ≡ true → AreBelow g k.next_id
         → Serves (ByPid who) (paired_with who) g kernel.old kernel.new x x a
         (silent (rows.clone_thread k p flags)))) }
+    ensures number { IfOk result (IsNext (next_of kernel.old.procs who.node)) }
     ensures err { OnErr result (kernel.new ≡ kernel.old) }
 {
     match kernel.procs.add_thread(who) {
