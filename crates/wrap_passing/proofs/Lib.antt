@@ -1,0 +1,8 @@
+pub mod RealCalls
+pub mod Passing
+pub mod KeptRows
+pub mod MakingRows
+pub mod Made
+pub mod PendingSignals
+pub mod WaitedRow
+pub mod TakenSignals

@@ -1,0 +1,14 @@
+//! Calls of guests that the kernel answers by one call over real numbers, which pairs and names nothing new.
+//!
+//! Such a call names real numbers for what its guest names, has the kernel serve it, and tells the answer
+//! with the guest's numbers. One that makes a description is counted then, and the pair of a child that was
+//! waited for goes. Proved: the system then stands for the kernel part that the plain row leaves, and the
+//! answer and the bytes are the row's; after want of memory all is as before.
+#![tactic(auto)]
+
+pub mod asking;
+pub mod looks;
+pub mod requests;
+pub mod serving;
+pub mod taking;
+pub mod telling;
