@@ -1,0 +1,13 @@
+pub mod Alike
+pub mod Ends
+pub mod PortsUsed
+pub mod Searches
+pub mod Sockets
+pub mod OwnNames
+pub mod HandedOn
+pub mod HostsFor
+pub mod BindRow
+pub mod Bound
+pub mod BoundRow
+pub mod Unchanged
+pub mod Rows

@@ -1,0 +1,3 @@
+pub mod Ends
+pub mod Binding
+pub mod Calls
