@@ -1,0 +1,12 @@
+pub mod Answering
+pub mod Listened
+pub mod AcceptedCalls
+pub mod Unnamed
+pub mod ConnectTests
+pub mod ConnectNames
+pub mod ConnectedCalls
+pub mod ListenedCalls
+pub mod Unlisted
+pub mod ClientTold
+pub mod Meetings
+pub mod FoundSockets
