@@ -1,0 +1,10 @@
+pub mod Keys
+pub mod SoFar
+pub mod SameEnds
+pub mod Nearly
+pub mod Zombies
+pub mod ThreadEnds
+pub mod Leaving
+pub mod Steps
+pub mod ThreadCounts
+pub mod ExitCalls
