@@ -1,0 +1,11 @@
+pub mod PairLooks
+pub mod FirstKeys
+pub mod DirectionKeys
+pub mod MissingBytes
+pub mod ArrivedBytes
+pub mod SomeLife
+pub mod ConsoleTold
+pub mod QuietConsole
+pub mod ReadyStrangers
+pub mod Orphans
+pub mod ConnectNames
