@@ -1,0 +1,5 @@
+pub mod Walks
+pub mod KeptOwners
+mod Voting
+mod Listing
+mod Acting

@@ -1,0 +1,4 @@
+pub mod Owners
+pub mod Voters
+pub mod Directions
+pub mod Agents
