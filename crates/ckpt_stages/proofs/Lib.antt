@@ -1,0 +1,12 @@
+mod OtherOwners
+mod Suspending
+mod Voted
+mod Leading
+mod ClosedEnds
+mod NamedEnds
+mod Electing
+mod FirstOnes
+mod Arriving
+mod Cutting
+mod Filling
+mod Holding

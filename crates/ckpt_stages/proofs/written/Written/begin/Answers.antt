@@ -1,0 +1,16 @@
+use Rattle.std.proofs.Common.{sym, subst}
+use Rattle.wire_net.specs.Ends.{IsFor}
+use Rattle.ckpt_stages.proofs.Filling.{filling_begun}
+use Rattle.ckpt_stages.proofs.written.Written.begin.Goals as goal
+
+pub invariant_of-result : goal.invariant_of-result
+invariant_of-result c =
+    let base = c.args.base in
+    let s = base.system in
+    let is = c.requires in
+    let agents = subst (IsFor s.kernel.net.channels) (sym c.as_slice.ensures) is.agents in
+    filling_begun s base.next_id base.stood.kernel base.owners c.args.ends.items c.args.drained.lists
+    c.args.room is
+    c.begin-refill.result (c.begin-refill.ensures.fits s.kernel.net.channels agents is.drained is.whole)
+    (c.begin-refill.ensures.there s.kernel.net.channels is.whole)
+    (c.begin-refill.ensures.held s.kernel.net agents is.drained is.whole)

@@ -1,0 +1,40 @@
+//! A checkpoint of all processes, by stages that own the system meanwhile: nothing else acts on it between
+//! two of them.
+//!
+//! [`Suspended`] begins when all processes are suspended. It takes all room of the checkpoint, keeps the
+//! owners of all descriptions and clears them, and has each process vote. In [`Elected`] the agents, who are
+//! elected so, take all bytes off the channels. [`DrainedSet`] tells what was drained, and images are made
+//! meanwhile. In [`Written`] the agents send the bytes back, and [`Refilled`] resumes all processes.
+//!
+//! A contract sees of each of them the kernel part of the plain machine for which the system stood when it
+//! was suspended, and the barrier: they are handed on unchanged from stage to stage. What ties them to the
+//! tables is the types' own, whenever one is lent or handed on: the system differs from the one that was
+//! suspended in the owners of descriptions and in where the bytes of channels stand, and in nothing else.
+//!
+//! Proved: a suspension is refused for the first descriptor that no image holds, exactly where there is one,
+//! and else for want of memory alone; after it no call takes memory or is refused. While the channels are
+//! drained or filled again the system stands for the kernel part with what the agents hold. A step that moves
+//! bytes leaves less to do, and while a drain or a refill is not done some agent's step or some move goes on
+//! with it. After the last stage the system stands for the same kernel part with all bytes arrived, and one
+//! that is given up before the drain for the same kernel part as it was. Not proved: that the caller makes the
+//! steps and the moves, and that the agent which can go on lives. The source is Ansel, Arya, Cooperman, "DMTCP:
+//! Transparent Checkpointing for Cluster Computations and the Desktop", 2009 (the stages of a checkpoint).
+#![tactic(auto)]
+
+pub mod base;
+pub mod drained;
+pub mod elected;
+pub mod fault;
+pub mod first_unsupported;
+pub mod refilled;
+pub mod reserving;
+pub mod suspended;
+pub mod written;
+
+pub use barrier_core::{Barrier, Message, Stage};
+pub use drained::DrainedSet;
+pub use elected::Elected;
+pub use fault::{PutOutcome, StageFault};
+pub use refilled::Refilled;
+pub use suspended::Suspended;
+pub use written::Written;
