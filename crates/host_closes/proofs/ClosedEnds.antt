@@ -23,7 +23,7 @@ use Rattle.wire_channels.specs.Directions.{Direction, after_end, after_stop_read
 use Rattle.wire_channels.specs.Channels as channels
 use Rattle.wire_channels.proofs.OneDirection.{direction_beside}
 use Rattle.host_tables.specs.declared.kernel.Kernel.{Kernel}
-use Rattle.host_tables.specs.Network.{seen_channel, is_unused, SameDirection, IsSilent}
+use Rattle.host_tables.specs.Network.{seen_channel, SameDirection, IsSilent}
 use Rattle.host_tables.specs.Stands.{Given, Stands}
 use Rattle.host_tables.proofs.DirectionChanges.{IsSeen, seen_direction, KeepsSilence, direction_put}
 use Rattle.host_closes.proofs.MarkedEnds.{any_open, other_open, IsBoth, both, end_marked, channel_gone}
@@ -42,13 +42,13 @@ with_net real channels = record real { net = record real.net { channels = channe
 module _ (g : Given) (real : Kernel) (k : PlainKernel) (st : Stands g None real k) (d : Dir) (less : d.side < 2)
     (y : Direction) (there : channels.direction_at real.net.channels d ≡ Some y) where
   pub plain_of : (x : plain_direction.Direction) × ((map.get k.directions d ≡ Some x)
-      × SameDirection real.net None g.conns d x y)
+      × SameDirection real.net None d x y)
   plain_of =
-      agree_real (SameDirection real.net None g.conns d) (map.get k.directions d)
+      agree_real (SameDirection real.net None d) (map.get k.directions d)
       (channels.direction_at real.net.channels d) y (st.directions.at d less) there
 
-  seen : IsSeen (is_unused g.conns d) plain_of.0 y
-  seen = seen_direction real.net g.conns d plain_of.0 y there plain_of.1.1
+  seen : IsSeen plain_of.0 y
+  seen = seen_direction real.net d plain_of.0 y there plain_of.1.1
 
   pub ended_kept : Stands g None (with_net real (channels.at_direction real.net.channels d after_end))
       (with_direction k d (with_end plain_of.0))
@@ -56,7 +56,7 @@ module _ (g : Given) (real : Kernel) (k : PlainKernel) (st : Stands g None real 
       direction_put g real k st d less after_end ends_silently (with_end plain_of.0) y there (record {
         left = seen.left;
         arrived = seen.arrived;
-        ended = λ used. refl;
+        ended = refl;
         unread = seen.unread;
       })
 
@@ -68,7 +68,7 @@ module _ (g : Given) (real : Kernel) (k : PlainKernel) (st : Stands g None real 
         left = refl;
         arrived = refl;
         ended = seen.ended;
-        unread = λ used. refl;
+        unread = refl;
       })
 
 -- an end

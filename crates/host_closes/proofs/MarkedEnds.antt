@@ -152,7 +152,7 @@ module _ (conns : Conns) (virt : Channels) (real : channels.Channels) (same : Sa
     ];
   }
 
-module _ (t : Network) (conns : Conns) (virt : Directions) (same : SameDirections t None conns virt)
+module _ (t : Network) (virt : Directions) (same : SameDirections t None virt)
     (id : ConnId) (side : ℕ) (channel : Channel) (there : map.get t.channels id ≡ Some channel)
     (silent : IsSilent side channel) where
   abbrev mark : Channel
@@ -182,10 +182,10 @@ module _ (t : Network) (conns : Conns) (virt : Directions) (same : SameDirection
         record { ended = was.ended; unread = was.unread }
   ]
 
-  pub SameDirections-marked : SameDirections t' None conns virt
+  pub SameDirections-marked : SameDirections t' None virt
   SameDirections-marked =
-      re_directed t t' conns conns virt virt same
-      (λ e less. inl (record { virt_same = refl; real_same = same_real e; same_use = refl }))
+      re_directed t t' virt virt same
+      (λ e less. inl (record { virt_same = refl; real_same = same_real e }))
       (λ e more. refl)
       (λ q x s is less shut. elim (same_or_other conn_total conn_exact q id) [
         | inl at ↦
@@ -212,7 +212,7 @@ module _ (g : Given) (real : Kernel) (k : PlainKernel) (st : Stands g None real 
       (record real.net { channels = map.insert real.net.channels id (channels.with_closed_end side channel) })
       (map.insert k.channels id (with_closed side (seen_channel channel c))) k.directions k.listeners
       (SameChannels-marked g.conns k.channels real.net.channels st.channels id side less channel there c listed)
-      (SameDirections-marked real.net g.conns k.directions st.directions id side channel there silent)
+      (SameDirections-marked real.net k.directions st.directions id side channel there silent)
       st.listeners
 
 -- a channel goes
@@ -246,7 +246,7 @@ module _ (conns : Conns) (virt : Channels) (real : channels.Channels) (same : Sa
     sides = λ q x is. same.sides q x (was_there q x is);
   }
 
-module _ (t : Network) (conns : Conns) (virt : Directions) (same : SameDirections t None conns virt)
+module _ (t : Network) (virt : Directions) (same : SameDirections t None virt)
     (id : ConnId) where
   abbrev less_net : Network
   less_net = record t { channels = map.remove t.channels id }
@@ -281,9 +281,9 @@ module _ (t : Network) (conns : Conns) (virt : Directions) (same : SameDirection
       ap (λ x. option_map (channels.direction_of e.side) (map.get less_net.channels x)) at
       ∙ ap (option_map (channels.direction_of e.side)) (get_remove_same conn_total conn_exact t.channels id)
 
-  pub SameDirections-gone : SameDirections less_net None conns without_both
+  pub SameDirections-gone : SameDirections less_net None without_both
   SameDirections-gone =
-      re_directed t less_net conns conns virt without_both same
+      re_directed t less_net virt without_both same
       (λ e less. elim (same_or_other conn_total conn_exact e.conn id) [
         | inl at ↦ inr (both_none _ _ _
             (ap (λ x. map.get without_both (dir x e.side)) at ∙ none_here e.side less) (none_real e at))
@@ -292,7 +292,6 @@ module _ (t : Network) (conns : Conns) (virt : Directions) (same : SameDirection
               (λ same. differ (ap (λ (q : Dir). q.conn) same));
           real_same = ap (option_map (channels.direction_of e.side))
               (get_remove_other conn_total conn_exact t.channels id e.conn differ);
-          same_use = refl;
         })
       ])
       (λ e more. beside e (λ same. not_first e.side more (ap (λ (q : Dir). q.side) same))
@@ -327,4 +326,4 @@ channel_gone g real k st id =
     net_kept g None real k st (record real.net { channels = map.remove real.net.channels id })
     (map.remove k.channels id) (map.remove (map.remove k.directions (dir id 0)) (dir id 1)) k.listeners
     (SameChannels-gone g.conns k.channels real.net.channels st.channels id)
-    (SameDirections-gone real.net g.conns k.directions st.directions id) st.listeners
+    (SameDirections-gone real.net k.directions st.directions id) st.listeners

@@ -230,8 +230,8 @@ module _ (g : Given) (real : Kernel) (k : PlainKernel) (st : Stands g None real 
         files = st.files;
         channels = st.channels;
         directions = SameDirections-listeners real.net
-            (map.insert real.net.listeners at (listeners.new_listener (max 1 (min backlog 128)))) None g.conns
-            k.directions st.directions;
+            (map.insert real.net.listeners at (listeners.new_listener (max 1 (min backlog 128)))) None k.directions
+            st.directions;
         listeners = SameListeners-made real.nodes g.addresses g.ports k.listeners real.net.listeners
             st.listeners
             a at new.no_address new.no_port new.no_listening free new.node

@@ -2,7 +2,7 @@
 --     taken_is, received_kept      what is read, and the direction after it
 --     sent_kept                    the direction after bytes were sent
 --     standing_is                  how many stand in it
-use Rattle.std.proofs.Common.{◌≡◌, ℕ, ◌-◌, ◌≤◌, Bool, List, ◌++◌, take, drop, length, sym, ap, ◌∙◌, arith}
+use Rattle.std.proofs.Common.{◌≡◌, ℕ, ◌-◌, ◌≤◌, List, ◌++◌, take, drop, length, sym, ap, ◌∙◌, arith}
 use Rattle.std.proofs.lemmas.List.{take-append-le, drop-append-le, length-append, length-drop}
 use Rattle.plain_tables.specs.declared.channel.Direction as plain_direction
 use Rattle.plain_machine.specs.Transfers.Streams.{without_front, with_sent}
@@ -23,7 +23,7 @@ fewer n a b few = omega (arith, few, length-append a b)
 length-stream : (y : Direction) → length (stream y) ≡ standing y
 length-stream y = omega (arith, length-append (y.received ++ y.wire) y.sent, length-append y.received y.wire)
 
-module _ (unused : Bool) (x : plain_direction.Direction) (y : Direction) (seen : IsSeen unused x y) where
+module _ (x : plain_direction.Direction) (y : Direction) (seen : IsSeen x y) where
   pub standing_is : length x.left ≡ standing y
   standing_is = ap length seen.left ∙ length-stream y
 
@@ -38,7 +38,7 @@ module _ (unused : Bool) (x : plain_direction.Direction) (y : Direction) (seen :
         ap (drop n) seen.left ∙ drop-append-le n (y.received ++ y.wire) y.sent (fewer n y.received y.wire few)
         ∙ ap (λ bytes. bytes ++ y.sent) (drop-append-le n y.received y.wire few)
 
-    pub received_kept : IsSeen unused (without_front n x) (after_receive n y)
+    pub received_kept : IsSeen (without_front n x) (after_receive n y)
     received_kept = record {
       left = rest_is;
       arrived = ap (λ m. m - n) seen.arrived ∙ sym (length-drop n y.received);
@@ -46,7 +46,7 @@ module _ (unused : Bool) (x : plain_direction.Direction) (y : Direction) (seen :
       unread = seen.unread;
     }
 
-  pub sent_kept : (bytes : List ℕ) → IsSeen unused (with_sent bytes x) (after_send bytes y)
+  pub sent_kept : (bytes : List ℕ) → IsSeen (with_sent bytes x) (after_send bytes y)
   sent_kept bytes = record {
     left = ap (λ left. left ++ bytes) seen.left ∙ sym (stream-send bytes y);
     arrived = seen.arrived;

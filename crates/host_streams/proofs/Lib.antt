@@ -1,4 +1,4 @@
-pub mod UsedDirections
+pub mod PipeConns
 pub mod DirectionBytes
 pub mod ReadRows
 pub mod Readiness

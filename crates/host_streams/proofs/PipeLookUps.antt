@@ -24,7 +24,7 @@ use Rattle.host_tables.specs.Stands.{Given, Stands}
 use Rattle.host_tables.proofs.LookUps.{held_none}
 use Rattle.host_tables.specs.Requests.{is_pipe_end, holds_pipe, leads_to_pipe}
 use Rattle.host_streams.specs.PipeEnds.{is_pipe_object, is_pipe_of}
-use Rattle.host_streams.proofs.UsedDirections.{pipe_told}
+use Rattle.host_streams.proofs.PipeConns.{pipe_told}
 
 module _ (g : Given) (real : Kernel) (k : PlainKernel) (whole : IsKernel k) (st : Stands g None real k) where
   object_told : (id : DescId) (d : Desc) → map.get real.book.descriptions id ≡ Some d → (o : Object)

@@ -30,7 +30,7 @@ use Rattle.host_closes.proofs.ClosedEnds.{plain_of}
 use Rattle.host_tables.specs.declared.attempt.Attempt.{Attempt}
 use Rattle.host_tables.specs.declared.attempt.Attempt.TheVariants as answer
 use Rattle.host_tables.specs.declared.kernel.Kernel.{Kernel}
-use Rattle.host_tables.specs.Network.{is_unused, SameDirection}
+use Rattle.host_tables.specs.Network.{SameDirection}
 use Rattle.host_tables.specs.Serves.{Serves, ByNumber, same, bytes_or}
 use Rattle.host_tables.specs.Stands.{Given, Stands}
 use Rattle.host_tables.proofs.DirectionChanges.{IsSeen, seen_direction, direction_put}
@@ -103,7 +103,7 @@ pub no_direction : (g : Given) (real : Kernel) (k : PlainKernel) → Stands g No
     → d.side < 2
     → channels.direction_at real.net.channels d ≡ None → map.get k.directions d ≡ None
 no_direction g real k st d less none =
-    agree_none (SameDirection real.net None g.conns d) (map.get k.directions d)
+    agree_none (SameDirection real.net None d) (map.get k.directions d)
     (channels.direction_at real.net.channels d) (st.directions.at d less) none
 
 module _ (g : Given) (real : Kernel) (k : PlainKernel) (st : Stands g None real k) (d : Dir)
@@ -130,8 +130,8 @@ module _ (g : Given) (real : Kernel) (k : PlainKernel) (st : Stands g None real 
     at : map.get k.directions d ≡ Some x
     at = (plain_of g real k st d less y there).1.0
 
-    seen : IsSeen (is_unused g.conns d) x y
-    seen = seen_direction real.net g.conns d x y there (plain_of g real k st d less y there).1.1
+    seen : IsSeen x y
+    seen = seen_direction real.net d x y there (plain_of g real k st d less y there).1.1
 
     row_is : (n : ℕ) → min count (length y.received) ≡ n
         → read_stream k d count ≡ gave (with_direction k d (without_front n x)) (take n x.left)
@@ -163,11 +163,11 @@ module _ (g : Given) (real : Kernel) (k : PlainKernel) (st : Stands g None real 
         subst (Serves ByNumber same g real _ before now (answer.Gives n)) (sym (row_is n is))
         (record {
           reply = sym count_is;
-          bytes = taken ∙ sym (taken_is (is_unused g.conns d) x y seen n few)
+          bytes = taken ∙ sym (taken_is x y seen n few)
               ∙ bytes_are before (take n x.left) (λ none. some (sym count_is ∙ none));
           stands = direction_put g real k st d less (after_receive n) (receives_silently n)
               (without_front n x) y there
-              (received_kept (is_unused g.conns d) x y seen n few);
+              (received_kept x y seen n few);
         })
       where
         within : (a b m : ℕ) → min a b ≡ m → m ≤ b
@@ -177,4 +177,4 @@ module _ (g : Given) (real : Kernel) (k : PlainKernel) (st : Stands g None real 
         few = within count (length y.received) n is
 
         count_is : length (take n x.left) ≡ n
-        count_is = length-take-le n x.left (omega (arith, few, standing_is (is_unused g.conns d) x y seen))
+        count_is = length-take-le n x.left (omega (arith, few, standing_is x y seen))

@@ -2,7 +2,7 @@
 --     direction_found, direction_gone      the direction of a channel that is there, and of one that is not
 --     received_count, standing_count       how many bytes are where, by the lengths of the queues
 --     broken_found                         whether a direction that is there is broken
---     receivable_told, sendable_told       the answers, of a direction that is used
+--     receivable_told, sendable_told       the answers
 use Rattle.std.proofs.Common.{◌≡◌, ℕ, ◌+◌, ◌<◌, ◌≤◌, Bool, true, false, ◌&&◌, ◌||◌, [], ◌∷◌, length, Option, Some, None, refl, sym, ap, ◌∙◌, arith}
 use Rattle.std.specs.Prelude.{◌==◌, not, nat_lt, is_some, option_map, slice_index, IfSome}
 use Rattle.std.specs.Option.{option_map_or}
@@ -20,7 +20,6 @@ use Rattle.wire_channels.specs.Directions.{Direction, standing}
 use Rattle.wire_net.specs.Networks.{Network}
 use Rattle.host_closes.proofs.ClosedEnds.{plain_of}
 use Rattle.host_tables.specs.declared.kernel.Kernel.{Kernel}
-use Rattle.host_tables.specs.Network.{is_unused}
 use Rattle.host_tables.specs.Stands.{Given, Stands}
 use Rattle.host_tables.proofs.DirectionChanges.{IsSeen, seen_direction}
 use Rattle.host_streams.specs.Lanes.{is_broken_at, can_receive, can_send}
@@ -71,7 +70,7 @@ standing_few (Some y) few = few
 -- answers
 
 module _ (g : Given) (real : Kernel) (k : PlainKernel) (st : Stands g None real k) (d : Dir)
-    (less : d.side < 2) (used : is_unused g.conns d ≡ false) (count : ℕ) where
+    (less : d.side < 2) (count : ℕ) where
   abbrev on : Option Channel → Option Direction
   on o = option_map (channels.direction_of d.side) o
 
@@ -97,8 +96,8 @@ module _ (g : Given) (real : Kernel) (k : PlainKernel) (st : Stands g None real 
     at : map.get k.directions d ≡ Some x
     at = (plain_of g real k st d less y there).1.0
 
-    seen : IsSeen (is_unused g.conns d) x y
-    seen = seen_direction real.net g.conns d x y there (plain_of g real k st d less y there).1.1
+    seen : IsSeen x y
+    seen = seen_direction real.net d x y there (plain_of g real k st d less y there).1.1
 
     received_same :
         ((count == 0) || nat_lt 0 (length y.received) || ((y.is_ended || y.is_unread) && (standing y == 0)))
@@ -106,16 +105,16 @@ module _ (g : Given) (real : Kernel) (k : PlainKernel) (st : Stands g None real 
     received_same =
         sym (ap (is_receivable count) at
         ∙ (λ i. (count == 0) || nat_lt 0 (seen.arrived i)
-        || ((seen.ended used i || seen.unread used i)
-        && (standing_is (is_unused g.conns d) x y seen i == 0))))
+        || ((seen.ended i || seen.unread i)
+        && (standing_is x y seen i == 0))))
 
     sent_same :
         ((count == 0) || (y.is_ended || y.is_unread) || nat_lt (standing y) DIRECTION_LIMIT)
         ≡ is_sendable count (map.get k.directions d)
     sent_same =
         sym (ap (is_sendable count) at
-        ∙ (λ i. (count == 0) || (seen.ended used i || seen.unread used i)
-        || nat_lt (standing_is (is_unused g.conns d) x y seen i) DIRECTION_LIMIT))
+        ∙ (λ i. (count == 0) || (seen.ended i || seen.unread i)
+        || nat_lt (standing_is x y seen i) DIRECTION_LIMIT))
 
   received_by : (o : Option Channel) → map.get real.net.channels d.conn ≡ o
       → receive_on o ≡ is_receivable count (map.get k.directions d)

@@ -30,7 +30,6 @@ use Rattle.host_closes.proofs.ClosedEnds.{plain_of}
 use Rattle.host_tables.specs.declared.attempt.Attempt.{Attempt}
 use Rattle.host_tables.specs.declared.attempt.Attempt.TheVariants as answer
 use Rattle.host_tables.specs.declared.kernel.Kernel.{Kernel}
-use Rattle.host_tables.specs.Network.{is_unused}
 use Rattle.host_tables.specs.Serves.{Serves, ByNumber, same}
 use Rattle.host_tables.specs.Stands.{Given, Stands}
 use Rattle.host_tables.proofs.DirectionChanges.{IsSeen, seen_direction, direction_put}
@@ -92,8 +91,8 @@ module _ (g : Given) (real : Kernel) (k : PlainKernel) (st : Stands g None real 
     at : map.get k.directions d ≡ Some x
     at = (plain_of g real k st d less y there).1.0
 
-    seen : IsSeen (is_unused g.conns d) x y
-    seen = seen_direction real.net g.conns d x y there (plain_of g real k st d less y there).1.1
+    seen : IsSeen x y
+    seen = seen_direction real.net d x y there (plain_of g real k st d less y there).1.1
 
     abbrev fitting : List Byte
     fitting = fitting_bytes given x
@@ -115,9 +114,9 @@ module _ (g : Given) (real : Kernel) (k : PlainKernel) (st : Stands g None real 
         (sym (row_is true (is_broken x) (eq-eqb count 0 none) refl))
         (record { reply = refl; bytes = refl; stands = st })
 
-    module _ (some : count ≡ 0 → ⊥) (used : is_unused g.conns d ≡ false) where
+    module _ (some : count ≡ 0 → ⊥) where
       broken_is : is_broken x ≡ is_broken_in y
-      broken_is = λ i. (seen.ended used i) || (seen.unread used i)
+      broken_is = λ i. (seen.ended i) || (seen.unread i)
 
       pub write_broken : is_broken_in y ≡ true → (new : Kernel) (a : Attempt)
           → Serves ByNumber same g real new given given a (broken_pipe k p t) → Says new a
@@ -130,7 +129,7 @@ module _ (g : Given) (real : Kernel) (k : PlainKernel) (st : Stands g None real 
         flowing_row = row_is false false (not_equal count 0 some) (broken_is ∙ flows)
 
         room_is : DIRECTION_LIMIT - length x.left ≡ room y
-        room_is = ap (λ n. DIRECTION_LIMIT - n) (standing_is (is_unused g.conns d) x y seen)
+        room_is = ap (λ n. DIRECTION_LIMIT - n) (standing_is x y seen)
 
         pub write_full : room y ≡ 0 → Says real (answer.Gives 0)
         write_full full =
@@ -159,7 +158,7 @@ module _ (g : Given) (real : Kernel) (k : PlainKernel) (st : Stands g None real 
               stands = direction_put g real k st d less (after_send (take m given)) (sends_silently
                   (take m given))
                   (with_sent (take m given) x) y there
-                  (sent_kept (is_unused g.conns d) x y seen (take m given));
+                  (sent_kept x y seen (take m given));
             })
           where
             swapped : (a b : ℕ) → min a b ≡ min b a

@@ -4,7 +4,6 @@ ghost use Rattle.plain_machine.specs.declared.kernel.PlainKernel.{PlainKernel};
 ghost use Rattle.plain_machine.specs.Channels.{direction_at};
 ghost use Rattle.plain_machine.specs.Transfers.Streams as streams;
 ghost use Rattle.plain_tables.specs.Objects.{dir};
-ghost use Rattle.host_tables.specs.Network.{is_unused};
 ghost use Rattle.host_tables.specs.Serves.{Serves, ByNumber, same};
 ghost use Rattle.host_tables.specs.Stands.{Given, Stands};
 ghost use Rattle.host_streams.specs.Lanes as words;
@@ -19,7 +18,6 @@ use wire_net::Net;
 /// Whether a read of so many bytes, at the end of that side, has an answer yet.
 pub fn is_receivable(kernel: &Kernel, conn: ConnId, side: u8, count: u32) -> bool
     ensures { (g : Given) (k : PlainKernel) → Stands g None kernel.now k
-        → is_unused g.conns (dir conn (1 - side)) ≡ false
         → result ≡ streams.is_receivable count (direction_at k (dir conn (1 - side))) }
 {
     let from = Dir {

@@ -7,7 +7,6 @@ ghost use Rattle.plain_machine.specs.Channels.{direction_at};
 ghost use Rattle.plain_machine.specs.Transfers.Streams as streams;
 ghost use Rattle.plain_tables.specs.Objects.{dir};
 ghost use Rattle.host_tables.specs.Conditions.{IsAsking};
-ghost use Rattle.host_tables.specs.Network.{is_unused};
 ghost use Rattle.host_tables.specs.Numbers.{real};
 ghost use Rattle.host_tables.specs.Serves.{Through, Serves, ByNumber, same};
 ghost use Rattle.host_tables.specs.Stands.{Given, Stands};
@@ -26,7 +25,6 @@ const DIRECTION_LIMIT: u32 = 65_536;
 /// Whether a write of so many bytes, at the end of that side, has an answer yet.
 pub fn is_sendable(kernel: &Kernel, conn: ConnId, side: u8, count: u32) -> bool
     ensures { (g : Given) (k : PlainKernel) → Stands g None kernel.now k
-        → is_unused g.conns (dir conn side) ≡ false
         → result ≡ streams.is_sendable count (direction_at k (dir conn side)) }
 {
     if side > 1 {
@@ -58,7 +56,7 @@ pub fn write_stream(
 ) -> Attempt
     requires { IsAsking kernel.old.procs who thread }
     ensures row { Through kernel.old who (λ g k p. (t : ThreadNumber)
-        → map.get g.pids t ≡ Some (real who.node thread) → is_unused g.conns (dir conn side) ≡ false
+        → map.get g.pids t ≡ Some (real who.node thread)
         → Serves ByNumber same g kernel.old kernel.new transfer.now transfer.now result
         (streams.write_stream k p t (dir conn side) count transfer.now)) }
     ensures nodes { kernel.new.net.nodes ≡ kernel.old.net.nodes }

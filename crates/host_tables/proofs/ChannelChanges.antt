@@ -2,7 +2,7 @@
 --     channel_made        a new channel, whose kind and addresses are given
 --     same_channels       as many channels on both sides
 use Rattle.std.proofs.Common.{◌≡◌, ◌≢◌, ℕ, zero, suc, ◌<◌, ◌≤◌, Bool, true, false, cond, [], ◌∷◌, Option, Some, None, inl, inr, refl, sym, ap, ◌∙◌, subst, length, arith}
-use Rattle.std.specs.Prelude.{option_map, option_and_then, is_some, IsSome, ◌==◌, ◌&&◌, slice_index_or}
+use Rattle.std.specs.Prelude.{option_map, option_and_then, is_some, IsSome, ◌==◌, slice_index_or}
 use Rattle.std.specs.FinMap as map
 use Rattle.std.proofs.lemmas.Option.{same_Some, none-some}
 use Rattle.views.specs.Seen.{Agree, LeadBack, SeenBy}
@@ -25,7 +25,7 @@ use Rattle.wire_channels.specs.Directions.{unused}
 use Rattle.wire_channels.specs.Channels as channels
 use Rattle.wire_net.specs.Networks.{Network}
 use Rattle.host_tables.specs.declared.kernel.Kernel.{Kernel}
-use Rattle.host_tables.specs.Network.{Conns, kind_of, seen_channel, SameChannels, is_pipe_conn, SameDirection, SameDirections}
+use Rattle.host_tables.specs.Network.{Conns, kind_of, seen_channel, SameChannels, SameDirection, SameDirections}
 use Rattle.host_tables.specs.Stands.{Given, Stands, open_conn, with_conn}
 use Rattle.host_tables.proofs.DirectionChanges.{same_direction, re_directed}
 
@@ -97,11 +97,8 @@ unused_side : (b : Bool) → cond b unused unused ≡ unused
 unused_side true = refl
 unused_side false = refl
 
-module _ (t : Network) (conns : Conns) (virt : Directions) (same : SameDirections t None conns virt)
-    (id : ConnId) (conn : Conn) (new : map.get t.channels id ≡ None) where
-  abbrev table : Conns
-  table = map.insert conns id conn
-
+module _ (t : Network) (virt : Directions) (same : SameDirections t None virt) (id : ConnId)
+    (new : map.get t.channels id ≡ None) where
   abbrev t' : Network
   t' = record t { channels = map.insert t.channels id channels.new_channel }
 
@@ -137,14 +134,14 @@ module _ (t : Network) (conns : Conns) (virt : Directions) (same : SameDirection
       ∙ ap Some (unused_side (side == 0))
 
   here_agree : (e : Dir) → e.side < 2 → e.conn ≡ id
-      → Agree (SameDirection t' None table e) (map.get directions' e) (channels.direction_at t'.channels e)
+      → Agree (SameDirection t' None e) (map.get directions' e) (channels.direction_at t'.channels e)
   here_agree e less here =
-      subst (λ q. Agree (SameDirection t' None table q) (map.get directions' q) (channels.direction_at t'.channels q))
+      subst (λ q. Agree (SameDirection t' None q) (map.get directions' q) (channels.direction_at t'.channels q))
       (ap (λ x. dir x e.side) (sym here))
-      (agree_by (SameDirection t' None table (dir id e.side)) (Some empty_direction) _ (Some unused) _
+      (agree_by (SameDirection t' None (dir id e.side)) (Some empty_direction) _ (Some unused) _
       (virt_here e.side less) (real_here e.side)
-      (same_direction t' table (dir id e.side) empty_direction unused (real_here e.side)
-      (record { left = refl; arrived = refl; ended = λ used. refl; unread = λ used. refl })))
+      (same_direction t' (dir id e.side) empty_direction unused (real_here e.side)
+      (record { left = refl; arrived = refl; ended = refl; unread = refl })))
 
   beside_virt : (e : Dir) → e.conn ≢ id → map.get directions' e ≡ map.get virt e
   beside_virt e differ =
@@ -166,17 +163,15 @@ module _ (t : Network) (conns : Conns) (virt : Directions) (same : SameDirection
       less_none : (a : ℕ) → 2 ≤ a → a ≡ 0 → ⊥
       less_none a h e = omega (arith, h, e)
 
-  pub SameDirections-made : SameDirections t' None table directions'
+  pub SameDirections-made : SameDirections t' None directions'
   SameDirections-made =
-      re_directed t t' conns table virt directions' same
+      re_directed t t' virt directions' same
       (λ e less. elim (same_or_other conn_total conn_exact e.conn id) [
         | inl here ↦ inr (here_agree e less here)
         | inr differ ↦ inl (record {
           virt_same = beside_virt e differ;
           real_same = ap (option_map (channels.direction_of e.side))
               (get_insert_other conn_total conn_exact t.channels id channels.new_channel e.conn differ);
-          same_use = ap (λ (o : Option Conn). (e.side == 1) && is_pipe_conn o)
-              (get_insert_other conn_total conn_exact conns id conn e.conn differ);
         })
       ])
       above_virt
@@ -203,8 +198,7 @@ channel_made g real k st id kind first second new = record {
   inboxes = st.inboxes;
   files = st.files;
   channels = SameChannels-made g.conns k.channels real.net.channels st.channels id kind first second new;
-  directions = SameDirections-made real.net g.conns k.directions st.directions id
-      (open_conn id kind first second) new;
+  directions = SameDirections-made real.net k.directions st.directions id new;
   listeners = st.listeners;
 }
 

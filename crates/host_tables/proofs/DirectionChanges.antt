@@ -26,7 +26,7 @@ use Rattle.wire_net.specs.Networks.{Network}
 use Rattle.wire_net.specs.Whereabouts.{Held, placed, stream, stream_on, reverse, whereabouts}
 use Rattle.wire_channels.proofs.OneDirection.{direction_changed, direction_beside}
 use Rattle.host_tables.specs.declared.kernel.Kernel.{Kernel}
-use Rattle.host_tables.specs.Network.{Conns, seen_channel, SameChannels, is_unused, SameDirection, SameDirections, IsSilent}
+use Rattle.host_tables.specs.Network.{Conns, seen_channel, SameChannels, SameDirection, SameDirections, IsSilent}
 use Rattle.host_tables.specs.Stands.{Given, Stands}
 use Rattle.host_tables.proofs.Frames.{net_kept}
 
@@ -37,72 +37,63 @@ alone t d =
     ap (placed (stream_on (channels.direction_at t.channels d)) (stream_on (channels.direction_at t.channels (reverse d))))
     (map.get-empty {X = Held} dir_cmp d)
 
-pub left_alone : (t : Network) (conns : Conns) (d : Dir) (x : plain_direction.Direction) (y : Direction)
-    → channels.direction_at t.channels d ≡ Some y → SameDirection t None conns d x y → x.left ≡ stream y
-left_alone t conns d x y is same = same.left ∙ alone t d ∙ ap stream_on is
+pub left_alone : (t : Network) (d : Dir) (x : plain_direction.Direction) (y : Direction)
+    → channels.direction_at t.channels d ≡ Some y → SameDirection t None d x y → x.left ≡ stream y
+left_alone t d x y is same = same.left ∙ alone t d ∙ ap stream_on is
 
 -- what a direction is by the real one
-pub record IsSeen (unused : Bool) (x : plain_direction.Direction) (y : Direction) : Type 0 where
+pub record IsSeen (x : plain_direction.Direction) (y : Direction) : Type 0 where
   pub left : x.left ≡ stream y
   pub arrived : x.arrived ≡ length y.received
-  pub ended : unused ≡ false → x.ended ≡ y.is_ended
-  pub unread : unused ≡ false → x.unread ≡ y.is_unread
+  pub ended : x.ended ≡ y.is_ended
+  pub unread : x.unread ≡ y.is_unread
 
-pub same_direction : (t : Network) (conns : Conns) (d : Dir) (x : plain_direction.Direction) (y : Direction)
-    → channels.direction_at t.channels d ≡ Some y → IsSeen (is_unused conns d) x y → SameDirection t None conns d x y
-same_direction t conns d x y is seen = record {
+pub same_direction : (t : Network) (d : Dir) (x : plain_direction.Direction) (y : Direction)
+    → channels.direction_at t.channels d ≡ Some y → IsSeen x y → SameDirection t None d x y
+same_direction t d x y is seen = record {
   left = seen.left ∙ sym (alone t d ∙ ap stream_on is);
   ended = seen.ended;
   unread = seen.unread;
   arrived = seen.arrived;
 }
 
-pub seen_direction : (t : Network) (conns : Conns) (d : Dir) (x : plain_direction.Direction) (y : Direction)
-    → channels.direction_at t.channels d ≡ Some y → SameDirection t None conns d x y → IsSeen (is_unused conns d) x y
-seen_direction t conns d x y is same = record {
-  left = left_alone t conns d x y is same;
+pub seen_direction : (t : Network) (d : Dir) (x : plain_direction.Direction) (y : Direction)
+    → channels.direction_at t.channels d ≡ Some y → SameDirection t None d x y → IsSeen x y
+seen_direction t d x y is same = record {
+  left = left_alone t d x y is same;
   arrived = same.arrived;
   ended = same.ended;
   unread = same.unread;
 }
 
 -- a direction that is as it was
-pub record IsKept (t t' : Network) (conns conns' : Conns) (virt virt' : Directions) (e : Dir) : Type 0 where
+pub record IsKept (t t' : Network) (virt virt' : Directions) (e : Dir) : Type 0 where
   pub virt_same : map.get virt' e ≡ map.get virt e
   pub real_same : channels.direction_at t'.channels e ≡ channels.direction_at t.channels e
-  pub same_use : is_unused conns' e ≡ is_unused conns e
 
-kept_agree : (t t' : Network) (conns conns' : Conns) (e : Dir) (o : Option plain_direction.Direction)
+kept_agree : (t t' : Network) (e : Dir) (o : Option plain_direction.Direction)
     (q : Option Direction) → channels.direction_at t.channels e ≡ q → channels.direction_at t'.channels e ≡ q
-    → is_unused conns' e ≡ is_unused conns e
-    → Agree (SameDirection t None conns e) o q → Agree (SameDirection t' None conns' e) o q
-kept_agree t t' conns conns' e None None is is' role h = tt
-kept_agree t t' conns conns' e None (Some y) is is' role h = h
-kept_agree t t' conns conns' e (Some x) None is is' role h = h
-kept_agree t t' conns conns' e (Some x) (Some y) is is' role h =
-    let seen = seen_direction t conns e x y is h in
-    same_direction t' conns' e x y is' (record {
-      left = seen.left;
-      arrived = seen.arrived;
-      ended = λ used. seen.ended (sym role ∙ used);
-      unread = λ used. seen.unread (sym role ∙ used);
-    })
+    → Agree (SameDirection t None e) o q → Agree (SameDirection t' None e) o q
+kept_agree t t' e None None is is' h = tt
+kept_agree t t' e None (Some y) is is' h = h
+kept_agree t t' e (Some x) None is is' h = h
+kept_agree t t' e (Some x) (Some y) is is' h = same_direction t' e x y is' (seen_direction t e x y is h)
 
-pub re_directed : (t t' : Network) (conns conns' : Conns) (virt virt' : Directions)
-    → SameDirections t None conns virt
-    → ((e : Dir) → e.side < 2 → IsKept t t' conns conns' virt virt' e
-    ⊎ Agree (SameDirection t' None conns' e) (map.get virt' e) (channels.direction_at t'.channels e))
+pub re_directed : (t t' : Network) (virt virt' : Directions)
+    → SameDirections t None virt
+    → ((e : Dir) → e.side < 2 → IsKept t t' virt virt' e
+    ⊎ Agree (SameDirection t' None e) (map.get virt' e) (channels.direction_at t'.channels e))
     → ((e : Dir) → 2 ≤ e.side → map.get virt' e ≡ map.get virt e)
     → ((id : ConnId) (channel : Channel) (side : ℕ) → map.get t'.channels id ≡ Some channel → side < 2
     → slice_index_or channel.open_ends side true ≡ false → IsSilent side channel)
-    → SameDirections t' None conns' virt'
-re_directed t t' conns conns' virt virt' same each above closed = record {
+    → SameDirections t' None virt'
+re_directed t t' virt virt' same each above closed = record {
   at = λ e less. elim (each e less) [
     | inl kept ↦
-        agree_by (SameDirection t' None conns' e) (map.get virt e) (map.get virt' e)
+        agree_by (SameDirection t' None e) (map.get virt e) (map.get virt' e)
         (channels.direction_at t.channels e) (channels.direction_at t'.channels e) kept.virt_same kept.real_same
-        (kept_agree t t' conns conns' e (map.get virt e) (channels.direction_at t.channels e) refl kept.real_same
-        kept.same_use (same.at e less))
+        (kept_agree t t' e (map.get virt e) (channels.direction_at t.channels e) refl kept.real_same
+        (same.at e less))
     | inr new ↦ new
   ];
   no_other = λ e more. above e more ∙ same.no_other e more;
@@ -221,29 +212,28 @@ module _ (m : channels.Channels) (d : Dir) (f : Direction → Direction) where
     pub closed_kept : IsClosedSilent m → IsClosedSilent (channels.at_direction m d f)
     closed_kept closed = closed_by closed (map.get m d.conn) refl
 
-module _ (t : Network) (conns : Conns) (virt : Directions) (same : SameDirections t None conns virt) (d : Dir)
+module _ (t : Network) (virt : Directions) (same : SameDirections t None virt) (d : Dir)
     (less : d.side < 2) (f : Direction → Direction) (keeps : KeepsSilence f) (x : plain_direction.Direction)
     (y : Direction) (there : channels.direction_at t.channels d ≡ Some y)
-    (seen : IsSeen (is_unused conns d) x (f y)) where
+    (seen : IsSeen x (f y)) where
   abbrev t' : Network
   t' = record t { channels = channels.at_direction t.channels d f }
 
   here_then : channels.direction_at t'.channels d ≡ Some (f y)
   here_then = direction_changed t.channels d f ∙ ap (option_map f) there
 
-  pub SameDirections-put : SameDirections t' None conns (map.insert virt d x)
+  pub SameDirections-put : SameDirections t' None (map.insert virt d x)
   SameDirections-put =
-      re_directed t t' conns conns virt (map.insert virt d x) same
+      re_directed t t' virt (map.insert virt d x) same
       (λ e side. elim (same_or_other dir_total dir_exact e d) [
-        | inl here ↦ inr (subst (λ q. Agree (SameDirection t' None conns q) (map.get (map.insert virt d x) q)
+        | inl here ↦ inr (subst (λ q. Agree (SameDirection t' None q) (map.get (map.insert virt d x) q)
             (channels.direction_at t'.channels q)) (sym here)
-            (agree_by (SameDirection t' None conns d) (Some x) (map.get (map.insert virt d x) d) (Some (f y))
+            (agree_by (SameDirection t' None d) (Some x) (map.get (map.insert virt d x) d) (Some (f y))
             (channels.direction_at t'.channels d) (get_insert_same dir_total dir_exact virt d x) here_then
-            (same_direction t' conns d x (f y) here_then seen)))
+            (same_direction t' d x (f y) here_then seen)))
         | inr differ ↦ inl (record {
           virt_same = get_insert_other dir_total dir_exact virt d x e differ;
           real_same = direction_beside t.channels d e f less side differ;
-          same_use = refl;
         })
       ])
       (λ e more. get_insert_other dir_total dir_exact virt d x e
@@ -256,7 +246,7 @@ module _ (t : Network) (conns : Conns) (virt : Directions) (same : SameDirection
 module _ (g : Given) (real : Kernel) (k : PlainKernel) (st : Stands g None real k) (d : Dir) (less : d.side < 2)
     (f : Direction → Direction) (keeps : KeepsSilence f) (x : plain_direction.Direction) (y : Direction)
     (there : channels.direction_at real.net.channels d ≡ Some y) where
-  pub direction_put : IsSeen (is_unused g.conns d) x (f y) → Stands g None
+  pub direction_put : IsSeen x (f y) → Stands g None
       (record real { net = record real.net { channels = channels.at_direction real.net.channels d f } })
       (with_direction k d x)
   direction_put seen =
@@ -264,5 +254,5 @@ module _ (g : Given) (real : Kernel) (k : PlainKernel) (st : Stands g None real 
       k.channels (map.insert k.directions d x) k.listeners
       (SameChannels-open g.conns k.channels real.net.channels (channels.at_direction real.net.channels d f)
       st.channels (ends_kept real.net.channels d f))
-      (SameDirections-put real.net g.conns k.directions st.directions d less f keeps x y there seen)
+      (SameDirections-put real.net k.directions st.directions d less f keeps x y there seen)
       st.listeners

@@ -75,7 +75,7 @@ module _ (g : Given) (held : Option Stage) (real : Kernel) (k : PlainKernel) (st
 
   pub net_kept : (t : Network) (channels : plain.Channels) (directions : plain.Directions)
       (listeners : plain.Listeners)
-      → SameChannels g.conns channels t.channels → SameDirections t held g.conns directions
+      → SameChannels g.conns channels t.channels → SameDirections t held directions
       → SameListeners real.nodes g.addresses g.ports listeners t.listeners
       → Stands g held (record real { net = t })
       (record k { channels = channels; directions = directions; listeners = listeners })

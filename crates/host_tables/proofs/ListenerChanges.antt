@@ -21,25 +21,24 @@ use Rattle.wire_channels.specs.Listeners as listeners
 use Rattle.wire_net.specs.Networks.{Network}
 use Rattle.host_tables.specs.declared.kernel.Kernel.{Kernel}
 use Rattle.host_tables.specs.Descriptions.{Stage}
-use Rattle.host_tables.specs.Network.{Conns, SameDirection, SameDirections, SameListener}
+use Rattle.host_tables.specs.Network.{SameDirection, SameDirections, SameListener}
 use Rattle.host_tables.specs.Stands.{Given, Stands}
 use Rattle.host_tables.proofs.Frames.{net_kept}
 use Rattle.host_tables.proofs.Ways.{lead_place}
 
-module _ (t : Network) (listeners : listeners.Listeners) (held : Option Stage) (conns : Conns) where
+module _ (t : Network) (listeners : listeners.Listeners) (held : Option Stage) where
   abbrev t' : Network
   t' = record t { listeners = listeners }
 
   same_bytes : (d : Dir) (o : Option plain_direction.Direction) (q : Option Direction)
-      → Agree (SameDirection t held conns d) o q → Agree (SameDirection t' held conns d) o q
+      → Agree (SameDirection t held d) o q → Agree (SameDirection t' held d) o q
   same_bytes d None None h = tt
   same_bytes d None (Some y) h = h
   same_bytes d (Some x) None h = h
   same_bytes d (Some x) (Some y) h =
       record { left = h.left; ended = h.ended; unread = h.unread; arrived = h.arrived }
 
-  pub SameDirections-listeners : (virt : Directions) → SameDirections t held conns virt
-      → SameDirections t' held conns virt
+  pub SameDirections-listeners : (virt : Directions) → SameDirections t held virt → SameDirections t' held virt
   SameDirections-listeners virt same = record {
     at = λ d less. same_bytes d (map.get virt d) (channels.direction_at t.channels d) (same.at d less);
     no_other = same.no_other;
@@ -53,7 +52,7 @@ module _ (g : Given) (held : Option Stage) (real : Kernel) (k : PlainKernel) (st
       → Stands g held (record real { net = record real.net { listeners = table } }) (record k { listeners = virt })
   listeners_kept virt table same =
       net_kept g held real k st (record real.net { listeners = table }) k.channels k.directions virt st.channels
-      (SameDirections-listeners real.net table held g.conns k.directions st.directions)
+      (SameDirections-listeners real.net table held k.directions st.directions)
       (record { inverse = st.listeners.inverse; node = st.listeners.node; each = same })
 
   pub listener_put : (x : Listening) (y : Listener) → SameListener a at x y → Stands g held

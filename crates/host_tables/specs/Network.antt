@@ -1,9 +1,9 @@
 -- Channels, their directions and listeners through the pairs.
 -- Source: `man 2 socketpair`, `man 7 pipe`, `man 2 listen`; DMTCP promotes pipes to pairs of sockets.
 --     SameChannels        kinds and addresses are those of the table, open ends those of the network
---     SameDirections      the bytes are wherever they stand; flags agree, but for a pipe's unused direction
+--     SameDirections      the bytes are wherever they stand; flags agree
 --     SameListeners       by their addresses
-use Rattle.std.specs.Prelude.{◌≡◌, ◌==◌, ◌&&◌, ℕ, ◌-◌, ◌<◌, ◌≤◌, Bool, true, false, List, length, slice_index_or, Option, Some, None, IsSome, option_map, option_and_then, if◌then◌else◌}
+use Rattle.std.specs.Prelude.{◌≡◌, ◌==◌, ℕ, ◌-◌, ◌<◌, ◌≤◌, Bool, true, false, List, length, slice_index_or, Option, Some, None, IsSome, option_map, option_and_then, if◌then◌else◌}
 use Rattle.std.specs.FinMap as map
 use Rattle.std.specs.FinMap.{FinMap}
 use Rattle.views.specs.Seen.{Agree, SeenBy}
@@ -65,31 +65,26 @@ abbrev pub is_pipe_conn : Option Conn → Bool
 is_pipe_conn None = false
 is_pipe_conn (Some conn) = is_pipe (kind_of conn.kind)
 
--- the direction in which the reader of a promoted pipe would send
-abbrev pub is_unused : Conns → Dir → Bool
-is_unused conns d = (d.side == 1) && is_pipe_conn (map.get conns d.conn)
-
 -- while no stage of a checkpoint holds the system what has arrived can be received
 abbrev pub HasArrived : Option Stage → ℕ → ℕ → Type 0
 HasArrived None received arrived = arrived ≡ received
 HasArrived (Some stage) received arrived = Unit {0}
 
-pub record SameDirection (t : Network) (held : Option Stage) (conns : Conns) (d : Dir)
+pub record SameDirection (t : Network) (held : Option Stage) (d : Dir)
     (x : plain_direction.Direction) (y : Direction) : Type 0 where
   pub left : x.left ≡ whereabouts t (agents_of held) d
-  pub ended : is_unused conns d ≡ false → x.ended ≡ y.is_ended
-  pub unread : is_unused conns d ≡ false → x.unread ≡ y.is_unread
+  pub ended : x.ended ≡ y.is_ended
+  pub unread : x.unread ≡ y.is_unread
   pub arrived : HasArrived held (length y.received) x.arrived
 
--- a closed end sends no more and is not read, also on an unused direction
+-- a closed end sends no more and is not read
 pub record IsSilent (side : ℕ) (channel : Channel) : Type 0 where
   pub ended : (channels.direction_of side channel).is_ended ≡ true
   pub unread : (channels.direction_of (1 - side) channel).is_unread ≡ true
 
-pub record SameDirections (t : Network) (held : Option Stage) (conns : Conns)
-    (virt : Directions) : Type 0 where
+pub record SameDirections (t : Network) (held : Option Stage) (virt : Directions) : Type 0 where
   pub at : (d : Dir) → d.side < 2
-      → Agree (SameDirection t held conns d) (map.get virt d) (channels.direction_at t.channels d)
+      → Agree (SameDirection t held d) (map.get virt d) (channels.direction_at t.channels d)
   pub no_other : (d : Dir) → 2 ≤ d.side → map.get virt d ≡ None
   pub closed : (id : ConnId) (channel : Channel) (side : ℕ) → map.get t.channels id ≡ Some channel
       → side < 2 → slice_index_or channel.open_ends side true ≡ false → IsSilent side channel

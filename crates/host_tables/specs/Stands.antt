@@ -47,7 +47,7 @@ pub record Stands (g : Given) (held : Option Stage) (real : Kernel) (k : PlainKe
   pub inboxes : SameInboxes real.datagrams k.inboxes real.book.descriptions
   pub files : SameFiles real.files k.names k.files k.next_file
   pub channels : SameChannels g.conns k.channels real.net.channels
-  pub directions : SameDirections real.net held g.conns k.directions
+  pub directions : SameDirections real.net held k.directions
   pub listeners : SameListeners real.nodes g.addresses g.ports k.listeners real.net.listeners
 
 abbrev pub with_number : Given → ℕ → RealPid → Given

@@ -17,7 +17,7 @@ use Rattle.wire_channels.specs.declared.channel.Channel.{Channel}
 use Rattle.wire_channels.specs.Channels as channels
 use Rattle.wire_channels.specs.Directions.{Direction}
 use Rattle.host_tables.specs.declared.kernel.Kernel.{Kernel}
-use Rattle.host_tables.specs.Network.{Conns, kind_of, seen_channel, SameChannels, SameDirection, SameDirections, is_pipe_conn, is_unused}
+use Rattle.host_tables.specs.Network.{Conns, kind_of, seen_channel, SameChannels}
 use Rattle.host_tables.specs.Stands.{Given, Stands}
 use Rattle.host_tables.proofs.LookUps.{some_value}
 use Rattle.wrap_closes.proofs.ConnEnds.{ends_in, plain_ends_in, AreEnds, IsLike, AreFewer}
@@ -97,12 +97,6 @@ module _ (g : Given) (real : Kernel) (k : PlainKernel) (st : Stands g None real 
             };
           }
 
-      pipe_still : is_pipe_conn (map.get conns' id) ≡ is_pipe_conn (map.get g.conns id)
-      pipe_still =
-          ap is_pipe_conn still.is
-          ∙ ap (λ kind. is_pipe_conn (Some (record (listed id x there).0 { kind = kind }))) still.like.kind
-          ∙ sym (ap is_pipe_conn (listed id x there).1)
-
     each_by : (id : ConnId) (o : Option Channel) → map.get real.net.channels id ≡ o
         → map.get k.channels id
         ≡ option_and_then (λ (y : Channel). option_map (seen_channel y) (map.get conns' id)) o
@@ -124,44 +118,6 @@ module _ (g : Given) (real : Kernel) (k : PlainKernel) (st : Stands g None real 
       sides = st.channels.sides;
     }
 
-    same_direction : (d : Dir) → is_pipe_conn (map.get conns' d.conn) ≡ is_pipe_conn (map.get g.conns d.conn)
-        → (o : Option plain_direction.Direction) (q : Option Direction)
-        → Agree (SameDirection real.net None g.conns d) o q → Agree (SameDirection real.net None conns' d) o q
-    same_direction d same None None is = tt
-    same_direction d same None (Some y) is = is
-    same_direction d same (Some x) None is = is
-    same_direction d same (Some x) (Some y) is =
-        let unused : is_unused g.conns d ≡ is_unused conns' d = ap (λ b. (d.side == 1) && b) (sym same) in
-        record {
-          left = is.left;
-          ended = λ used. is.ended (unused ∙ used);
-          unread = λ used. is.unread (unused ∙ used);
-          arrived = is.arrived;
-        }
-
-    no_direction : (d : Dir) (o : Option plain_direction.Direction)
-        → Agree (SameDirection real.net None g.conns d) o None
-        → Agree (SameDirection real.net None conns' d) o None
-    no_direction d None is = tt
-    no_direction d (Some x) is = is
-
-    direction_by : (d : Dir) (o : Option Channel) → map.get real.net.channels d.conn ≡ o
-        → Agree (SameDirection real.net None g.conns d) (map.get k.directions d)
-        (option_map (channels.direction_of d.side) o)
-        → Agree (SameDirection real.net None conns' d) (map.get k.directions d)
-        (option_map (channels.direction_of d.side) o)
-    direction_by d None e is = no_direction d (map.get k.directions d) is
-    direction_by d (Some x) e is =
-        same_direction d (pipe_still d.conn x e) (map.get k.directions d)
-        (Some (channels.direction_of d.side x)) is
-
-    directions_fewer : SameDirections real.net None conns' k.directions
-    directions_fewer = record {
-      at = λ d low. direction_by d (map.get real.net.channels d.conn) refl (st.directions.at d low);
-      no_other = st.directions.no_other;
-      closed = st.directions.closed;
-    }
-
     pub fewer_conns : Stands fewer_given None real k
     fewer_conns = record {
       paired = st.paired;
@@ -172,6 +128,6 @@ module _ (g : Given) (real : Kernel) (k : PlainKernel) (st : Stands g None real 
       inboxes = st.inboxes;
       files = st.files;
       channels = channels_fewer;
-      directions = directions_fewer;
+      directions = st.directions;
       listeners = st.listeners;
     }

@@ -101,7 +101,7 @@ module _ (s : System) (next_id : ℕ) (k : PlainKernel) (w : IsWrapped s next_id
   st = w.stands.tables
 
   abbrev Same : Direction → RealDirection → Type 0
-  Same = SameDirection s.kernel.net None g.conns d
+  Same = SameDirection s.kernel.net None d
 
   abbrev told : ℕ
   told =
@@ -115,7 +115,7 @@ module _ (s : System) (next_id : ℕ) (k : PlainKernel) (w : IsWrapped s next_id
   count_found None (Some y) is same = absurd same
   count_found (Some x) None is same = absurd same
   count_found (Some x) (Some y) is same =
-      count_moved n x y (left_alone s.kernel.net g.conns d x y is same) same.arrived
+      count_moved n x y (left_alone s.kernel.net d x y is same) same.arrived
 
   pub count_passed : told ≡ min n (missing_in (map.get k.directions d))
   count_passed =
@@ -129,7 +129,7 @@ module _ (s : System) (next_id : ℕ) (k : PlainKernel) (w : IsWrapped s next_id
     more = min n (length x.left - x.arrived)
 
     left : x.left ≡ stream y
-    left = left_alone s.kernel.net g.conns d x y there same
+    left = left_alone s.kernel.net d x y there same
 
     put : Stands g None (moved_kernel s.kernel d n) (with_direction k d (arrived_more more x))
     put =

@@ -58,7 +58,7 @@ same_there f g (Some x) (Some y) e h = refl
 
 module _ (s : System) (next_id : ℕ) (k : PlainKernel) (w : IsWrapped s next_id k) where
   abbrev Same : Dir → Direction → RealDirection → Type 0
-  Same d = SameDirection s.kernel.net None s.conns.conns d
+  Same d = SameDirection s.kernel.net None d
 
   side_is : (d : Dir) (x : Direction) → map.get k.directions d ≡ Some x → d.side < 2
   side_is d x is = elim (below_or d.side) [

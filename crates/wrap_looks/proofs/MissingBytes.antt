@@ -32,12 +32,12 @@ on_way x y left arrived =
 module _ (g : Given) (real : Kernel) (k : PlainKernel) (st : Stands g None real k) (d : Dir) where
   missing_by : (o : Option Direction) (q : Option RealDirection)
       → channels.direction_at real.net.channels d ≡ q
-      → Agree (SameDirection real.net None g.conns d) o q → on_the_way q ≡ missing_in o
+      → Agree (SameDirection real.net None d) o q → on_the_way q ≡ missing_in o
   missing_by None None is same = refl
   missing_by None (Some y) is same = absurd same
   missing_by (Some x) None is same = absurd same
   missing_by (Some x) (Some y) is same =
-      sym (on_way x y (left_alone real.net g.conns d x y is same) same.arrived)
+      sym (on_way x y (left_alone real.net d x y is same) same.arrived)
 
   pub missing_told : d.side < 2
       → on_the_way (channels.direction_at real.net.channels d) ≡ missing_in (map.get k.directions d)

@@ -3,7 +3,6 @@ use Rattle.fd_tables.specs.declared.description.Object.TheVariants as object
 use Rattle.plain_machine.specs.Rows.Read.{is_readable}
 use Rattle.plain_machine.specs.Transfers.Datagrams.{has_message}
 use Rattle.host_descriptors.specs.Held.{seen_held}
-use Rattle.host_streams.proofs.UsedDirections.{read_used}
 use Rattle.host_transfers.proofs.Objects.{for_object}
 use Rattle.host_transfers.proofs.reading.is_readable.Goals as goal
 
@@ -13,8 +12,7 @@ returns-in-Stream c g k whole st =
     let h = c.args.held in
     for_object g real h (λ o. c.is_receivable.result ≡ is_readable k (seen_held g real h) c.args.count o)
     (object.Stream c.in-Stream.conn c.in-Stream.side) c.in-Stream.is
-    (c.is_receivable.ensures g k st (read_used g real k st c.in-Stream.conn whole h.desc h.description
-    c.requires.there c.in-Stream.side c.in-Stream.is c.requires.may))
+    (c.is_receivable.ensures g k st)
 
 pub returns-in-Datagram : goal.returns-in-Datagram
 returns-in-Datagram c g k whole st =

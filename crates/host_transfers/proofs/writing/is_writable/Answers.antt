@@ -3,7 +3,6 @@ use Rattle.fd_tables.specs.declared.description.Object as real_object
 use Rattle.fd_tables.specs.declared.description.Object.TheVariants as object
 use Rattle.plain_machine.specs.Rows.Write.{is_writable}
 use Rattle.plain_machine.specs.Transfers.Datagrams.{takes_message}
-use Rattle.host_streams.proofs.UsedDirections.{write_used}
 use Rattle.host_transfers.specs.Access.{MayTake}
 use Rattle.host_transfers.proofs.Objects.{for_object}
 use Rattle.host_transfers.proofs.writing.is_writable.Goals as goal
@@ -14,8 +13,7 @@ returns-in-Stream-clause-ready c g k whole st =
     let h = c.args.held in
     for_object g real h (λ o. c.is_sendable.result ≡ is_writable k c.args.count c.args.front.now o)
     (object.Stream c.in-Stream.conn c.in-Stream.side) c.in-Stream.is
-    (c.is_sendable.ensures g k st (write_used g real k st c.in-Stream.conn whole h.desc h.description
-    c.requires.there c.in-Stream.side c.in-Stream.is c.requires.may))
+    (c.is_sendable.ensures g k st)
 
 pub returns-in-Stream-clause-takes : goal.returns-in-Stream-clause-takes
 returns-in-Stream-clause-takes c is =

@@ -8,7 +8,6 @@ use Rattle.plain_machine.specs.Rows.Write.{write_object}
 use Rattle.host_tables.specs.declared.attempt.Attempt.TheVariants as answer
 use Rattle.host_tables.specs.Serves.{Serves, ByNumber, same}
 use Rattle.host_descriptors.specs.Held.{seen_held}
-use Rattle.host_streams.proofs.UsedDirections.{write_used}
 use Rattle.host_transfers.proofs.Objects.{for_object}
 use Rattle.host_transfers.proofs.writing.write_object.Goals as goal
 
@@ -41,9 +40,7 @@ returns-in-Stream-clause-ok c g k p whole st paired t thread =
     (λ o. Serves ByNumber same g real c.write_stream.new.kernel given given c.write_stream.result
     (write_object k p t (seen_held g real c.args.held) c.args.count given o))
     (object.Stream c.in-Stream.conn c.in-Stream.side) c.in-Stream.is
-    (c.write_stream.ensures.row g k p whole st paired t thread
-    (write_used g real k st c.in-Stream.conn whole c.args.held.desc c.args.held.description c.requires.there
-    c.in-Stream.side c.in-Stream.is c.requires.may))
+    (c.write_stream.ensures.row g k p whole st paired t thread)
 
 pub returns-in-Socket-clause-ok : goal.returns-in-Socket-clause-ok
 returns-in-Socket-clause-ok c g k p whole st paired t thread =
