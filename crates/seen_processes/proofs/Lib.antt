@@ -1,0 +1,6 @@
+pub mod Filling
+mod Paired
+mod SeenThreads
+mod SeenProcesses
+mod SeenDescriptors
+mod SeenDescriptions

@@ -1,0 +1,4 @@
+pub mod Filling
+pub mod Processes
+pub mod Descriptors
+pub mod Descriptions
