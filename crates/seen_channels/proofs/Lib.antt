@@ -1,0 +1,6 @@
+pub mod Parts
+mod Fronts
+mod SeenFiles
+mod SeenChannels
+mod SeenDirections
+mod SeenListeners

@@ -1,0 +1,5 @@
+pub mod Parts
+pub mod Channels
+pub mod Directions
+pub mod Listeners
+pub mod Files
