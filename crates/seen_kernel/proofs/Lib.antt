@@ -1,0 +1,3 @@
+mod SeenMakers
+mod SeenKernel
+mod Arrived
