@@ -3,18 +3,19 @@
 --     room_naming      the room names each direction of the network once
 --     drain_begun      the drain begins with the bytes where they were
 use Rattle.std.proofs.Common.{◌≡◌, ◌<◌, ◌≤◌, ◌-◌, ℕ, Bool, true, false, cond, ◌||◌, List, [], ◌∷◌, map as each, Option, Some, None, refl, sym, ap, subst, ◌∙◌, arith}
-use Rattle.std.specs.Prelude.{IsSome, is_some, option_map, All}
+use Rattle.std.specs.Prelude.{IsSome, IfSome, is_some, option_map, All}
 use Rattle.std.specs.Option.{option_and_then}
 use Rattle.std.specs.List.{list_any}
 use Rattle.std.specs.Ordering.{eq_by_cmp}
 use Rattle.std.specs.FinMap as map
-use Rattle.std.proofs.lemmas.List.Elements.{All-map, All-nil, All-cons}
+use Rattle.std.proofs.lemmas.List.Elements.{All-map, All-nil, All-cons, All-head, All-tail}
 use Rattle.std.proofs.lemmas.Option.{same_Some, none-some}
 use Rattle.views.proofs.MapLaws.{true_false}
 use Rattle.sys_abi.specs.declared.identity.ConnId.{ConnId}
 use Rattle.sys_abi.specs.declared.identity.DescId.{DescId}
 use Rattle.sys_abi.specs.declared.identity.Dir.{Dir}
 use Rattle.sys_abi.specs.declared.identity.RealPid.{RealPid}
+use Rattle.sys_abi.specs.declared.identity.VPid.{VPid}
 use Rattle.sys_abi.specs.Orders.{dir_cmp}
 use Rattle.fd_tables.specs.declared.description.Desc.{Desc}
 use Rattle.fd_tables.specs.Parts.{with_owner}
@@ -23,6 +24,7 @@ use Rattle.drain_core.specs.Drains.{Notes, Fits, has_notes}
 use Rattle.drain_core.specs.Holding.{agents_of}
 use Rattle.drain_core.specs.Openings.{IsNaming}
 use Rattle.plain_machine.specs.declared.kernel.PlainKernel.{PlainKernel}
+use Rattle.plain_machine.specs.Kernel.{is_live}
 use Rattle.wire_channels.specs.declared.channel.Channel.{Channel}
 use Rattle.wire_channels.specs.Channels.{Channels, direction_of, direction_at}
 use Rattle.wire_net.specs.declared.agents.AgentEnd.{AgentEnd}
@@ -38,11 +40,12 @@ use Rattle.stage_lists.specs.Agents.{names_end, IsAgent, IsActedFor, place_of}
 use Rattle.stage_lists.specs.Directions.{is_listed, standing_in, standing_of}
 use Rattle.stage_lists.specs.Owners.{Owners}
 use Rattle.stage_lists.specs.Voters.{Voters, all_voted}
-use Rattle.ckpt_stages.specs.Elections.{IsDraining}
+use Rattle.cut_stages.specs.Drains.{IsDraining}
+use Rattle.cut_stages.specs.Rounds.{AreLed, IsAlive}
 use Rattle.ckpt_stages.specs.Suspensions.{IsSuspended}
 use Rattle.ckpt_stages.proofs.ClosedEnds.{closed_silent}
-use Rattle.ckpt_stages.proofs.Leading.{all_led}
-use Rattle.ckpt_stages.proofs.NamedEnds.{side_of, end_found, its_agent}
+use Rattle.ckpt_stages.proofs.Leading.{all_led, leader_alive}
+use Rattle.cut_stages.proofs.NamedEnds.{side_of, end_found, its_agent}
 
 -- lists of directions, each with a number
 listed_named : (m : Channels) (d : Dir) (dirs : List Dir)
@@ -70,6 +73,10 @@ there_of m d there = by_found (map.get m d.conn) there
     by_found : (found : Option Channel) → IsSome (option_map (direction_of d.side) found) → IsSome found
     by_found None is = is
     by_found (Some channel) is = refl
+
+if_owner : (b : Bool) (o : Option RealPid) (r : RealPid) → cond b o None ≡ Some r → o ≡ Some r
+if_owner true o r is = is
+if_owner false o r is = absurd (none-some r is)
 
 module _ (s : System) (next_id : ℕ) (k : PlainKernel) (owners : Owners) (voters : Voters) (dirs : List Dir)
     (ends : Reserve AgentEnd) (room : RoomView)
@@ -165,14 +172,34 @@ module _ (s : System) (next_id : ℕ) (k : PlainKernel) (owners : Owners) (voter
       deaf = λ id channel side below at none. (silent_end id channel side below at none).unread;
     }
 
+    one_alive : (conn : ConnId) (side : ℕ) (o : Option RealPid)
+        → IsAgent s.kernel.book s.kernel.net.listeners conn side o
+        → IfSome o (λ (r : RealPid). (p : VPid)
+        × ((is_live k p ≡ true) × (map.get s.ids.pids p.0 ≡ Some r)))
+    one_alive conn side None acted = tt
+    one_alive conn side (Some r) acted =
+        leader_alive s next_id k owners voters dirs ends room is all acted.0 acted.1.0 r acted.1.1.0
+        (if_owner (names_end s.kernel.net.listeners conn side acted.1.0.object) acted.1.0.owner r
+        acted.1.1.1)
+
+    alive_ends : (some : List AgentEnd) → All (IsActedFor s.kernel.book s.kernel.net.listeners) some
+        → All (IsAlive k s.ids.pids) some
+    alive_ends [] acted = All-nil (IsAlive k s.ids.pids)
+    alive_ends (e ∷ some) acted =
+        All-cons (IsAlive k s.ids.pids) e some
+        (one_alive e.conn e.side e.agent
+        (All-head (IsActedFor s.kernel.book s.kernel.net.listeners) e some acted))
+        (alive_ends some (All-tail (IsActedFor s.kernel.book s.kernel.net.listeners) e some acted))
+
     pub drain_begun : (notes : Notes) → Fits m notes
         → ((d : Dir) → d.side < 2 → IsSome (direction_at m d) → has_notes d notes ≡ true)
         → ((d : Dir) → whereabouts s.kernel.net (agents_of notes) d ≡ stream_on (direction_at m d))
-        → IsDraining s next_id k owners list notes
-    drain_begun notes fits there kept = record {
+        → AreLed list notes → IsDraining s next_id k owners list notes
+    drain_begun notes fits there kept led = record {
       cut = record {
         before = before;
         wrapped = is.cut.wrapped;
+        plain = is.cut.plain;
         kept = is.cut.kept;
         book = is.cut.book;
         frames = is.cut.frames;
@@ -182,4 +209,6 @@ module _ (s : System) (next_id : ℕ) (k : PlainKernel) (owners : Owners) (voter
       fits = fits;
       agents = agents_for;
       noted = there;
+      led = led;
+      alive = alive_ends list agents;
     }

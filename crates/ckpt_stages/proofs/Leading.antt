@@ -1,8 +1,9 @@
 -- Once all have voted each description has a leader.
 --     voted_each      each voter has voted
 --     all_led         each description has an owner
+--     leader_alive    an owner is a live process
 use Rattle.std.proofs.Common.{◌≡◌, ℕ, Bool, true, false, cond, ◌&&◌, List, [], ◌∷◌, map as mapped, Option, Some, None, refl, sym, ap, subst, ◌∙◌}
-use Rattle.std.specs.Prelude.{IsSome, is_some, option_map, Contains}
+use Rattle.std.specs.Prelude.{IsSome, is_some, option_map, Contains, find, reverse}
 use Rattle.std.specs.declared.cmp.Ordering.{Ordering}
 use Rattle.std.specs.Ordering.{eq_by_cmp}
 use Rattle.std.specs.Option.{option_map_or, option_and_then}
@@ -21,22 +22,25 @@ use Rattle.sys_abi.specs.Orders.{vpid_cmp}
 use Rattle.fd_tables.specs.declared.description.Desc.{Desc}
 use Rattle.fd_tables.specs.declared.real_slot.RealSlot.{RealSlot}
 use Rattle.fd_tables.specs.Orders.{real_slot_cmp}
+use Rattle.fd_tables.specs.Parts.{with_owner}
 use Rattle.fd_tables.specs.Slots.{slot, refers_to, IsHolder}
 use Rattle.fd_tables.proofs.OrderLaws.{real_slot_total, real_slot_exact}
 use Rattle.fd_book.specs.Books.{Books, is_held, IsWhole}
-use Rattle.leader_vote.specs.Elections.{after_votes, HaveVoted}
-use Rattle.leader_vote.proofs.Elections.{after_votes-descriptors, votes_give_leaders}
-use Rattle.leader_vote.proofs.Holders.{same-refers}
+use Rattle.leader_vote.specs.Elections.{after_votes, HaveVoted, is_holder}
+use Rattle.leader_vote.proofs.Elections.{after_votes-descriptors, last_voter_leads, owners_alone, votes_give_leaders}
+use Rattle.leader_vote.proofs.Holders.{same-refers, IsHolder-from_is_holder}
 use Rattle.proc_book.specs.Ends.{is_live_at}
 use Rattle.proc_book.specs.Processes.{is_live}
 use Rattle.virt_ids.specs.Pairs.{AreInverse}
 use Rattle.plain_tables.specs.Tables.{pid}
 use Rattle.plain_machine.specs.declared.kernel.PlainKernel.{PlainKernel}
+use Rattle.plain_machine.specs.Kernel.{is_live as is_living}
 use Rattle.wire_net.specs.declared.agents.AgentEnd.{AgentEnd}
 use Rattle.wire_net.specs.CutRooms.{RoomView}
 use Rattle.wire_net.specs.Reserves.{Reserve}
 use Rattle.host_tables.specs.declared.system.System.{System}
-use Rattle.host_tables.proofs.LookUps.{some_value}
+use Rattle.host_tables.specs.Systems.{given_of}
+use Rattle.host_tables.proofs.LookUps.{some_value, lives_of}
 use Rattle.wrap_names.proofs.Callers.{sound}
 use Rattle.stage_lists.specs.Owners.{Owners}
 use Rattle.stage_lists.specs.Voters.{Voters, voter, all_voted}
@@ -47,6 +51,20 @@ nobody_holds : (m : FinMap real_slot_cmp Descriptor) (id : DescId)
     false
 unfolding is_held
 nobody_holds m id none = none_among-values real_slot_total real_slot_exact (refers_to id) m none
+
+found_passes : (test : RealPid → Bool) (xs : List RealPid) (x : RealPid) → find test xs ≡ Some x
+    → test x ≡ true
+found_passes test [] x is = absurd (none-some x is)
+found_passes test (y ∷ xs) x is =
+    elim (test y) as (λ b. test y ≡ b → cond b (Some y) (find test xs) ≡ Some x → test x ≡ true) [
+      | true ↦ λ at same. subst (λ z. test z ≡ true) (same_Some y x same) at
+      | false ↦ λ at same. found_passes test xs x same
+    ] refl is
+
+there_too : (f : Desc → Desc) (o q : Option Desc) → option_map f o ≡ option_map f q → IsSome o → IsSome q
+there_too f None q same there = true_false (sym there)
+there_too f (Some x) None same there = absurd (none-some (f x) (sym same))
+there_too f (Some x) (Some y) same there = refl
 
 module _ {K X : Type 0} (R : K → K → Ordering) (f : X → Bool) where
   first_true : (a b : Bool) → (a && b) ≡ true → a ≡ true
@@ -156,3 +174,36 @@ module _ (s : System) (next_id : ℕ) (k : PlainKernel) (owners : Owners) (voter
           not_held slot_at descriptor found true refers =
               true_false (sym (leads id d at slot_at.pid
               (slot_at.fd, descriptor, found, same-refers id descriptor refers)) ∙ has)
+
+  found_leader : (id : DescId) (d : Desc) (r : RealPid)
+      → map.get (after_votes unowned order).descriptions id ≡ Some d
+      → IsSome (map.get unowned.descriptions id) → d.owner ≡ Some r
+      → find (is_holder unowned.descriptors id) (reverse order) ≡ Some r
+  found_leader id d r at there owner =
+      sym (last_voter_leads unowned order id is.voting.none there)
+      ∙ ap (option_and_then (λ (x : Desc). x.owner)) at
+      ∙ owner
+
+  pub leader_alive : (id : DescId) (d : Desc) (r : RealPid) → map.get s.kernel.book.descriptions id ≡ Some d
+      → d.owner ≡ Some r → (p : VPid) × ((is_living k p ≡ true) × (map.get s.ids.pids p.0 ≡ Some r))
+  leader_alive id d r at owner =
+      let at_votes : map.get (after_votes unowned order).descriptions id ≡ Some d =
+      ap (λ (b : Books). map.get b.descriptions id) (sym is.voting.book_is) ∙ at in
+      let there = there_too (with_owner None) (map.get (after_votes unowned order).descriptions id)
+      (map.get unowned.descriptions id) ((owners_alone unowned order).1 id) (ap is_some at_votes) in
+      let found = found_leader id d r at_votes there owner in
+      let holds = IsHolder-from_is_holder unowned.descriptors id r
+      (found_passes (is_holder unowned.descriptors id) (reverse order) r found) in
+      let lives_here = live (slot r holds.0) holds.1 (ap (λ m. map.get m (slot r holds.0)) (sym
+      same_descriptors) ∙ holds.2) in
+      let v = live_there r lives_here in
+      let pair : map.get s.ids.pids v.0 ≡ Some r = inverse.leads_there v.0 r v.1 in
+      let pair_before : map.get before.ids.pids v.0 ≡ Some r =
+      sym (ap (λ (x : System). map.get x.ids.pids v.0) is.cut.rest) ∙ pair in (
+        voter v.0,
+        (
+          lives_of (given_of before) before.kernel k is.cut.wrapped.stands.tables (voter v.0) r pair_before
+              ∙ sym (ap (λ (x : System). is_live_at x.kernel.procs.processes r) is.cut.rest) ∙ lives_here,
+          pair,
+        ),
+      )

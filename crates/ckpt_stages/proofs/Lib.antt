@@ -1,12 +1,8 @@
-mod OtherOwners
 mod Suspending
 mod Voted
 mod Leading
 mod ClosedEnds
-mod NamedEnds
 mod Electing
+mod Moved
 mod FirstOnes
-mod Arriving
-mod Cutting
-mod Filling
-mod Holding
+mod Supported

@@ -1,8 +1,7 @@
--- A suspension begins, and is given up.
+-- A suspension begins.
 --     entered_voters      the voters are the live processes, and none has voted
 --     suspended           the system, with its owners cleared, is a cut of which no byte has moved
---     given_up            with its owners back it is as it was
-use Rattle.std.proofs.Common.{◌≡◌, ℕ, Bool, true, false, List, [], Option, Some, None, refl, sym, ap, subst, ◌∙◌}
+use Rattle.std.proofs.Common.{◌≡◌, ℕ, Bool, true, false, List, [], Option, Some, None, refl, sym, ap, ◌∙◌}
 use Rattle.std.specs.Prelude.{is_some, if◌then◌else◌}
 use Rattle.std.specs.FinMap as map
 use Rattle.std.proofs.lemmas.Option.{same_Some}
@@ -10,7 +9,6 @@ use Rattle.views.proofs.MapLaws.{true_false}
 use Rattle.sys_abi.specs.declared.identity.Dir.{Dir}
 use Rattle.sys_abi.specs.declared.identity.RealPid.{RealPid}
 use Rattle.sys_abi.specs.declared.identity.VPid.{VPid}
-use Rattle.fd_book.specs.Books.{Books}
 use Rattle.plain_tables.specs.declared.process.Process.{Process}
 use Rattle.plain_tables.specs.Tables.{is_live_process}
 use Rattle.plain_machine.specs.declared.kernel.PlainKernel.{PlainKernel}
@@ -18,18 +16,18 @@ use Rattle.plain_machine.specs.Kernel.{is_live}
 use Rattle.wire_net.specs.declared.agents.AgentEnd.{AgentEnd}
 use Rattle.wire_net.specs.CutRooms.{RoomView}
 use Rattle.wire_net.specs.Reserves.{Reserve}
-use Rattle.wire_net.specs.Whereabouts.{Agents}
 use Rattle.wire_net.proofs.Streams.{whereabouts-none}
 use Rattle.host_tables.specs.declared.system.System.{System}
 use Rattle.host_tables.specs.Stands.{Stands}
 use Rattle.host_tables.specs.Systems.{given_of}
 use Rattle.host_tables.proofs.LookUps.{some_value, lives_of}
 use Rattle.wrap_names.specs.Wrapping.{IsWrapped}
+use Rattle.seen_processes.specs.Descriptions.{HasNoDatagrams}
 use Rattle.stage_lists.specs.Owners.{Owners, with_owners}
 use Rattle.stage_lists.specs.Voters.{Voters, HasVoters}
-use Rattle.ckpt_stages.specs.Cuts.{with_book, put_back, changed_in, IsCut}
+use Rattle.cut_stages.specs.Cuts.{put_back}
 use Rattle.ckpt_stages.specs.Suspensions.{IsReserved, IsSuspended}
-use Rattle.ckpt_stages.proofs.OtherOwners.{owners_cleared, none_owned, owners_back}
+use Rattle.cut_stages.proofs.OtherOwners.{owners_cleared, none_owned}
 
 module _ (s : System) (next_id : ℕ) (k : PlainKernel) (w : IsWrapped s next_id k) where
   st : Stands (given_of s) None s.kernel k
@@ -71,11 +69,13 @@ module _ (s : System) (next_id : ℕ) (k : PlainKernel) (w : IsWrapped s next_id
     abbrev cleared : System
     cleared = put_back map.empty s
 
-    pub suspended : IsSuspended cleared next_id k owners voters dirs ends room
-    suspended = record {
+    pub suspended : HasNoDatagrams k.descriptions
+        → IsSuspended cleared next_id k owners voters dirs ends room
+    suspended plain = record {
       cut = record {
         before = s;
         wrapped = w;
+        plain = plain;
         kept = reserved.kept;
         book = owners_cleared s.kernel.book;
         frames = λ id. refl;
@@ -101,19 +101,3 @@ module _ (s : System) (next_id : ℕ) (k : PlainKernel) (w : IsWrapped s next_id
       listed = reserved.listed;
       reserved = record { ends_are = reserved.reserved.ends_are; room_is = reserved.reserved.room_is };
     }
-
--- with its owners back
-module _ (s : System) (next_id : ℕ) (k : PlainKernel) (owners : Owners) (agents : Agents)
-    (cut : IsCut s next_id k owners agents) where
-  pub given_up_book : with_owners owners s.kernel.book ≡ cut.before.kernel.book
-  given_up_book = owners_back cut.before.kernel.book s.kernel.book owners cut.book cut.kept
-
-  -- where the channels are as they were
-  pub given_up : s.kernel.net.channels ≡ cut.before.kernel.net.channels → IsWrapped (put_back owners s)
-      next_id k
-  given_up same =
-      subst (λ x. IsWrapped x next_id k)
-      (sym (ap (λ (x : System). with_book x (with_owners owners s.kernel.book)) cut.rest
-      ∙ ap (λ (b : Books). changed_in cut.before b s.kernel.net.channels) given_up_book
-      ∙ ap (λ m. changed_in cut.before cut.before.kernel.book m) same))
-      cut.wrapped

@@ -22,9 +22,9 @@ use Rattle.host_tables.specs.declared.system.System.{System}
 use Rattle.host_tables.specs.Numbers.{Pids}
 use Rattle.stage_lists.specs.Owners.{Owners}
 use Rattle.stage_lists.specs.Voters.{Voters, Virts, voter, marked}
-use Rattle.ckpt_stages.specs.Cuts.{with_book, voted_by}
+use Rattle.cut_stages.specs.Cuts.{with_book, voted_by}
 use Rattle.ckpt_stages.specs.Suspensions.{IsVoting, AreVoters, IsSuspended}
-use Rattle.ckpt_stages.proofs.OtherOwners.{owners_voted}
+use Rattle.cut_stages.proofs.OtherOwners.{owners_voted}
 
 -- one voter more has voted
 marked_there : (voters : Voters) (p q : VPid) → IsSome (map.get voters q) → IsSome (map.get (marked voters
@@ -127,6 +127,7 @@ module _ (s : System) (next_id : ℕ) (k : PlainKernel) (owners : Owners) (voter
     cut = record {
       before = is.cut.before;
       wrapped = is.cut.wrapped;
+      plain = is.cut.plain;
       kept = is.cut.kept;
       book = owners_voted is.cut.before.kernel.book s.kernel.book r is.cut.book;
       frames = is.cut.frames;

@@ -2,36 +2,25 @@
 -- Source: DMTCP's stage "drain kernel buffers".
 --     Draining                       what a contract sees of it
 --     step_answer_of, has_work_of    what a process answers as an agent
---     pumped d n t                   bytes of the direction pass on
---     IsDraining s ..                it is a cut whose agents hold what they have drained, with an agent
---                                    for each
---                                    open end, and each direction is noted
-use Rattle.std.specs.Prelude.{◌≡◌, ◌<◌, ℕ, Bool, true, false, List, IsSome, refl}
+--     LiveGoesOn                     a live process goes on, or bytes pass on
+use Rattle.std.specs.Prelude.{◌≡◌, ◌⊎◌, ℕ, Bool, true, false, refl}
 use Rattle.std.specs.Option.{option_map_or}
 use Rattle.std.specs.Coded.{Coded, code_by, coded×, coded_ℕ, coded_list}
 use Rattle.std.specs.FinMap as map
-use Rattle.sys_abi.specs.declared.identity.Dir.{Dir}
 use Rattle.sys_abi.specs.declared.identity.RealPid.{RealPid}
 use Rattle.sys_abi.specs.declared.identity.VPid.{VPid}
 use Rattle.sys_abi.specs.Orders.{coded_real_pid}
 use Rattle.barrier_core.specs.Barriers.{BarrierState, coded_state}
-use Rattle.drain_core.specs.Drains.{Notes, Fits, has_notes, has_work, step_answer}
-use Rattle.drain_core.specs.Holding.{agents_of}
+use Rattle.drain_core.specs.Drains.{Notes, has_work, step_answer}
 use Rattle.plain_machine.specs.declared.kernel.PlainKernel.{PlainKernel}
-use Rattle.wire_channels.specs.declared.place.Place.TheVariants.{Send, Wire}
-use Rattle.wire_channels.specs.Channels.{direction_at, at_direction}
-use Rattle.wire_channels.specs.Directions.{after_move}
-use Rattle.wire_net.specs.declared.agents.AgentEnd.{AgentEnd}
+use Rattle.plain_machine.specs.Kernel.{is_live}
 use Rattle.wire_net.specs.declared.agents.Stepped.{Stepped}
-use Rattle.wire_net.specs.declared.agents.Stepped.TheVariants.{Finished}
+use Rattle.wire_net.specs.declared.agents.Stepped.TheVariants.{Finished, Moved}
 use Rattle.wire_net.specs.contracts.cut_room.DirNotes as dir_notes
-use Rattle.wire_net.specs.Ends.{IsFor}
 use Rattle.wire_net.specs.Networks.{Network, coded_network}
-use Rattle.host_tables.specs.declared.system.System.{System}
+use Rattle.wire_net.specs.Noted.{CanMove}
 use Rattle.host_tables.specs.Numbers.{Pids}
 use Rattle.wrap_names.specs.Codes.{kernel_code}
-use Rattle.stage_lists.specs.Owners.{Owners}
-use Rattle.ckpt_stages.specs.Cuts.{IsCut}
 
 -- pids are the real numbers of the agents
 pub record Draining : Type 0 where
@@ -68,15 +57,7 @@ step_answer_of s agent =
 abbrev pub has_work_of : Draining → VPid → Bool
 has_work_of s agent = option_map_or (λ (r : RealPid). has_work r s.notes) (map.get s.pids agent.0) false
 
-abbrev pub pumped : Dir → ℕ → Network → Network
-pumped d n t = record t {
-  channels = at_direction (at_direction t.channels d (after_move Send n)) d (after_move Wire n);
-}
-
-pub record IsDraining (s : System) (next_id : ℕ) (k : PlainKernel) (owners : Owners) (ends : List AgentEnd)
-    (notes : Notes) : Type 0 where
-  pub cut : IsCut s next_id k owners (agents_of notes)
-  pub fits : Fits s.kernel.net.channels notes
-  pub agents : IsFor s.kernel.net.channels ends
-  pub noted : (d : Dir) → d.side < 2 → IsSome (direction_at s.kernel.net.channels d) → has_notes d notes ≡
-      true
+abbrev pub LiveGoesOn : Draining → Type 0
+LiveGoesOn s =
+    ((p : VPid) × ((is_live s.kernel p ≡ true) × (step_answer_of s p ≡ Moved)))
+    ⊎ CanMove s.net.channels s.notes

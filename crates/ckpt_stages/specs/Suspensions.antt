@@ -28,7 +28,7 @@ use Rattle.wrap_names.specs.Codes.{kernel_code}
 use Rattle.stage_lists.specs.Owners.{Owners, KeepsOwners}
 use Rattle.stage_lists.specs.Voters.{Voters, Virts, voter, HasVoters}
 use Rattle.stage_lists.specs.Directions.{AreDirs, standing_of}
-use Rattle.ckpt_stages.specs.Cuts.{IsCut}
+use Rattle.cut_stages.specs.Cuts.{IsCut}
 use Rattle.ckpt_stages.specs.Elections.{Draining}
 
 pub record Suspension : Type 0 where

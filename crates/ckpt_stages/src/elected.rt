@@ -1,16 +1,18 @@
 //! The drain of all channels by their elected agents.
-ghost use Rattle.std.specs.Prelude.{◌≡◌, ◌≢◌, ◌<◌, ◌==◌, true, false};
+ghost use Rattle.std.specs.Prelude.{◌≡◌, ◌≢◌, ◌<◌, ◌⊎◌, ◌==◌, true, false};
 ghost use Rattle.drain_core.specs.Drains as drains;
 ghost use Rattle.drain_core.specs.Work.{work_left, GoesOn};
 ghost use Rattle.wire_net.specs.declared.agents.Stepped.TheVariants.{Moved};
 ghost use Rattle.stage_lists.specs.Voters as voting;
 ghost use Rattle.drain_core.specs.Holding.{agents_of};
-ghost use Rattle.ckpt_stages.specs.Holdings.{IsHeldBy};
+ghost use Rattle.cut_stages.specs.Holdings.{IsHeldBy};
+ghost use Rattle.cut_stages.specs.Drains.{pumped};
 ghost use Rattle.ckpt_stages.specs.Elections as words;
 ghost use Rattle.ckpt_stages.specs.Suspensions as suspensions;
 
-use crate::base::{Base, pump_on};
-use crate::drained::DrainedSet;
+use crate::draining::drain_through;
+use cut_stages::DrainedSet;
+use cut_stages::base::{Base, pump_on};
 use drain_core::{Drain, drain_laws};
 use host_tables::System;
 use id_maps::ByPid;
@@ -29,7 +31,8 @@ pub struct Elected {
 }
 
 impl Model for Elected {
-    ghost use Rattle.ckpt_stages.specs.Elections.{Draining, coded_draining, IsDraining};
+    ghost use Rattle.cut_stages.specs.Drains.{IsDraining};
+    ghost use Rattle.ckpt_stages.specs.Elections.{Draining, coded_draining};
 
     ghost Value = { Draining };
 
@@ -98,10 +101,25 @@ impl Elected {
     /// its receiver's queue. Takes no memory.
     pub fn pump(&mut self, d: Dir, n: u32)
         requires { d.side < 2 }
-        ensures { self.new ≡ record self.old { net = words.pumped d n self.old.net } }
+        ensures moved { self.new ≡ record self.old { net = pumped d n self.old.net } }
+        ensures less { (self.new ≡ self.old)
+            ⊎ (work_left self.new.net.channels self.new.notes
+            < work_left self.old.net.channels self.old.notes) }
     {
         drain_laws();
         pump_on(&mut self.base.system.kernel.net, d, n);
+    }
+
+    /// Steps the agents and moves bytes until all channels are drained. Takes no memory.
+    pub fn drain_all(&mut self)
+        ensures done { drains.is_done self.new.net.channels self.new.notes ≡ true }
+        ensures stays { self.new ≡ record self.old { net = self.new.net; notes = self.new.notes } }
+    {
+        drain_through(
+            &mut self.drain,
+            &mut self.base.system.kernel.net,
+            self.ends.as_slice(),
+        );
     }
 
     /// Whether a process has work left as an agent: false exactly where `step` would answer `Finished`.
@@ -114,12 +132,13 @@ impl Elected {
         self.drain.has_work(&self.base.system.kernel.net, real)
     }
 
-    /// Whether all bytes are drained: false exactly where work is left, and then some agent's step or some
-    /// move of bytes goes on with it.
+    /// Whether all bytes are drained: false exactly where work is left, and then the step of some agent, a live
+    /// process, or some move of bytes goes on with it.
     pub fn all_drained(&self) -> bool
         ensures done { result ≡ drains.is_done self.now.net.channels self.now.notes }
         ensures work { result ≡ (work_left self.now.net.channels self.now.notes == 0) }
         ensures going { result ≡ false → GoesOn self.now.net.channels self.now.notes }
+        ensures live { result ≡ false → words.LiveGoesOn self.now }
     {
         self.drain.is_done(&self.base.system.kernel.net)
     }

@@ -8,14 +8,3 @@ pub enum StageFault {
     /// Room for the checkpoint was wanted.
     Memory,
 }
-
-/// How the writing of a checkpoint's images ended.
-#[derive(Clone, Copy, Debug, PartialEq, Eq)]
-pub enum PutOutcome {
-    /// They are written, as the set of this generation.
-    Put(u64),
-    /// The disk failed.
-    DiskFault,
-    /// Memory was wanted.
-    Memory,
-}

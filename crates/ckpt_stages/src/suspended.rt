@@ -2,15 +2,16 @@
 ghost use Rattle.std.specs.Prelude.{◌≡◌, true, None, IfOk, IfErr};
 ghost use Rattle.stage_lists.specs.Voters as voting;
 ghost use Rattle.wrap_names.specs.Wrapping.{IsWrapped};
+ghost use Rattle.seen_processes.specs.Descriptions.{HasNoDatagrams};
 ghost use Rattle.ckpt_stages.specs.Suspensions as words;
 ghost use Rattle.ckpt_stages.specs.Faults as faults;
 
-use crate::base::{Base, put_back, vote_by};
 use crate::elected::Elected;
 use crate::fault::StageFault;
 use crate::first_unsupported::first_unsupported;
 use crate::reserving::{Reserved, reserve_all};
 use barrier_core::Barrier;
+use cut_stages::base::{Base, put_back, vote_by};
 use host_tables::System;
 use id_maps::{ByDesc, ByPid};
 use stage_lists::voters::{all_voted, has_voted, mark_voter};
@@ -133,6 +134,7 @@ fn suspend(
     reserved: Reserved,
 ) -> Suspended
     requires wrapped { IsWrapped system next_id stood.kernel }
+    requires supported { HasNoDatagrams stood.kernel.descriptions }
     requires reserved { words.IsReserved system reserved.owners reserved.voters reserved.dirs.items
         reserved.ends reserved.room }
     ensures { words.IsEntered stood.kernel next_id barrier result }

@@ -1,6 +1,6 @@
 use Rattle.std.proofs.Common.{refl, sym, ap, subst, ◌∙◌}
 use Rattle.host_tables.specs.declared.system.System.{System}
-use Rattle.ckpt_stages.specs.Cuts.{put_back}
+use Rattle.cut_stages.specs.Cuts.{put_back}
 use Rattle.ckpt_stages.specs.Suspensions.{IsSuspended}
 use Rattle.ckpt_stages.proofs.Suspending.{suspended, entered_voters}
 use Rattle.ckpt_stages.proofs.suspended.suspend.Goals as goal
@@ -13,7 +13,7 @@ invariant_of-result c =
     (sym (c.put_back.ensures ∙ ap (λ owners. put_back owners c.args.system) c.new-nobody.ensures))
     (suspended c.args.system c.args.next_id c.args.stood.kernel c.requires.wrapped c.args.reserved.owners
     c.args.reserved.voters c.args.reserved.dirs.items c.args.reserved.ends c.args.reserved.room
-    c.requires.reserved)
+    c.requires.reserved c.requires.supported)
 
 pub returns : goal.returns
 returns c = record {

@@ -1,6 +1,6 @@
 use Rattle.std.proofs.Common.{sym, ap, ◌∙◌}
 use Rattle.wire_net.specs.Networks.{Network}
-use Rattle.ckpt_stages.proofs.Cutting.{on_channels, drained_step}
+use Rattle.cut_stages.proofs.Cutting.{on_channels, drained_step}
 use Rattle.ckpt_stages.proofs.elected.Elected.step.Goals as goal
 
 pub invariant_of-self : goal.invariant_of-self

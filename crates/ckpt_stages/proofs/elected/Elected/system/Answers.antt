@@ -1,8 +1,8 @@
 use Rattle.std.proofs.Common.{subst}
 use Rattle.drain_core.specs.Holding.{agents_of}
 use Rattle.ckpt_stages.specs.Elections.{Draining}
-use Rattle.ckpt_stages.specs.Holdings.{IsHeldBy}
-use Rattle.ckpt_stages.proofs.Holding.{held_stands}
+use Rattle.cut_stages.specs.Holdings.{IsHeldBy}
+use Rattle.cut_stages.proofs.Holding.{held_stands}
 use Rattle.ckpt_stages.proofs.elected.Elected.system.Goals as goal
 
 pub returns : goal.returns

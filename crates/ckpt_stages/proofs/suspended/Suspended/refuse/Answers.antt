@@ -3,7 +3,7 @@ use Rattle.std.specs.FinMap as map
 use Rattle.host_tables.specs.declared.system.System.{System}
 use Rattle.wrap_names.specs.Wrapping.{IsWrapped}
 use Rattle.ckpt_stages.specs.Suspensions.{Suspension}
-use Rattle.ckpt_stages.proofs.Suspending.{given_up}
+use Rattle.cut_stages.proofs.GivenUp.{given_up}
 use Rattle.ckpt_stages.proofs.suspended.Suspended.refuse.Goals as goal
 
 pub returns-clause-system : goal.returns-clause-system

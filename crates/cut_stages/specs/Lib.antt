@@ -1,0 +1,5 @@
+pub mod Cuts
+pub mod Holdings
+pub mod Rounds
+pub mod Drains
+pub mod Resumptions
