@@ -1,0 +1,4 @@
+pub mod Copies
+pub mod WholeCopies
+pub mod FileNames
+pub mod RestoredFiles
