@@ -1,0 +1,16 @@
+pub mod SignalBits
+pub mod Paired
+pub mod RaisedSets
+pub mod Begun
+pub mod Changed
+pub mod Starts
+pub mod Upwards
+pub mod TakenSignal
+pub mod Zombies
+pub mod Sets
+pub mod OwnThreads
+pub mod MoreThreads
+pub mod Rests
+pub mod AllThreads
+pub mod EndedChildren
+pub mod AllProcesses
