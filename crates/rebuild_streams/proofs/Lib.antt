@@ -1,0 +1,4 @@
+pub mod FilledDirections
+pub mod FilledChannels
+pub mod SeenDirections
+pub mod SeenChannels
