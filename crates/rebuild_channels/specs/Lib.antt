@@ -1,0 +1,4 @@
+pub mod Nets
+pub mod Holders
+pub mod Making
+pub mod Steps
