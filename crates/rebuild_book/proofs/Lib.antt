@@ -1,0 +1,5 @@
+pub mod Paired
+pub mod Placing
+pub mod Left
+pub mod Whole
+pub mod Standing
