@@ -1,0 +1,20 @@
+//! A system over real numbers made again on nodes, from the kernel part that a launch or a checkpoint set
+//! spells.
+//!
+//! To a caller [`rebuild`] makes, from a kernel part of the plain machine and from where the
+//! hosts are, the tables of files, descriptors, processes and channels over real numbers, the pairs of
+//! virtual and real numbers and addresses, and the table of channels and sockets: DMTCP's restart, which
+//! reopens files, connects sockets again, forks the processes, rearranges their descriptors and refills the
+//! kernel's buffers.
+//!
+//! Proved: what it makes stands for the kernel part, for every valid one in which all bytes have arrived and
+//! no description is an end of a datagram pair, on 1 to 16 nodes; each real number and port is from those on
+//! that the nodes were to hand out; and each channel with two open sides was published in the directory at
+//! the node of its accepting end, and looked up there. The source is Ansel, Arya, Cooperman, "DMTCP:
+//! Transparent Checkpointing for Cluster Computations and the Desktop", 2009. Not claimed: that a real kernel
+//! restarts so, or that it succeeds wherever there is memory enough.
+#![tactic(auto)]
+
+pub mod rebuilding;
+
+pub use rebuilding::rebuild;
