@@ -69,6 +69,9 @@ impl DrainedSet {
 
     /// The kernel part for which the system stood when it was suspended, with all bytes arrived, for the
     /// images.
+    ///
+    /// # Errors
+    /// Memory was wanted. The set is as before.
     pub fn kernel(&self, alloc: Global) -> Result<PlainKernel, AllocError>
         ensures { IfOk result (λ kernel. kernel ≡ all_in self.now.kernel) }
     {

@@ -9,8 +9,9 @@
 //! tables is the types' own, whenever one is lent or handed on: the system differs from the one that was
 //! suspended in the owners of descriptions and in where the bytes of channels stand, and in nothing else.
 //!
-//! Proved: no call takes memory or is refused. While the channels are filled again the system stands for the
-//! kernel part with what the agents hold. A step that moves bytes leaves less to do, and while a refill is not
+//! Proved: no call is refused, and none takes memory but [`DrainedSet::kernel`], which makes the kernel part
+//! for the images. While the channels are filled again the system stands for the kernel part with what the
+//! agents hold. A step that moves bytes leaves less to do, and while a refill is not
 //! done some agent's step or some move goes on with it; `refill_all` makes them in rounds until nothing is
 //! left. After the last stage the system stands for the same kernel part with all bytes arrived. The source is
 //! Ansel, Arya, Cooperman, "DMTCP: Transparent Checkpointing for Cluster Computations and the Desktop", 2009

@@ -1,6 +1,6 @@
 -- Where the virtual hosts of a computation are when it is restarted.
---     IsHosts h                  1 to 16 nodes, a shift to 15, process numbers from 1 to 1,000,000,000 on, ports
---                                from 57,344 on at most
+--     IsHosts h                  1 to 16 nodes, a shift to 15, a first process number from 1 to 1,000,000,000, and a
+--                                first port to 57,344
 --     node_at h host             the node of a host: (host + shift) mod nodes
 --     nodes_from h               those of all hosts
 use Rattle.std.specs.Prelude.{ℕ, ◌+◌, ◌%◌, ◌≤◌, List, map as each}
