@@ -11,3 +11,6 @@ pub mod Supported
 pub mod FilesOfProcesses
 pub mod SpelledStates
 pub mod RestoredStates
+pub mod LeftBytes
+pub mod LeftWalk
+pub mod Marking

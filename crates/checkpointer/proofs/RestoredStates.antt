@@ -1,6 +1,10 @@
 -- What a computation that is made of the values of a set is: one that stands for the state that the set spells, and that can be run.
-use Rattle.std.proofs.Common.{◌≡◌, ℕ, ◌+◌, List, [], ◌∷◌, refl, sym, ap, ◌∙◌}
+use Rattle.std.proofs.Common.{◌≡◌, ℕ, ◌+◌, false, List, [], ◌∷◌, None, refl, sym, ap, ◌∙◌}
 use Rattle.std.specs.Prelude.{All, Some, map as each}
+use Rattle.plain_tables.specs.declared.description.Object.{Object}
+use Rattle.plain_tables.specs.declared.description.Object.TheVariants as object
+use Rattle.plain_tables.specs.Objects.{is_datagram}
+use Rattle.plain_machine.specs.Tests.{unsupported_kind}
 use Rattle.std.specs.Option.{option_map}
 use Rattle.std.specs.FinMap as map
 use Rattle.std.proofs.lemmas.List.Elements.{All-nil, All-cons}
@@ -60,3 +64,13 @@ pub is_shared : (s : Shared) (files : List (List ℕ)) (images : List ProcImage)
 unfolding SpellsFiles
 is_shared s [] images spells = absurd spells
 is_shared s (first ∷ texts) images spells = (text_of first s spells.0).keeps
+
+-- no image is of an end of a datagram pair
+pub no_datagram : (o : Object) → unsupported_kind o ≡ None → is_datagram o ≡ false
+no_datagram object.Console supported = refl
+no_datagram (object.File number offset) supported = refl
+no_datagram (object.Stream conn side) supported = refl
+no_datagram (object.Socket address) supported = refl
+no_datagram (object.Listener address) supported = refl
+no_datagram (object.Datagram peer) supported = cc
+no_datagram (object.Counter value) supported = refl

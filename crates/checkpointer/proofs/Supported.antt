@@ -1,5 +1,5 @@
 -- A state that can be held in a set, in the words of images: each description is supported, and all bytes of each direction have arrived.
-use Rattle.std.proofs.Common.{◌≡◌, ◌<◌, true, List, [], ◌∷◌, Option, Some, None, refl, sym, ap, subst, ◌∙◌}
+use Rattle.std.proofs.Common.{◌≡◌, ◌<◌, true, false, List, [], ◌∷◌, Option, Some, None, refl, sym, ap, subst, ◌∙◌}
 use Rattle.std.specs.Prelude.{nat_lt}
 use Rattle.std.specs.List.{filter_map, cons_option}
 use Rattle.std.specs.Option.{option_map}
@@ -14,13 +14,14 @@ use Rattle.plain_tables.specs.declared.description.Object.TheVariants.{Datagram,
 use Rattle.sys_abi.proofs.OrderLaws.{slot_total, slot_exact, desc_total, desc_exact}
 use Rattle.plain_tables.specs.declared.channel.Direction.{Direction}
 use Rattle.plain_tables.specs.declared.description.Description.{Description}
-use Rattle.sys_abi.specs.declared.descriptor.Descriptor.{Descriptor}
+use Rattle.plain_tables.specs.Objects.{is_datagram}
 use Rattle.plain_tables.specs.Tables.{refers_to, is_held}
 use Rattle.plain_machine.specs.declared.plain.Plain.{Plain}
 use Rattle.plain_machine.specs.declared.kernel.PlainKernel.{PlainKernel}
 use Rattle.plain_machine.specs.Kernels.{IsKernel}
 use Rattle.plain_machine.specs.Tests.{UnsupportedAt, all_arrived, full_arrive, first_of, unsupported, unsupported_entry, unsupported_by, unsupported_kind}
 use Rattle.image_codec.specs.KernelImages.{HasArrived, IsSupported}
+use Rattle.seen_processes.specs.Descriptions.{HasNoDatagrams}
 use Rattle.views.proofs.MapLaws.{same_key}
 use Rattle.image_codec.proofs.MadeMaps.{which_value}
 
@@ -106,13 +107,10 @@ has_number g is u found =
     let numbers = numbered_by at (map.get k.descriptions descriptor.desc) u own in
     (subst (λ (s : Slot). s.fd < 256) (sym numbers.slot) (is.descriptors.number at descriptor there), numbers.kind)
 
--- the first of those that are left
-pub first_left : (g : Plain) (es : List (Slot × Descriptor)) → es ≡ map.entries g.kernel.descriptors → unsupported g ≡ first_of (filter_map (unsupported_entry g.kernel) es)
-unfolding unsupported
-first_left g es is = ap (λ xs. first_of (filter_map (unsupported_entry g.kernel) xs)) (sym is)
-
-pub not_here : (k : PlainKernel) (e : Slot × Descriptor) (es : List (Slot × Descriptor)) → unsupported_entry k e ≡ None → first_of (filter_map (unsupported_entry k) (e ∷ es)) ≡ first_of (filter_map (unsupported_entry k) es)
-not_here k e es none = ap (λ o. first_of (cons_option o (filter_map (unsupported_entry k) es))) none
-
-pub is_here : (k : PlainKernel) (e : Slot × Descriptor) (es : List (Slot × Descriptor)) (u : UnsupportedAt) → unsupported_entry k e ≡ Some u → first_of (filter_map (unsupported_entry k) (e ∷ es)) ≡ Some u
-is_here k e es u some = ap (λ o. first_of (cons_option o (filter_map (unsupported_entry k) es))) some
+-- none is an end of a datagram pair then
+pub no_datagrams : (k : PlainKernel) → IsSupported k → HasNoDatagrams k.descriptions
+no_datagrams k supported d description there = other description.object (supported d description there)
+  where
+    other : (object : Object) → unsupported_kind object ≡ None → is_datagram object ≡ false
+    other (Datagram peer) none = absurd (cc)
+    other _ none = refl

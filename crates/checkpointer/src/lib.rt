@@ -17,6 +17,7 @@ pub mod checkpointer;
 mod cut;
 pub mod marks;
 pub mod restoring;
+mod seen;
 pub mod set_files;
 pub mod unsupported;
 

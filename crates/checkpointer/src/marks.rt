@@ -7,6 +7,7 @@ ghost use Rattle.computation.specs.Takes.{with_record};
 ghost use Rattle.checkpointer.specs.Marks.{mark_of, marks_of, with_marks};
 
 use crate::checkpointer::Checkpointer;
+use crate::seen::left_in;
 use computation::Computation;
 use sys_abi::{Dir, Record};
 use trace_log::Trace;
@@ -75,14 +76,17 @@ impl Checkpointer {
         ensures drained { self.new.lines.drained + trace.new.room * 2 ^ 32
             ≤ self.old.lines.drained + trace.old.room * 2 ^ 32 }
     {
-        for (dir, direction) in computation.kernel.directions.iter() {
-            if direction.left.is_empty() {
+        let mut above = None;
+        while let Some(dir) = computation.kernel.next_dir(above) {
+            above = Some(dir);
+            let n = left_in(&computation.kernel, dir);
+            if n == 0 {
                 continue;
             }
             if trace.room() == 0 {
                 return;
             }
-            let mark = mark_of(passes, *dir, direction.left.len() as u32);
+            let mark = mark_of(passes, dir, n);
             self.mark(mark, trace);
             self.lines.pass(&mark);
         }

@@ -2,31 +2,28 @@ ghost use Rattle.std.specs.Prelude.{◌≡◌, ℕ, List, All, IfOk, map as each
 ghost use Rattle.std.specs.FinMap as map;
 ghost use Rattle.plain_process.specs.Valid.{IsByte};
 ghost use Rattle.image_codec.specs.Sets.{SpellsFiles, IsStateOf};
-ghost use Rattle.computation.specs.Computations.{plain_of, IsReady};
+ghost use Rattle.run_start.specs.Starts.{state_of, CanBegin};
 ghost use Rattle.checkpointer.specs.Images.{IsWithin, guest_entry};
 
-use computation::Computation;
 use guest_proc::Guest;
 use id_maps::ByPid;
 use image_codec::{ProcImage, restored_kernel};
 use rebuild::Decoded;
+use run_start::Start;
 use std::alloc::{AllocError, Global};
-use sys_abi::Transfer;
 use views::list_of::ListOf;
 
-/// The computation whose state the values of a set stand for. It takes the pages as they are.
-pub fn restored(alloc: Global, decoded: Decoded) -> Result<Computation, AllocError>
+/// From where a computation begins whose state the values of a set stand for. It takes the pages as they are.
+pub fn restored(alloc: Global, decoded: Decoded) -> Result<Start, AllocError>
     requires spelled { (files : List (List ℕ))
         × (All (λ file. All IsByte file) files × SpellsFiles files decoded.shared decoded.procs) }
-    ensures ready { IfOk result (λ computation. IsReady computation) }
-    ensures state { IfOk result (λ computation. IsStateOf decoded.shared decoded.procs
-        (plain_of computation)) }
+    ensures ready { IfOk result (λ start. CanBegin start) }
+    ensures state { IfOk result (λ start. IsStateOf decoded.shared decoded.procs (state_of start)) }
 {
     let Decoded { shared, procs } = decoded;
-    Ok(Computation {
+    Ok(Start {
         kernel: restored_kernel(alloc, &shared)?,
         guests: guests_of(alloc, procs)?,
-        transfer: Transfer::new(alloc)?,
     })
 }
 

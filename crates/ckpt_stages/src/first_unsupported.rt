@@ -11,7 +11,7 @@ use sys_abi::{DescId, Fd, Kind, RealPid, VPid};
 use virt_ids::Ids;
 
 /// The first descriptor, by process and number, that no image holds. Takes no memory.
-pub(crate) fn first_unsupported(system: &System) -> Option<(VPid, Fd, Kind)>
+pub fn first_unsupported(system: &System) -> Option<(VPid, Fd, Kind)>
     ensures { (k : PlainKernel) (next_id : _) → IsWrapped system.now next_id k → FindsUnsupported k result }
 {
     system.ids.whole();

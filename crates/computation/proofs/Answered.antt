@@ -1,10 +1,12 @@
 -- A call of the kernel that was served: what its answer can do, and what it leaves of the computation.
---     told_serves          what the function that serves tells
---     law, answer_fits, answer_adds, answer_is_short      of the answer
+--     answered, waits_never      what the kernel's answer tells
+--     law, answer_fits, answer_adds      of the answer
+--     made_of, lives_of          of the processes after it
+--     left_living                the state after it
 --     made_value, makes_fork, lent_twin      of the child that it makes
 --     guest_at, grown_at   the caller's guest
 --     final_is             the parts of those who live after it
-use Rattle.std.proofs.Common.{◌≡◌, ◌≢◌, ℕ, ◌≤◌, Bool, true, false, not, cond, List, length, Option, Some, None, inl, inr, refl, sym, ap, subst, ◌∙◌}
+use Rattle.std.proofs.Common.{◌≡◌, ◌≢◌, ℕ, Bool, true, false, cond, List, Option, Some, None, inl, inr, refl, sym, ap, subst, ◌∙◌}
 use Rattle.std.specs.Prelude.{◌⊎◌, is_some, IfSome}
 use Rattle.std.specs.Option.{option_map}
 use Rattle.std.specs.FinMap as map
@@ -19,51 +21,155 @@ use Rattle.sys_abi.specs.declared.reply.Reply.{Reply}
 use Rattle.sys_abi.specs.declared.reply.Reply.TheVariants.{Value, Error}
 use Rattle.call_table.specs.declared.request.Request.{Request}
 use Rattle.call_table.specs.declared.request.Request.TheVariants.{Clone}
-use Rattle.sys_abi.specs.declared.transfer.TheConstants.{TRANSFER_LIMIT}
+use Rattle.sys_abi.specs.declared.reply.Errno.{Errno}
 use Rattle.sys_abi.proofs.OrderLaws.{vpid_total, vpid_exact}
 use Rattle.plain_tables.specs.Tables.{pid}
 use Rattle.plain_process.specs.declared.user_part.UserPart.{UserPart}
 use Rattle.plain_process.specs.Buffers.{lent, filled_spans}
-use Rattle.plain_process.specs.Put.{CanTake, made_as, made_by}
+use Rattle.plain_process.specs.Put.{CanTake, made_as, made_by, put}
 use Rattle.plain_process.specs.Steps.{Asks, user_step}
 use Rattle.plain_process.specs.Threads.{child_of}
 use Rattle.plain_process.specs.Twins.{twin_of}
 use Rattle.plain_process.specs.Valid.{CanAdd}
 use Rattle.plain_machine.specs.declared.plain.Plain.{Plain}
 use Rattle.plain_machine.specs.declared.kernel.PlainKernel.{PlainKernel}
-use Rattle.plain_tables.specs.declared.answer.Answer.{Answer}
-use Rattle.plain_machine.specs.Answers.{answer_told, served_by}
+use Rattle.plain_process.specs.Attempts.{Try, Fails, NotReady, Gives}
+use Rattle.plain_machine.specs.Attempts.{Served, settled, refused}
+use Rattle.host_tables.specs.declared.attempt.Attempt.TheVariants as attempt
+use Rattle.host_tables.specs.declared.reply.KernelReply.{KernelReply}
+use Rattle.host_tables.specs.declared.reply.KernelReply.TheVariants as waits
+use Rattle.host_tables.specs.Serves.{IsReply}
+use Rattle.wrap_names.specs.Wrapping.{Answers}
 use Rattle.plain_machine.specs.Kernel.{is_live}
-use Rattle.plain_machine.specs.Records.{Users, with_child}
+use Rattle.plain_machine.specs.Records.{Users, living, users_after, with_child}
 use Rattle.plain_machine.specs.RowLaws.{IsServed, IsMade}
-use Rattle.plain_machine.specs.Serve.{serve}
+use Rattle.plain_machine.specs.Serve.{row, serve}
 use Rattle.plain_machine.specs.Valid.{IsValid}
 use Rattle.plain_machine.proofs.Asking.{stands_asked, serve_adds}
 use Rattle.plain_machine.proofs.EachRow.{each_is_served}
 use Rattle.plain_machine.proofs.RowBounds.{next_is_nobody, next_is_other}
 use Rattle.guest_proc.specs.Guests.{GuestPart}
-use Rattle.computation.specs.Parts.{Guests, grown_by, is_fork, is_fork_form, left_by}
+use Rattle.computation.specs.Parts.{Guests, HasServed, grown_by, is_fork, is_fork_form, left_by, told_as}
 use Rattle.computation.proofs.Living.{kept_if, gone_if, living_is}
-use Rattle.computation.proofs.Starts.{seen}
+use Rattle.computation.proofs.States.{seen}
 
-pub told_serves : (before after : PlainKernel) (p : VPid) (t : ℕ) (q : Request) (bytes given : List ℕ) (told : Option Answer) (answer : Answer) → told ≡ Some answer → bytes ≡ given
-    → serve before p t q bytes ≡ answer_told after bytes told → serve before p t q given ≡ Some (served_by after given answer)
-told_serves before after p t q bytes given told answer some same serves =
-    ap (serve before p t q) (sym same) ∙ serves ∙ ap (λ (xs : List ℕ). answer_told after xs told) same ∙ ap (answer_told after given) some
+-- what a call that was served left
+by_row : (before after : PlainKernel) (p : VPid) (t : ℕ) (q : Request) (given left : List ℕ) (reply : Reply)
+    (m : Try Served) → row before p t q given ≡ m → is_some (settled before m) ≡ true
+    → Answers before after given left (told_as reply) m → HasServed before after p t q given left reply
+unfolding serve
+by_row before after p t q given left (Value n) (Fails e) is goes told =
+    let no : attempt.Gives n ≡ attempt.Fails (record { 0 = e }) = told.1.0 in absurd (cc)
+by_row before after p t q given left (Value n) NotReady is goes told = true_false (sym goes)
+by_row before after p t q given left (Value n) (Gives s) is goes told = record {
+  served = s;
+  serves = ap (settled before) is;
+  kernel = told.0;
+  answer = value_is s.reply told.1.0;
+  bytes = told.1.1;
+}
+  where
+    value_is : (reply : Reply) → IsReply (λ n m. n ≡ m) (attempt.Gives n) reply → Value n ≡ reply
+    value_is (Value m) same = ap (λ (x : ℕ). Value x) same
+    value_is (Error f) same = absurd same
+by_row before after p t q given left (Error f) (Fails e) is goes told = record {
+  served = refused before e;
+  serves = ap (settled before) is;
+  kernel = told.0;
+  answer = let same : attempt.Fails f ≡ attempt.Fails (record { 0 = e }) = told.1.0 in
+      let equal : f ≡ record { 0 = e } = cc in ap (λ (x : Errno). Error x) equal;
+  bytes = told.1.1;
+}
+by_row before after p t q given left (Error f) NotReady is goes told = true_false (sym goes)
+by_row before after p t q given left (Error f) (Gives s) is goes told = record {
+  served = s;
+  serves = ap (settled before) is;
+  kernel = told.0;
+  answer = error_is s.reply told.1.0;
+  bytes = told.1.1;
+}
+  where
+    error_is : (reply : Reply) → IsReply (λ n m. n ≡ m) (attempt.Fails f) reply → Error f ≡ reply
+    error_is (Value m) same = absurd same
+    error_is (Error g) same = ap (λ (x : Errno). Error x) same
 
-module _ (g : Plain) (valid : IsValid g) (p : VPid) (t : ℕ) (q : Request) (user : UserPart) (there : map.get g.users p ≡ Some user) (asks : user_step user t ≡ Asks q) (given : List ℕ)
-    (reads : lent user.memory q ≡ Some given) (k : PlainKernel) (answer : Answer) (serves : serve g.kernel p t q given ≡ Some (served_by k given answer)) where
-  pub law : IsServed g.kernel p t q given (served_by k given answer)
-  law = each_is_served g.kernel p t q given (served_by k given answer) (stands_asked g user p t q given valid there asks reads) serves
+module _ (before after : PlainKernel) (p : VPid) (t : ℕ) (q : Request) (given left : List ℕ)
+    (goes : is_some (serve before p t q given) ≡ true) where
+  pub answered : (reply : Reply) (told : KernelReply) → told ≡ told_as reply
+      → Answers before after given left told (row before p t q given)
+      → HasServed before after p t q given left reply
+  unfolding serve
+  answered reply told is answers =
+      by_row before after p t q given left reply (row before p t q given) refl goes
+      (subst (λ (x : KernelReply). Answers before after given left x (row before p t q given)) is answers)
 
-  pub answer_fits : CanTake user.memory (filled_spans user.memory q) answer.bytes
+  -- it does not wait
+  by_wait : (m : Try Served) → is_some (settled before m) ≡ true
+      → Answers before after given left waits.NotReady m → ⊥
+  by_wait (Fails e) goes answers =
+      let no : attempt.NotReady ≡ attempt.Fails (record { 0 = e }) = answers.1.0 in cc
+  by_wait NotReady goes answers = true_false (sym goes)
+  by_wait (Gives s) goes answers = no_reply s.reply answers.1.0
+    where
+      no_reply : (reply : Reply) → IsReply (λ n m. n ≡ m) attempt.NotReady reply → ⊥
+      no_reply (Value m) same = same
+      no_reply (Error g) same = same
+
+  pub waits_never : (told : KernelReply)
+      → Answers before after given left told (row before p t q given) → told ≢ waits.NotReady
+  unfolding serve
+  waits_never told answers is =
+      by_wait (row before p t q given) goes
+      (subst (λ (x : KernelReply). Answers before after given left x (row before p t q given)) is answers)
+
+module _ (g : Plain) (valid : IsValid g) (p : VPid) (t : ℕ) (q : Request) (user : UserPart)
+    (there : map.get g.users p ≡ Some user) (asks : user_step user t ≡ Asks q) (given : List ℕ)
+    (reads : lent user.memory q ≡ Some given) (served : Served)
+    (serves : serve g.kernel p t q given ≡ Some served) where
+  pub law : IsServed g.kernel p t q given served
+  law = each_is_served g.kernel p t q given served (stands_asked g user p t q given valid there asks reads) serves
+
+  pub answer_fits : CanTake user.memory (filled_spans user.memory q) served.bytes
   answer_fits = law.answer.room user.memory reads
 
-  pub answer_adds : CanAdd user q answer.reply
-  answer_adds = serve_adds g user p q answer.reply valid there law.adds
+  pub answer_adds : CanAdd user q served.reply
+  answer_adds = serve_adds g user p q served.reply valid there law.adds
 
-  pub answer_is_short : length answer.bytes ≤ TRANSFER_LIMIT
-  answer_is_short = law.answer.short
+module _ (g : Plain) (valid : IsValid g) (p : VPid) (t : ℕ) (q : Request) (user : UserPart)
+    (there : map.get g.users p ≡ Some user) (asks : user_step user t ≡ Asks q) (given : List ℕ)
+    (reads : lent user.memory q ≡ Some given) (after : PlainKernel) (left : List ℕ) (reply : Reply)
+    (has : HasServed g.kernel after p t q given left reply) where
+  its_law : IsServed g.kernel p t q given has.served
+  its_law = law g valid p t q user there asks given reads has.served has.serves
+
+  pub made_of : IsMade g.kernel after (made_by q reply)
+  made_of =
+      subst (λ (k : PlainKernel). IsMade g.kernel k (made_by q reply)) (sym has.kernel)
+      (subst (λ (r : Reply). IsMade g.kernel has.served.kernel (made_by q r)) (sym has.answer) its_law.made)
+
+  pub lives_of : (r : VPid) → r ≢ p → r ≢ pid g.kernel.next_id → is_live after r ≡ is_live g.kernel r
+  lives_of r other new = ap (λ (k : PlainKernel). is_live k r) has.kernel ∙ its_law.live r other new
+
+-- the state that the call's record leads to, in words of what the call left
+pub left_living : (g : Plain) (p : VPid) (t : ℕ) (q : Request) (user part : UserPart) (after : PlainKernel)
+    (reply : Reply) (served : Served) → served.kernel ≡ after → served.reply ≡ reply
+    → put user t q served.reply served.bytes ≡ part
+    → living (record { kernel = served.kernel; users = users_after g p t user q served })
+    ≡ living (record {
+      kernel = after;
+      users = with_child (map.insert g.users p part) user t q g.kernel.next_id (made_by q reply);
+    })
+left_living g p t q user part after reply served kernel answer put_is =
+    ap (λ (k : PlainKernel). living (record { kernel = k; users = users_after g p t user q served })) kernel
+    ∙ ap (λ (r : Reply). living (record {
+      kernel = after;
+      users = with_child (map.insert g.users p (put user t q served.reply served.bytes)) user t q g.kernel.next_id
+          (made_by q r);
+    })) answer
+    ∙ ap (λ (u : UserPart). living (record {
+      kernel = after;
+      users = with_child (map.insert g.users p u) user t q g.kernel.next_id (made_by q reply);
+    })) put_is
 
 -- the child that an answer makes
 form_value : (reply : Reply) (form : Option CloneForm) (n : ℕ) → made_as reply form ≡ Some n → made_as (Value n) form ≡ Some n

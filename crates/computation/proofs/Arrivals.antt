@@ -1,8 +1,9 @@
 -- All bytes of a direction arrive that are missing.
 --     Head, head_of      the first direction of which bytes are missing, and those after it
 --     missing_at         that of a plain state      arrival_goes, rest_is      the record, and what is missing then
+--     arrived_kernel     the kernel part then       side_is                    its side is one of the two
 use Rattle.std.proofs.Common.{◌≡◌, ℕ, ◌+◌, ◌-◌, Less, Equal, Greater, Bool, true, false, cond, T, List, [], ◌∷◌, length, Option, Some, None, refl, sym, ap, ◌∙◌, arith, tests}
-use Rattle.std.specs.Prelude.{nat_lt, nat_le, ◌&&◌}
+use Rattle.std.specs.Prelude.{nat_lt, nat_le, ◌&&◌, ◌<◌, is_some, min}
 use Rattle.std.specs.List.{filter_map}
 use Rattle.std.specs.Ordering.{is_eq, ordering_reverse}
 use Rattle.std.specs.Cmp.{tied_itself}
@@ -18,6 +19,10 @@ use Rattle.plain_tables.specs.declared.channel.Direction.{Direction}
 use Rattle.plain_machine.specs.declared.plain.Plain.{Plain}
 use Rattle.plain_machine.specs.declared.kernel.PlainKernel.{PlainKernel}
 use Rattle.plain_machine.specs.Tests.{all_arrived}
+use Rattle.plain_machine.specs.Channels.{arrived_more, with_direction}
+use Rattle.plain_machine.specs.Kernels.{IsKernel}
+use Rattle.wrap_names.specs.Changes.{after_arrival, arrived_in}
+use Rattle.views.proofs.MapLaws.{true_false}
 use Rattle.plain_machine.specs.Records.{Outcome, quiet, outcome, outcome_of_arrival}
 use Rattle.computation.specs.Turns.{if_missing, coming, missing_in}
 use Rattle.computation.proofs.Threads.{one_more, none_more}
@@ -25,7 +30,7 @@ use Rattle.computation.proofs.Threads.{one_more, none_more}
 abbrev pub is_missing : Direction → Bool
 is_missing direction = nat_lt direction.arrived (length direction.left)
 
-above_if_found : (k q : Dir) (es : List (Dir × Direction)) (d : Direction) → T (below_all dir_cmp k es) → find dir_cmp q es ≡ Some d → dir_cmp k q ≡ Less
+pub above_if_found : (k q : Dir) (es : List (Dir × Direction)) (d : Direction) → T (below_all dir_cmp k es) → find dir_cmp q es ≡ Some d → dir_cmp k q ≡ Less
 above_if_found k q [] d below is = absurd (cc)
 above_if_found k q (e ∷ es) d below is = elim (dir_cmp q e.0) as (λ r. dir_cmp q e.0 ≡ r → cond (is_eq r) (Some e.1) (find dir_cmp q es) ≡ Some d → dir_cmp k q ≡ Less) [
   | Less ↦ λ p is. above_if_found k q es d (second _ _ below) is
@@ -108,3 +113,26 @@ arrival_goes g dir direction there missing =
   where
     outcome_by : ℕ → Option Outcome
     outcome_by n = Some (quiet (record { kernel = record g.kernel { directions = map.insert g.kernel.directions dir (record { left = direction.left; arrived = direction.arrived + n; ended = direction.ended; unread = direction.unread }) }; users = g.users }))
+
+-- the kernel part then, as the system's change tells it
+same_min : (n : ℕ) → min n n ≡ n
+same_min n = grind arith
+
+pub arrived_kernel : (k : PlainKernel) (dir : Dir) (direction : Direction)
+    → map.get k.directions dir ≡ Some direction → is_missing direction ≡ true
+    → after_arrival k dir (missing_in (map.get k.directions dir)) ≡ with_all k dir direction
+unfolding after_arrival
+arrived_kernel k dir direction there missing =
+    ap (λ found. arrived_in k dir (missing_in found) found) there
+    ∙ ap (λ n. with_direction k dir (arrived_more n direction)) (same_min (length direction.left - direction.arrived))
+    ∙ ap (λ n. with_direction k dir (let d : Direction = record direction { arrived = n } in d))
+    (all_there direction missing)
+
+side_by : (b c : Bool) (side : ℕ) → nat_lt side 2 ≡ b → true ≡ (b && c) → side < 2
+side_by true c side is there = grind (arith, tests)
+side_by false c side is there = true_false there
+
+pub side_is : (k : PlainKernel) (dir : Dir) (direction : Direction) → IsKernel k
+    → map.get k.directions dir ≡ Some direction → dir.side < 2
+side_is k dir direction is there =
+    side_by (nat_lt dir.side 2) _ dir.side refl (sym (ap is_some there) ∙ is.channels.sides dir)

@@ -1,4 +1,5 @@
 -- A delivery to a thread of a guest: what it leaves of the computation.
+--     found_lives                   its process lives when it comes
 --     state_is, numbered_after      the plain state, and that each guest stands under its number
 use Rattle.std.proofs.Common.{◌≡◌, ℕ, Bool, true, false, cond, Some, refl, sym, ap, ◌∙◌}
 use Rattle.std.specs.Prelude.{is_some}
@@ -22,7 +23,7 @@ use Rattle.guest_proc.specs.Guests.{GuestPart, delivered_by, part_after}
 use Rattle.computation.specs.Parts.{Guests, kernel_found, kernel_after, guests_after}
 use Rattle.computation.proofs.Living.{one_ended}
 use Rattle.computation.proofs.Numbered.{Numbered, numbered_put, numbered_taken}
-use Rattle.computation.proofs.Starts.{seen, plain_is}
+use Rattle.computation.proofs.States.{seen, plain_is}
 
 abbrev users_of : Guests → Users
 users_of guests = map_values (λ guest. guest.user) guests
@@ -47,6 +48,9 @@ module _ (k : PlainKernel) (before : Guests) (p : VPid) (t s : ℕ) (guest : Gue
   live_by : (traps : Bool) (q : VPid) → is_live (cond traps k (after_take k p t s)) q ≡ is_live k q
   live_by true q = refl
   live_by false q = (take_threads k p t s).live q
+
+  pub found_lives : is_live found p ≡ true
+  found_lives = live_by (traps_with (user_step guest.user t) s) p ∙ alive
 
   ends : (status : ℕ) → map.retain_keys (users_of before) (is_live (after_end found p status)) ≡ map.remove (users_of before) p
   ends status =

@@ -3,7 +3,7 @@
 --     goes_at_place                   where a thread stands that goes on
 --     serves_if                       a call that goes on and isn't the process's own is served
 --     same_plain, ready_same          a computation with the same kernel part and guests
-use Rattle.std.proofs.Common.{◌≡◌, ℕ, Bool, true, false, not, List, Option, Some, None, refl, sym, ap, subst, ◌∙◌, arith, tests}
+use Rattle.std.proofs.Common.{◌≡◌, ℕ, Bool, true, false, not, List, Option, Some, refl, sym, ap, subst, ◌∙◌, arith, tests}
 use Rattle.std.specs.Prelude.{◌==◌, ◌&&◌, is_some}
 use Rattle.std.specs.FinMap as map
 use Rattle.views.proofs.MapLaws.{true_false}
@@ -27,7 +27,7 @@ use Rattle.computation.specs.Computations.{plain_of, IsReady, IsTurnAt}
 use Rattle.computation.specs.Takes.{IsDueWork}
 use Rattle.computation.specs.Turns.{Place, goes_on, goes_on_at, is_turn_of, is_due_signal, stands_in, traps_in}
 use Rattle.computation.proofs.Numbered.{Numbered}
-use Rattle.computation.proofs.Starts.{plain_is}
+use Rattle.computation.proofs.States.{plain_is}
 use Rattle.computation.proofs.Threads.{call_goes, not_not}
 use Rattle.views.specs.Maps.{map_values}
 use Rattle.guest_proc.specs.Guests.{GuestPart, ran_at}

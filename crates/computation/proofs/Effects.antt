@@ -43,7 +43,7 @@ use Rattle.computation.specs.Computations.{plain_of}
 use Rattle.computation.specs.Parts.{Guests, kernel_found, delivery_at}
 use Rattle.computation.specs.Sinks.{sunk}
 use Rattle.computation.specs.Takes.{Takes, CanDeliver, with_record}
-use Rattle.computation.proofs.Starts.{seen}
+use Rattle.computation.proofs.States.{seen}
 use Rattle.computation.proofs.Taking.{quiet_takes, valid_after}
 use Rattle.computation.proofs.Threads.{asked, signals}
 use Rattle.computation.proofs.Traps.{trap_is_signal}

@@ -1,13 +1,16 @@
 mod Threads
-mod Starts
-mod Numbered
+pub mod States
+pub mod Numbered
 mod Arrivals
 mod Taking
 mod Quanta
 mod Traps
-mod Effects
+pub mod Effects
 mod AddedThreads
 mod Living
 mod Delivered
 mod Answered
 mod Due
+mod AnswerBytes
+mod ShownBytes
+pub mod MissingWalk

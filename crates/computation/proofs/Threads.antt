@@ -22,6 +22,7 @@ use Rattle.sys_abi.specs.Signals.{has_signal, lowest_signal, without_signals}
 use Rattle.plain_process.specs.declared.user_part.UserPart.{UserPart}
 use Rattle.plain_process.specs.declared.user_part.ThreadPart.{ThreadPart}
 use Rattle.plain_process.specs.Buffers.{lent}
+use Rattle.plain_process.specs.Memory.{Memory}
 use Rattle.plain_process.specs.Deliveries.{traps_with}
 use Rattle.plain_process.specs.Instructions.{Effect, Next, Calls, Traps}
 use Rattle.plain_process.specs.Steps.{UserStep, Stepped, Asks, Trapped, Waits, NoThread, waits, effect_at, step_by, step_of, user_step}
@@ -29,7 +30,8 @@ use Rattle.plain_process.specs.Local.{local_row}
 use Rattle.plain_machine.specs.declared.plain.Plain.{Plain}
 use Rattle.plain_machine.specs.Attempts.{Served}
 use Rattle.plain_machine.specs.Kernel.{pending}
-use Rattle.plain_machine.specs.Serve.{serve}
+use Rattle.plain_machine.specs.Serve.{front_of, is_ready, serve}
+use Rattle.plain_machine.proofs.EachRow.{ready_by_front}
 use Rattle.plain_machine.specs.Records.{Outcome, quiet, with_user, step, outcome, waits_at, is_unready, deliverable, outcome_of_call, outcome_of_ask, outcome_of_lent, outcome_of_serve, outcome_of_signal, outcome_of_pending}
 use Rattle.guest_proc.specs.Guests.{GuestPart, ran_at}
 use Rattle.guest_proc.specs.declared.ran.Ran.TheVariants.{Asks as RanAsks, Trapped as RanTrapped, Waits as RanWaits}
@@ -149,6 +151,19 @@ pub call_goes : (g : Plain) (p : VPid) (t : Tid) (user : UserPart) (q : Request)
     → is_some (step g (Call p t)) ≡ not (waits_at g p t.0 q (lent user.memory q))
 call_goes g p t user q there asks =
     is_there (λ (o : Outcome). o.state) (outcome g (Call p t)) ∙ ap is_some (asked g p t user q there asks) ∙ lent_goes g p t.0 user q (lent user.memory q)
+
+-- whether a call waits, by the front of what it reads
+pub front_waits : (g : Plain) (p : VPid) (t : ℕ) (q : Request) (memory : Memory) (front : List ℕ) (ready : Bool)
+    → is_local q ≡ false → ready ≡ is_ready g.kernel p t q front → (lent memory q ≡ None → ⊥)
+    → ((given : List ℕ) → lent memory q ≡ Some given → front_of given ≡ front)
+    → not ready ≡ waits_at g p t q (lent memory q)
+front_waits g p t q memory front ready kernels is reads each = by_lent (lent memory q) refl
+  where
+    by_lent : (found : Option (List ℕ)) → lent memory q ≡ found → not ready ≡ waits_at g p t q found
+    by_lent None none = absurd (reads none)
+    by_lent (Some given) at =
+        ap not (is ∙ ap (is_ready g.kernel p t q) (sym (each given at)) ∙ sym (ready_by_front g.kernel p t q given))
+        ∙ sym (ap (λ b. not b && not (is_some (serve g.kernel p t q given))) kernels)
 
 goes_at : (g : Plain) (p : VPid) (t : ℕ) (user : UserPart) (place : UserStep) → map.get g.users p ≡ Some user → user_step user t ≡ place → (place ≡ NoThread → ⊥)
     → not (is_unready g p t user place) ≡ goes_on_at g p t place

@@ -1,11 +1,10 @@
 -- A computation as its callers see it, and what one record of work does to it.
 --     plain_of c        the plain state for which it stands        user_at c p     a process's own part
 --     IsReady c         that state is a valid one
---     IsStart c ..      it is the start of these programs and files
 --     CanWork g p t next        this can come next in the thread's turn
 --     IsTold users p t did      a record of instructions tells where the thread stands after it
 --     Worked, Failed    one record of the thread's turn, which the console took, or a first part of it
-use Rattle.std.specs.Prelude.{◌≡◌, true, List, None, Option, Some}
+use Rattle.std.specs.Prelude.{◌≡◌, true, None, Option, Some}
 use Rattle.std.specs.FinMap as map
 use Rattle.views.specs.Maps.{map_values}
 use Rattle.views.specs.Numbers.{SignalNumber}
@@ -15,10 +14,8 @@ use Rattle.sys_abi.specs.declared.record.Record.{Record}
 use Rattle.sys_abi.specs.declared.record.Record.TheVariants.{User, Call, Deliver}
 use Rattle.trace_log.specs.Trace.{TraceState}
 use Rattle.plain_process.specs.declared.user_part.UserPart.{UserPart}
-use Rattle.plain_process.specs.Start.{Launched}
 use Rattle.plain_machine.specs.declared.plain.Plain.{Plain}
 use Rattle.plain_machine.specs.Records.{Users}
-use Rattle.plain_machine.specs.Start.{NamedFile, start}
 use Rattle.plain_machine.specs.Valid.{IsValid}
 use Rattle.guest_proc.specs.Guests.{GuestPart}
 use Rattle.guest_proc.specs.declared.ran.Ran.{Ran}
@@ -42,9 +39,6 @@ user_at c p = map.get (plain_of c).users p
 pub record IsReady (c : Computation) : Type 0 where
   pub valid : IsValid (plain_of c)
   pub numbered : (p : VPid) (guest : GuestPart) → map.get c.guests p ≡ Some guest → guest.pid ≡ p
-
-abbrev pub IsStart : Computation → List Launched → List NamedFile → Type 0
-IsStart c programs files = plain_of c ≡ start programs files
 
 -- the thread stands there, and can go on
 pub record CanGoOn (g : Plain) (p : VPid) (t : Tid) (ran : Ran) : Type 0 where

@@ -2,32 +2,39 @@
 --     AsksAt, StandsAt           where a thread stands
 --     kernel_found, delivery_at  what a delivery finds, and what it comes to
 --     kernel_after, guests_after what it leaves: a signal that kills takes the process away
---     grown                      the guests with the child that an answer makes
-use Rattle.std.specs.Prelude.{◌≡◌, ◌≤◌, ℕ, Bool, true, false, length, Option, Some, None, IfSome, if◌then◌else◌}
+--     grown_by                   the guests with the child that an answer makes
+--     HasServed                  what a call that was served left; CanAnswer, its answer can be put
+use Rattle.std.specs.Prelude.{◌≡◌, ◌≤◌, ℕ, Bool, true, false, List, [], Option, Some, None, IfSome, if◌then◌else◌}
 use Rattle.std.specs.FinMap as map
+use Rattle.views.specs.Numbers.{Byte}
 use Rattle.sys_abi.specs.declared.identity.VPid.{VPid}
 use Rattle.call_table.specs.declared.delivery.Delivered.{Delivered}
 use Rattle.call_table.specs.declared.delivery.Delivered.TheVariants.{Kills}
 use Rattle.sys_abi.specs.declared.reply.Reply.{Reply}
+use Rattle.sys_abi.specs.declared.reply.Reply.TheVariants.{Value, Error}
 use Rattle.call_table.specs.declared.request.Request.{Request}
 use Rattle.sys_abi.specs.Orders.{vpid_cmp}
 use Rattle.plain_process.specs.declared.user_part.UserPart.{UserPart}
 use Rattle.plain_process.specs.Deliveries.{Delivery, deliver, traps_with}
 use Rattle.sys_abi.specs.Clones.{clone_form}
 use Rattle.call_table.specs.declared.request.Request.TheVariants.{Clone}
-use Rattle.sys_abi.specs.declared.transfer.TheConstants.{TRANSFER_LIMIT}
 use Rattle.plain_process.specs.Buffers.{filled_spans}
 use Rattle.plain_process.specs.Put.{CanTake, added_thread, made_by}
 use Rattle.plain_process.specs.Valid.{CanAdd}
 use Rattle.sys_abi.specs.declared.cloning.CloneForm.{CloneForm}
 use Rattle.sys_abi.specs.declared.cloning.CloneForm.TheVariants.{Fork}
-use Rattle.plain_tables.specs.declared.answer.Answer.{Answer}
 use Rattle.plain_process.specs.Steps.{Asks, user_step}
 use Rattle.plain_process.specs.Threads.{child_of}
 use Rattle.plain_machine.specs.declared.kernel.PlainKernel.{PlainKernel}
 use Rattle.plain_machine.specs.Ends.{after_end}
+use Rattle.plain_machine.specs.Attempts.{Served}
 use Rattle.plain_machine.specs.Kernel.{after_take}
 use Rattle.plain_machine.specs.Records.{Users, is_unready}
+use Rattle.plain_machine.specs.Serve.{serve}
+use Rattle.host_tables.specs.declared.reply.KernelReply.{KernelReply}
+use Rattle.host_tables.specs.declared.reply.KernelReply.TheVariants.{Done}
+use Rattle.host_tables.specs.declared.reply.KernelReply.TheVariants as told
+use Rattle.host_tables.specs.Serves.{bytes_or}
 use Rattle.guest_proc.specs.Guests.{GuestPart, HasThread, ran_at}
 use Rattle.guest_proc.specs.declared.ran.Ran.{Ran}
 
@@ -90,14 +97,33 @@ abbrev pub is_fork : Request → Bool
 is_fork (Clone flags stack parent_tid tls child_tid) = is_fork_form (clone_form flags)
 is_fork _ = false
 
+-- how the real kernel tells an answer
+abbrev pub told_as : Reply → KernelReply
+told_as (Value n) = Done n
+told_as (Error e) = told.Error e
+
+-- a call was served: the kernel part, the answer and the bytes in the transfer are those of its row
+pub record HasServed (before after : PlainKernel) (p : VPid) (t : ℕ) (q : Request) (given left : List Byte)
+    (reply : Reply) : Type 0 where
+  pub served : Served
+  pub serves : serve before p t q given ≡ Some served
+  pub kernel : after ≡ served.kernel
+  pub answer : reply ≡ served.reply
+  pub bytes : left ≡ bytes_or given served.bytes
+
+-- the bytes in the transfer that are put: none where the call is refused
+abbrev pub given_back : Reply → List Byte → List Byte
+given_back (Value n) bytes = bytes
+given_back (Error e) bytes = []
+
 -- the answer can be put
-pub record CanAnswer (guests : Guests) (p : VPid) (q : Request) (answer : Answer) : Type 0 where
+pub record CanAnswer (guests : Guests) (p : VPid) (q : Request) (reply : Reply) (bytes : List Byte)
+    : Type 0 where
   pub guest : GuestPart
   pub there : map.get guests p ≡ Some guest
-  pub writable : CanTake guest.user.memory (filled_spans guest.user.memory q) answer.bytes
-  pub added : CanAdd guest.user q answer.reply
-  pub spare : IfSome (added_thread q answer.reply) (λ _. 1 ≤ guest.spare)
-  pub short : length answer.bytes ≤ TRANSFER_LIMIT
+  pub writable : CanTake guest.user.memory (filled_spans guest.user.memory q) bytes
+  pub added : CanAdd guest.user q reply
+  pub spare : IfSome (added_thread q reply) (λ _. 1 ≤ guest.spare)
 
 -- the guest of a process after its call, gone where the process has ended
 abbrev pub left_by : Bool → Guests → VPid → GuestPart → Guests

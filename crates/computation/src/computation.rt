@@ -3,28 +3,20 @@ ghost use Rattle.std.specs.FinMap as map;
 ghost use Rattle.views.specs.Faults.{IsFaultOf};
 ghost use Rattle.views.specs.NumberMap.{is_above};
 ghost use Rattle.sys_abi.specs.declared.record.Record.TheVariants as a_record;
-ghost use Rattle.plain_process.specs.Launches.{IsLaunched};
-ghost use Rattle.plain_process.specs.Start.{Launched};
 ghost use Rattle.plain_machine.specs.Kernel.{is_live};
-ghost use Rattle.plain_machine.specs.Start.{NamedFile};
-ghost use Rattle.plain_machine.specs.Tests.{all_arrived, ended};
-ghost use Rattle.plain_tables.specs.Valid.Channels.{IsDirection};
-ghost use Rattle.plain_machine.specs.Valid.{AreNamed};
+ghost use Rattle.plain_machine.specs.Tests.{ended};
 ghost use Rattle.computation.specs.Sinks.{sunk};
 ghost use Rattle.computation.specs.Turns.{coming, due_signal, goes_on, missing_in, threads_in};
 ghost use Rattle.computation.specs.Takes.{CanDeliver, Takes};
 
 use crate::looks::{is_idle, signal_due};
 use edge_io::Sink;
-use elf32::Program;
 use guest_proc::{Guest, Ran};
-use id_maps::{ByDir, ByPid};
-use plain_machine::PlainKernel;
-use plain_tables::channel::Direction;
+use id_maps::ByPid;
 use std::alloc::{AllocError, Global};
 use sys_abi::{Dir, Record, Signal, Tid, Transfer, VPid};
 use trace_log::Trace;
-use views::list_of::ListOf;
+use wrap_calls::Wrapped;
 
 /// Why a turn made no record, or the last one.
 #[derive(Clone, Copy, Debug, PartialEq, Eq)]
@@ -70,66 +62,14 @@ pub enum Did {
 /// of their calls.
 #[derive(Drop)]
 pub struct Computation {
-    pub kernel: PlainKernel,
+    pub kernel: Wrapped,
     pub guests: ByPid<Guest>,
     pub transfer: Transfer,
 }
 
 impl Computation {
-    ghost use Rattle.computation.specs.Computations.{plain_of, user_at, CanGoOn, CanWork, Failed, IsReady, IsStart, Worked};
+    ghost use Rattle.computation.specs.Computations.{plain_of, user_at, CanGoOn, CanWork, Failed, IsReady, Worked};
     ghost use Rattle.computation.specs.Parts.{StandsAt};
-
-    /// The start of a job without programs and files.
-    pub fn empty(alloc: Global) -> Result<Computation, AllocError>
-        ensures start { IfOk result (λ c. IsStart c [] []) }
-        ensures ready { IfOk result (λ c. IsReady c) }
-    {
-        Ok(Computation {
-            kernel: PlainKernel::empty(alloc),
-            guests: ByPid::new(alloc),
-            transfer: Transfer::new(alloc)?,
-        })
-    }
-
-    /// Adds a named file to the start of a job without programs.
-    pub fn add_file(&mut self, alloc: Global, name: &[u8], bytes: &[u8]) -> Result<(), AllocError>
-        requires { (files : List NamedFile) × (IsStart self.old [] files
-            × AreNamed (files ++ record { name = name.now; bytes = bytes.now } ∷ [])) }
-        ensures start { OnOk result ((files : List NamedFile) → IsStart self.old [] files
-            → IsStart self.new [] (files ++ record { name = name.now; bytes = bytes.now } ∷ [])) }
-        ensures ready { OnOk result (IsReady self.new) }
-    {
-        let name = copied(alloc, name)?;
-        let bytes = copied(alloc, bytes)?;
-        self.kernel.add_file(alloc, name, bytes)
-    }
-
-    /// Adds a program with its argument strings, on a host, to the start of a job.
-    pub fn add_program(
-        &mut self,
-        alloc: Global,
-        host: u32,
-        program: &Program,
-        arguments: &[u8],
-    ) -> Result<(), AllocError>
-        requires ready { IsReady self.old }
-        requires start { (programs : List Launched) × ((files : List NamedFile)
-            × (IsStart self.old programs files × AreNamed files × All IsLaunched programs
-            × (length programs < 128))) }
-        requires launched { IsLaunched
-            (record { host = host; program = program.now; arguments = arguments.now }) }
-        requires some { 1 ≤ length arguments.now }
-        requires few { length arguments.now ≤ 4096 }
-        ensures start { OnOk result ((programs : List Launched) (files : List NamedFile)
-            → IsStart self.old programs files → IsStart self.new
-            (programs ++ record { host = host; program = program.now; arguments = arguments.now } ∷ []) files) }
-        ensures ready { OnOk result (IsReady self.new) }
-    {
-        let p = self.kernel.next_id;
-        let guest = Guest::load(alloc, VPid(p), program, arguments)?;
-        self.guests.insert(VPid(p), guest)?;
-        self.kernel.add_process(alloc, p, host)
-    }
 
     /// Whether a process lives.
     pub fn lives(&self) -> bool
@@ -225,7 +165,7 @@ impl Computation {
     {
         match next {
             Next::Deliver(signal) => {
-                self.deliver(alloc, p, t, signal, trace);
+                self.deliver(p, t, signal, trace);
                 Ok(Did::Delivered)
             }
             Next::GoOn(Ran::Asks(request)) => {
@@ -233,7 +173,7 @@ impl Computation {
                 Ok(Did::Served)
             }
             Next::GoOn(Ran::Trapped(signal)) => {
-                self.deliver(alloc, p, t, signal, trace);
+                self.deliver(p, t, signal, trace);
                 Ok(Did::Delivered)
             }
             Next::GoOn(Ran::Whole) => {
@@ -250,10 +190,12 @@ impl Computation {
         ensures some { IfSome result (λ dir. (rest : _) × (coming (plain_of self.now) ≡ dir ∷ rest)) }
         ensures none { result ≡ None → coming (plain_of self.now) ≡ [] }
     {
-        for (dir, direction) in self.kernel.directions.iter() {
-            if is_missing(direction) {
-                return Some(*dir);
+        let mut above = None;
+        while let Some(dir) = self.kernel.next_dir(above) {
+            if self.kernel.missing(dir) > 0 {
+                return Some(dir);
             }
+            above = Some(dir);
         }
         None
     }
@@ -270,36 +212,8 @@ impl Computation {
         ensures guests { self.new.guests ≡ self.old.guests }
         ensures ready { IsReady self.new }
     {
-        let n = arrive_all(&mut self.kernel.directions, dir);
+        let n = self.kernel.missing(dir);
+        self.kernel.arrive(dir, n);
         trace.append(Record::Arrive { dir, n });
     }
-}
-
-/// Whether bytes of the direction are on the way.
-fn is_missing(direction: &Direction) -> bool
-    ensures { result ≡ nat_lt direction.now.arrived (length direction.now.left) }
-{
-    direction.arrived < direction.left.len() as u64
-}
-
-/// Has all bytes of a direction arrive, and tells how many were missing.
-fn arrive_all(directions: &mut ByDir<Direction>, dir: Dir) -> u32
-    requires { IfSome (map.get directions.old dir) IsDirection }
-    ensures count { result ≡ missing_in (map.get directions.old dir) }
-    ensures arrived { IfSome (map.get directions.old dir)
-        (λ direction. directions.new ≡ map.insert directions.old dir (all_arrived direction)) }
-{
-    let Some(direction) = directions.get_mut(dir) else {
-        return 0;
-    };
-    let sent = direction.left.len() as u64;
-    let missing = sent - direction.arrived;
-    direction.arrived = sent;
-    missing as u32
-}
-
-fn copied(alloc: Global, bytes: &[u8]) -> Result<ListOf<u8>, AllocError>
-    ensures { IfOk result (λ copy. copy ≡ bytes.now) }
-{
-    Ok(ListOf::from_vec(bytes.to_vec(alloc)?))
 }

@@ -4,6 +4,7 @@ ghost use Rattle.sys_abi.specs.declared.reply.Reply.{Reply};
 ghost use Rattle.plain_process.specs.Deliveries.{traps_with};
 ghost use Rattle.plain_process.specs.Put.{added_thread};
 ghost use Rattle.plain_process.specs.Steps.{UserStep};
+ghost use Rattle.plain_machine.specs.Kernel.{is_live, has_thread};
 ghost use Rattle.plain_machine.specs.Records.{Users};
 ghost use Rattle.guest_proc.specs.Guests.{HasThread, delivered_by, part_after, ran_at};
 ghost use Rattle.computation.specs.Parts.{delivery_at, kernel_found};
@@ -14,9 +15,9 @@ use crate::looks::is_idle;
 use call_table::{Delivered, Request};
 use edge_io::Sink;
 use guest_proc::{Guest, Ran};
-use plain_machine::PlainKernel;
 use std::alloc::{AllocError, Global};
 use sys_abi::{Signal, Tid, VPid};
+use wrap_calls::Wrapped;
 
 /// Whether a thread that stands there traps with this signal.
 fn is_trapped(ran: &Ran, s: Signal) -> bool
@@ -31,13 +32,15 @@ fn is_trapped(ran: &Ran, s: Signal) -> bool
 /// Delivers a signal to a thread of a guest: that of the trap at which it stands, which stays pending where
 /// it is, or a pending one.
 pub(crate) fn deliver_to(
-    kernel: &mut PlainKernel,
+    kernel: &mut Wrapped,
     p: VPid,
     guest: &mut Guest,
     t: Tid,
     s: Signal,
 ) -> Delivered
-    requires { HasThread guest.old.user t.0 }
+    requires alive { is_live kernel.old p ≡ true }
+    requires known { has_thread kernel.old p t.0 ≡ true }
+    requires thread { HasThread guest.old.user t.0 }
     ensures kernel { kernel.new ≡ kernel_found kernel.old p t.0 s.0 guest.old.user }
     ensures guest { (users : Users) → guest.new ≡ record guest.old {
       user = part_after guest.old.user (delivery_at kernel.old users p t.0 s.0 guest.old.user);

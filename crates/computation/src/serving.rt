@@ -12,24 +12,23 @@ ghost use Rattle.plain_process.specs.Twins.{twin_of};
 ghost use Rattle.plain_process.specs.declared.user_part.UserPart.{UserPart};
 ghost use Rattle.sys_abi.specs.declared.identity.VPid.{VPid};
 ghost use Rattle.plain_tables.specs.Tables.{pid};
-ghost use Rattle.plain_machine.specs.Answers.{served_by};
 ghost use Rattle.plain_machine.specs.Kernel.{is_live};
 ghost use Rattle.plain_machine.specs.Serve.{serve};
 ghost use Rattle.guest_proc.specs.Guests.{GuestPart, HasThread};
 ghost use Rattle.computation.specs.Sinks.{sunk};
 ghost use Rattle.computation.specs.Takes.{Takes, Breaks};
-ghost use Rattle.computation.specs.Parts.{AsksAt, CanAnswer, Grown, Reserved, is_fork, is_fork_form, left_by};
+ghost use Rattle.computation.specs.Parts.{AsksAt, CanAnswer, Grown, HasServed, Reserved, given_back, is_fork, is_fork_form, left_by, told_as};
 
 use crate::computation::{Computation, Stop};
+use crate::looks::shows;
 use crate::parts::{reserve_for, show};
 use call_table::Request;
 use edge_io::Sink;
 use guest_proc::Guest;
+use host_tables::KernelReply;
 use id_maps::ByPid;
-use plain_rows::serve;
-use plain_tables::answer::Answer;
 use std::alloc::{AllocError, Global};
-use sys_abi::{CloneForm, Record, Tid, Transfer, VPid, clone_form};
+use sys_abi::{CloneForm, Record, Reply, Tid, Transfer, VPid, clone_form};
 use trace_log::Trace;
 
 impl Computation {
@@ -62,10 +61,11 @@ impl Computation {
         ensures cause { IsFaultOf result Stop.Sink (O.seen out.old).faults (O.seen out.new).faults }
         ensures later { (O.seen out.old).faults ≤ (O.seen out.new).faults }
     {
-        let answer = self.serve_call(alloc, p, t, request)?;
+        let is_shown = shows(&self.kernel, p, request);
+        let reply = self.serve_call(alloc, p, t, request)?;
         trace.append(Record::Call { p, t });
-        show(out, answer.is_shown, self.transfer.as_slice())?;
-        self.put_answer(p, t, request, &answer);
+        show(out, is_shown, self.transfer.as_slice())?;
+        self.put_answer(p, t, request, reply);
         Ok(())
     }
 
@@ -76,40 +76,37 @@ impl Computation {
         p: VPid,
         t: Tid,
         request: &Request,
-    ) -> Result<Answer, AllocError>
+    ) -> Result<Reply, AllocError>
         requires ready { IsReady self.old }
         requires asks { AsksAt (plain_of self.old).users p t.0 request.now }
         requires given { (user : UserPart) → user_at self.old p ≡ Some user
             → lent user.memory request.now ≡ Some self.old.transfer }
+        requires kernels { is_local request.now ≡ false }
         requires goes { is_some (serve self.old.kernel p t.0 request.now self.old.transfer) ≡ true }
-        ensures served { IfOk result (λ answer. serve self.old.kernel p t.0 request.now self.old.transfer
-            ≡ Some (served_by self.new.kernel self.old.transfer answer)) }
-        ensures grown { IfOk result (λ answer. (guest : GuestPart) → map.get self.old.guests p ≡ Some guest
-            → Grown self.old.guests self.new.guests p guest t.0 request.now answer.reply
+        ensures served { IfOk result (λ reply. HasServed self.old.kernel self.new.kernel p t.0 request.now
+            self.old.transfer self.new.transfer reply) }
+        ensures grown { IfOk result (λ reply. (guest : GuestPart) → map.get self.old.guests p ≡ Some guest
+            → Grown self.old.guests self.new.guests p guest t.0 request.now reply
             (pid self.old.kernel.next_id)) }
-        ensures transfer { self.new.transfer ≡ self.old.transfer }
     {
-        let next = VPid(self.kernel.next_id);
+        let next = VPid(self.kernel.next_id());
         let twin = twin_at(&self.guests, alloc, p, t, request)?;
         reserve_at(&mut self.guests, alloc, p, request)?;
-        let given = self.transfer.as_slice();
-        let Some(answer) = serve(&mut self.kernel, alloc, p, t, request, given)? else {
-            unreachable!();
-        };
+        let reply = answered(self.kernel.call(p, t, request, &mut self.transfer))?;
         let is_born = self.kernel.is_live(next);
         add_child(&mut self.guests, twin, next, request, is_born)?;
-        Ok(answer)
+        Ok(reply)
     }
 
     /// Puts the answer of a call, or takes the guest away whose process has ended.
-    fn put_answer(&mut self, p: VPid, t: Tid, request: &Request, answer: &Answer)
-        requires { CanAnswer self.old.guests p request.now answer.now }
+    fn put_answer(&mut self, p: VPid, t: Tid, request: &Request, reply: Reply)
+        requires { CanAnswer self.old.guests p request.now reply (given_back reply self.old.transfer) }
         ensures kernel { self.new.kernel ≡ self.old.kernel }
         ensures guests { (guest : GuestPart) → map.get self.old.guests p ≡ Some guest
             → (spare : ℕ) × (self.new.guests ≡ left_by (is_live self.old.kernel p) self.old.guests p
             (record {
               pid = guest.pid;
-              user = put guest.user t.0 request.now answer.now.reply answer.now.bytes;
+              user = put guest.user t.0 request.now reply (given_back reply self.old.transfer);
               spare = spare;
             })) }
     {
@@ -117,9 +114,31 @@ impl Computation {
             self.guests.remove(p);
             return;
         }
-        self.transfer.clear();
-        self.transfer.put(answer.bytes.as_slice());
-        answer_at(&mut self.guests, p, t, request, answer, &self.transfer);
+        clear_refused(&mut self.transfer, reply);
+        answer_at(&mut self.guests, p, t, request, reply, &self.transfer);
+    }
+}
+
+/// The answer of a call that does not wait.
+fn answered(told: KernelReply) -> Result<Reply, AllocError>
+    requires { told ≢ KernelReply.NotReady }
+    ensures { IfOk result (λ reply. told ≡ told_as reply) }
+{
+    match told {
+        KernelReply::Done(value) => Ok(Reply::Value(value)),
+        KernelReply::Error(error) => Ok(Reply::Error(error)),
+        KernelReply::Memory => Err(AllocError),
+        KernelReply::NotReady => unreachable!(),
+    }
+}
+
+/// An error gives the process no bytes. What the call read is taken out of the transfer.
+fn clear_refused(transfer: &mut Transfer, reply: Reply)
+    ensures { transfer.new ≡ given_back reply transfer.old }
+{
+    match reply {
+        Reply::Error(_) => transfer.clear(),
+        Reply::Value(_) => {}
     }
 }
 
@@ -129,23 +148,22 @@ fn answer_at(
     p: VPid,
     t: Tid,
     request: &Request,
-    answer: &Answer,
+    reply: Reply,
     transfer: &Transfer,
 )
-    requires can { CanAnswer guests.old p request.now answer.now }
-    requires bytes { transfer.now ≡ answer.now.bytes }
+    requires { CanAnswer guests.old p request.now reply transfer.now }
     ensures { (guest : GuestPart) → map.get guests.old p ≡ Some guest
         → (spare : ℕ) × (guests.new ≡ map.insert guests.old p
         (record {
           pid = guest.pid;
-          user = put guest.user t.0 request.now answer.now.reply answer.now.bytes;
+          user = put guest.user t.0 request.now reply transfer.now;
           spare = spare;
         })) }
 {
     let Some(guest) = guests.get_mut(p) else {
         unreachable!();
     };
-    guest.answer(t, request, answer.reply, transfer);
+    guest.answer(t, request, reply, transfer);
 }
 
 /// Makes room for the thread that a call adds to its process.

@@ -4,6 +4,7 @@ ghost use Rattle.call_table.specs.Requests.{is_local};
 ghost use Rattle.sys_abi.specs.declared.record.Record.TheVariants as a_record;
 ghost use Rattle.plain_process.specs.Buffers.{lent};
 ghost use Rattle.plain_process.specs.declared.user_part.UserPart.{UserPart};
+ghost use Rattle.plain_machine.specs.Kernel.{is_live};
 ghost use Rattle.plain_machine.specs.Records.{step};
 ghost use Rattle.computation.specs.Sinks.{sunk};
 ghost use Rattle.computation.specs.Takes.{CanDeliver, Takes, Breaks};
@@ -47,7 +48,7 @@ impl Computation {
     }
 
     /// Delivers a signal to a thread: that of the trap at which it stands, or a pending one.
-    pub(crate) fn deliver(&mut self, alloc: Global, p: VPid, t: Tid, s: Signal, trace: &mut Trace)
+    pub(crate) fn deliver(&mut self, p: VPid, t: Tid, s: Signal, trace: &mut Trace)
         requires ready { IsReady self.old }
         requires due { CanDeliver (plain_of self.old) p t s }
         requires room { 0 < trace.old.room }
@@ -59,18 +60,19 @@ impl Computation {
             unreachable!();
         };
         let delivered = deliver_to(&mut self.kernel, p, guest, t, s);
-        self.end_if_killed(alloc, p, delivered);
+        self.end_if_killed(p, delivered);
         trace.append(Record::Deliver { p, t, s });
     }
 
     /// Ends the process if the signal killed it.
-    fn end_if_killed(&mut self, alloc: Global, p: VPid, delivered: Delivered)
+    fn end_if_killed(&mut self, p: VPid, delivered: Delivered)
+        requires { is_live self.old.kernel p ≡ true }
         ensures kernel { self.new.kernel ≡ kernel_after self.old.kernel p delivered }
         ensures guests { self.new.guests ≡ guests_after self.old.guests p delivered }
     {
         match delivered {
             Delivered::Kills(status) => {
-                self.kernel.end_process(alloc, p, status);
+                self.kernel.end_process(p, status);
                 self.guests.remove(p);
             }
             _ => {}

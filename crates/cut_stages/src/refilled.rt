@@ -50,6 +50,13 @@ impl Refilled {
         Refilled { base, outcome }
     }
 
+    /// The number that the next new process or thread gets.
+    pub fn next_id(&self) -> u32
+        ensures { result ≡ self.now.next_id }
+    {
+        self.base.next_id
+    }
+
     /// Resumes all processes: the owners are put back, and the system stands for the kernel part with all
     /// bytes of all directions arrived. Takes no memory.
     pub fn resume(self) -> (System, Barrier, PutOutcome)

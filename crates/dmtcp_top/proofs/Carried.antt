@@ -4,6 +4,7 @@
 --     begun_arrives                a run was begun, and came to its end
 --     every_is_some, every_is_none     a checkpoint is asked for after one record of work or more, or none is
 --     refusal_is_no_end            where no run was begun it is not done
+--     budget_is_other, stuck_is_other, sink_is_other, memory_is_other     nor is it where a run ended so
 --     done_at                      where it is done, the computation is the state there
 use Rattle.std.proofs.Common.{◌≡◌, ◌≢◌, ℕ, ◌<◌, true, List, [], Option, Some, None, sym, ap, subst, ◌∙◌}
 use Rattle.std.specs.Prelude.{IfSome, Result, Ok, Err, OnOk, OnErr, is_ok, is_err}
@@ -111,6 +112,18 @@ refusal_is_no_end (Launch job) ending files folder why = launch_no_end ending fi
 refusal_is_no_end (Restart job) ending files folder why = restart_no_end ending folder why
 refusal_is_no_end (Ring job) ending files folder why = absurd why
 refusal_is_no_end Help ending files folder why = absurd why
+
+pub budget_is_other : (records : ℕ) → status_of (an_ending.Budget records) ≢ IsDone
+budget_is_other records = λ e. absurd (cc)
+
+pub stuck_is_other : status_of an_ending.Stuck ≢ IsDone
+stuck_is_other = λ e. absurd (cc)
+
+pub sink_is_other : status_of an_ending.SinkFault ≢ IsDone
+sink_is_other = λ e. absurd (cc)
+
+pub memory_is_other : status_of an_ending.Memory ≢ IsDone
+memory_is_other = λ e. absurd (cc)
 
 pub done_at : (end : RunEnd) (g : Plain) (trace : List Record) (state : Plain) → end ≡ RunDone → EndsAt end g trace state → run g trace ≡ Some state
 done_at end g trace state is at = subst (λ e. EndsAt e g trace state) is at

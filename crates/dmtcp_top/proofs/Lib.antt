@@ -21,3 +21,5 @@ pub mod RingEnds
 pub mod RingAsks
 pub mod Commands
 pub mod RefusedWords
+pub mod HostRanges
+pub mod FoundFiles

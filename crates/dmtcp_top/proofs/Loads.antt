@@ -2,6 +2,7 @@
 --     looks_none, looks_then           no call of the folder, and two stretches that only look
 --     whole_unbegun, whole_begun       what a crash leaves of a call that began no run, and of one that did
 --     kept                             what a checkpointer knows whose sets follow those of a store
+--     launched, restarted              the run begins at the state that was loaded, or restored
 use Rattle.std.proofs.Common.{◌≡◌, ℕ, suc, List, [], Option, Some, None, inl, inr, refl, sym, ap, subst, ◌∙◌, arith}
 use Rattle.std.specs.Prelude.{◌⊎◌, IfSome, Result, Ok, Err, max, option_map}
 use Rattle.std.proofs.Math.Nat.{zero-max}
@@ -27,12 +28,20 @@ use Rattle.image_store.proofs.Passing.{passes_then}
 use Rattle.checkpointer.specs.declared.checkpointer.Checkpointer.{Checkpointer}
 use Rattle.endings.specs.declared.ending.Ending.{Ending}
 use Rattle.endings.specs.declared.ending.Ending.TheVariants.{Done, Usage, InputFault, Missing, BadElf, TooBig, SinkFault, DiskFault, NoSet, Damaged, Budget, Stuck, Memory}
-use Rattle.computation.specs.declared.computation.Computation.{Computation}
-use Rattle.checkpointer.specs.Sets.{SpoilsSet}
+use Rattle.run_start.specs.declared.start.Start.{Start as Origin}
+use Rattle.checkpointer.specs.Sets.{SpellsSet, SpellsState, SpoilsSet}
 use Rattle.dmtcp_top.specs.declared.settings.Settings.{Settings}
 use Rattle.checkpointer.specs.Keeping.{IsOpening, SpellsCut, CountsFaults, IsKept, IsSafe}
 use Rattle.dmtcp_top.specs.Launches.{schedule_of}
-use Rattle.dmtcp_top.specs.Loads.{IsComputationOf, OnlyLooks, Restored}
+use Rattle.dmtcp_top.specs.Loads.{BeginsAt, IsFresh, IsLaunched, IsMade, IsOriginIn, IsRestarted, IsRestored, OnlyLooks, Restored}
+use Rattle.dmtcp_top.specs.Jobs.{settings_of}
+use Rattle.plain_machine.specs.declared.plain.Plain.{Plain}
+use Rattle.edge_io.specs.Inputs.{NamedFiles}
+use Rattle.job_words.specs.declared.job.Job.TheVariants.{Launch}
+use Rattle.job_words.specs.declared.job.LaunchJob.{LaunchJob}
+use Rattle.launch_start.specs.JobStarts.{IsLoaded}
+use Rattle.run_loop.specs.declared.start.Start.{Start}
+use Rattle.run_start.specs.Starts.{state_of}
 use Rattle.dmtcp_top.specs.Promise.{SpellsCutOf, StaysWhole}
 
 nothing_there : (generation : ℕ) → Contains {X = Record} [] (Complete generation) → ⊥
@@ -158,12 +167,12 @@ module _ (folder : SeenFolder) (store : Known) (info : SetInfo) (known : store.l
         damaged = inr (bytes, (subst (λ n. IsSet found.0 n bytes) (sym found.2.generation) found.2, damaged));
       })
 
-  pub restored : (result : Result Computation Ending) (bytes : List (List ℕ)) → ForSome folder.files (λ files. HasSet (last_set files) info.generation bytes) → IsComputationOf result info.slot bytes → Restored result info folder.files
-  restored (Ok c) bytes has of = record {
+  pub restored : (result : Result Origin Ending) (bytes : List (List ℕ)) → ForSome folder.files (λ files. HasSet (last_set files) info.generation bytes) → IsOriginIn result info.slot bytes → Restored result info folder.files
+  restored (Ok origin) bytes has of = record {
     images = bytes;
     spelled = of.0;
     counted = told_then folder.files (λ files is. record { images = bytes; counts = has files is; state = of.0 });
-    ready = of.1;
+    can = of.1;
   }
   restored (Err (Damaged at damage)) bytes has of = subst (λ slot. IfSome folder.files (λ files. SpoilsSet files slot damage)) (sym of.0) (damage_spelled bytes damage has of.1)
   restored (Err Memory) bytes has of = tt
@@ -178,3 +187,28 @@ module _ (folder : SeenFolder) (store : Known) (info : SetInfo) (known : store.l
   restored (Err NoSet) bytes has of = absurd of
   restored (Err (Budget records)) bytes has of = absurd of
   restored (Err Stuck) bytes has of = absurd of
+
+-- ---- the run at a state that was loaded or restored
+
+pub launched : (files : Option NamedFiles) (folder : Option Folder) (job : LaunchJob) (origin : Origin) (checkpointer : Checkpointer) (start : Start) → IsLoaded files job origin → IsMade folder (settings_of (Launch job)) checkpointer
+    → BeginsAt (state_of origin) checkpointer start → IsLaunched files folder job start
+launched files folder job origin checkpointer start loaded made begins = record {
+  inputs = loaded.inputs;
+  loaded = loaded.loaded;
+  state = begins.state ∙ loaded.state;
+  ready = begins.ready;
+  opening = made.opening;
+  opened = made.opened;
+  checkpointer = subst (λ (c : Checkpointer). IsFresh c (settings_of (Launch job)) made.opening) (sym begins.checkpointer) made.fresh;
+}
+
+pub restarted : (folder : Option Folder) (info : SetInfo) (settings : Settings) (origin : Origin) (checkpointer : Checkpointer) (start : Start) → IsRestored info folder origin → IsFresh checkpointer settings info.generation
+    → BeginsAt (state_of origin) checkpointer start → IsRestarted folder settings start
+restarted folder info settings origin checkpointer start restored fresh begins = record {
+  generation = info.generation;
+  images = restored.images;
+  spelled = subst (SpellsState restored.images) (sym begins.state) restored.spelled;
+  counted = subst (λ (g : Plain). IfSome folder (λ files. SpellsSet files info.generation g)) (sym begins.state) restored.counted;
+  ready = begins.ready;
+  checkpointer = subst (λ (c : Checkpointer). IsFresh c settings info.generation) (sym begins.checkpointer) fresh;
+}

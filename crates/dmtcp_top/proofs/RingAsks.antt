@@ -20,7 +20,7 @@ use Rattle.computation.specs.Sinks.{sunk}
 use Rattle.checkpointer.proofs.Sinks.{took_nothing}
 use Rattle.ring_demo.specs.RingJobs.{launch_of, launch_settings, members, restart_of, restart_settings}
 use Rattle.ring_demo.proofs.RingBounds.{ring_bounds}
-use Rattle.ring_demo.proofs.RingWords.{launch_asked, restart_asked, launch_there, nodes_used}
+use Rattle.ring_demo.proofs.RingWords.{launch_asked, restart_asked, launch_there}
 use Rattle.dmtcp_top.specs.Jobs.{Asks, AskSomething}
 use Rattle.dmtcp_top.specs.Ends.{Reaches}
 use Rattle.dmtcp_top.specs.Ring.{RingHalves, launch_half}
@@ -31,13 +31,13 @@ module _ (ring : RingJob) (words : List Text) (asks : Asks words (Ring ring)) wh
   asks_launch : (launch : LaunchJob) → IsLaunchOf (launch_settings ring) (members ring.processes) launch → Asks (words_of_command (launch_of ring)) (Launch launch)
   asks_launch launch of = record {
     is = launch_asked ring (ring_bounds words ring asks.is) launch of;
-    built = record { nodes = nodes_used ring launch of; workers = of.workers ∙ asks.built };
+    built = of.workers ∙ asks.built;
   }
 
   asks_restart : (restart : RestartJob) → IsRestartOf (restart_settings ring) restart → Asks (words_of_command (restart_of ring)) (Restart restart)
   asks_restart restart of = record {
     is = restart_asked ring (ring_bounds words ring asks.is) restart of;
-    built = record { nodes = of.nodes; workers = of.workers ∙ asks.built; shift = of.shift; pid_base = of.pid_base; port_base = of.port_base };
+    built = of.workers ∙ asks.built;
   }
 
   pub made_halves : (launch : LaunchJob) (restart : RestartJob) → IsLaunchOf (launch_settings ring) (members ring.processes) launch → IsRestartOf (restart_settings ring) restart → AreHalves ring (Launch launch) (Restart restart)

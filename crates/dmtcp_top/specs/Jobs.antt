@@ -11,34 +11,14 @@ use Rattle.std.specs.Prelude.{◌≡◌, List, Some, None}
 use Rattle.option_words.specs.Options.{Text}
 use Rattle.job_words.specs.declared.job.Job.{Job}
 use Rattle.job_words.specs.declared.job.Job.TheVariants.{Launch, Restart, Ring, Help}
-use Rattle.job_words.specs.declared.job.LaunchJob.{LaunchJob}
-use Rattle.job_words.specs.declared.job.RestartJob.{RestartJob}
-use Rattle.job_words.specs.declared.job.RingJob.{RingJob}
 use Rattle.job_words.specs.Jobs.{IsJob}
-use Rattle.job_words.specs.Outlines.{hosts_used}
 use Rattle.dmtcp_top.specs.declared.settings.Settings.{Settings}
 
--- without workers, and just the nodes that its hosts need
-pub record IsBuiltLaunch (job : LaunchJob) : Type 0 where
-  pub nodes : job.nodes ≡ hosts_used job.programs
-  pub workers : job.workers ≡ 0
-
--- without workers, and all of the nodes as they are where the words don't say
-pub record IsBuiltRestart (job : RestartJob) : Type 0 where
-  pub nodes : job.nodes ≡ 16
-  pub workers : job.workers ≡ 0
-  pub shift : job.shift ≡ 0
-  pub pid_base : job.pid_base ≡ 2000
-  pub port_base : job.port_base ≡ 30000
-
--- without workers
-abbrev pub IsBuiltRing : RingJob → Type 0
-IsBuiltRing job = job.workers ≡ 0
-
+-- without workers, wherever the hosts are
 abbrev pub IsBuilt : Job → Type 0
-IsBuilt (Launch job) = IsBuiltLaunch job
-IsBuilt (Restart job) = IsBuiltRestart job
-IsBuilt (Ring job) = IsBuiltRing job
+IsBuilt (Launch job) = job.workers ≡ 0
+IsBuilt (Restart job) = job.workers ≡ 0
+IsBuilt (Ring job) = job.workers ≡ 0
 IsBuilt Help = Unit {0}
 
 pub record Asks (words : List Text) (job : Job) : Type 0 where

@@ -1,4 +1,5 @@
 pub mod Jobs
+pub mod Hosts
 pub mod Sessions
 pub mod Launches
 pub mod Ends

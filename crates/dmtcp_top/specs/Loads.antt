@@ -1,6 +1,7 @@
 -- What beginning a run gives: a computation at its start with its checkpointer, or how the call ends without
 -- them.
 use Rattle.std.specs.Prelude.{◌≡◌, ◌≢◌, ℕ, List, Option, None, Result, Ok, Err, IfSome}
+use Rattle.plain_machine.specs.declared.plain.Plain.{Plain}
 use Rattle.disk_folder.specs.Moments.{LeavesOnly}
 use Rattle.image_store.specs.declared.set_info.SetInfo.{SetInfo}
 use Rattle.image_store.specs.StoreStates.{Known}
@@ -19,7 +20,7 @@ use Rattle.option_words.specs.Options.{Text}
 use Rattle.job_words.specs.declared.job.Job.{Job}
 use Rattle.job_words.specs.declared.job.Job.TheVariants.{Launch, Restart, Help}
 use Rattle.job_words.specs.declared.job.LaunchJob.{LaunchJob}
-use Rattle.computation.specs.declared.computation.Computation.{Computation}
+use Rattle.run_start.specs.declared.start.Start.{Start as Origin}
 use Rattle.dmtcp_top.specs.declared.settings.Settings.{Settings}
 use Rattle.checkpointer.specs.declared.checkpointer.Checkpointer.{Checkpointer}
 use Rattle.run_loop.specs.declared.start.Start.{Start}
@@ -28,6 +29,7 @@ use Rattle.dmtcp_top.specs.Jobs.{AskNothing, AskSomething, Asks, settings_of}
 use Rattle.launch_start.specs.JobInputs.{JobInputs, AreLoaded, IsFirstRefusal, unread, missing, bad, too_big, loaded_job}
 use Rattle.dmtcp_top.specs.Launches.{Opens, schedule_of}
 use Rattle.computation.specs.Computations.{plain_of, IsReady}
+use Rattle.run_start.specs.Starts.{state_of, CanBegin}
 
 -- before the first record
 pub record IsFresh (checkpointer : Checkpointer) (settings : Settings) (opening : ℕ) : Type 0 where
@@ -47,6 +49,12 @@ abbrev pub IsUnmade : Settings → Ending → Type 0
 IsUnmade settings DiskFault = settings.every ≢ None
 IsUnmade settings Memory = Unit {0}
 IsUnmade settings _ = ⊥
+
+-- the run begins at this state with this checkpointer
+pub record BeginsAt (at : Plain) (checkpoints : Checkpointer) (start : Start) : Type 0 where
+  pub state : plain_of start.computation ≡ at
+  pub ready : IsReady start.computation
+  pub checkpointer : start.checkpointer ≡ checkpoints
 
 -- the computation stands at the start of the job
 pub record IsLaunched (files : Option NamedFiles) (folder : Option Folder) (job : LaunchJob) (start : Start)
@@ -113,23 +121,22 @@ Reopened (Err DiskFault) folder = Unit {0}
 Reopened (Err Memory) folder = Unit {0}
 Reopened (Err _) folder = ⊥
 
--- the computation at the state that the files of a set in this slot spell, or why there is none
-abbrev pub IsComputationOf : Result Computation Ending → ℕ → List (List ℕ) → Type 0
-IsComputationOf (Ok c) slot images = SpellsState images (plain_of c) × IsReady c
-IsComputationOf (Err (Damaged at damage)) slot images = (at ≡ slot)
-    × DamagedFiles images damage.file damage.offset
-IsComputationOf (Err Memory) slot images = Unit {0}
-IsComputationOf (Err _) slot images = ⊥
+-- the state that the files of a set in this slot spell, or why there is none
+abbrev pub IsOriginIn : Result Origin Ending → ℕ → List (List ℕ) → Type 0
+IsOriginIn (Ok origin) slot images = SpellsState images (state_of origin) × CanBegin origin
+IsOriginIn (Err (Damaged at damage)) slot images = (at ≡ slot) × DamagedFiles images damage.file damage.offset
+IsOriginIn (Err Memory) slot images = Unit {0}
+IsOriginIn (Err _) slot images = ⊥
 
--- the computation at the state of the set that counts, or why there is none
-pub record IsRestored (info : SetInfo) (folder : Option Folder) (c : Computation) : Type 0 where
+-- the state of the set that counts, or why there is none
+pub record IsRestored (info : SetInfo) (folder : Option Folder) (origin : Origin) : Type 0 where
   pub images : List (List ℕ)
-  pub spelled : SpellsState images (plain_of c)
-  pub counted : IfSome folder (λ files. SpellsSet files info.generation (plain_of c))
-  pub ready : IsReady c
+  pub spelled : SpellsState images (state_of origin)
+  pub counted : IfSome folder (λ files. SpellsSet files info.generation (state_of origin))
+  pub can : CanBegin origin
 
-abbrev pub Restored : Result Computation Ending → SetInfo → Option Folder → Type 0
-Restored (Ok c) info folder = IsRestored info folder c
+abbrev pub Restored : Result Origin Ending → SetInfo → Option Folder → Type 0
+Restored (Ok origin) info folder = IsRestored info folder origin
 Restored (Err DiskFault) info folder = Unit {0}
 Restored (Err (Damaged slot damage)) info folder = IfSome folder (λ files. SpoilsSet files slot damage)
 Restored (Err Memory) info folder = Unit {0}

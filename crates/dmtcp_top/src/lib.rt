@@ -19,6 +19,7 @@
 
 mod carry_out;
 mod help;
+mod hosts;
 mod job;
 pub mod laws;
 mod loading;

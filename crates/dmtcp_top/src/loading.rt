@@ -7,23 +7,27 @@ ghost use Rattle.image_store.specs.StoreStates.{FitsFolder};
 ghost use Rattle.option_words.specs.Options.{Text};
 ghost use Rattle.job_words.specs.declared.job.Job.TheVariants.{Launch};
 ghost use Rattle.checkpointer.specs.Keeping.{IsKept};
+ghost use Rattle.run_start.specs.Starts.{state_of, CanBegin};
+ghost use Rattle.rebuild_tables.specs.Hosts.{IsHosts};
 ghost use Rattle.endings.specs.Endings.{status_of};
 ghost use Rattle.dmtcp_top.specs.Jobs.{Asks, IsOneRun, IsQuiet, settings_of};
-ghost use Rattle.dmtcp_top.specs.Loads.{Begins, IsComputationOf, IsFresh, IsMade, IsUnmade, Launches, OnlyLooks, Reopened, Restarts, Restored};
+ghost use Rattle.dmtcp_top.specs.Loads.{Begins, BeginsAt, IsFresh, IsMade, IsOriginIn, IsUnmade, Launches, OnlyLooks, Reopened, Restarts, Restored};
 
+use crate::hosts::{launch_hosts, restart_hosts};
 use crate::settings::Settings;
 use checkpointer::{Checkpointer, restored};
-use computation::Computation;
 use disk_folder::Folder;
 use edge_io::Inputs;
 use endings::{Ending, Status};
+use host_tables::Hosts;
 use image_codec::{ReadFault, SetBytes};
 use image_store::{SetInfo, Store, StoreFault};
 use job_words::{Job, LaunchJob};
 use launch_start::{load, look_at_bytes};
 use rebuild::decode_set;
 use run_loop::Start;
-use std::alloc::Global;
+use run_start::Start as Origin;
+use std::alloc::{AllocError, Global};
 use views::list_of::ListOf;
 
 /// The start of the run that a job asks for.
@@ -50,7 +54,7 @@ pub(crate) fn begin<'a, I: Inputs, F: Folder>(
     let settings = Settings::of(job);
     match job {
         Job::Launch(job) => launch(alloc, job, settings, inputs, disk),
-        Job::Restart(_) => restart(alloc, settings, disk),
+        Job::Restart(job) => restart(alloc, &restart_hosts(job), settings, disk),
         Job::Ring(_) | Job::Help => unreachable!(),
     }
 }
@@ -76,10 +80,25 @@ fn launch<'a, I: Inputs, F: Folder>(
     ensures untouched { job.now.every ≡ None → disk.new ≡ disk.old }
     ensures same { (I.seen inputs.new).files ≡ (I.seen inputs.old).files }
 {
-    let computation = load(alloc, job, inputs)?;
+    let origin = load(alloc, job, inputs)?;
     let checkpointer = first_checkpointer(alloc, settings, disk)?;
+    let start = start_at(alloc, origin, &launch_hosts(job), checkpointer)?;
+    Ok(start)
+}
+
+/// The run that begins at this state on these hosts.
+fn start_at(
+    alloc: Global,
+    origin: Origin,
+    hosts: &Hosts,
+    checkpointer: Checkpointer,
+) -> Result<Start, AllocError>
+    requires can { CanBegin origin }
+    requires hosts { IsHosts hosts.now }
+    ensures { IfOk result (BeginsAt (state_of origin) checkpointer) }
+{
     Ok(Start {
-        computation,
+        computation: origin.begin(alloc, hosts)?,
         checkpointer,
     })
 }
@@ -133,12 +152,14 @@ fn checkpointer_of(settings: Settings, store: Store) -> Checkpointer
     Checkpointer::new(settings.schedule(opening), Some(store))
 }
 
-/// The run at the state that the set which counts spells.
+/// The run at the state that the set which counts spells, on these hosts.
 fn restart<'a, F: Folder>(
     alloc: Global,
+    hosts: &Hosts,
     settings: Settings,
     disk: &mut F,
 ) -> Result<Start, Ending<'a>>
+    requires { IsHosts hosts.now }
     ensures restarts { Restarts result (F.seen disk.old).files settings }
     ensures kept { IfOk result (λ start. IsKept start.checkpointer (F.seen disk.new)) }
     ensures disk { IfErr result (λ ending. status_of ending ≡ Status.DiskFault
@@ -149,21 +170,18 @@ fn restart<'a, F: Folder>(
     let Some(info) = store.last() else {
         return Err(Ending::NoSet);
     };
-    let computation = restore(alloc, &store, info, disk)?;
-    let checkpointer = checkpointer_of(settings, store);
-    Ok(Start {
-        computation,
-        checkpointer,
-    })
+    let origin = restore(alloc, &store, info, disk)?;
+    let start = start_at(alloc, origin, hosts, checkpointer_of(settings, store))?;
+    Ok(start)
 }
 
-/// The computation at the state that the set which counts spells.
+/// The state that the set which counts spells.
 fn restore<'a, F: Folder>(
     alloc: Global,
     store: &Store,
     info: SetInfo,
     disk: &mut F,
-) -> Result<Computation, Ending<'a>>
+) -> Result<Origin, Ending<'a>>
     requires last { store.now.last ≡ Some info }
     requires fits { FitsFolder store.now (F.seen disk.old) }
     ensures restored { Restored result info (F.seen disk.old).files }
@@ -179,12 +197,12 @@ fn restore<'a, F: Folder>(
         Err(StoreFault::Damaged(damage)) => return Err(Ending::Damaged(info.slot, damage)),
         Err(StoreFault::Memory) => return Err(Ending::Memory),
     };
-    computation_of(alloc, info.slot, &set)
+    origin_in(alloc, info.slot, &set)
 }
 
-/// The computation at the state that the files of a set in this slot spell.
-fn computation_of<'a>(alloc: Global, slot: u32, set: &SetBytes) -> Result<Computation, Ending<'a>>
-    ensures { IsComputationOf result slot set.now.files }
+/// The state that the files of a set in this slot spell.
+fn origin_in<'a>(alloc: Global, slot: u32, set: &SetBytes) -> Result<Origin, Ending<'a>>
+    ensures { IsOriginIn result slot set.now.files }
 {
     look_at_files(set.files.as_slice());
     let decoded = match decode_set(alloc, set) {
@@ -193,7 +211,7 @@ fn computation_of<'a>(alloc: Global, slot: u32, set: &SetBytes) -> Result<Comput
         Err(ReadFault::Memory) => return Err(Ending::Memory),
     };
     match restored(alloc, decoded) {
-        Ok(computation) => Ok(computation),
+        Ok(origin) => Ok(origin),
         Err(_) => Err(Ending::Memory),
     }
 }

@@ -1,4 +1,4 @@
-ghost use Rattle.std.specs.Prelude.{◌≡◌, ◌≢◌, ◌≤◌, ◌⊎◌, List, [], None, IfErr};
+ghost use Rattle.std.specs.Prelude.{◌≡◌, ◌≢◌, ◌≤◌, ◌⊎◌, List, [], None, IfOk, IfErr};
 ghost use Rattle.views.specs.Faults.{Rose};
 ghost use Rattle.edge_io.specs.Inputs.{SeenInputs};
 ghost use Rattle.option_words.specs.Options.{Text};
@@ -6,7 +6,7 @@ ghost use Rattle.job_words.specs.declared.job.Job.TheVariants.{Ring};
 ghost use Rattle.job_words.specs.declared.job.RingJob.{RingJob};
 ghost use Rattle.endings.specs.Endings.{status_of};
 ghost use Rattle.computation.specs.Sinks.{sunk};
-ghost use Rattle.ring_demo.specs.Values.{summary};
+ghost use Rattle.ring_demo.specs.Values.{content_named, summary};
 ghost use Rattle.dmtcp_top.specs.Jobs.{Asks, IsOneRun, settings_of};
 ghost use Rattle.dmtcp_top.specs.Loads.{OnlyLooks};
 ghost use Rattle.dmtcp_top.specs.Ring.{IsRing};
@@ -18,10 +18,12 @@ use disk_folder::Folder;
 use edge_io::Sink;
 use endings::{Ending, Status};
 use job_words::{Job, RingJob};
-use ring_demo::{Discard, RingInputs, content_of, launch_job, restart_job, summary};
-use std::alloc::Global;
+use ring_demo::{Discard, RingInputs, launch_job, restart_job, summary};
+use seen_channels::files::seen_names;
+use std::alloc::{AllocError, Global};
 use trace_log::Trace;
 use views::list_of::ListOf;
+use wrap_calls::Wrapped;
 
 /// The file in which the processes of a ring leave the value of their counter.
 const VALUE: &[u8; 5] = b"value";
@@ -167,4 +169,19 @@ fn half<'a, L: Sink, F: Folder>(
     let mut console = Discard;
     let computation = carry_out(alloc, job, &mut inputs, &mut console, log, disk, trace)?;
     Ok(content_of(alloc, &computation.kernel, VALUE)?)
+}
+
+/// The bytes of the file of this name, none where there is no such file.
+fn content_of(alloc: Global, kernel: &Wrapped, name: &[u8]) -> Result<ListOf<u8>, AllocError>
+    ensures { IfOk result (λ content. content ≡ content_named kernel.now name.now) }
+{
+    let files = &kernel.system().kernel.files;
+    let names = seen_names(alloc, files)?;
+    let Some(number) = names.get(name) else {
+        return Ok(ListOf::new(alloc));
+    };
+    match files.bytes(*number) {
+        Some(bytes) => Ok(ListOf::from_vec(Vec::from_slice(alloc, bytes)?)),
+        None => Ok(ListOf::new(alloc)),
+    }
 }

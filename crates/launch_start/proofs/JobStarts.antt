@@ -24,8 +24,8 @@ use Rattle.plain_process.specs.Valid.{IsByte}
 use Rattle.plain_tables.specs.Valid.Files.{IsName}
 use Rattle.plain_machine.specs.Start.{NamedFile}
 use Rattle.plain_machine.specs.Valid.{AreNamed}
-use Rattle.computation.specs.declared.computation.Computation.{Computation}
-use Rattle.computation.specs.Computations.{IsReady, IsStart}
+use Rattle.run_start.specs.declared.start.Start.{Start}
+use Rattle.run_start.specs.Starts.{CanBegin, IsStart}
 use Rattle.edge_io.specs.Inputs.{NamedFiles}
 use Rattle.option_words.specs.Options.{Text}
 use Rattle.job_words.specs.declared.job.LaunchJob.{LaunchJob}
@@ -40,14 +40,14 @@ use Rattle.launch_start.proofs.JobInputs.{sum_alone}
 nothing_named : AreNamed []
 nothing_named = record { count = omega arith; names = All-nil _; bytes = All-nil _; total = omega arith; apart = λ i j d before inside. absurd (omega arith) }
 
-pub nothing_read : (files : Option NamedFiles) (start : JobStart) → IsStart start.computation [] [] → IsReady start.computation → start.room ≡ Some 67108864 → HasRead files start (files_alone [])
-nothing_read files start is ready room = record {
+pub nothing_read : (files : Option NamedFiles) (start : JobStart) → IsStart start.state [] [] → CanBegin start.state → start.room ≡ Some 67108864 → HasRead files start (files_alone [])
+nothing_read files start is begins room = record {
   files_told = All-nil _;
   programs_told = All-nil _;
   files_fine = All-nil _;
   programs_fine = All-nil _;
   room = room;
-  ready = ready;
+  can = begins;
   built = λ some. record { start = is; files = nothing_named; programs = All-nil _ };
 }
 
@@ -151,18 +151,18 @@ named_more before name bytes are can name_bytes file_bytes fits =
     }
 
 module _ (files : Option NamedFiles) (old new : JobStart) (before : List FileInput) (name : Text) (bytes : List ℕ) (has : HasRead files old (files_alone before)) (can : CanFollow before name) (read : IsFileRead files name bytes)
-    (room : new.room ≡ room_after (size_of before + length bytes)) (ready : IsReady new.computation) where
+    (room : new.room ≡ room_after (size_of before + length bytes)) (begins : CanBegin new.state) where
   abbrev after : List FileInput
   after = before ++ file_input name (found bytes) ∷ []
 
-  pub file_added : (new.room ≢ None → IsStartOf new.computation (files_alone after)) → HasRead files new (files_alone after)
+  pub file_added : (new.room ≢ None → IsStartOf new.state (files_alone after)) → HasRead files new (files_alone after)
   file_added built = record {
     files_told = All-push (λ (input : FileInput). IsContent files input.name input.content) before (file_input name (found bytes)) has.files_told read.told;
     programs_told = has.programs_told;
     files_fine = All-push (λ (input : FileInput). file_refusal input ≡ None) before (file_input name (found bytes)) has.files_fine refl;
     programs_fine = has.programs_fine;
     room = room ∙ sym (ap room_after (size_more before name bytes));
-    ready = ready;
+    can = begins;
     built = built;
   }
 
@@ -170,7 +170,7 @@ module _ (files : Option NamedFiles) (old new : JobStart) (before : List FileInp
 pub roomy_before : (total bytes : ℕ) (room : Option ℕ) → total + bytes ≤ 67108864 → room ≡ room_after total → room ≢ None
 roomy_before total bytes room fits is none = none_some (67108864 - total) (sym none ∙ is ∙ within total (omega (arith, fits)))
 
-pub starts_more : (c d : Computation) (before : List FileInput) (name : Text) (bytes : List ℕ) → IsStartOf c (files_alone before) → AreNamed (map named_file before ++ record { name = name; bytes = bytes } ∷ [])
+pub starts_more : (c d : Start) (before : List FileInput) (name : Text) (bytes : List ℕ) → IsStartOf c (files_alone before) → AreNamed (map named_file before ++ record { name = name; bytes = bytes } ∷ [])
     → ((files : List NamedFile) → IsStart c [] files → IsStart d [] (files ++ record { name = name; bytes = bytes } ∷ [])) → IsStartOf d (files_alone (before ++ file_input name (found bytes) ∷ []))
 starts_more c d before name bytes of named adds = record {
   start = subst (IsStart d []) (sym (named_append before name bytes)) (adds (map named_file before) of.start);
@@ -185,19 +185,19 @@ pub launched_append : (before : List ProgramInput) (program : NamedProgram) (fil
 launched_append before program file = map-append launched before (program_input program (found file) ∷ [])
 
 module _ (files : Option NamedFiles) (old new : JobStart) (before : JobInputs) (program : NamedProgram) (file : List ℕ) (has : HasRead files old before) (told : IsContent files program.name (found file)) (fine : first_fault file ≡ None)
-    (room : new.room ≡ old.room) (ready : IsReady new.computation) where
-  pub program_added : (new.room ≢ None → IsStartOf new.computation (with_program before program file)) → HasRead files new (with_program before program file)
+    (room : new.room ≡ old.room) (begins : CanBegin new.state) where
+  pub program_added : (new.room ≢ None → IsStartOf new.state (with_program before program file)) → HasRead files new (with_program before program file)
   program_added built = record {
     files_told = has.files_told;
     programs_told = All-push (λ (input : ProgramInput). IsContent files input.program.name input.content) before.programs (program_input program (found file)) has.programs_told told;
     files_fine = has.files_fine;
     programs_fine = All-push (λ (input : ProgramInput). program_refusal input ≡ None) before.programs (program_input program (found file)) has.programs_fine (ap (option_map (bad program.name)) fine);
     room = room ∙ has.room;
-    ready = ready;
+    can = begins;
     built = built;
   }
 
-pub runs_more : (c d : Computation) (before : JobInputs) (program : NamedProgram) (file : List ℕ) (elf : Program) (arguments : List ℕ) → elf ≡ program_of file → arguments ≡ program.arguments → IsStartOf c before
+pub runs_more : (c d : Start) (before : JobInputs) (program : NamedProgram) (file : List ℕ) (elf : Program) (arguments : List ℕ) → elf ≡ program_of file → arguments ≡ program.arguments → IsStartOf c before
     → IsLaunched (record { host = program.host; program = elf; arguments = arguments })
     → ((programs : List Launched) (named : List NamedFile) → IsStart c programs named → IsStart d (programs ++ record { host = program.host; program = elf; arguments = arguments } ∷ []) named)
     → IsStartOf d (with_program before program file)
@@ -219,7 +219,7 @@ module _ (files : Option NamedFiles) (job : LaunchJob) (start : JobStart) (read 
   no_sum : size_of read.files ≤ 67108864 → sum_refusal read.files ≡ None
   no_sum fits = ap (λ c. if c then Some too_big else None) (le-ltb 67108864 (size_of read.files) fits)
 
-  pub job_loaded : (left : ℕ) → start.room ≡ Some left → IsLoaded files job start.computation
+  pub job_loaded : (left : ℕ) → start.room ≡ Some left → IsLoaded files job start.state
   job_loaded left some =
       let there = room_some (size_of read.files) left (sym some ∙ has.room) in
       let of = has.built (λ none. none_some left (sym none ∙ some)) in
@@ -227,7 +227,7 @@ module _ (files : Option NamedFiles) (job : LaunchJob) (start : JobStart) (read 
         inputs = read;
         loaded = record { are = are; none = sum_alone read has.files_fine has.programs_fine ∙ no_sum there.0 };
         state = of.start;
-        ready = has.ready;
+        can = has.can;
       }
 
   pub job_too_big : start.room ≡ None → IsFirstRefusal files job too_big
@@ -289,7 +289,7 @@ module _ (files : Option NamedFiles) (old : JobStart) (before : List FileInput) 
   fits : size_of before + length bytes ≤ 67108864
   fits = fits_room (size_of before + length bytes) room is some
 
-  pub built_before : IsStartOf old.computation (files_alone before)
+  pub built_before : IsStartOf old.state (files_alone before)
   built_before = has.built (roomy_before (size_of before) (length bytes) old.room fits has.room)
 
   pub may_follow : AreNamed (map named_file before ++ record { name = name; bytes = bytes } ∷ [])
@@ -298,11 +298,11 @@ module _ (files : Option NamedFiles) (old : JobStart) (before : List FileInput) 
   whole : (let file : NamedFile = record { name = spelled; bytes = read } in file) ≡ record { name = name; bytes = bytes }
   whole = ap (λ (n : Text). let file : NamedFile = record { name = n; bytes = read } in file) named ∙ ap (λ (b : List ℕ). let file : NamedFile = record { name = name; bytes = b } in file) same
 
-  pub file_requires : (x : List NamedFile) × (IsStart old.computation [] x × AreNamed (x ++ record { name = spelled; bytes = read } ∷ []))
+  pub file_requires : (x : List NamedFile) × (IsStart old.state [] x × AreNamed (x ++ record { name = spelled; bytes = read } ∷ []))
   file_requires = (map named_file before, (built_before.start, subst (λ (file : NamedFile). AreNamed (map named_file before ++ file ∷ [])) (sym whole) may_follow))
 
-  pub file_builds : (d : Computation) → ((named : List NamedFile) → IsStart old.computation [] named → IsStart d [] (named ++ record { name = spelled; bytes = read } ∷ []))
+  pub file_builds : (d : Start) → ((named : List NamedFile) → IsStart old.state [] named → IsStart d [] (named ++ record { name = spelled; bytes = read } ∷ []))
       → IsStartOf d (files_alone (before ++ file_input name (found bytes) ∷ []))
   file_builds d adds =
-      starts_more old.computation d before name bytes built_before may_follow
+      starts_more old.state d before name bytes built_before may_follow
       (λ named is. subst (λ (file : NamedFile). IsStart d [] (named ++ file ∷ [])) whole (adds named is))

@@ -11,8 +11,8 @@ use Rattle.elf32.specs.Rules.{first_fault}
 use Rattle.plain_process.specs.Launches.{IsLaunched as CanLaunch}
 use Rattle.plain_process.specs.Valid.{IsByte}
 use Rattle.plain_machine.specs.Valid.{AreNamed}
-use Rattle.computation.specs.declared.computation.Computation.{Computation}
-use Rattle.computation.specs.Computations.{plain_of, IsReady, IsStart}
+use Rattle.run_start.specs.declared.start.Start.{Start}
+use Rattle.run_start.specs.Starts.{state_of, CanBegin, IsStart}
 use Rattle.edge_io.specs.Inputs.{NamedFiles}
 use Rattle.option_words.specs.Options.{Text}
 use Rattle.job_words.specs.declared.job.LaunchJob.{LaunchJob}
@@ -83,8 +83,8 @@ abbrev pub size_of : List FileInput → ℕ
 size_of files = sum_by (λ (input : FileInput). length (bytes_in input.content)) files
 
 -- the start of these files and programs
-pub record IsStartOf (c : Computation) (read : JobInputs) : Type 0 where
-  pub start : IsStart c (map launched read.programs) (map named_file read.files)
+pub record IsStartOf (s : Start) (read : JobInputs) : Type 0 where
+  pub start : IsStart s (map launched read.programs) (map named_file read.files)
   pub files : AreNamed (map named_file read.files)
   pub programs : All CanLaunch (map launched read.programs)
 
@@ -96,8 +96,8 @@ pub record HasRead (files : Option NamedFiles) (start : JobStart) (read : JobInp
   pub files_fine : All (λ (input : FileInput). file_refusal input ≡ None) read.files
   pub programs_fine : All (λ (input : ProgramInput). program_refusal input ≡ None) read.programs
   pub room : start.room ≡ room_after (size_of read.files)
-  pub ready : IsReady start.computation
-  pub built : start.room ≢ None → IsStartOf start.computation read
+  pub can : CanBegin start.state
+  pub built : start.room ≢ None → IsStartOf start.state read
 
 abbrev pub files_alone : List FileInput → JobInputs
 files_alone files = record { files = files; programs = [] }
@@ -121,9 +121,9 @@ pub record CanRun (before : ℕ) (program : NamedProgram) : Type 0 where
   pub some : 1 ≤ length program.arguments
   pub short : length program.arguments ≤ 4096
 
--- it stands at the start of the job
-pub record IsLoaded (files : Option NamedFiles) (job : LaunchJob) (c : Computation) : Type 0 where
+-- it is the start of the job
+pub record IsLoaded (files : Option NamedFiles) (job : LaunchJob) (s : Start) : Type 0 where
   pub inputs : JobInputs
   pub loaded : AreLoaded files job inputs
-  pub state : plain_of c ≡ loaded_job inputs
-  pub ready : IsReady c
+  pub state : state_of s ≡ loaded_job inputs
+  pub can : CanBegin s

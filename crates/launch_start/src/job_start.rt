@@ -9,11 +9,11 @@ ghost use Rattle.launch_start.specs.JobInputs.{FileInput, JobInputs, AreInputs, 
 ghost use Rattle.launch_start.specs.JobStarts.{Blames, CanFollow, CanRun, HasRead, IsFileRefused, IsLoaded, IsProgramRefused, file_input, files_alone, room_after, with_program};
 
 use crate::read_inputs::{look_at_bytes, read_file, read_program};
-use computation::Computation;
 use edge_io::Inputs;
 use endings::{Ending, Status};
 use job_words::{FileName, LaunchJob, NamedProgram};
-use std::alloc::{AllocError, Global};
+use run_start::Start;
+use std::alloc::Global;
 
 /// How many bytes the files of a job may have together.
 const MOST_BYTES: usize = 67_108_864;
@@ -21,41 +21,41 @@ const MOST_BYTES: usize = 67_108_864;
 /// The start of a job, as far as its files and programs have been read.
 #[derive(Drop)]
 pub struct JobStart {
-    pub computation: Computation,
+    pub state: Start,
     /// How many bytes more its files may have. There is none where they have too many.
     pub room: Option<usize>,
 }
 
-/// The start of a job, when all its files and programs have been read.
+/// The state at which a job begins, when all its files and programs have been read.
 pub fn load<'a, I: Inputs>(
     alloc: Global,
     job: &'a LaunchJob,
     inputs: &mut I,
-) -> Result<Computation, Ending<'a>>
+) -> Result<Start, Ending<'a>>
     requires { (words : List Text) × IsJob words (Launch job.now) }
-    ensures loaded { IfOk result (λ computation. IsLoaded (I.seen inputs.old).files job.now computation) }
+    ensures loaded { IfOk result (λ start. IsLoaded (I.seen inputs.old).files job.now start) }
     ensures refused { IfErr result (λ ending. Blames ending (IsFirstRefusal (I.seen inputs.old).files job.now)) }
     ensures input { IfErr result (λ ending. status_of ending ≡ Status.InputFault
         → Rose (I.seen inputs.old).faults (I.seen inputs.new).faults) }
     ensures same { (I.seen inputs.new).files ≡ (I.seen inputs.old).files }
 {
-    let mut start = JobStart::new(alloc)?;
+    let mut start = JobStart::new(alloc);
     start.add_files(alloc, job, inputs)?;
     start.add_programs(alloc, job, inputs)?;
     match start.room {
-        Some(_) => Ok(start.computation),
+        Some(_) => Ok(start.state),
         None => Err(Ending::TooBig),
     }
 }
 
 impl JobStart {
-    fn new(alloc: Global) -> Result<JobStart, AllocError>
-        ensures { IfOk result (λ start. (files : Option NamedFiles) → HasRead files start (files_alone [])) }
+    fn new(alloc: Global) -> JobStart
+        ensures { (files : Option NamedFiles) → HasRead files result (files_alone []) }
     {
-        Ok(JobStart {
-            computation: Computation::empty(alloc)?,
+        JobStart {
+            state: Start::empty(alloc),
             room: Some(MOST_BYTES),
-        })
+        }
     }
 
     /// Reads the files of the job, in the order of the words.
@@ -106,7 +106,7 @@ impl JobStart {
         if self.room.is_some() {
             let name = name.as_str().as_bytes();
             look_at_bytes(name);
-            self.computation.add_file(alloc, name, bytes.as_slice())?;
+            self.state.add_file(alloc, name, bytes.as_slice())?;
         }
         Ok(())
     }
@@ -159,7 +159,7 @@ impl JobStart {
         if self.room.is_some() {
             let arguments = program.arguments.as_slice();
             look_at_bytes(arguments);
-            self.computation
+            self.state
                 .add_program(alloc, program.host, &elf, arguments)?;
         }
         Ok(())

@@ -4,7 +4,7 @@
 //! counter goes round 100 times, a byte at a call. [`launch_job`] and [`restart_job`] are the two jobs of
 //! which `dmtcp ring N` is made: a launch of the ring's programs and a restart from the last set.
 //! [`RingInputs`] hold the program, what the processes write to their consoles goes to [`Discard`], and
-//! [`content_of`] finds what a run left in a file, which [`summary`] tells in a line.
+//! [`summary`] tells in a line what the two runs left in a file.
 //!
 //! Proved: the jobs are those of the command lines in `specs/RingJobs.antt`, and the inputs hold the program
 //! of `rv_asm` under its name and nothing else. Neither the inputs nor the sink ever fails. Not proved: what
@@ -19,4 +19,4 @@ mod values;
 pub use discard::Discard;
 pub use inputs::RingInputs;
 pub use jobs::{launch_job, restart_job};
-pub use values::{content_of, summary};
+pub use values::summary;

@@ -1,7 +1,16 @@
-use Rattle.std.proofs.Common.{◌∙◌}
+use Rattle.std.proofs.Common.{refl, sym, ap, ◌∙◌}
+use Rattle.std.specs.Option.{option_map}
 use Rattle.computation.specs.Computations.{plain_of}
-use Rattle.checkpointer.proofs.Supported.{first_left}
+use Rattle.checkpointer.specs.Marks.{unsupported_at}
 use Rattle.checkpointer.proofs.unsupported.first_unsupported.Goals as goal
 
-pub loop-slot-init : goal.loop-slot-init
-loop-slot-init c = first_left (plain_of c.args.computation.now) c.into_iter-slot-iterator.result (c.into_iter-slot-iterator.ensures.into_iter_gives ∙ c.iter-slot-items.ensures)
+pub returns : goal.returns
+returns c =
+    let kernel = c.args.computation.now.kernel in
+    sym (c.in_ok-p.ensures kernel kernel.next_id c.system.ensures (plain_of c.args.computation.now) refl)
+
+pub returns-in_err-p : goal.returns-in_err-p
+returns-in_err-p c =
+    let kernel = c.args.computation.now.kernel in
+    ap (option_map unsupported_at) c.from_residual.ensures
+    ∙ sym (c.in_err-p.ensures kernel kernel.next_id c.system.ensures (plain_of c.args.computation.now) refl)

@@ -11,28 +11,26 @@ use Rattle.computation.proofs.Effects.{same_guest, nobody}
 use Rattle.computation.proofs.serving.answer_at.Goals as goal
 
 pub unreachable-requires : goal.unreachable-requires
-unreachable-requires c = nobody _ c.requires.can.guest (sym c.in_default.ensures.value) c.requires.can.there
+unreachable-requires c = nobody _ c.requires.guest (sym c.in_default.ensures.value) c.requires.there
 
 pub answer-requires-clause-writable : goal.answer-requires-clause-writable
 answer-requires-clause-writable c =
-    let same = same_guest c.args.guests.now c.args.p c.requires.can.guest c.in-Some.guest.now c.requires.can.there (sym c.in-Some.ensures.value) in
-    subst (λ (g : GuestPart). CanTake g.user.memory (filled_spans g.user.memory c.args.request.now) c.args.transfer.now) same
-    (subst (CanTake c.requires.can.guest.user.memory (filled_spans c.requires.can.guest.user.memory c.args.request.now)) (sym c.requires.bytes) c.requires.can.writable)
+    let same = same_guest c.args.guests.now c.args.p c.requires.guest c.in-Some.guest.now c.requires.there (sym c.in-Some.ensures.value) in
+    subst (λ (g : GuestPart). CanTake g.user.memory (filled_spans g.user.memory c.args.request.now) c.args.transfer.now) same c.requires.writable
 
 pub answer-requires-clause-added : goal.answer-requires-clause-added
 answer-requires-clause-added c =
-    subst (λ (g : GuestPart). CanAdd g.user c.args.request.now c.args.answer.now.reply) (same_guest c.args.guests.now c.args.p c.requires.can.guest c.in-Some.guest.now c.requires.can.there (sym c.in-Some.ensures.value)) c.requires.can.added
+    subst (λ (g : GuestPart). CanAdd g.user c.args.request.now c.args.reply) (same_guest c.args.guests.now c.args.p c.requires.guest c.in-Some.guest.now c.requires.there (sym c.in-Some.ensures.value)) c.requires.added
 
 pub answer-requires-clause-spare : goal.answer-requires-clause-spare
 answer-requires-clause-spare c =
-    subst (λ (g : GuestPart). IfSome (added_thread c.args.request.now c.args.answer.now.reply) (λ _. 1 ≤ g.spare)) (same_guest c.args.guests.now c.args.p c.requires.can.guest c.in-Some.guest.now c.requires.can.there (sym c.in-Some.ensures.value)) c.requires.can.spare
+    subst (λ (g : GuestPart). IfSome (added_thread c.args.request.now c.args.reply) (λ _. 1 ≤ g.spare)) (same_guest c.args.guests.now c.args.p c.requires.guest c.in-Some.guest.now c.requires.there (sym c.in-Some.ensures.value)) c.requires.spare
 
 pub returns : goal.returns
 returns c guest there =
     let same = same_guest c.args.guests.now c.args.p c.in-Some.guest.now guest (sym c.in-Some.ensures.value) there in
     let number = c.answer.ensures.pid ∙ ap (λ (g : GuestPart). g.pid) same in
-    let part = c.answer.ensures.user ∙ ap (put c.in-Some.guest.now.user c.args.t.0 c.args.request.now c.args.answer.now.reply) c.requires.bytes
-    ∙ ap (λ (g : GuestPart). put g.user c.args.t.0 c.args.request.now c.args.answer.now.reply c.args.answer.now.bytes) same in (
+    let part = c.answer.ensures.user ∙ ap (λ (g : GuestPart). put g.user c.args.t.0 c.args.request.now c.args.reply c.args.transfer.now) same in (
       c.answer.new.self.spare,
       on_some c.in-Some.is (c.get_mut.follows.holds c.answer.new.self)
           ∙ ap (λ p. map.insert c.args.guests.now c.args.p (let g : GuestPart = record { pid = p; user = c.answer.new.self.user; spare = c.answer.new.self.spare } in g)) number

@@ -8,7 +8,7 @@ use Rattle.computation.specs.Computations.{plain_of}
 use Rattle.run_loop.specs.Pace.{KeepsPace}
 use Rattle.computation.specs.Sinks.{sunk}
 use Rattle.dmtcp_top.proofs.Arrivals.{beginning_of, memory_arrives, paced_by, unbegun_paced}
-use Rattle.dmtcp_top.proofs.Carried.{from_ok, from_err, begun_refused, begun_arrives, done_at, every_is_none, every_is_some, refusal_is_no_end}
+use Rattle.dmtcp_top.proofs.Carried.{from_ok, from_err, begun_refused, begun_arrives, budget_is_other, done_at, every_is_none, every_is_some, memory_is_other, refusal_is_no_end, sink_is_other, stuck_is_other}
 use Rattle.dmtcp_top.proofs.Decisions.{of_job}
 use Rattle.dmtcp_top.proofs.Loads.{looks_none, whole_unbegun, whole_begun}
 use Rattle.dmtcp_top.specs.Loads.{OnlyLooks}
@@ -35,7 +35,7 @@ returns-then-is_err-clause-ends g c words asks =
         in_rounds = tt;
         whole = whole_unbegun trace (g.F.Folder.seen c.args.disk.now) (g.F.Folder.seen c.args.disk.now) none (looks_none (g.F.Folder.seen c.args.disk.now));
       };
-      other = λ e. absurd (cc);
+      other = memory_is_other;
     }
 
 pub returns-in-Err-clause-ends : goal.returns-in-Err-clause-ends
@@ -106,7 +106,7 @@ returns-in-Budget-clause-ends g c words asks =
         in_rounds = c.run.ensures.in_rounds;
         whole = whole_begun (beginning_of c.in-Ok.start) c.run.new.trace.records (g.F.Folder.seen c.args.disk.now) (g.F.Folder.seen c.begin.new.disk) (g.F.Folder.seen c.run.new.disk) c.begin.ensures.looks c.run.ensures.safe;
       };
-      other = λ e. absurd (cc);
+      other = budget_is_other records;
     }
 
 pub returns-in-Stuck-clause-ends : goal.returns-in-Stuck-clause-ends
@@ -128,7 +128,7 @@ returns-in-Stuck-clause-ends g c words asks =
         in_rounds = c.run.ensures.in_rounds;
         whole = whole_begun (beginning_of c.in-Ok.start) c.run.new.trace.records (g.F.Folder.seen c.args.disk.now) (g.F.Folder.seen c.begin.new.disk) (g.F.Folder.seen c.run.new.disk) c.begin.ensures.looks c.run.ensures.safe;
       };
-      other = λ e. absurd (cc);
+      other = stuck_is_other;
     }
 
 pub returns-in-SinkFault-clause-ends : goal.returns-in-SinkFault-clause-ends
@@ -152,7 +152,7 @@ returns-in-SinkFault-clause-ends g c words asks =
         in_rounds = c.run.ensures.in_rounds;
         whole = whole_begun (beginning_of c.in-Ok.start) c.run.new.trace.records (g.F.Folder.seen c.args.disk.now) (g.F.Folder.seen c.begin.new.disk) (g.F.Folder.seen c.run.new.disk) c.begin.ensures.looks c.run.ensures.safe;
       };
-      other = λ e. absurd (cc);
+      other = sink_is_other;
     }
 
 pub returns-clause-ends : goal.returns-clause-ends
@@ -176,7 +176,7 @@ returns-clause-ends g c words asks =
         in_rounds = c.run.ensures.in_rounds;
         whole = whole_begun (beginning_of c.in-Ok.start) c.run.new.trace.records (g.F.Folder.seen c.args.disk.now) (g.F.Folder.seen c.begin.new.disk) (g.F.Folder.seen c.run.new.disk) c.begin.ensures.looks c.run.ensures.safe;
       };
-      other = λ e. absurd (cc);
+      other = memory_is_other;
     }
 
 pub returns-in-Done-clause-looks : goal.returns-in-Done-clause-looks

@@ -1,5 +1,23 @@
-use Rattle.dmtcp_top.proofs.Loads.{looks_none}
+use Rattle.std.proofs.Common.{◌≢◌, None, sym, subst}
+use Rattle.dmtcp_top.specs.declared.settings.Settings.{Settings}
+use Rattle.checkpointer.specs.declared.checkpointer.Checkpointer.{Checkpointer}
+use Rattle.checkpointer.specs.Keeping.{IsKept}
+use Rattle.dmtcp_top.specs.Loads.{IsMade}
+use Rattle.dmtcp_top.proofs.Loads.{looks_none, launched}
 use Rattle.dmtcp_top.proofs.loading.launch.Goals as goal
 
-pub returns-in_err-computation-clause-looks : goal.returns-in_err-computation-clause-looks
-returns-in_err-computation-clause-looks g c = looks_none (g.F.Folder.seen c.args.disk.now)
+pub returns-in_err-origin-clause-looks : goal.returns-in_err-origin-clause-looks
+returns-in_err-origin-clause-looks g c = looks_none (g.F.Folder.seen c.args.disk.now)
+
+pub returns-clause-launches : goal.returns-clause-launches
+returns-clause-launches g c =
+    let inputs = (g.I.Inputs.seen c.args.inputs.now).files in
+    let folder = (g.F.Folder.seen c.args.disk.now).files in
+    launched inputs folder c.args.job.now c.in_ok-origin.origin c.in_ok-checkpointer.checkpointer c.in_ok-start.start c.in_ok-origin.ensures.loaded
+    (subst (λ (settings : Settings). IsMade folder settings c.in_ok-checkpointer.checkpointer) c.requires.set c.in_ok-checkpointer.ensures.made)
+    c.in_ok-start.ensures
+
+pub returns-clause-kept : goal.returns-clause-kept
+returns-clause-kept g c =
+    subst (λ (checkpointer : Checkpointer). checkpointer.schedule.every ≢ None → IsKept checkpointer (g.F.Folder.seen c.first_checkpointer.new.disk)) (sym c.in_ok-start.ensures.checkpointer)
+    c.in_ok-checkpointer.ensures.kept

@@ -17,6 +17,6 @@ returns-in-Err-Damaged-clause-restored g c =
 
 pub returns-clause-restored : goal.returns-clause-restored
 returns-clause-restored g c =
-    restored (g.F.Folder.seen c.args.disk.now) c.args.store.now c.args.info c.requires.last c.requires.fits c.computation_of.result c.in-Ok.set.files
+    restored (g.F.Folder.seen c.args.disk.now) c.args.store.now c.args.info c.requires.last c.requires.fits c.origin_in.result c.in-Ok.set.files
     (λ files is. at_some (λ (info : SetInfo). HasSet (last_set files) info.generation c.in-Ok.set.files) c.args.store.now.last c.args.info c.requires.last (c.in-Ok.ensures.found files is))
-    c.computation_of.ensures
+    c.origin_in.ensures

@@ -4,11 +4,13 @@ use Rattle.views.proofs.Outcomes.{on_some}
 use Rattle.call_table.specs.declared.delivery.Delivered.{Delivered}
 use Rattle.guest_proc.specs.Guests.{GuestPart}
 use Rattle.plain_machine.specs.declared.kernel.PlainKernel.{PlainKernel}
+use Rattle.plain_machine.specs.Kernel.{is_live}
+use Rattle.plain_machine.proofs.KernelThreads.{user_lives, known_threads}
 use Rattle.computation.specs.Computations.{plain_of}
 use Rattle.computation.specs.Parts.{kernel_found, kernel_after, guests_after, delivery_at}
-use Rattle.computation.proofs.Delivered.{state_is, numbered_after}
+use Rattle.computation.proofs.Delivered.{found_lives, state_is, numbered_after}
 use Rattle.computation.proofs.Numbered.{Numbered}
-use Rattle.computation.proofs.Starts.{seen}
+use Rattle.computation.proofs.States.{seen}
 use Rattle.computation.proofs.Taking.{quiet_takes, takes_valid}
 use Rattle.computation.proofs.Effects.{missing_part, found_part, due_is_there, due_has_thread, due_is_signal, deliver_goes}
 use Rattle.computation.proofs.computation.Computation.deliver.Goals as goal
@@ -16,9 +18,28 @@ use Rattle.computation.proofs.computation.Computation.deliver.Goals as goal
 pub unreachable-requires : goal.unreachable-requires
 unreachable-requires c = due_is_there (plain_of c.args.self.now) c.args.p c.args.t c.args.s c.requires.due (missing_part c.args.self.now.guests c.args.p c.in_default.ensures.value)
 
-pub deliver_to-delivered-requires : goal.deliver_to-delivered-requires
-deliver_to-delivered-requires c =
+pub deliver_to-delivered-requires-clause-alive : goal.deliver_to-delivered-requires-clause-alive
+deliver_to-delivered-requires-clause-alive c =
+    user_lives (plain_of c.args.self.now) c.args.p c.in-Some.guest.now.user c.requires.ready.valid
+    (found_part c.args.self.now.guests c.args.p c.in-Some.guest.now c.in-Some.ensures.value)
+
+pub deliver_to-delivered-requires-clause-thread : goal.deliver_to-delivered-requires-clause-thread
+deliver_to-delivered-requires-clause-thread c =
     due_has_thread (plain_of c.args.self.now) c.args.p c.args.t c.args.s c.in-Some.guest.now.user (found_part c.args.self.now.guests c.args.p c.in-Some.guest.now c.in-Some.ensures.value) c.requires.due
+
+pub deliver_to-delivered-requires-clause-known : goal.deliver_to-delivered-requires-clause-known
+deliver_to-delivered-requires-clause-known c =
+    sym (known_threads (plain_of c.args.self.now) c.args.p c.in-Some.guest.now.user c.requires.ready.valid
+    (found_part c.args.self.now.guests c.args.p c.in-Some.guest.now c.in-Some.ensures.value) c.args.t.0)
+    ∙ deliver_to-delivered-requires-clause-thread c
+
+pub end_if_killed-requires : goal.end_if_killed-requires
+end_if_killed-requires c =
+    let m = c.args.self.now in
+    let guest = c.in-Some.guest.now in
+    ap (λ (k : PlainKernel). is_live k c.args.p) c.deliver_to-delivered.ensures.kernel
+    ∙ found_lives m.kernel m.guests c.args.p c.args.t.0 c.args.s.0 guest c.requires.ready.valid
+    (found_part m.guests c.args.p guest c.in-Some.ensures.value)
 
 pub append-requires-clause-spellable : goal.append-requires-clause-spellable
 append-requires-clause-spellable c =

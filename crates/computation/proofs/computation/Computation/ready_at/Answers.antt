@@ -1,6 +1,5 @@
-use Rattle.std.proofs.Common.{◌≡◌, true, false, not, Some, sym, ap, ◌∙◌}
+use Rattle.std.proofs.Common.{not, sym, ap, ◌∙◌}
 use Rattle.std.specs.Option.{option_copied}
-use Rattle.std.specs.FinMap as map
 use Rattle.computation.specs.Computations.{plain_of}
 use Rattle.computation.proofs.Threads.{part_of, none_goes, nobody_goes, goes_is}
 use Rattle.computation.proofs.computation.Computation.ready_at.Goals as goal

@@ -27,16 +27,16 @@ returns-clause-ok g c before has can =
       bytes,
       elim c.if-is_some.branch [
         | then-is_some+in_ok-add_file w ↦
-            let new : JobStart = record { computation = w.add_file.new.self; room = c.less-self.result } in
+            let new : JobStart = record { state = w.add_file.new.self; room = c.less-self.result } in
             let some = some_room c.less-self.result c.is_some.result c.is_some.ensures w.if-is_some.true in
             subst (λ (s : JobStart). HasRead files s (files_alone (before ++ file_input name (found bytes) ∷ []))) (sym w.self-is)
             (file_added files old new before name bytes has can read room w.in_ok-add_file.ensures.ready
             (λ there. file_builds files old before name w.as_bytes-name.result.now bytes w.as_slice.result.now c.less-self.result has can
-            (w.as_bytes-name.ensures.value ∙ w.as_str-then-is_some.ensures) w.as_slice.ensures w.look_at_bytes.ensures read.each room some new.computation w.in_ok-add_file.ensures.start))
+            (w.as_bytes-name.ensures.value ∙ w.as_str-then-is_some.ensures) w.as_slice.ensures w.look_at_bytes.ensures read.each room some new.state w.in_ok-add_file.ensures.start))
         | else-is_some w ↦
-            let new : JobStart = record { computation = old.computation; room = c.less-self.result } in
+            let new : JobStart = record { state = old.state; room = c.less-self.result } in
             subst (λ (s : JobStart). HasRead files s (files_alone (before ++ file_input name (found bytes) ∷ []))) (sym w.self-is)
-            (file_added files old new before name bytes has can read room has.ready
+            (file_added files old new before name bytes has can read room has.can
             (λ there. absurd (no_room c.less-self.result c.is_some.result c.is_some.ensures w.if-is_some.false there)))
       ],
     )

@@ -14,15 +14,15 @@ returns-clause-ok g c before has can =
       read.file,
       elim c.if-is_some.branch [
         | then-is_some+in_ok-add_program w ↦
-            let new : JobStart = record { computation = w.add_program.new.self; room = old.room } in
+            let new : JobStart = record { state = w.add_program.new.self; room = old.room } in
             let built = has.built (some_room old.room c.is_some.result c.is_some.ensures w.if-is_some.true) in
             subst (λ (s : JobStart). HasRead files s (with_program before program read.file)) (sym w.self-is)
             (program_added files old new before program read.file has read.told read.of.fine refl w.in_ok-add_program.ensures.ready
-            (λ some. runs_more old.computation new.computation before program read.file c.in_ok-elf.elf w.as_slice-arguments.result.now read.of.is w.as_slice-arguments.ensures built
+            (λ some. runs_more old.state new.state before program read.file c.in_ok-elf.elf w.as_slice-arguments.result.now read.of.is w.as_slice-arguments.ensures built
             (read.of.good program.host w.as_slice-arguments.result.now can.placed w.look_at_bytes.ensures) w.in_ok-add_program.ensures.start))
         | else-is_some w ↦
             subst (λ (s : JobStart). HasRead files s (with_program before program read.file)) (sym w.self-is)
-            (program_added files old old before program read.file has read.told read.of.fine refl has.ready
+            (program_added files old old before program read.file has read.told read.of.fine refl has.can
             (λ some. absurd (no_room old.room c.is_some.result c.is_some.ensures w.if-is_some.false some)))
       ],
     )

@@ -1,34 +1,40 @@
 -- The start of a job with one more file, and with one more program.
 --     file_added, file_fits, no_guests      program_added
-use Rattle.std.proofs.Common.{◌≡◌, ℕ, zero, suc, All, ◌+◌, ◌<◌, ◌≤◌, ◌^◌, List, [], ◌∷◌, ◌++◌, length, Some, None, refl, sym, ap, ◌∙◌, arith}
+--     all_arrived_at, no_datagrams_at       a system can be made for it
+use Rattle.std.proofs.Common.{◌≡◌, ℕ, zero, suc, All, ◌+◌, ◌<◌, ◌≤◌, ◌^◌, List, [], ◌∷◌, ◌++◌, length, Some, None, inl, inr, refl, sym, ap, subst, ◌∙◌, arith}
 use Rattle.std.specs.Option.{option_map}
 use Rattle.std.specs.FinMap as map
 use Rattle.std.proofs.lemmas.Grind.{common_steps}
+use Rattle.std.proofs.lemmas.Option.{none-some, same_Some}
 use Rattle.std.proofs.lemmas.List.Elements.{All-append, All-nil}
 use Rattle.plain_machine.specs.Valid.{AreNamed}
 use Rattle.plain_process.specs.Launches.{IsLaunched}
 use Rattle.views.specs.Maps.{map_values}
 use Rattle.views.proofs.MapValues.{get-map_values, map_values-insert}
+use Rattle.views.proofs.MapLaws.{same_or_other, get_insert_same, get_insert_other}
 use Rattle.sys_abi.specs.declared.identity.VPid.{VPid}
-use Rattle.sys_abi.specs.Orders.{vpid_cmp}
-use Rattle.sys_abi.proofs.OrderLaws.{vpid_total, vpid_exact}
-use Rattle.plain_tables.specs.Tables.{pid}
+use Rattle.sys_abi.specs.declared.identity.DescId.{DescId}
+use Rattle.sys_abi.specs.Orders.{vpid_cmp, dir_cmp, desc_cmp}
+use Rattle.sys_abi.proofs.OrderLaws.{vpid_total, vpid_exact, desc_total, desc_exact}
+use Rattle.plain_tables.specs.declared.channel.Direction.{Direction}
+use Rattle.plain_tables.specs.declared.description.Description.{Description}
+use Rattle.plain_tables.specs.Objects.{is_datagram}
+use Rattle.plain_tables.specs.Tables.{Descriptions, pid}
 use Rattle.plain_process.specs.declared.user_part.UserPart.{UserPart}
 use Rattle.plain_process.specs.Start.{Launched, start_user}
 use Rattle.plain_machine.specs.declared.kernel.PlainKernel.{PlainKernel}
 use Rattle.plain_machine.specs.declared.plain.Plain.{Plain}
 use Rattle.plain_machine.specs.Records.{Users}
-use Rattle.plain_machine.specs.Start.{NamedFile, FIRST_PID, start, start_kernel, with_file, with_files, with_process, with_processes, with_users, empty_kernel}
+use Rattle.plain_machine.specs.Start.{NamedFile, FIRST_PID, start, start_kernel, with_file, with_files, with_process, with_processes, with_users, empty_kernel, console_description, console_of}
+use Rattle.rebuild_book.specs.Rebuilt.{HasNoDatagrams}
+use Rattle.rebuild_system.specs.Restarts.{AllArrived}
 use Rattle.guest_proc.specs.Guests.{GuestPart}
 use Rattle.computation.specs.declared.computation.Computation.{Computation}
-use Rattle.computation.specs.Computations.{IsStart}
-
-abbrev pub Guests : Type 0
-Guests = map.FinMap vpid_cmp GuestPart
-
--- the plain state of a kernel part and guests
-abbrev pub seen : PlainKernel → Guests → Plain
-seen k guests = record { kernel = k; users = map_values (λ guest. guest.user) guests }
+use Rattle.computation.specs.Computations.{IsReady}
+use Rattle.computation.proofs.States.{Guests, seen, plain_is}
+use Rattle.run_start.specs.declared.start.Start.{Start}
+use Rattle.run_start.specs.Starts.{CanBegin, IsStart}
+use Rattle.plain_machine.specs.Valid.{IsValid}
 
 pub all_launched : (jobs : List Launched) (job : Launched) → All IsLaunched jobs → IsLaunched job → All IsLaunched (jobs ++ job ∷ [])
 all_launched jobs job all is = All-append IsLaunched jobs (job ∷ []) all one
@@ -36,11 +42,6 @@ all_launched jobs job all is = All-append IsLaunched jobs (job ∷ []) all one
     one : All IsLaunched (job ∷ [])
     one zero x low = is
     one (suc i) x low = absurd (omega arith)
-
-pub plain_is : (k l : PlainKernel) (users parts : Users) → k ≡ l → users ≡ parts
-    → record { kernel = k; users = users } ≡ (let g : Plain = record { kernel = l; users = parts } in g)
-plain_is k l users parts kernel same =
-    ap (λ (x : PlainKernel). let g : Plain = record { kernel = x; users = users } in g) kernel ∙ ap (λ (m : Users). let g : Plain = record { kernel = l; users = m } in g) same
 
 kernel_of : (g h : Plain) → g ≡ h → g.kernel ≡ h.kernel
 kernel_of g h is = ap (λ (x : Plain). x.kernel) is
@@ -80,7 +81,7 @@ first_file : empty_kernel.next_file ≡ 1
 unfolding empty_kernel
 first_file = refl
 
-pub file_fits : (before : Computation) (files : List NamedFile) (file : NamedFile) → IsStart before [] files → length (files ++ file ∷ []) ≤ 64 → before.kernel.next_file + 1 < 2 ^ 32
+pub file_fits : (before : Start) (files : List NamedFile) (file : NamedFile) → IsStart before [] files → length (files ++ file ∷ []) ≤ 64 → before.kernel.next_file + 1 < 2 ^ 32
 file_fits before files file is few =
     let number : before.kernel.next_file ≡ empty_kernel.next_file + length files =
     ap (λ (k : PlainKernel). k.next_file) (kernel_of _ _ is ∙ start_is [] files ∙ only_files files) ∙ next_file_of files empty_kernel in
@@ -88,7 +89,7 @@ file_fits before files file is few =
     let count : length (files ++ file ∷ []) ≡ length files + 1 = grind (arith, common_steps) in
     omega arith
 
-pub file_added : (before : Computation) (k : PlainKernel) (files : List NamedFile) (file : NamedFile) → IsStart before [] files → k ≡ with_file before.kernel file
+pub file_added : (before : Start) (k : PlainKernel) (files : List NamedFile) (file : NamedFile) → IsStart before [] files → k ≡ with_file before.kernel file
     → seen k before.guests ≡ start [] (files ++ file ∷ [])
 unfolding start with_users
 file_added before k files file is kernel =
@@ -96,7 +97,7 @@ file_added before k files file is kernel =
     (kernel ∙ ap (λ k. with_file k file) (kernel_of _ _ is ∙ only_files files) ∙ sym (files_more files empty_kernel file) ∙ sym (only_files (files ++ file ∷ [])))
     (users_of _ _ is)
 
-pub no_guests : (before : Computation) (files : List NamedFile) (p : VPid) (guest : GuestPart) → IsStart before [] files → map.get before.guests p ≡ Some guest → ⊥
+pub no_guests : (before : Start) (files : List NamedFile) (p : VPid) (guest : GuestPart) → IsStart before [] files → map.get before.guests p ≡ Some guest → ⊥
 no_guests before files p guest is there =
     let found : option_map (λ (guest : GuestPart). guest.user) (map.get before.guests p) ≡ None =
     sym (get-map_values (λ (guest : GuestPart). guest.user) before.guests p) ∙ ap (λ m. map.get m p) (users_of _ _ is ∙ no_users files) ∙ map.get-empty {X = UserPart} vpid_cmp p in
@@ -133,12 +134,12 @@ first_id : empty_kernel.next_id ≡ FIRST_PID
 unfolding empty_kernel
 first_id = refl
 
-next_number : (before : Computation) (programs : List Launched) (files : List NamedFile) → IsStart before programs files → before.kernel.next_id ≡ FIRST_PID + length programs
+next_number : (before : Start) (programs : List Launched) (files : List NamedFile) → IsStart before programs files → before.kernel.next_id ≡ FIRST_PID + length programs
 unfolding start_kernel
 next_number before programs files is =
     ap (λ (k : PlainKernel). k.next_id) (kernel_of _ _ is ∙ start_is programs files) ∙ next_id_of programs (with_files empty_kernel files) FIRST_PID (files_keep files empty_kernel ∙ first_id)
 
-pub program_added : (before : Computation) (k : PlainKernel) (after : Guests) (programs : List Launched) (files : List NamedFile) (job : Launched) (guest : GuestPart) → IsStart before programs files
+pub program_added : (before : Start) (k : PlainKernel) (after : Guests) (programs : List Launched) (files : List NamedFile) (job : Launched) (guest : GuestPart) → IsStart before programs files
     → k ≡ with_process before.kernel before.kernel.next_id job.host → after ≡ map.insert before.guests (pid before.kernel.next_id) guest
     → guest.user ≡ start_user job.program job.arguments before.kernel.next_id → seen k after ≡ start (programs ++ job ∷ []) files
 unfolding start start_kernel
@@ -164,3 +165,73 @@ nothing_starts k guests kernel none = plain_is _ _ _ _ kernel (ap (λ m. map_val
 
 pub nothing_named : AreNamed []
 nothing_named = record { count = omega arith; names = All-nil _; bytes = All-nil _; total = omega arith; apart = λ i j d before inside. absurd (omega arith) }
+
+-- no bytes are on the way, and no end of a datagram pair is open
+record IsQuiet (k : PlainKernel) : Type 0 where
+  arrived : AllArrived k.directions
+  plain : HasNoDatagrams k.descriptions
+
+empty_is_quiet : IsQuiet empty_kernel
+unfolding empty_kernel
+empty_is_quiet = record {
+  arrived = λ at direction there. absurd (none-some direction (sym (map.get-empty {X = Direction} dir_cmp at) ∙ there));
+  plain = λ id x there. absurd (none-some x (sym (map.get-empty {X = Description} desc_cmp id) ∙ there));
+}
+
+file_is_quiet : (k : PlainKernel) (file : NamedFile) → IsQuiet k → IsQuiet (with_file k file)
+unfolding with_file
+file_is_quiet k file is = record { arrived = is.arrived; plain = is.plain }
+
+files_are_quiet : (files : List NamedFile) (k : PlainKernel) → IsQuiet k → IsQuiet (with_files k files)
+unfolding with_files
+files_are_quiet [] k is = is
+files_are_quiet (file ∷ rest) k is = files_are_quiet rest (with_file k file) (file_is_quiet k file is)
+
+console_is_plain : (descriptions : Descriptions) (at : DescId) → HasNoDatagrams descriptions
+    → HasNoDatagrams (map.insert descriptions at console_description)
+console_is_plain descriptions at is id x there = elim (same_or_other desc_total desc_exact id at) [
+  | inl here ↦
+      let found = sym (get_insert_same desc_total desc_exact descriptions at console_description)
+      ∙ ap (map.get (map.insert descriptions at console_description)) (sym here) ∙ there in
+      ap (λ (d : Description). is_datagram d.object) (sym (same_Some console_description x found))
+  | inr other ↦
+      is id x (sym (get_insert_other desc_total desc_exact descriptions at console_description id other) ∙ there)
+]
+
+process_is_quiet : (k : PlainKernel) (p host : ℕ) → IsQuiet k → IsQuiet (with_process k p host)
+unfolding with_process
+process_is_quiet k p host is =
+    record { arrived = is.arrived; plain = console_is_plain k.descriptions (console_of p) is.plain }
+
+processes_are_quiet : (jobs : List Launched) (k : PlainKernel) (p : ℕ) → IsQuiet k
+    → IsQuiet (with_processes k p jobs)
+unfolding with_processes
+processes_are_quiet [] k p is = is
+processes_are_quiet (first ∷ rest) k p is =
+    processes_are_quiet rest (with_process k p first.host) (p + 1) (process_is_quiet k p first.host is)
+
+start_is_quiet : (programs : List Launched) (files : List NamedFile) → IsQuiet (start_kernel programs files)
+unfolding start_kernel
+start_is_quiet programs files =
+    processes_are_quiet programs (with_files empty_kernel files) FIRST_PID
+    (files_are_quiet files empty_kernel empty_is_quiet)
+
+module _ (k : PlainKernel) (guests : Guests) (programs : List Launched) (files : List NamedFile)
+    (is : seen k guests ≡ start programs files) where
+  quiet : IsQuiet k
+  quiet = subst IsQuiet (sym (kernel_of _ _ is ∙ start_is programs files)) (start_is_quiet programs files)
+
+  pub all_arrived_at : AllArrived k.directions
+  all_arrived_at = quiet.arrived
+
+  pub no_datagrams_at : HasNoDatagrams k.descriptions
+  no_datagrams_at = quiet.plain
+
+-- a computation that begins there
+pub begun_ready : (s : Start) (c : Computation) → c.kernel ≡ s.kernel → c.guests ≡ s.guests → CanBegin s
+    → IsReady c
+begun_ready s c kernel guests can = record {
+  valid = subst IsValid (sym (plain_is c.kernel s.kernel _ _ kernel
+      (ap (λ m. map_values (λ (guest : GuestPart). guest.user) m) guests))) can.valid;
+  numbered = λ p guest there. can.numbered p guest (ap (λ m. map.get m p) (sym guests) ∙ there);
+}

@@ -1,7 +1,7 @@
 use Rattle.std.proofs.Common.{ℕ, List, subst}
 use Rattle.std.specs.Prelude.{All}
 use Rattle.plain_process.specs.Valid.{IsByte}
-use Rattle.dmtcp_top.proofs.loading.computation_of.Goals as goal
+use Rattle.dmtcp_top.proofs.loading.origin_in.Goals as goal
 
 pub restored-requires : goal.restored-requires
 restored-requires c = record {

@@ -5,8 +5,8 @@ use Rattle.plain_process.specs.Start.{Launched}
 use Rattle.plain_machine.specs.Valid.{IsValid}
 use Rattle.plain_machine.proofs.StartKernels.{start_is_valid}
 use Rattle.computation.proofs.Numbered.{Numbered, OnOk-map, numbered_put}
-use Rattle.computation.proofs.Starts.{all_launched, program_added}
-use Rattle.computation.proofs.computation.Computation.add_program.Goals as goal
+use Rattle.run_start.proofs.Starts.{all_launched, program_added, all_arrived_at, no_datagrams_at}
+use Rattle.run_start.proofs.start.Start.add_program.Goals as goal
 
 pub returns-clause-start : goal.returns-clause-start
 returns-clause-start c = OnOk-map c.add_process.result (λ kernel programs files is.
@@ -21,4 +21,6 @@ returns-clause-ready c = OnOk-map c.add_process.result (λ starts.
     record {
       valid = subst IsValid (sym (starts given.0 given.1.0 given.1.1.0)) (start_is_valid (given.0 ++ job ∷ []) given.1.0 count (all_launched given.0 job given.1.1.2 c.requires.launched) given.1.1.1);
       numbered = subst Numbered (sym c.in_ok-insert.ensures.ok) (numbered_put c.args.self.now.guests _ c.in_ok-guest.guest c.requires.ready.numbered (ap (λ (g : GuestPart). g.pid) c.in_ok-guest.ensures));
+      arrived = all_arrived_at c.add_process.new.self c.insert.new.self _ _ (starts given.0 given.1.0 given.1.1.0);
+      plain = no_datagrams_at c.add_process.new.self c.insert.new.self _ _ (starts given.0 given.1.0 given.1.1.0);
     }) (returns-clause-start c)
