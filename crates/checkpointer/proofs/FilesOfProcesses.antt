@@ -1,4 +1,4 @@
--- The files of the processes of a computation: each that lives has one, and they come one after the other.
+-- The files of the processes of a start: each that lives has one, and they come one after the other.
 use Rattle.std.proofs.Common.{◌≡◌, ℕ, suc, ◌≤◌, true, List, [], ◌∷◌, ◌++◌, length, append_assoc, Option, Some, None, refl, sym, ap, subst, ◌∙◌, arith, append-nil}
 use Rattle.std.specs.Prelude.{is_some, map as each}
 use Rattle.std.specs.Option.{option_map}
@@ -23,8 +23,8 @@ use Rattle.image_process.specs.declared.thread_image.ThreadImage.{ThreadImage}
 use Rattle.image_process.specs.ProcessFits.{threads_of}
 use Rattle.image_process.specs.ProcessImages.{SpellsProcess}
 use Rattle.image_process.specs.UserParts.{thread_entry, user_of}
-use Rattle.computation.specs.declared.computation.Computation.{Computation}
-use Rattle.computation.specs.Computations.{plain_of, IsReady}
+use Rattle.run_start.specs.declared.start.Start.{Start}
+use Rattle.run_start.specs.Starts.{state_of, CanBegin}
 use Rattle.checkpointer.specs.Images.{HasFile, IsFileOf, AreFilesOf}
 
 -- one more file
@@ -55,9 +55,9 @@ some_threads process alive fits = by_life process.life alive fits
     by_life Live alive fits = fits.0
     by_life (Zombie status) alive fits = true_false (sym alive)
 
-pub each_has_file : (c : Computation) → IsReady c → (p : VPid) (guest : GuestPart) → map.get c.guests p ≡ Some guest → HasFile guest
+pub each_has_file : (c : Start) → CanBegin c → (p : VPid) (guest : GuestPart) → map.get c.guests p ≡ Some guest → HasFile guest
 each_has_file c ready p guest found =
-    let there : map.get (plain_of c).users p ≡ Some guest.user = get-map_values (λ (g : GuestPart). g.user) c.guests p ∙ ap (option_map (λ (g : GuestPart). g.user)) found in
+    let there : map.get (state_of c).users p ≡ Some guest.user = get-map_values (λ (g : GuestPart). g.user) c.guests p ∙ ap (option_map (λ (g : GuestPart). g.user)) found in
     let alive : is_live c.kernel p ≡ true = sym (ready.valid.alive p) ∙ ap is_some there in
     let (process, (known, alive_too)) = live_process c.kernel p alive in
     let some = some_threads process alive_too (ready.valid.kernel.processes.each p process known).life in

@@ -10,7 +10,5 @@ pub mod Arrived
 pub mod Supported
 pub mod FilesOfProcesses
 pub mod SpelledStates
+pub mod Holding
 pub mod RestoredStates
-pub mod LeftBytes
-pub mod LeftWalk
-pub mod Marking

@@ -1,4 +1,4 @@
--- The files of a computation's images spell its plain state: the shared image of the kernel part has a place for each process that lives, and each file that of its process.
+-- The files of a start's images spell its plain state: the shared image of the kernel part has a place for each process that lives, and each file that of its process.
 use Rattle.std.proofs.Common.{◌≡◌, ℕ, suc, ◌+◌, ◌≤◌, List, [], ◌∷◌, length, Option, Some, refl, sym, ap, subst, ◌∙◌, arith}
 use Rattle.std.specs.Prelude.{slice_get, map as each}
 use Rattle.std.specs.FinMap as map
@@ -24,8 +24,8 @@ use Rattle.image_shared.specs.SharedFormat.{SpellsShared}
 use Rattle.image_codec.specs.KernelImages.{IsImage, KernelHasImage, process_image, shared_of}
 use Rattle.image_codec.specs.Sets.{SpellsFiles, SpellsImages, live_count, user_entry}
 use Rattle.image_codec.specs.LiveImages.{HavePlaces, PartsHavePlaces}
-use Rattle.computation.specs.declared.computation.Computation.{Computation}
-use Rattle.computation.specs.Computations.{plain_of, IsReady}
+use Rattle.run_start.specs.declared.start.Start.{Start}
+use Rattle.run_start.specs.Starts.{state_of, CanBegin}
 use Rattle.checkpointer.specs.Images.{AreFilesOf}
 use Rattle.checkpointer.specs.Sets.{SpellsState}
 use Rattle.checkpointer.proofs.Supported.{has_arrived, is_supported}
@@ -82,44 +82,44 @@ module _ (s : Shared) where
 own_entries : (m : map.FinMap vpid_cmp UserPart) → map.from_entries (map.entries m) ≡ m
 own_entries m = map.same_map vpid_total vpid_exact (map.from_entries (map.entries m)) m (λ q. map.get-from_entries vpid_total (map.entries m) q ∙ sym (map.get-entries m q))
 
-pub imaged : (c : Computation) → IsReady c → CanBeHeld (plain_of c) → full_arrive (plain_of c) ≡ plain_of c → KernelHasImage → IsImage (shared_of c.kernel) c.kernel
-imaged c ready held arrived has_image = has_image c.kernel ready.valid.kernel (is_supported (plain_of c) ready.valid.kernel held.supported) (has_arrived (plain_of c) arrived)
+pub imaged : (c : Start) → CanBegin c → CanBeHeld (state_of c) → full_arrive (state_of c) ≡ state_of c → KernelHasImage → IsImage (shared_of c.kernel) c.kernel
+imaged c ready held arrived has_image = has_image c.kernel ready.valid.kernel (is_supported (state_of c) ready.valid.kernel held.supported) (has_arrived (state_of c) arrived)
 
-module _ (c : Computation) (ready : IsReady c) (held : CanBeHeld (plain_of c)) (arrived : full_arrive (plain_of c) ≡ plain_of c) (has_image : KernelHasImage) (have_places : PartsHavePlaces) where
+module _ (c : Start) (ready : CanBegin c) (held : CanBeHeld (state_of c)) (arrived : full_arrive (state_of c) ≡ state_of c) (has_image : KernelHasImage) (have_places : PartsHavePlaces) where
   abbrev s : Shared
   s = shared_of c.kernel
 
   own : IsImage s c.kernel
   own = imaged c ready held arrived has_image
 
-  places : HavePlaces s (plain_of c).users
-  places = have_places s (plain_of c).users own.spelled (record {
+  places : HavePlaces s (state_of c).users
+  places = have_places s (state_of c).users own.spelled (record {
     alive = λ p. ready.valid.alive p ∙ ap (λ (k : PlainKernel). is_live k p) (sym own.kernel);
     threads = λ p process user known. ready.valid.threads p process user (ap (λ (k : PlainKernel). map.get k.processes p) (sym own.kernel) ∙ known);
   })
 
-  entries_are : map.entries (plain_of c).users ≡ each part_entry (map.entries c.guests)
+  entries_are : map.entries (state_of c).users ≡ each part_entry (map.entries c.guests)
   entries_are = entries-map_values (λ guest. guest.user) c.guests
 
   numbered : EachEntry (λ p guest. guest.pid ≡ p) (map.entries c.guests)
   numbered = each_entry vpid_total vpid_exact (λ p guest. guest.pid ≡ p) c.guests ready.numbered
 
   all_at : AreAt s 2 (each part_entry (map.entries c.guests))
-  all_at = subst (AreAt s 2) entries_are (are_at s 2 (map.entries (plain_of c).users)
+  all_at = subst (AreAt s 2) entries_are (are_at s 2 (map.entries (state_of c).users)
       (λ i p user at. subst (λ n. pid_at s n ≡ Some p.0) (turned i) (places.pids i p user at)) (λ i p user at. subst (λ n. tids_at s n ≡ map.keys user.threads) (turned i) (places.tids i p user at)))
     where
       turned : (i : ℕ) → i + 2 ≡ 2 + i
       turned i = omega arith
 
-  pub set_spelled : (first : List ℕ) (texts : List (List ℕ)) → SpellsShared first s → AreFilesOf (map.entries c.guests) texts → SpellsState (first ∷ texts) (plain_of c)
+  pub set_spelled : (first : List ℕ) (texts : List (List ℕ)) → SpellsShared first s → AreFilesOf (map.entries c.guests) texts → SpellsState (first ∷ texts) (state_of c)
   unfolding SpellsFiles
   set_spelled first texts shared files =
       let all = spelled_from s 2 (map.entries c.guests) texts all_at numbered files in
       record {
         shared = s;
         processes = all.images;
-        spelled = (shared, all.count ∙ sym (ap length entries_are ∙ length-map (map.entries c.guests) part_entry) ∙ sym (map.len-entries (plain_of c).users) ∙ places.count, all.spelled);
-        stands = record { kernel = sym own.kernel; users = sym (own_entries (plain_of c).users) ∙ ap map.from_entries (entries_are ∙ sym all.entries) };
+        spelled = (shared, all.count ∙ sym (ap length entries_are ∙ length-map (map.entries c.guests) part_entry) ∙ sym (map.len-entries (state_of c).users) ∙ places.count, all.spelled);
+        stands = record { kernel = sym own.kernel; users = sym (own_entries (state_of c).users) ∙ ap map.from_entries (entries_are ∙ sym all.entries) };
       }
 
   pub few_files : length (map.entries c.guests) ≤ 128
@@ -129,6 +129,6 @@ module _ (c : Computation) (ready : IsReady c) (held : CanBeHeld (plain_of c)) (
       let live = count_by-le-length (λ (process : ProcessEntry). lives process.life) s.processes in
       let all : length s.processes ≡ map.len c.kernel.processes = length-map (map.entries c.kernel.processes) (process_image c.kernel) ∙ sym (map.len-entries c.kernel.processes) in
       let most = ready.valid.kernel.processes.count in
-      let size = map.len-entries (plain_of c).users in
-      let own : length (map.entries (plain_of c).users) ≡ length (map.entries c.guests) = ap length entries_are ∙ length-map (map.entries c.guests) part_entry in
+      let size = map.len-entries (state_of c).users in
+      let own : length (map.entries (state_of c).users) ≡ length (map.entries c.guests) = ap length entries_are ∙ length-map (map.entries c.guests) part_entry in
       omega arith

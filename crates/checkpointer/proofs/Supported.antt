@@ -1,5 +1,5 @@
 -- A state that can be held in a set, in the words of images: each description is supported, and all bytes of each direction have arrived.
-use Rattle.std.proofs.Common.{◌≡◌, ◌<◌, true, false, List, [], ◌∷◌, Option, Some, None, refl, sym, ap, subst, ◌∙◌}
+use Rattle.std.proofs.Common.{◌≡◌, ◌<◌, true, List, [], ◌∷◌, Option, Some, None, refl, sym, ap, subst, ◌∙◌}
 use Rattle.std.specs.Prelude.{nat_lt}
 use Rattle.std.specs.List.{filter_map, cons_option}
 use Rattle.std.specs.Option.{option_map}
@@ -14,14 +14,12 @@ use Rattle.plain_tables.specs.declared.description.Object.TheVariants.{Datagram,
 use Rattle.sys_abi.proofs.OrderLaws.{slot_total, slot_exact, desc_total, desc_exact}
 use Rattle.plain_tables.specs.declared.channel.Direction.{Direction}
 use Rattle.plain_tables.specs.declared.description.Description.{Description}
-use Rattle.plain_tables.specs.Objects.{is_datagram}
 use Rattle.plain_tables.specs.Tables.{refers_to, is_held}
 use Rattle.plain_machine.specs.declared.plain.Plain.{Plain}
 use Rattle.plain_machine.specs.declared.kernel.PlainKernel.{PlainKernel}
 use Rattle.plain_machine.specs.Kernels.{IsKernel}
 use Rattle.plain_machine.specs.Tests.{UnsupportedAt, all_arrived, full_arrive, first_of, unsupported, unsupported_entry, unsupported_by, unsupported_kind}
 use Rattle.image_codec.specs.KernelImages.{HasArrived, IsSupported}
-use Rattle.seen_processes.specs.Descriptions.{HasNoDatagrams}
 use Rattle.views.proofs.MapLaws.{same_key}
 use Rattle.image_codec.proofs.MadeMaps.{which_value}
 
@@ -106,11 +104,3 @@ has_number g is u found =
     let (at, (descriptor, (there, own))) = first_is (λ q v. map.get k.descriptors q ≡ Some v) (unsupported_entry k) (map.entries k.descriptors) u (each_entry slot_total slot_exact (λ q v. map.get k.descriptors q ≡ Some v) k.descriptors (λ q v same. same)) found in
     let numbers = numbered_by at (map.get k.descriptions descriptor.desc) u own in
     (subst (λ (s : Slot). s.fd < 256) (sym numbers.slot) (is.descriptors.number at descriptor there), numbers.kind)
-
--- none is an end of a datagram pair then
-pub no_datagrams : (k : PlainKernel) → IsSupported k → HasNoDatagrams k.descriptions
-no_datagrams k supported d description there = other description.object (supported d description there)
-  where
-    other : (object : Object) → unsupported_kind object ≡ None → is_datagram object ≡ false
-    other (Datagram peer) none = absurd (cc)
-    other _ none = refl

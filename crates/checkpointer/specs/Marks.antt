@@ -2,18 +2,14 @@
 --     mark_of passes dir n        the mark that the bytes of a direction were drained, or refilled
 --     marks_of passes g           those of all directions with bytes left, in rising order
 --     with_marks trace marks      the trace with as many of them as it has room for
---     length_left found           how many bytes of a direction are left
---     in_queues found             how many stand in the queues of a real direction
 --     unsupported_at found        a descriptor that no image holds, in the words of the machine
-use Rattle.std.specs.Prelude.{ℕ, ◌-◌, List, ◌++◌, length, take, Option, Some, None}
+use Rattle.std.specs.Prelude.{ℕ, ◌-◌, List, ◌++◌, length, take}
 use Rattle.sys_abi.specs.declared.identity.Dir.{Dir}
 use Rattle.sys_abi.specs.declared.record.Record.{Record}
 use Rattle.sys_abi.specs.declared.record.Record.TheVariants.{Drained, Refilled}
 use Rattle.plain_tables.specs.Tables.{slot}
-use Rattle.plain_tables.specs.declared.channel.Direction.{Direction}
 use Rattle.plain_machine.specs.declared.plain.Plain.{Plain}
 use Rattle.plain_machine.specs.Tests.{UnsupportedAt}
-use Rattle.wire_channels.specs.Directions.{Direction as RealDirection, standing}
 use Rattle.trace_log.specs.Requests.{all_left}
 use Rattle.trace_log.specs.Trace.{TraceState}
 use Rattle.checkpointer.specs.declared.marks.Pass.{Pass}
@@ -35,11 +31,3 @@ with_marks trace marks = record {
 
 abbrev pub unsupported_at : Unsupported → UnsupportedAt
 unsupported_at found = record { slot = slot found.p found.fd.0; kind = found.kind }
-
-abbrev pub length_left : Option Direction → ℕ
-length_left None = 0
-length_left (Some direction) = length direction.left
-
-abbrev pub in_queues : Option RealDirection → ℕ
-in_queues None = 0
-in_queues (Some direction) = standing direction

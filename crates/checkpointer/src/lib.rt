@@ -17,7 +17,6 @@ pub mod checkpointer;
 mod cut;
 pub mod marks;
 pub mod restoring;
-mod seen;
 pub mod set_files;
 pub mod unsupported;
 

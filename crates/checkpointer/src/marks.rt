@@ -2,13 +2,12 @@ ghost use Rattle.std.specs.Prelude.{◌≡◌, ℕ, ◌+◌, ◌*◌, ◌-◌, �
 ghost use Rattle.trace_log.specs.Spelling.{is_spellable};
 ghost use Rattle.trace_log.specs.LogText.{after_all};
 ghost use Rattle.trace_log.specs.Requests.{tally_after, cut_marks};
-ghost use Rattle.computation.specs.Computations.{plain_of, IsReady};
 ghost use Rattle.computation.specs.Takes.{with_record};
+ghost use Rattle.run_start.specs.Starts.{state_of, CanBegin};
 ghost use Rattle.checkpointer.specs.Marks.{mark_of, marks_of, with_marks};
 
 use crate::checkpointer::Checkpointer;
-use crate::seen::left_in;
-use computation::Computation;
+use run_start::Start;
 use sys_abi::{Dir, Record};
 use trace_log::Trace;
 
@@ -44,49 +43,46 @@ impl Checkpointer {
         trace.append(mark);
     }
 
-    /// Puts the marks between a cut and its outcome on the trace, as far as it has room. The bytes themselves
-    /// stay where they are.
-    pub(crate) fn mark_bytes(&mut self, computation: &Computation, trace: &mut Trace)
-        requires ready { IsReady computation.now }
+    /// Puts the marks between a cut and its outcome on the trace, as far as it has room: of each direction how
+    /// many bytes were drained, and how many are refilled.
+    pub(crate) fn mark_bytes(&mut self, start: &Start, trace: &mut Trace)
+        requires ready { CanBegin start.now }
         requires work { self.old.tally.work + 1 < 2 ^ 64 }
         requires request { self.old.lines.request + 1 < 2 ^ 64 }
         requires drained { self.old.lines.drained ≡ 0 }
         ensures checkpointer { self.new ≡ record self.old {
-          lines = after_all self.old.lines (take trace.old.room (cut_marks (plain_of computation.now)));
+          lines = after_all self.old.lines (take trace.old.room (cut_marks (state_of start.now)));
         } }
-        ensures trace { trace.new ≡ with_marks trace.old (cut_marks (plain_of computation.now)) }
+        ensures trace { trace.new ≡ with_marks trace.old (cut_marks (state_of start.now)) }
         ensures drained { self.new.lines.drained ≤ 2 ^ 64 }
     {
         // What there is room for bounds the bytes that the marks count.
         prove!(trace.room() <= u32::MAX);
-        self.mark_all(computation, Pass::Drain, trace);
-        self.mark_all(computation, Pass::Refill, trace);
+        self.mark_all(start, Pass::Drain, trace);
+        self.mark_all(start, Pass::Refill, trace);
     }
 
     /// Puts the marks of one kind on the trace, as far as it has room.
-    fn mark_all(&mut self, computation: &Computation, passes: Pass, trace: &mut Trace)
-        requires ready { IsReady computation.now }
+    fn mark_all(&mut self, start: &Start, passes: Pass, trace: &mut Trace)
+        requires ready { CanBegin start.now }
         requires work { self.old.tally.work + 1 < 2 ^ 64 }
         requires request { self.old.lines.request + 1 < 2 ^ 64 }
         requires drained { self.old.lines.drained + trace.old.room * 2 ^ 32 ≤ 2 ^ 64 }
         ensures checkpointer { self.new ≡ record self.old {
-          lines = after_all self.old.lines (take trace.old.room (marks_of passes (plain_of computation.now)));
+          lines = after_all self.old.lines (take trace.old.room (marks_of passes (state_of start.now)));
         } }
-        ensures trace { trace.new ≡ with_marks trace.old (marks_of passes (plain_of computation.now)) }
+        ensures trace { trace.new ≡ with_marks trace.old (marks_of passes (state_of start.now)) }
         ensures drained { self.new.lines.drained + trace.new.room * 2 ^ 32
             ≤ self.old.lines.drained + trace.old.room * 2 ^ 32 }
     {
-        let mut above = None;
-        while let Some(dir) = computation.kernel.next_dir(above) {
-            above = Some(dir);
-            let n = left_in(&computation.kernel, dir);
-            if n == 0 {
+        for (dir, direction) in start.kernel.directions.iter() {
+            if direction.left.is_empty() {
                 continue;
             }
             if trace.room() == 0 {
                 return;
             }
-            let mark = mark_of(passes, dir, n);
+            let mark = mark_of(passes, *dir, direction.left.len() as u32);
             self.mark(mark, trace);
             self.lines.pass(&mark);
         }

@@ -2,11 +2,12 @@ use Rattle.std.proofs.Common.{◌≡◌, ℕ, ◌+◌, ◌-◌, ◌^◌, ◌<◌
 use Rattle.std.specs.Prelude.{OnOk, OnErr}
 use Rattle.std.proofs.lemmas.List.{length-append}
 use Rattle.views.specs.Faults.{IsFaultOf}
+use Rattle.computation.specs.declared.computation.Computation.{Computation}
 use Rattle.computation.specs.declared.computation.Stop.TheVariants.{Sink}
 use Rattle.plain_machine.specs.declared.plain.Plain.{Plain}
 use Rattle.trace_log.specs.Trace.{TraceState}
 use Rattle.trace_log.specs.Requests.{Requested}
-use Rattle.computation.specs.Computations.{plain_of}
+use Rattle.computation.specs.Computations.{plain_of, IsReady}
 use Rattle.computation.specs.Sinks.{Sunk, sunk}
 use Rattle.computation.specs.Turns.{Upcoming}
 use Rattle.checkpointer.specs.declared.checkpointer.Checkpointer.{Checkpointer}
@@ -53,7 +54,12 @@ returns-in_default-clause-ok g c =
     (subst (λ disk. OnOk c.cut.result ((g' : Plain) (upcoming : Upcoming) (sink : Sunk) (had : Option (List ℕ)) (first : _)
     → (before : IsUnderWay c.loop-arrival.self.schedule g' h upcoming c.loop-arrival.self t sink (sunk had (g.L.Sink.seen c.loop-arrival.log).taken) (g.F.Folder.seen first) (g.F.Folder.seen disk)) → before.running.requests.phase ≡ Requested []
     → (after : IsUnderWay c.loop-arrival.self.schedule g' h upcoming c.cut.new.self c.cut.new.trace sink (sunk had (g.L.Sink.seen c.cut.new.log).taken) (g.F.Folder.seen first) (g.F.Folder.seen c.cut.new.disk)) × IsSettled after.running.requests c.cut.new.trace)) inv.same_disk c.cut.ensures.ok)) in
-    OnOk-map c.cut.result (λ done g' upcoming sink had first before waits. let now = inv.under g' upcoming sink had first before waits in done g' upcoming sink had first now.0 now.1) as_args
+    OnOk-map c.cut.result (λ done g' upcoming sink had first before waits.
+    let now = inv.under g' upcoming sink had first before waits in
+    subst (λ (m : Computation). (after : IsUnderWay c.args.self.now.schedule g' (plain_of m) upcoming c.cut.new.self
+    c.cut.new.trace sink (sunk had (g.L.Sink.seen c.cut.new.log).taken) (g.F.Folder.seen first)
+    (g.F.Folder.seen c.cut.new.disk)) × IsSettled after.running.requests c.cut.new.trace) (sym c.cut.ensures.same)
+    (done g' upcoming sink had first now.0 now.1)) as_args
 
 pub returns-in_default-clause-err : goal.returns-in_default-clause-err
 returns-in_default-clause-err g c =
@@ -69,10 +75,18 @@ returns-in_default-clause-err g c =
     (subst (λ disk. OnErr c.cut.result ((g' : Plain) (upcoming : Upcoming) (sink : Sunk) (had : Option (List ℕ)) (first : _)
     → (before : IsUnderWay c.loop-arrival.self.schedule g' h upcoming c.loop-arrival.self t sink (sunk had (g.L.Sink.seen c.loop-arrival.log).taken) (g.F.Folder.seen first) (g.F.Folder.seen disk)) → before.running.requests.phase ≡ Requested []
     → IsBrokenOff c.loop-arrival.self.schedule g' h upcoming c.cut.new.trace sink (sunk had (g.L.Sink.seen c.cut.new.log).taken) (g.F.Folder.seen first) (g.F.Folder.seen c.cut.new.disk))) inv.same_disk c.cut.ensures.err)) in
-    OnErr-map c.cut.result (λ done g' upcoming sink had first before waits. let now = inv.under g' upcoming sink had first before waits in done g' upcoming sink had first now.0 now.1) as_args
+    OnErr-map c.cut.result (λ done g' upcoming sink had first before waits.
+    let now = inv.under g' upcoming sink had first before waits in
+    subst (λ (m : Computation). IsBrokenOff c.args.self.now.schedule g' (plain_of m) upcoming c.cut.new.trace sink
+    (sunk had (g.L.Sink.seen c.cut.new.log).taken) (g.F.Folder.seen first) (g.F.Folder.seen c.cut.new.disk))
+    (sym c.cut.ensures.same) (done g' upcoming sink had first now.0 now.1)) as_args
 
 pub returns-in_default-clause-guests : goal.returns-in_default-clause-guests
-returns-in_default-clause-guests g c = c.loop-arrival.invariant.guests
+returns-in_default-clause-guests g c =
+    ap (λ (m : Computation). m.guests) c.cut.ensures.same ∙ c.loop-arrival.invariant.guests
+
+pub returns-in_default-clause-ready : goal.returns-in_default-clause-ready
+returns-in_default-clause-ready g c = subst IsReady (sym c.cut.ensures.same) c.loop-arrival.invariant.ready
 
 pub returns-in_default-clause-schedule : goal.returns-in_default-clause-schedule
 returns-in_default-clause-schedule g c = c.cut.ensures.schedule ∙ ap (λ (x : Checkpointer). x.schedule) c.loop-arrival.invariant.same

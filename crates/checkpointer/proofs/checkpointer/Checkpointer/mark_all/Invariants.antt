@@ -1,14 +1,14 @@
-use Rattle.std.specs.Prelude.{length}
-use Rattle.computation.specs.Computations.{plain_of}
-use Rattle.checkpointer.proofs.LeftWalk.{from_above}
-use Rattle.checkpointer.proofs.Marking.{Walked, entries_of}
+use Rattle.std.proofs.Common.{◌≤◌, length}
+use Rattle.std.specs.List.{filter_map}
+use Rattle.views.proofs.MapValues.{EachEntry}
+use Rattle.trace_log.specs.Requests.{left_in}
+use Rattle.run_start.specs.Starts.{state_of}
+use Rattle.checkpointer.specs.Marks.{mark_of, marks_of}
+use Rattle.checkpointer.proofs.Passing.{AreSoFar}
 use Rattle.checkpointer.proofs.checkpointer.Checkpointer.mark_all.Given as goal
 
 abbrev pub invariant-loop-dir : goal.invariant-loop-dir
-invariant-loop-dir l =
-    Walked l.initial.self l.initial.trace l.passes (plain_of l.computation) l.self l.trace l.above
-
-abbrev pub decreases-loop-dir : goal.decreases-loop-dir
-decreases-loop-dir l =
-    length (from_above l.above
-    (entries_of l.initial.self l.initial.trace l.passes (plain_of l.computation)))
+invariant-loop-dir l = record {
+  so_far : AreSoFar l.initial.self l.self l.initial.trace l.trace (marks_of l.passes (state_of l.start)) (filter_map (left_in (mark_of l.passes)) l.dir-iterator);
+  short : EachEntry (λ at direction. length direction.left ≤ 65536) l.dir-iterator;
+}

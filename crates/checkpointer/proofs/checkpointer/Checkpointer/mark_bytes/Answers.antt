@@ -2,7 +2,7 @@ use Rattle.std.proofs.Common.{take, ap, ◌∙◌, arith}
 use Rattle.trace_log.specs.Trace.{TraceState}
 use Rattle.trace_log.specs.LogText.{after_all}
 use Rattle.trace_log.specs.Requests.{cut_marks}
-use Rattle.computation.specs.Computations.{plain_of}
+use Rattle.run_start.specs.Starts.{state_of}
 use Rattle.checkpointer.specs.declared.checkpointer.Checkpointer.{Checkpointer}
 use Rattle.checkpointer.specs.declared.marks.Pass.TheVariants as pass
 use Rattle.checkpointer.specs.Marks.{marks_of}
@@ -20,7 +20,7 @@ pub mark_all-requires-2-clause-request : goal.mark_all-requires-2-clause-request
 mark_all-requires-2-clause-request c =
     let few = c.requires.request in
     let same = ap (λ (x : Checkpointer). x.lines.request) c.mark_all.ensures.checkpointer
-    ∙ front_counts c.args.self.now.lines c.args.trace.now.room (marks_of pass.Drain (plain_of c.args.computation.now)) (kind_passes pass.Drain (plain_of c.args.computation.now)) in
+    ∙ front_counts c.args.self.now.lines c.args.trace.now.room (marks_of pass.Drain (state_of c.args.start.now)) (kind_passes pass.Drain (state_of c.args.start.now)) in
     omega arith
 
 pub mark_all-requires-2-clause-drained : goal.mark_all-requires-2-clause-drained
@@ -34,14 +34,14 @@ mark_all-requires-2-clause-drained c =
 pub returns-clause-checkpointer : goal.returns-clause-checkpointer
 unfolding cut_marks
 returns-clause-checkpointer c =
-    let g = plain_of c.args.computation.now in
+    let g = state_of c.args.start.now in
     lines_of_both c.args.self.now c.mark_all.new.self c.mark_all-2.new.self c.args.trace.now.room (marks_of pass.Drain g) (marks_of pass.Refill g) c.mark_all.ensures.checkpointer
     (c.mark_all-2.ensures.checkpointer ∙ ap (λ n. let x : Checkpointer = record c.mark_all.new.self { lines = after_all c.mark_all.new.self.lines (take n (marks_of pass.Refill g)) } in x) (ap (λ (t : TraceState). t.room) c.mark_all.ensures.trace))
 
 pub returns-clause-trace : goal.returns-clause-trace
 unfolding cut_marks
 returns-clause-trace c =
-    let g = plain_of c.args.computation.now in
+    let g = state_of c.args.start.now in
     marks_of_both c.args.trace.now c.mark_all.new.trace c.mark_all-2.new.trace (marks_of pass.Drain g) (marks_of pass.Refill g) c.mark_all.ensures.trace c.mark_all-2.ensures.trace
 
 pub returns-clause-drained : goal.returns-clause-drained

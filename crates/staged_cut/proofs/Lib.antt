@@ -1,0 +1,4 @@
+pub mod Votes
+pub mod Supported
+pub mod LiveParts
+pub mod GoingOn

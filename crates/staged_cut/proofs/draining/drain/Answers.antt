@@ -1,0 +1,14 @@
+use Rattle.std.proofs.Common.{◌∙◌}
+use Rattle.staged_cut.proofs.Votes.{entered_named}
+use Rattle.staged_cut.proofs.draining.drain.Goals as goal
+
+pub drain_suspended-requires : goal.drain_suspended-requires
+drain_suspended-requires c =
+    entered_named c.args.wrapped c.args.wrapped.next_id _ c.in-Ok-suspend.suspended c.args.live.now
+    c.in-Ok-suspend.ensures.ok c.requires.listed
+
+pub returns-in-Ok-suspend-clause-ok : goal.returns-in-Ok-suspend-clause-ok
+returns-in-Ok-suspend-clause-ok c = (
+  c.drain_suspended.ensures.0 ∙ c.in-Ok-suspend.ensures.ok.kernel,
+  c.drain_suspended.ensures.1 ∙ c.in-Ok-suspend.ensures.ok.next,
+)

@@ -1,0 +1,7 @@
+use Rattle.staged_cut.proofs.draining.enter.Given as goal
+
+abbrev pub ghost-same : goal.ghost-same
+ghost-same a = a._stood.now.kernel
+
+abbrev pub ghost-wrap : goal.ghost-wrap
+ghost-wrap a = a._stood.now.kernel

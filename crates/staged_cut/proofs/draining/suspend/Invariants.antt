@@ -1,0 +1,4 @@
+use Rattle.staged_cut.proofs.draining.suspend.Given as goal
+
+abbrev pub ghost-stood_by : goal.ghost-stood_by
+ghost-stood_by a = a._wrapped.now
