@@ -55,6 +55,8 @@ ends 10 '' usage --help --version
 ends 10 '' usage launch --every 0 0:hello.elf
 ends 10 '' usage launch $'0:\xff'
 ends 10 '' usage launch 16:hello.elf
+ends 10 '' usage launch --nodes 1 1:hello.elf
+ends 10 '' usage restart --port-base 57345
 ends 10 '' usage launch --file hello.elf --file hello.elf 0:hello.elf
 
 mkdir folder
@@ -81,6 +83,7 @@ ends 15 '' 'disk fault' restart
 rm dmtcp_set
 
 ends 16 '' 'no set' restart
+ends 16 '' 'no set' restart --nodes 1 --shift 15 --pid-base 1000000000 --port-base 57344
 
 ends 0 hello 'done' launch --every 2 0:hello.elf
 for image in dmtcp_set/*_1.img; do

@@ -12,6 +12,9 @@ from model import Outcome
 
 SET_FOLDER, TRACE_FILE = "dmtcp_set", "dmtcp.trace"
 LONGEST_RUN = 300  # seconds
+Names = tuple[str, str]
+"""What the two are called whose outcomes are compared."""
+PROGRAM_AND_MODEL: Names = ("program", "model")
 
 
 @dataclass
@@ -67,40 +70,42 @@ def first_other_byte(ours: bytes, theirs: bytes) -> int:
     return min(len(ours), len(theirs))
 
 
-def compare_bytes(what: str, ours: bytes, theirs: bytes) -> list[str]:
-    """Says where they differ. The program's bytes come first."""
+def compare_bytes(what: str, ours: bytes, theirs: bytes, names: Names = PROGRAM_AND_MODEL) -> list[str]:
+    """Says where they differ. The bytes of the first one come first."""
     if ours == theirs:
         return []
     at = first_other_byte(ours, theirs)
     near = slice(max(0, at - 8), at + 24)
-    return [f"{what}: byte {at} of {len(ours)} and {len(theirs)}: program {ours[near]!r}, model {theirs[near]!r}"]
+    lengths = f"{len(ours)} and {len(theirs)}"
+    return [f"{what}: byte {at} of {lengths}: {names[0]} {ours[near]!r}, {names[1]} {theirs[near]!r}"]
 
 
-def compare_traces(ours: bytes | None, theirs: bytes | None) -> list[str]:
+def compare_traces(ours: bytes | None, theirs: bytes | None, names: Names) -> list[str]:
     if ours == theirs:
         return []
     if ours is None or theirs is None:
-        return [f"trace: the {'program' if ours is None else 'model'} writes none"]
-    return [f"trace: {first_difference(ours, theirs)}"]
+        return [f"trace: the {names[ours is not None]} writes none"]
+    return [f"trace: {first_difference(ours, theirs, names)}"]
 
 
-def compare_sets(ours: dict[str, bytes], theirs: dict[str, bytes]) -> list[str]:
+def compare_sets(ours: dict[str, bytes], theirs: dict[str, bytes], names: Names) -> list[str]:
     found: list[str] = []
     for name in sorted(ours.keys() | theirs.keys()):
         if name not in ours or name not in theirs:
-            found.append(f"set file {name}: not there for the {'program' if name not in ours else 'model'}")
+            found.append(f"set file {name}: not there for the {names[name in ours]}")
         else:
-            found += compare_bytes(f"set file {name}", ours[name], theirs[name])
+            found += compare_bytes(f"set file {name}", ours[name], theirs[name], names)
     return found
 
 
-def differences(ours: Outcome, theirs: Outcome) -> list[str]:
-    """Where the program's outcome, which comes first, and the model's differ."""
-    found = [] if ours.status == theirs.status else [f"status: program {ours.status}, model {theirs.status}"]
-    found += compare_bytes("console", ours.console, theirs.console)
-    found += compare_bytes("log", ours.log, theirs.log)
-    found += compare_traces(ours.trace, theirs.trace)
-    return found + compare_sets(ours.sets, theirs.sets)
+def differences(ours: Outcome, theirs: Outcome, names: Names = PROGRAM_AND_MODEL) -> list[str]:
+    """Where two outcomes of these names differ."""
+    is_same = ours.status == theirs.status
+    found = [] if is_same else [f"status: {names[0]} {ours.status}, {names[1]} {theirs.status}"]
+    found += compare_bytes("console", ours.console, theirs.console, names)
+    found += compare_bytes("log", ours.log, theirs.log, names)
+    found += compare_traces(ours.trace, theirs.trace, names)
+    return found + compare_sets(ours.sets, theirs.sets, names)
 
 
 def keep(case: Case, outcomes: dict[str, Outcome], folder: Path) -> None:

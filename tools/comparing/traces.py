@@ -28,17 +28,17 @@ def records_of(trace: bytes) -> list[Record]:
     return [Record(*fields) for fields in struct.iter_unpack(RECORD_FORM, trace[:whole])]
 
 
-def first_difference(ours: bytes, theirs: bytes) -> str:
-    """Says which record is the first to differ, and what stands around it."""
+def first_difference(ours: bytes, theirs: bytes, names: tuple[str, str]) -> str:
+    """Says which record is the first to differ, and what stands around it, of two traces of these names."""
     mine, other = records_of(ours), records_of(theirs)
     lengths = f"{len(mine)} and {len(other)} records"
     for at, (a, b) in enumerate(zip(mine, other)):
         if a != b:
             before = f" after {mine[at - 1]}" if at else ""
-            return f"record {at} of {lengths}: program {a}, model {b}{before}"
+            return f"record {at} of {lengths}: {names[0]} {a}, {names[1]} {b}{before}"
     if len(ours) == len(theirs):
         return "the bytes behind the last record"
-    longer, whose = (mine, "program") if len(mine) > len(other) else (other, "model")
+    longer, whose = (mine, names[0]) if len(mine) > len(other) else (other, names[1])
     shorter = min(len(mine), len(other))
     after = f" after {longer[shorter - 1]}" if shorter else ""
     further = f": the {whose} goes on with {longer[shorter]}{after}" if shorter < len(longer) else ""

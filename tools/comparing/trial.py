@@ -1,15 +1,16 @@
-"""One seed's runs by the built program and by the model."""
+"""One seed's runs by the built program and by what it is compared with."""
 
 import random
 import sys
 from collections import Counter
 from collections.abc import Callable
-from dataclasses import dataclass, field
+from dataclasses import dataclass, field, replace
 from pathlib import Path
 
 from comparing.bad_programs import CODE, bad_program
-from comparing.cases import Case, differences, keep, run_program
+from comparing.cases import PROGRAM_AND_MODEL, Case, Names, differences, keep, run_program
 from comparing.damage import damaged, with_little_left, with_other_field
+from comparing.nodes import on_nodes
 from comparing.odd_words import FOLDER, GUEST, MORE_FILES, odd_words
 from comparing.tallies import Tallies
 from comparing.telling import tell
@@ -44,30 +45,45 @@ def model_outcome(case: Case) -> Outcome:
 class Trial:
     """The runs so far, and what came of them."""
 
+    names: Names = PROGRAM_AND_MODEL
+
     def __init__(self, program: str, folder: Path) -> None:
         self.program = program
         self.folder = folder
         self.counts = Counts()
         self.tallies = Tallies()
+        self.nodes = random.Random()
+
+    def outcomes(self, case: Case) -> tuple[Case, Outcome, Outcome]:
+        """Makes a call by both, half of the time on nodes that its words name; gives it with what they left."""
+        if self.nodes.random() < 0.5:
+            case = replace(case, words=on_nodes(self.nodes, case.words))
+        return case, run_program(self.program, case), model_outcome(case)
 
     def compare(self, seed: int, case: Case) -> Outcome:
-        """Makes a call by both, says where they differ, and gives what the program left."""
-        ours = run_program(self.program, case)
-        theirs = model_outcome(case)
-        found = differences(ours, theirs)
+        """Makes a call by both, says where they differ, and gives what the first one left."""
+        made, ours, theirs = self.outcomes(case)
+        found = differences(ours, theirs, self.names)
         if found:
             self.counts.differ += 1
             kept = self.folder / f"seed{seed}.{self.counts.differ}"
-            keep(case, {"program": ours, "model": theirs}, kept)
-            tell(case, {"program": ours, "model": theirs}, kept)
-            print(f"seed {seed}, words {case.words}, kept in {kept}", *found, sep="\n    ", file=sys.stderr, flush=True)
+            both = dict(zip(self.names, (ours, theirs)))
+            keep(made, both, kept)
+            tell(made, both, kept)
+            where = f"seed {seed}, words {made.words}, kept in {kept}"
+            print(where, *found, sep="\n    ", file=sys.stderr, flush=True)
         self.counts.records += len(records_of(ours.trace or b""))
         self.counts.sets += ours.log.count(b" complete: generation ")
         self.tallies.add(ours, "restart" in case.words[:1])
         return ours
 
+    def begin(self, seed: int) -> random.Random:
+        """What a seed's runs are made of; their nodes are drawn apart from all else."""
+        self.nodes = random.Random(f"nodes of {seed}")
+        return random.Random(seed)
+
     def one_seed(self, seed: int) -> None:
-        rng = random.Random(seed)
+        rng = self.begin(seed)
         rng.choice(KINDS)(self, seed, rng)
 
 
@@ -146,7 +162,7 @@ def with_damage(trial: Trial, seed: int, rng: random.Random) -> None:
 
 def other_fields(trial: Trial, seed: int, rng: random.Random) -> None:
     """Restarts from a set that has something of each kind, and from it with another number in a field."""
-    job, cut = make_everything(rng), rng.randint(130, 200)
+    job, cut = make_everything(rng), rng.randint(150, 240)
     words = ["launch", "--every", str(cut), "--records", str(cut + 60), *job.words]
     sets = model_outcome(Case(words, job.files)).sets
     for changed in [sets, *(with_other_field(rng, sets) for _ in range(OTHER_FIELDS))]:

@@ -2,12 +2,12 @@
 
 import random
 
-from guests import families, nets, sharing, threads
+from guests import families, nets, sharing, signals, threads
 from guests.builder import A0, FIRST_PROCESS, Guest, Place, Register, Word
 from guests.handlers import Handler, install, put_handlers
 from guests.jobs import Job
 from guests.layout import layout_of, strip_segments
-from guests.numbers import Call
+from guests.numbers import Call, How
 from guests.program import put_start
 from guests.routines import put_routines
 
@@ -15,15 +15,18 @@ OWN, OTHER = (0, 80), (3, 81)
 """Where the two programs listen, each on its host."""
 MOST_DESCRIPTORS = 24
 NAME = b"x\0"
+FOR_PROCESS, FOR_THREAD, HANDLED = 10, 12, 14
+HELD_BACK = signals.bit(FOR_PROCESS) | signals.bit(FOR_THREAD)
 
 
 def put_files(guest: Guest) -> None:
-    """A file with a name, and one without any more."""
+    """A file with a name, and one without any more, to which two descriptors refer."""
     name = guest.data.place(NAME)
     sharing.made(guest, Call.OPENAT, sharing.CURRENT, guest.data.place(b"a\0"), 2 | sharing.APPEND | sharing.CLOEXEC, 0)
     word = sharing.made(guest, Call.OPENAT, sharing.CURRENT, name, 2 | sharing.CREAT, 0)
     guest.call(Call.WRITE, Word(word), guest.scratch, 9)
     guest.call(Call.LSEEK, Word(word), 2, 0)
+    sharing.made(guest, Call.DUP, Word(word))
     guest.call(Call.UNLINKAT, sharing.CURRENT, name, 0)
 
 
@@ -44,7 +47,7 @@ def put_channels(guest: Guest) -> tuple[int, int]:
 
 def put_sockets(guest: Guest) -> None:
     """Sockets that are bound and not, a listener at which a connection waits, and connections to both hosts."""
-    sharing.made(guest, Call.SOCKET, 2, 1, 0)
+    sharing.made(guest, Call.SOCKET, 2, 1 | sharing.NONBLOCK, 0)
     bound = sharing.made(guest, Call.SOCKET, 2, 1, 0)
     guest.call(Call.BIND, Word(bound), nets.address(guest, guest.place.host, 0), 16)
     listener = sharing.made(guest, Call.SOCKET, 2, 1, 0)
@@ -59,6 +62,21 @@ def put_sockets(guest: Guest) -> None:
     threads.yields(guest, 4)
     guest.call(Call.CONNECT, Word(far), nets.address(guest, *OTHER), 16)
     guest.call(Call.WRITE, Word(far), guest.scratch, 11)
+
+
+def put_signals(guest: Guest) -> None:
+    """Signals for the process and for a thread, which hold them back, and a thread that waits in a handler."""
+    def is_told() -> None:
+        signals.send(guest, HANDLED)
+        threads.leave(guest)
+
+    for signal in (FOR_PROCESS, FOR_THREAD):
+        install(guest, signal, Handler.PLAIN.place())
+    install(guest, HANDLED, Handler.WAITS.place())
+    signals.change_mask(guest, How.BLOCK, HELD_BACK)
+    guest.call(Call.KILL, guest.place.process, FOR_PROCESS)
+    signals.send(guest, FOR_THREAD)
+    threads.spawn(guest, is_told)
 
 
 def put_processes(guest: Guest, reading: int, writing: int) -> None:
@@ -97,8 +115,10 @@ def put_first(guest: Guest) -> None:
     install(guest, families.PIPE_BROKEN, Handler.PLAIN.place())
     reading, writing = put_channels(guest)
     put_sockets(guest)
+    put_signals(guest)
     put_processes(guest, reading, writing)
-    threads.yields(guest, 12)
+    threads.yields(guest, 16)
+    signals.change_mask(guest, How.UNBLOCK, HELD_BACK)
     put_uses(guest)
 
 

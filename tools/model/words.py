@@ -3,14 +3,24 @@
 from dataclasses import dataclass
 from enum import Enum
 
-NUMBER_LIMIT = 4_000_000
 DEFAULT_RECORDS = 1_000_000
 NAME_LIMIT = 255
 ARGUMENTS_LIMIT = 4_096
 PROGRAMS_LIMIT = 128
 FILES_LIMIT = 64
 HOSTS = {str(host): host for host in range(16)}
-EVERY, RECORDS, FILE, NODES = "--every", "--records", "--file", "--nodes"
+EVERY, RECORDS, FILE, NODES, WORKERS = "--every", "--records", "--file", "--nodes", "--workers"
+SHIFT, PID_BASE, PORT_BASE = "--shift", "--pid-base", "--port-base"
+RANGES = {
+    EVERY: range(1, 4_000_001),
+    RECORDS: range(1, 4_000_001),
+    NODES: range(1, 17),
+    WORKERS: range(1),
+    SHIFT: range(16),
+    PID_BASE: range(1, 1_000_000_001),
+    PORT_BASE: range(1_024, 57_345),
+}
+"""Of `--workers` the only number that is built."""
 DIGITS = set("0123456789")
 
 
@@ -28,16 +38,13 @@ class Verb(Enum):
 
 
 OPTIONS = {
-    Verb.LAUNCH: {EVERY, RECORDS, FILE, NODES, "--workers"},
-    Verb.RESTART: {EVERY, RECORDS, NODES, "--workers", "--shift", "--pid-base", "--port-base"},
-    Verb.RING: {EVERY, "--workers"},
+    Verb.LAUNCH: {EVERY, RECORDS, FILE, NODES, WORKERS},
+    Verb.RESTART: {EVERY, RECORDS, NODES, WORKERS, SHIFT, PID_BASE, PORT_BASE},
+    Verb.RING: {EVERY, WORKERS},
     Verb.HELP: set(),
 }
 DEFAULTS_OF_EVERY = {Verb.RING: 1_000}
 """Without it there are no checkpoints."""
-FIXED = {"--workers": "0", "--shift": "0", "--pid-base": "2000", "--port-base": "30000"}
-"""Of the options of what is not built yet the only value that is; that of `--nodes` hangs on the command."""
-NODES_OF_RESTART = 16
 PROCESSES_OF_RING = {str(count): count for count in range(2, 17)}
 
 
@@ -63,10 +70,10 @@ class Command:
     """Of a ring."""
 
 
-def _number(word: str) -> int:
-    """1 to 4,000,000, in decimal with no sign and no leading zero."""
-    plain = word and set(word) <= DIGITS and word[0] != "0" and len(word) <= len(str(NUMBER_LIMIT))
-    if not plain or int(word) > NUMBER_LIMIT:
+def _number(option: str, word: str) -> int:
+    """A number in the option's range, in decimal with no sign and no leading zero."""
+    plain = word and set(word) <= DIGITS and len(word) <= len(str(RANGES[option].stop))
+    if not plain or word != str(int(word)) or int(word) not in RANGES[option]:
         raise Usage
     return int(word)
 
@@ -123,12 +130,12 @@ def _programs(verb: Verb, words: list[str]) -> tuple[Program, ...]:
     return tuple(_program(word) for word in words)
 
 
-def _test_fixed(verb: Verb, options: dict[str, list[str]], programs: tuple[Program, ...]) -> None:
-    """An option of what is not built yet says what the call does without it."""
-    nodes = 1 + max(one.host for one in programs) if verb is Verb.LAUNCH else NODES_OF_RESTART
-    for name, value in {**FIXED, NODES: str(nodes)}.items():
-        if options.get(name, [value]) != [value]:
-            raise Usage
+def _numbers(verb: Verb, options: dict[str, list[str]], programs: tuple[Program, ...]) -> dict[str, int]:
+    """The numbers of the options; each program of a launch is on one of its nodes."""
+    numbers = {name: _number(name, words[0]) for name, words in options.items() if name != FILE}
+    if verb is Verb.LAUNCH and NODES in numbers and any(one.host >= numbers[NODES] for one in programs):
+        raise Usage
+    return numbers
 
 
 def _test_text(words: list[str]) -> None:
@@ -150,7 +157,7 @@ def read_words(words: list[str]) -> Command:
     options = _options(verb, rest)
     taken = 2 * sum(len(values) for values in options.values())
     programs = _programs(verb, rest[taken:])
-    _test_fixed(verb, options, programs)
-    every = _number(options[EVERY][0]) if EVERY in options else DEFAULTS_OF_EVERY.get(verb)
-    records = _number(options[RECORDS][0]) if RECORDS in options else DEFAULT_RECORDS
+    numbers = _numbers(verb, options, programs)
+    every = numbers.get(EVERY, DEFAULTS_OF_EVERY.get(verb))
+    records = numbers.get(RECORDS, DEFAULT_RECORDS)
     return Command(verb, every, records, _files(options.get(FILE, [])), programs, processes)

@@ -112,24 +112,28 @@ class Words(unittest.TestCase):
         wrong = ["", "launch", "restart 0:hello.elf", "launch --every 0 0:a", "launch --every 01 0:a", "launch 16:a"]
         wrong += ["launch --every +1 0:a", "launch --every 4000001 0:a", "launch --every 1 --every 1 0:a", "launch 0:"]
         wrong += ["launch 0:a --every 1", "launch 0:,b", "--help --version", "launch 0:\udcff", "launch --every ٣ 0:a"]
-        wrong += ["launch --nodes 2 0:a", "launch --nodes 1 0:a 1:b", "launch --workers 1 0:a", "ring", "help 2"]
+        wrong += ["launch --nodes 17 0:a", "launch --nodes 1 0:a 1:b", "launch --workers 1 0:a", "ring", "help 2"]
         wrong += ["ring 1", "ring 17", "ring 02", "ring --every 5 2", "ring 2 --records 5", "ring 2 --workers 1"]
         wrong += ["launch --file a", "launch --file a --file a 0:a", "launch 0:a --file b", "restart --file a"]
         wrong += ["launch 00:a", "launch a", "launch 0", "launch :a", "launch 01:a", "launch -1:a", "launch 0:a b"]
         wrong += [f"launch --file {256 * 'n'} 0:a", "launch --file a\0 0:a", "launch --file \udcff 0:a"]
-        wrong += ["restart --nodes 15", "restart --shift 1", "restart --pid-base 2001", "restart --port-base 30001"]
+        wrong += ["restart --nodes 0", "restart --shift 16", "restart --pid-base 0", "restart --port-base 1023"]
+        wrong += ["restart --nodes 17", "restart --pid-base 1000000001", "restart --port-base 57345", "restart --shift 00"]
         wrong += ["launch --nodes 01 0:a", "launch --workers 0 --workers 0 0:a", "launch --shift 0 0:a"]
         wrong += [f"launch 0:a,{4094 * 'b'}", f"launch 0:{256 * 'n'}", "launch" + 129 * " 0:a"]
         wrong += ["launch" + "".join(f" --file {number}" for number in range(65)) + " 0:a"]
         for words in wrong:
             self.assertEqual((said(words).status, said(words).log), (10, b"usage\n"), words)
 
-    def test_defaults_of_what_is_not_built(self) -> None:
+    def test_places(self) -> None:
         self.assertEqual(said("launch --workers 0 --nodes 1 0:a,b").log, b"missing: a\n")
         self.assertEqual(said("launch --nodes 14 3:a 13:b 0:c").log, b"missing: a\n")
+        self.assertEqual(said("launch --nodes 16 0:a").log, b"missing: a\n")
         self.assertEqual(said(f"launch 0:a,{4093 * 'b'}").log, b"missing: a\n")
         words = "restart --port-base 30000 --pid-base 2000 --shift 0 --workers 0 --nodes 16"
         self.assertEqual(said(words).log, b"no set\n")
+        self.assertEqual(said("restart --nodes 1 --shift 15 --pid-base 1 --port-base 1024").log, b"no set\n")
+        self.assertEqual(said("restart --pid-base 1000000000 --port-base 57344").log, b"no set\n")
 
     def test_others(self) -> None:
         self.assertEqual(said("launch --records 4000000 --every 9 0:a:b").log, b"missing: a:b\n")
