@@ -1,3 +1,4 @@
 pub mod ClosedEnds
 pub mod OneDirection
 pub mod KeptFrames
+pub mod Stretches

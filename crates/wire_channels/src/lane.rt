@@ -1,44 +1,47 @@
 ghost use Rattle.std.specs.Prelude.{◌≡◌, ◌+◌, ◌≤◌, min, take, length, IfOk, OnErr};
 ghost use Rattle.wire_channels.specs.Directions as words;
 ghost use Rattle.wire_channels.specs.Answers.{counts_of};
+ghost use Rattle.wire_channels.specs.declared.place.Place.TheVariants.{Send, Wire};
 
 use crate::limits::QUEUE_LIMIT;
 use crate::net_fault::NetFault;
 use crate::place::Place;
-use crate::rings::{Ring, copy_all, move_front, take_front};
+use crate::rings::{Ring, copy_front, take_front};
 use std::alloc::{AllocError, Global};
 use std::marker::Model;
 use sys_abi::Transfer;
 
-/// A direction of a channel, whose three queues are rings with room for all that it may hold.
+/// A direction of a channel. The bytes of its three queues are one stream and stand in one ring, oldest first:
+/// those that can be read, those on the wire, and those in the sender's queue. Two counts tell where one queue
+/// ends and the next begins, so that bytes pass from queue to queue without being copied.
 #[derive(Drop)]
 pub struct Lane {
-    sent: Ring,
-    wire: Ring,
-    received: Ring,
+    bytes: Ring,
+    received: usize,
+    wire: usize,
     is_ended: bool,
     is_unread: bool,
     carried: u64,
 }
 
 impl Model for Lane {
-    ghost use Rattle.std.specs.Prelude.{◌≡◌, ◌+◌, ◌≤◌, length};
+    ghost use Rattle.std.specs.Prelude.{◌≡◌, ◌+◌, ◌≤◌, length, take, drop};
     ghost use Rattle.wire_channels.specs.declared.limits.TheConstants.{QUEUE_LIMIT};
     ghost use Rattle.wire_channels.specs.Directions.{Direction};
 
     ghost Value = { Direction };
 
     ghost view = { λ a. record {
-      sent = a.sent.items;
-      wire = a.wire.items;
-      received = a.received.items;
+      sent = drop (a.received + a.wire) a.bytes.items;
+      wire = take a.wire (drop a.received a.bytes.items);
+      received = take a.received a.bytes.items;
       is_ended = a.is_ended;
       is_unread = a.is_unread;
       carried = a.carried;
     } };
 
-    ghost invariant = { λ a. (a.sent.capacity ≡ QUEUE_LIMIT) × (a.wire.capacity ≡ QUEUE_LIMIT) × (a.received.capacity ≡ QUEUE_LIMIT)
-        × (length a.sent.items + length a.wire.items + length a.received.items ≤ QUEUE_LIMIT) };
+    ghost invariant = { λ a. (a.bytes.capacity ≡ QUEUE_LIMIT) × (length a.bytes.items ≤ QUEUE_LIMIT)
+        × (a.received + a.wire ≤ length a.bytes.items) };
 }
 
 impl Lane {
@@ -47,9 +50,9 @@ impl Lane {
         ensures { IfOk result (λ lane. lane ≡ words.unused) }
     {
         Ok(Lane {
-            sent: Ring::with_capacity(alloc, QUEUE_LIMIT)?,
-            wire: Ring::with_capacity(alloc, QUEUE_LIMIT)?,
-            received: Ring::with_capacity(alloc, QUEUE_LIMIT)?,
+            bytes: Ring::with_capacity(alloc, QUEUE_LIMIT)?,
+            received: 0,
+            wire: 0,
             is_ended: false,
             is_unread: false,
             carried: 0,
@@ -57,11 +60,21 @@ impl Lane {
     }
 
     /// How many bytes stand in the queues.
+    #[tactic(auto, using(crate::proofs::Stretches::lengths))]
     fn standing(&self) -> usize
         ensures standing { result ≡ words.standing self.now }
         ensures within { result ≤ QUEUE_LIMIT }
     {
-        self.sent.len() + self.wire.len() + self.received.len()
+        self.bytes.len()
+    }
+
+    /// How many bytes stand in the sender's queue.
+    #[tactic(auto, using(crate::proofs::Stretches::lengths))]
+    fn sent(&self) -> usize
+        ensures sent { result ≡ length self.now.sent }
+        ensures within { result ≤ QUEUE_LIMIT }
+    {
+        self.bytes.len() - self.received - self.wire
     }
 
     pub(crate) fn send(&mut self, piece: &[u8]) -> Result<u32, NetFault>
@@ -77,7 +90,7 @@ impl Lane {
             return Err(NetFault::NotReady);
         }
         let count = piece.len().min(room);
-        self.sent.fill_from_slice(&piece[..count]);
+        self.bytes.fill_from_slice(&piece[..count]);
         self.carried = self.carried.saturating_add(count as u64);
         Ok(count as u32)
     }
@@ -90,10 +103,13 @@ impl Lane {
         ensures err { OnErr result (self.new ≡ self.old) }
         ensures kept { OnErr result (xfer.new ≡ xfer.old) }
     {
-        if n > 0 && !self.is_over() && self.received.is_empty() {
+        if n > 0 && !self.is_over() && self.received == 0 {
             return Err(NetFault::NotReady);
         }
-        Ok(take_front(&mut self.received, n as usize, xfer) as u32)
+        let count = (n as usize).min(self.received);
+        take_front(&mut self.bytes, count, xfer);
+        self.received -= count;
+        Ok(count as u32)
     }
 
     /// Whether it is ended, and nothing stands in it.
@@ -107,7 +123,7 @@ impl Lane {
     pub fn peek(&self, xfer: &mut Transfer)
         ensures { xfer.new ≡ self.now.received }
     {
-        copy_all(&self.received, xfer);
+        copy_front(&self.bytes, self.received, xfer);
     }
 
     pub(crate) fn end(&mut self)
@@ -119,9 +135,9 @@ impl Lane {
     pub(crate) fn stop_reading(&mut self)
         ensures { self.new ≡ words.after_stop_reading self.old }
     {
-        self.sent.clear();
-        self.wire.clear();
-        self.received.clear();
+        self.bytes.clear();
+        self.received = 0;
+        self.wire = 0;
         self.is_unread = true;
     }
 
@@ -130,9 +146,30 @@ impl Lane {
         ensures after { self.new ≡ words.after_move from n self.old }
     {
         match from {
-            Place::Send => move_front(&mut self.sent, &mut self.wire, n as usize) as u32,
-            Place::Wire => move_front(&mut self.wire, &mut self.received, n as usize) as u32,
+            Place::Send => self.put_on_wire(n as usize) as u32,
+            Place::Wire => self.take_off_wire(n as usize) as u32,
         }
+    }
+
+    /// Puts the first bytes of the sender's queue, at most `n`, on the wire. Answers how many.
+    fn put_on_wire(&mut self, n: usize) -> usize
+        ensures moved { result ≡ min n (length self.old.sent) }
+        ensures after { self.new ≡ words.after_move Send n self.old }
+    {
+        let count = n.min(self.sent());
+        self.wire += count;
+        count
+    }
+
+    /// Lets the first bytes on the wire, at most `n`, be read. Answers how many.
+    fn take_off_wire(&mut self, n: usize) -> usize
+        ensures moved { result ≡ min n (length self.old.wire) }
+        ensures after { self.new ≡ words.after_move Wire n self.old }
+    {
+        let count = n.min(self.wire);
+        self.wire -= count;
+        self.received += count;
+        count
     }
 
     /// Whether bytes may still pass: it is neither ended nor unread.
@@ -168,10 +205,6 @@ impl Lane {
         ensures counts { result ≡ counts_of self.now }
         ensures within { words.standing self.now ≤ QUEUE_LIMIT }
     {
-        [
-            self.sent.len() as u32,
-            self.wire.len() as u32,
-            self.received.len() as u32,
-        ]
+        [self.sent() as u32, self.wire as u32, self.received as u32]
     }
 }

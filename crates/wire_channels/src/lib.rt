@@ -11,10 +11,11 @@
 //! - [`limits`]: how much the network holds.
 //!
 //! Proved: each call does what its clause says and leaves the rest as it was; each refusal comes exactly
-//! where its call says, and changes nothing. The queues are rings whose room is taken when a channel is made:
-//! to send, to receive, to look, to end, to close and to move bytes takes no memory. Not proved: how long a
-//! call takes. `man 2 socketpair`, `man 2 listen`, `man 2 accept` and `man 2 shutdown` are what the words
-//! restate; the limits and when bytes move are this project's own.
+//! where its call says, and changes nothing. The queues of a direction are stretches of one ring, whose room is
+//! taken when a channel is made: to send, to receive, to look, to end, to close and to move bytes takes no
+//! memory. Not proved: how long a call takes, and that a move copies no byte. `man 2 socketpair`,
+//! `man 2 listen`, `man 2 accept` and `man 2 shutdown` are what the words restate; the limits and when bytes
+//! move are this project's own.
 #![tactic(auto)]
 
 mod channel;

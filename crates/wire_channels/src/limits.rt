@@ -3,7 +3,7 @@
 /// The most channels.
 pub const CHANNEL_LIMIT: usize = 256;
 
-/// The most bytes in the three queues of a direction together, and the room of each of them.
+/// The most bytes in the three queues of a direction together, and the room of the ring that holds them.
 pub const QUEUE_LIMIT: usize = 65_536;
 
 /// How many ports a node has.

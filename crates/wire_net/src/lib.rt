@@ -12,11 +12,11 @@
 //! Proved: each call does to the maps what its clause says and leaves the rest as it was; each refusal comes
 //! exactly where its call says, and changes nothing; bytes come out of a direction as they went in, and a
 //! move from queue to queue changes the whereabouts of none ([`net_laws`]) and leaves which channels there
-//! are, what is ended or unread and which ends are open. The queues are rings whose room is taken by `pair`
-//! and `connect`: to send, to receive, to look, to end, to close and to move bytes takes no memory. Not
-//! proved: how long a call takes. `man 2 socketpair`, `man 2 listen`, `man 2 connect`, `man 2 accept` and
-//! `man 2 shutdown` are what the words restate; the limits, the ports and when bytes move are this project's
-//! own.
+//! are, what is ended or unread and which ends are open. The queues of a direction are stretches of one ring,
+//! whose room is taken by `pair` and `connect`: to send, to receive, to look, to end, to close and to move
+//! bytes takes no memory. Not proved: how long a call takes. `man 2 socketpair`, `man 2 listen`,
+//! `man 2 connect`, `man 2 accept` and `man 2 shutdown` are what the words restate; the limits, the ports and
+//! when bytes move are this project's own.
 #![tactic(auto)]
 
 mod agents;
