@@ -2,7 +2,7 @@
 --     AreOthers b listeners conn side above      nobody leads one that names the end, of those that do not
 --                                                come after the last one
 --     others_begun, others_on, others_fewer, others_done
---     not_queued, is_queued                      a connection looked for in a queue place by place
+--     not_queued, is_queued, none_queued         a connection looked for in a queue place by place
 use Rattle.std.proofs.Common.{◌≡◌, ◌+◌, ◌<◌, zero, suc, Bool, true, false, ◌||◌, List, [], ◌∷◌, take, inl, inr, refl, sym, ap, subst, ◌∙◌, arith}
 use Rattle.std.specs.Prelude.{ℕ, Option, Some, None, IsSome, find, slice_get, option_map, option_and_then}
 use Rattle.std.specs.List.{list_any}
@@ -121,3 +121,23 @@ is_queued None conn backlog place is below here = absurd (none-some backlog is)
 is_queued (Some x) conn backlog place is below here =
     place_found (eq_by_cmp conn_cmp conn) x.queue x.backlog place
     (subst (λ n. place < n) (sym (same_Some x.backlog backlog is)) below) here
+
+none_further : (p : ConnId → Bool) (q : List ConnId) (n place : ℕ) → slice_get q place ≡ None
+    → list_any p (take place q) ≡ false → list_any p (take n q) ≡ false
+none_further p [] zero place none before = refl
+none_further p [] (suc n) place none before = refl
+none_further p (x ∷ q) n zero none before = absurd (none-some x (sym none))
+none_further p (x ∷ q) zero (suc place) none before = refl
+none_further p (x ∷ q) (suc n) (suc place) none before =
+    elim (p x) as (λ b. (b || list_any p (take place q)) ≡ false → (b || list_any p (take n q)) ≡ false) [
+      | true ↦ λ is. is
+      | false ↦ λ is. none_further p q n place none is
+    ] before
+
+-- behind a place at which none waits none does
+pub none_queued : (found : Option Listener) (conn : ConnId) (n : ℕ) → waits_below found conn n ≡ false
+    → option_and_then (λ (x : Listener). slice_get x.queue n) found ≡ None
+    → option_map_or (waits_in conn) found false ≡ false
+none_queued None conn n none here = refl
+none_queued (Some x) conn n none here =
+    none_further (eq_by_cmp conn_cmp conn) x.queue x.backlog n here none

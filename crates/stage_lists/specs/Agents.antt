@@ -5,7 +5,7 @@
 --     leads_end                         the leader of a description that names the end
 --     IsAgent b listeners conn side p   p leads one of those that name the end, or nobody leads one
 --     place_of e, IsActedFor            the direction that an end sends;  its agent is such a leader
-use Rattle.std.specs.Prelude.{◌≡◌, ◌==◌, ◌&&◌, ℕ, Bool, false, take, slice_get, Option, Some, None, option_and_then, if◌then◌else◌}
+use Rattle.std.specs.Prelude.{◌≡◌, ◌==◌, ◌&&◌, ℕ, Bool, false, take, Option, Some, None, if◌then◌else◌}
 use Rattle.std.specs.Option.{option_map_or}
 use Rattle.std.specs.List.{list_any}
 use Rattle.std.specs.Ordering.{eq_by_cmp}
@@ -13,7 +13,6 @@ use Rattle.std.specs.FinMap as map
 use Rattle.sys_abi.specs.declared.identity.ConnId.{ConnId}
 use Rattle.sys_abi.specs.declared.identity.DescId.{DescId}
 use Rattle.sys_abi.specs.declared.identity.Dir.{Dir}
-use Rattle.sys_abi.specs.declared.identity.RealAddr.{RealAddr}
 use Rattle.sys_abi.specs.declared.identity.RealPid.{RealPid}
 use Rattle.sys_abi.specs.Orders.{conn_cmp}
 use Rattle.fd_tables.specs.declared.description.Desc.{Desc}
@@ -27,11 +26,6 @@ use Rattle.wire_net.specs.declared.agents.AgentEnd.{AgentEnd}
 -- no more connections wait than the backlog has places
 abbrev pub waits_in : ConnId → Listener → Bool
 waits_in conn listener = list_any (eq_by_cmp conn_cmp conn) (take listener.backlog listener.queue)
-
-abbrev pub is_queued_at : Listeners → RealAddr → ℕ → ConnId → Bool
-is_queued_at listeners at place conn =
-    option_map_or (eq_by_cmp conn_cmp conn)
-    (option_and_then (λ (listener : Listener). slice_get listener.queue place) (map.get listeners at)) false
 
 abbrev pub names_end : Listeners → ConnId → ℕ → Object → Bool
 names_end listeners conn side (Stream own at) = eq_by_cmp conn_cmp conn own && (side == at)

@@ -86,19 +86,12 @@ fn waits_at(net: &Net, at: RealAddr, conn: ConnId) -> bool
         return false;
     };
     for place in 0..backlog {
-        if is_queued(net, at, place, conn) {
+        let Some(own) = net.queued(at, place) else {
+            return false;
+        };
+        if conn.cmp(&own).is_eq() {
             return true;
         }
     }
     false
-}
-
-/// Whether the connection waits at that place of the port's queue.
-fn is_queued(net: &Net, at: RealAddr, place: u32, conn: ConnId) -> bool
-    ensures { result ≡ words.is_queued_at net.now.listeners at place conn }
-{
-    match net.queued(at, place) {
-        None => false,
-        Some(own) => conn.cmp(&own).is_eq(),
-    }
 }
