@@ -22,11 +22,21 @@ use sys_abi::{Tid, Transfer, VPid};
 use thread_group::ThreadGroup;
 
 /// A process's own part, ready to run.
-#[derive(Drop)]
 pub struct Guest {
     pub(crate) pid: VPid,
     pub(crate) memory: ProcessMemory,
     pub(crate) group: ThreadGroup,
+}
+
+// Written out, so that to other crates it is one call to drop a guest.
+impl Drop for Guest {
+    fn drop(self) {
+        let Guest {
+            pid: _,
+            memory: _,
+            group: _,
+        } = self;
+    }
 }
 
 impl Model for Guest {

@@ -26,10 +26,17 @@ use views::list_of::ListOf;
 use wrap_calls::Wrapped;
 
 /// From where a computation begins: the kernel part of a plain state, and each live process's own part.
-#[derive(Drop)]
 pub struct Start {
     pub kernel: PlainKernel,
     pub guests: ByPid<Guest>,
+}
+
+// Written out, so that to other crates it is one call to drop a start.
+impl Drop for Start {
+    fn drop(self) {
+        let Start { kernel, guests: _ } = self;
+        let_go(kernel);
+    }
 }
 
 impl Start {
@@ -86,6 +93,15 @@ impl Start {
         self.kernel.add_process(alloc, p, host)
     }
 
+    /// Each live process's own part.
+    pub fn into_guests(self) -> ByPid<Guest>
+        ensures { result ≡ self.guests }
+    {
+        let Start { kernel, guests } = self;
+        let_go(kernel);
+        guests
+    }
+
     /// The computation on these hosts that begins at this state.
     pub fn begin(self, alloc: Global, hosts: &Hosts) -> Result<Computation, AllocError>
         requires can { CanBegin self }
@@ -93,14 +109,18 @@ impl Start {
         ensures state { IfOk result (λ computation. plain_of computation ≡ state_of self) }
         ensures ready { IfOk result (λ computation. IsReady computation) }
     {
-        let Start { kernel, guests } = self;
+        let kernel = wrapped_on(alloc, &self.kernel, hosts)?;
+        let transfer = Transfer::new(alloc)?;
         Ok(Computation {
-            kernel: wrapped_on(alloc, &kernel, hosts)?,
-            guests,
-            transfer: Transfer::new(alloc)?,
+            kernel,
+            guests: self.into_guests(),
+            transfer,
         })
     }
 }
+
+/// The one place where a kernel part's tables are dropped.
+fn let_go(_kernel: PlainKernel) {}
 
 /// A system on these hosts that stands for the kernel part.
 fn wrapped_on(alloc: Global, kernel: &PlainKernel, hosts: &Hosts) -> Result<Wrapped, AllocError>

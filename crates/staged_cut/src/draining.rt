@@ -104,7 +104,7 @@ fn enter(
     }
 }
 
-/// The processes elect leaders, and the leaders drain the channels.
+/// The processes elect leaders, and these drain the channels as agents.
 fn drain_suspended(suspended: Suspended, live: &[VPid]) -> DrainedSet
     requires { (p : VPid) → IsSome (map.get suspended.voters p) → Contains live.now p }
     ensures { (result.kernel ≡ suspended.kernel) × (result.next_id ≡ suspended.next_id) }
@@ -125,7 +125,7 @@ fn vote_all(suspended: &mut Suspended, live: &[VPid])
     }
 }
 
-/// The leaders take all bytes off the channels.
+/// The agents take all bytes off the channels.
 fn drain_elected(elected: Elected) -> DrainedSet
     ensures { (result.kernel ≡ elected.kernel) × (result.next_id ≡ elected.next_id) }
 {

@@ -25,7 +25,7 @@ use sys_abi::VPid;
 use views::list_of::ListOf;
 use wrap_calls::Wrapped;
 
-/// A computation whose channels are drained: what its leaders took off them, and the start of one that goes
+/// A computation whose channels are drained: what its agents took off them, and the start of one that goes
 /// on from here, of which images are made.
 #[derive(Drop)]
 pub struct Held {
@@ -63,7 +63,7 @@ pub fn hold(alloc: Global, computation: &mut Computation) -> Result<Held, AllocE
     }
 }
 
-/// Lets a computation go on: its leaders give the bytes back, and all processes run again. Takes no memory.
+/// Lets a computation go on: its agents give the bytes back, and all processes run again. Takes no memory.
 pub fn release(computation: &mut Computation, held: Held, outcome: PutOutcome)
     ensures kernel { computation.new.kernel ≡ all_in held.drained.kernel }
     ensures guests { computation.new.guests ≡ held.start.guests }
@@ -71,7 +71,7 @@ pub fn release(computation: &mut Computation, held: Held, outcome: PutOutcome)
 {
     let (wrapped, _outcome) = refill(held.drained, outcome);
     computation.kernel = wrapped;
-    computation.guests = held.start.guests;
+    computation.guests = held.start.into_guests();
 }
 
 /// A kernel over real numbers in which nobody lives.
@@ -83,7 +83,7 @@ fn vacant(alloc: Global) -> Result<Wrapped, AllocError> {
         port_base: 0,
     };
     let computation = Start::empty(alloc).begin(alloc, &hosts)?;
-    Ok(computation.kernel)
+    Ok(computation.into_kernel())
 }
 
 /// The numbers of the live processes: of those that have a part of their own.

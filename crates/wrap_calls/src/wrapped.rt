@@ -16,11 +16,21 @@ use wrap_names::stood::{Change, Stood};
 use wrap_passing::taking::take_signal;
 
 /// A system that stands for a kernel part, which is what a caller sees of it.
-#[derive(Drop)]
 pub struct Wrapped {
     pub(crate) system: System,
     pub(crate) next_id: u32,
     pub(crate) stood: Stood,
+}
+
+// Written out, so that to other crates it is one call to drop a system.
+impl Drop for Wrapped {
+    fn drop(self) {
+        let Wrapped {
+            system: _,
+            next_id: _,
+            stood: _,
+        } = self;
+    }
 }
 
 impl Model for Wrapped {
@@ -58,7 +68,12 @@ impl Wrapped {
     pub fn into_system(self) -> (System, u32)
         ensures { IsWrapped result.0 result.1 self }
     {
-        (self.system, self.next_id)
+        let Wrapped {
+            system,
+            next_id,
+            stood: _,
+        } = self;
+        (system, next_id)
     }
 
     /// The system, which stands for the kernel part.
