@@ -12,5 +12,6 @@ mod Delivered
 mod Answered
 mod Due
 mod AnswerBytes
+mod Twins
 mod ShownBytes
 pub mod MissingWalk

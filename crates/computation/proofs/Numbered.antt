@@ -1,6 +1,6 @@
 -- Each guest stands under its number, also after one is put or taken away.
 use Rattle.std.proofs.Common.{◌≡◌, ℕ, Bool, true, false, Option, Some, None, refl, sym, ap, ◌∙◌}
-use Rattle.std.specs.Prelude.{◌⊎◌, ◌≢◌, Result, Ok, Err, OnOk}
+use Rattle.std.specs.Prelude.{◌⊎◌, ◌≢◌, Result, Ok, Err, OnOk, OnErr}
 use Rattle.std.proofs.Common.{inl, inr}
 use Rattle.std.specs.FinMap as map
 use Rattle.views.proofs.MapLaws.{same_or_other, get_insert_same, get_insert_other, get_remove_same, get_remove_other}
@@ -37,6 +37,10 @@ numbered_taken guests p each q found is = taken_case guests p q found each (same
 pub OnOk-map : {A E P Q : Type 0} (r : Result A E) → (P → Q) → OnOk r P → OnOk r Q
 OnOk-map (Ok a) f p = f p
 OnOk-map (Err e) f p = tt
+
+pub each_err : {A E P : Type 0} (r : Result A E) → P → OnErr r P
+each_err (Ok a) p = tt
+each_err (Err e) p = p
 
 grown_numbered : (guests : Guests) (user : UserPart) (t : ℕ) (q : Request) (next : VPid) (made : Option ℕ) → Numbered guests → Numbered (grown_by guests user t q next made)
 grown_numbered guests user t q next None each = each

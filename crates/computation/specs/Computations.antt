@@ -80,8 +80,8 @@ pub record Worked (before after : Plain) (p : VPid) (t : Tid) (next : Next) (did
   pub told : IsTold after.users p t did
   pub due : (here : Place) → IsTurnAt before p t next here → IsDueWork before here noted
 
-pub record Failed (before : Plain) (p : VPid) (t : Tid) (next : Next)
+pub record Failed (before after : Plain) (p : VPid) (t : Tid) (next : Next)
     (from to : TraceState) (console : Sunk) : Type 0 where
   pub noted : Record
-  pub broke : Breaks before noted from to console
+  pub broke : Breaks before after noted from to console
   pub due : (here : Place) → IsTurnAt before p t next here → IsDueWork before here noted

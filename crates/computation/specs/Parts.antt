@@ -2,6 +2,7 @@
 --     AsksAt, StandsAt           where a thread stands
 --     kernel_found, delivery_at  what a delivery finds, and what it comes to
 --     kernel_after, guests_after what it leaves: a signal that kills takes the process away
+--     with_twin                  the guests with the child that a fork is to make, under the number that it will have
 --     grown_by                   the guests with the child that an answer makes
 --     HasServed                  what a call that was served left; CanAnswer, its answer can be put
 use Rattle.std.specs.Prelude.{◌≡◌, ◌≤◌, ℕ, Bool, true, false, List, [], Option, Some, None, IfSome, if◌then◌else◌}
@@ -25,6 +26,7 @@ use Rattle.sys_abi.specs.declared.cloning.CloneForm.{CloneForm}
 use Rattle.sys_abi.specs.declared.cloning.CloneForm.TheVariants.{Fork}
 use Rattle.plain_process.specs.Steps.{Asks, user_step}
 use Rattle.plain_process.specs.Threads.{child_of}
+use Rattle.plain_process.specs.Twins.{twin_of}
 use Rattle.plain_machine.specs.declared.kernel.PlainKernel.{PlainKernel}
 use Rattle.plain_machine.specs.Ends.{after_end}
 use Rattle.plain_machine.specs.Attempts.{Served}
@@ -96,6 +98,17 @@ is_fork_form _ = false
 abbrev pub is_fork : Request → Bool
 is_fork (Clone flags stack parent_tid tls child_tid) = is_fork_form (clone_form flags)
 is_fork _ = false
+
+-- the child that a fork is to make stands at the call, as its parent does
+abbrev pub with_twin : Guests → GuestPart → ℕ → Request → VPid → Guests
+with_twin guests guest t q next =
+    if is_fork q then
+    map.insert guests next (record { pid = guest.pid; user = twin_of guest.user t; spare = 0 })
+    else
+    guests
+
+abbrev pub born_if : Bool → VPid → Option ℕ
+born_if is_born next = if is_born then Some next.0 else None
 
 -- how the real kernel tells an answer
 abbrev pub told_as : Reply → KernelReply

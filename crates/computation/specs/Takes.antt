@@ -29,11 +29,13 @@ pub record Takes (before after : Plain) (r : Record) (from to : TraceState) (con
   pub trace : to ≡ with_record from r
   pub shown : Took console bytes
 
--- this record was made, and the console took a first part of its bytes
-pub record Breaks (before : Plain) (r : Record) (from to : TraceState) (console : Sunk) : Type 0 where
+-- this record was made, and the console took a first part of its bytes; the kernel part is that after it, and
+-- its answer may not be put
+pub record Breaks (before after : Plain) (r : Record) (from to : TraceState) (console : Sunk) : Type 0 where
   pub bytes : List ℕ
   pub state : Plain
   pub outcome : outcome before r ≡ Some (record { state = state; console = bytes })
+  pub kernel : after.kernel ≡ state.kernel
   pub trace : to ≡ with_record from r
   pub shown : TookFront console bytes
 

@@ -60,16 +60,38 @@ pub enum Did {
 
 /// A distributed computation: the part that all processes share, each live process's own part, and the buffer
 /// of their calls.
-#[derive(Drop)]
 pub struct Computation {
     pub kernel: Wrapped,
     pub guests: ByPid<Guest>,
     pub transfer: Transfer,
 }
 
+// Written out, so that to other crates it is one call to drop a computation.
+impl Drop for Computation {
+    fn drop(self) {
+        let Computation {
+            kernel: _,
+            guests: _,
+            transfer: _,
+        } = self;
+    }
+}
+
 impl Computation {
     ghost use Rattle.computation.specs.Computations.{plain_of, user_at, CanGoOn, CanWork, Failed, IsReady, Worked};
     ghost use Rattle.computation.specs.Parts.{StandsAt};
+
+    /// The part that all processes share.
+    pub fn into_kernel(self) -> Wrapped
+        ensures { result ≡ self.kernel }
+    {
+        let Computation {
+            kernel,
+            guests: _,
+            transfer: _,
+        } = self;
+        kernel
+    }
 
     /// Whether a process lives.
     pub fn lives(&self) -> bool
@@ -156,10 +178,11 @@ impl Computation {
         ensures ok { IfOk result (λ did. Worked (plain_of self.old) (plain_of self.new) p t next did
             trace.old trace.new (sunk (O.seen out.old).taken (O.seen out.new).taken)) }
         ensures ready { OnOk result (IsReady self.new) }
-        ensures failed { IsErrOf result Stop.Sink → Failed (plain_of self.old) p t next
+        ensures failed { IsErrOf result Stop.Sink → Failed (plain_of self.old) (plain_of self.new) p t next
             trace.old trace.new (sunk (O.seen out.old).taken (O.seen out.new).taken) }
         ensures memory { IsErrOf result Stop.Memory →
             (trace.new ≡ trace.old) × ((O.seen out.new).taken ≡ (O.seen out.old).taken) }
+        ensures same { IsErrOf result Stop.Memory → plain_of self.new ≡ plain_of self.old }
         ensures cause { IsFaultOf result Stop.Sink (O.seen out.old).faults (O.seen out.new).faults }
         ensures later { (O.seen out.old).faults ≤ (O.seen out.new).faults }
     {

@@ -65,6 +65,7 @@ pub(crate) fn reserve_for(
     ensures same { guest.new ≡ record guest.old { spare = guest.new.spare } }
     ensures spare { OnOk result ((reply : Reply)
         → IfSome (added_thread request.now reply) (λ _. 1 ≤ guest.new.spare)) }
+    ensures err { OnErr result (guest.new ≡ guest.old) }
 {
     match request {
         Request::Clone { .. } => guest.reserve_thread(alloc),

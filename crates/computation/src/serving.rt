@@ -7,7 +7,6 @@ ghost use Rattle.sys_abi.specs.declared.record.Record.TheVariants as a_record;
 ghost use Rattle.sys_abi.specs.declared.reply.Reply.TheVariants.{Value};
 ghost use Rattle.plain_process.specs.Buffers.{lent};
 ghost use Rattle.plain_process.specs.Put.{made_by, put};
-ghost use Rattle.plain_process.specs.Threads.{child_of};
 ghost use Rattle.plain_process.specs.Twins.{twin_of};
 ghost use Rattle.plain_process.specs.declared.user_part.UserPart.{UserPart};
 ghost use Rattle.sys_abi.specs.declared.identity.VPid.{VPid};
@@ -17,7 +16,7 @@ ghost use Rattle.plain_machine.specs.Serve.{serve};
 ghost use Rattle.guest_proc.specs.Guests.{GuestPart, HasThread};
 ghost use Rattle.computation.specs.Sinks.{sunk};
 ghost use Rattle.computation.specs.Takes.{Takes, Breaks};
-ghost use Rattle.computation.specs.Parts.{AsksAt, CanAnswer, Grown, HasServed, Reserved, given_back, is_fork, is_fork_form, left_by, told_as};
+ghost use Rattle.computation.specs.Parts.{AsksAt, CanAnswer, Grown, Guests, HasServed, Reserved, born_if, given_back, grown_by, is_fork, is_fork_form, left_by, told_as, with_twin};
 
 use crate::computation::{Computation, Stop};
 use crate::looks::shows;
@@ -54,10 +53,11 @@ impl Computation {
         ensures ok { OnOk result (Takes (plain_of self.old) (plain_of self.new)
             (a_record.Call p t) trace.old trace.new (sunk (O.seen out.old).taken (O.seen out.new).taken)) }
         ensures ready { OnOk result (IsReady self.new) }
-        ensures failed { IsErrOf result Stop.Sink → Breaks (plain_of self.old) (a_record.Call p t)
-            trace.old trace.new (sunk (O.seen out.old).taken (O.seen out.new).taken) }
+        ensures failed { IsErrOf result Stop.Sink → Breaks (plain_of self.old) (plain_of self.new)
+            (a_record.Call p t) trace.old trace.new (sunk (O.seen out.old).taken (O.seen out.new).taken) }
         ensures memory { IsErrOf result Stop.Memory →
             (trace.new ≡ trace.old) × ((O.seen out.new).taken ≡ (O.seen out.old).taken) }
+        ensures same { IsErrOf result Stop.Memory → plain_of self.new ≡ plain_of self.old }
         ensures cause { IsFaultOf result Stop.Sink (O.seen out.old).faults (O.seen out.new).faults }
         ensures later { (O.seen out.old).faults ≤ (O.seen out.new).faults }
     {
@@ -69,7 +69,8 @@ impl Computation {
         Ok(())
     }
 
-    /// Serves a kernel call, and puts the child that it makes among the guests; its answer is not put yet.
+    /// Serves a kernel call, and puts the child that it makes among the guests; its answer is not put yet. All
+    /// memory but the kernel's own is taken first, so that where some is wanted nobody sees that a call was tried.
     fn serve_call(
         &mut self,
         alloc: Global,
@@ -88,14 +89,15 @@ impl Computation {
         ensures grown { IfOk result (λ reply. (guest : GuestPart) → map.get self.old.guests p ≡ Some guest
             → Grown self.old.guests self.new.guests p guest t.0 request.now reply
             (pid self.old.kernel.next_id)) }
+        ensures same { OnErr result (plain_of self.new ≡ plain_of self.old) }
     {
         let next = VPid(self.kernel.next_id());
-        let twin = twin_at(&self.guests, alloc, p, t, request)?;
         reserve_at(&mut self.guests, alloc, p, request)?;
-        let reply = answered(self.kernel.call(p, t, request, &mut self.transfer))?;
+        place_twin(&mut self.guests, alloc, p, t, next, request)?;
+        let told = self.kernel.call(p, t, request, &mut self.transfer);
         let is_born = self.kernel.is_live(next);
-        add_child(&mut self.guests, twin, next, request, is_born)?;
-        Ok(reply)
+        settle_child(&mut self.guests, next, request, is_born);
+        answered(told)
     }
 
     /// Puts the answer of a call, or takes the guest away whose process has ended.
@@ -122,7 +124,8 @@ impl Computation {
 /// The answer of a call that does not wait.
 fn answered(told: KernelReply) -> Result<Reply, AllocError>
     requires { told ≢ KernelReply.NotReady }
-    ensures { IfOk result (λ reply. told ≡ told_as reply) }
+    ensures ok { IfOk result (λ reply. told ≡ told_as reply) }
+    ensures err { OnErr result (told ≡ KernelReply.Memory) }
 {
     match told {
         KernelReply::Done(value) => Ok(Reply::Value(value)),
@@ -174,8 +177,9 @@ fn reserve_at(
     request: &Request,
 ) -> Result<(), AllocError>
     requires { is_some (map.get guests.old p) ≡ true }
-    ensures { OnOk result ((guest : GuestPart) → map.get guests.old p ≡ Some guest
+    ensures ok { OnOk result ((guest : GuestPart) → map.get guests.old p ≡ Some guest
         → Reserved guests.old guests.new p guest request.now) }
+    ensures err { OnErr result (guests.new ≡ guests.old) }
 {
     let Some(guest) = guests.get_mut(p) else {
         unreachable!();
@@ -223,30 +227,45 @@ fn twin_at(
     Ok(Some(guest.fork_guest(alloc, t)?))
 }
 
-/// Gives the child of a fork its number, and puts it among the guests, if it was made.
-fn add_child(
+/// Puts the child that a fork is to make among the guests, under the number that it will have.
+fn place_twin(
     guests: &mut ByPid<Guest>,
-    twin: Option<Guest>,
+    alloc: Global,
+    p: VPid,
+    t: Tid,
     next: VPid,
     request: &Request,
-    is_born: bool,
 ) -> Result<(), AllocError>
-    requires fork { is_born ≡ true → made_by request.now (Value next.0) ≡ Some next.0 }
-    requires lent { is_born ≡ true → IfSome twin (λ twin. is_some (lent twin.user.memory request.now) ≡ true) }
-    ensures unborn { is_born ≡ false → OnOk result (guests.new ≡ guests.old) }
-    ensures born { is_born ≡ true → OnOk result ((p : VPid) (parent : UserPart) (t : ℕ) → HasThread parent t
-        → twin ≡ Some (record { pid = p; user = twin_of parent t; spare = 0 })
-        → guests.new ≡ map.insert guests.old next
-        (record { pid = next; user = child_of parent t next.0 request.now; spare = 0 })) }
+    ensures ok { OnOk result ((guest : GuestPart) → map.get guests.old p ≡ Some guest
+        → guests.new ≡ with_twin guests.old guest t.0 request.now next) }
+    ensures err { OnErr result (guests.new ≡ guests.old) }
 {
-    if !is_born {
-        return Ok(());
-    }
-    let Some(child) = twin else {
+    let twin = twin_at(guests, alloc, p, t, request)?;
+    let Some(twin) = twin else {
         return Ok(());
     };
-    let mut child = child;
-    child.settle(next, request);
-    guests.insert(next, child)?;
+    guests.insert(next, twin)?;
     Ok(())
+}
+
+/// Gives the child of a fork its number, or takes it out of the guests if it was not made. Takes no memory.
+fn settle_child(guests: &mut ByPid<Guest>, next: VPid, request: &Request, is_born: bool)
+    requires fork { is_born ≡ true → made_by request.now (Value next.0) ≡ Some next.0 }
+    requires lent { is_born ≡ true → IfSome (map.get guests.old next)
+        (λ twin. is_some (lent twin.user.memory request.now) ≡ true) }
+    ensures { (before : Guests) (guest : GuestPart) (t : ℕ) → HasThread guest.user t
+        → map.get before next ≡ None → guests.old ≡ with_twin before guest t request.now next
+        → guests.new ≡ grown_by before guest.user t request.now next (born_if is_born next) }
+{
+    if !forks(request) {
+        return;
+    }
+    if !is_born {
+        guests.remove(next);
+        return;
+    }
+    let Some(child) = guests.get_mut(next) else {
+        return;
+    };
+    child.settle(next, request);
 }

@@ -96,10 +96,11 @@ impl Computation {
         ensures ok { OnOk result (Takes (plain_of self.old) (plain_of self.new)
             (a_record.Call p t) trace.old trace.new (sunk (O.seen out.old).taken (O.seen out.new).taken)) }
         ensures ready { OnOk result (IsReady self.new) }
-        ensures failed { IsErrOf result Stop.Sink → Breaks (plain_of self.old) (a_record.Call p t)
-            trace.old trace.new (sunk (O.seen out.old).taken (O.seen out.new).taken) }
+        ensures failed { IsErrOf result Stop.Sink → Breaks (plain_of self.old) (plain_of self.new)
+            (a_record.Call p t) trace.old trace.new (sunk (O.seen out.old).taken (O.seen out.new).taken) }
         ensures memory { IsErrOf result Stop.Memory →
             (trace.new ≡ trace.old) × ((O.seen out.new).taken ≡ (O.seen out.old).taken) }
+        ensures same { IsErrOf result Stop.Memory → plain_of self.new ≡ plain_of self.old }
         ensures cause { IsFaultOf result Stop.Sink (O.seen out.old).faults (O.seen out.new).faults }
         ensures later { (O.seen out.old).faults ≤ (O.seen out.new).faults }
     {
@@ -169,6 +170,7 @@ impl Computation {
             (a_record.Call p t) trace.old trace.new (sunk taken taken)) }
         ensures ready { OnOk result (IsReady self.new) }
         ensures memory { OnErr result (trace.new ≡ trace.old) }
+        ensures same { OnErr result (plain_of self.new ≡ plain_of self.old) }
         ensures kind { result ≢ Err Stop.Sink }
     {
         let Some(guest) = self.guests.get_mut(p) else {

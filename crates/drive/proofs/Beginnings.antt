@@ -37,8 +37,8 @@ use Rattle.checkpointer.specs.Keeping.{IsKept}
 use Rattle.run_loop.specs.declared.run_end.RunEnd.{RunEnd as LoopEnd}
 use Rattle.run_loop.specs.declared.run_end.RunEnd.TheVariants as run_ended
 use Rattle.run_loop.specs.Going.{HasEnded}
-use Rattle.run_loop.specs.RunEnds.{EndsAt}
-use Rattle.run_loop.proofs.Ended.{at_memory}
+use Rattle.run_loop.specs.RunEnds.{EndsAt, KernelAtEnd}
+use Rattle.run_loop.proofs.Ended.{at_memory, kernel_left}
 use Rattle.run_loop.proofs.Starting.{starting}
 use Rattle.drive.specs.Driving.{Guests, CanDrive, state_of}
 
@@ -102,12 +102,12 @@ kept checkpointer kernel guests schedule (Some store) folder tally stored can so
     kept_with checkpointer schedule.opening store folder (ap (λ t. t.greatest) tally) stored can.follows can.fits
 
 pub unbegun : (schedule : Schedule) (g : Plain) (trace : TraceState) (taken told : Option (List ℕ)) (disk : SeenFolder) → trace.records ≡ []
-    → HasEnded run_ended.Memory schedule g trace.room trace.records (sunk taken taken) (sunk told told) disk disk
+    → HasEnded run_ended.Memory schedule g trace.room trace.records g (sunk taken taken) (sunk told told) disk disk
 unbegun schedule g trace taken told disk empty =
     let first : Checkpointer = record { schedule = schedule; tally = first_tally schedule; store = None; lines = at_start } in
     let begun = starting g first trace taken told disk empty refl refl in
     let none : length trace.records ≡ 0 = ap length empty in
     at_memory schedule g g NewRound trace (sunk taken taken) trace.room first (sunk told told) disk disk begun.now (omega arith)
 
-pub at_end : (end told : LoopEnd) (g h : Plain) (trace : List Record) (state : Plain) → told ≡ end → g ≡ h → EndsAt end g trace state → EndsAt told h trace state
-at_end end told g h trace state is same ends = subst (λ (e : LoopEnd). EndsAt e h trace state) (sym is) (subst (λ (x : Plain). EndsAt end x trace state) same ends)
+pub at_end : (end : LoopEnd) (g h : Plain) (trace : List Record) (state : Plain) → g ≡ h → EndsAt end g trace state → KernelAtEnd h trace state.kernel
+at_end end g h trace state same ends = subst (λ (x : Plain). KernelAtEnd x trace state.kernel) same (kernel_left g trace state end ends)

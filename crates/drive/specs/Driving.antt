@@ -12,14 +12,13 @@ use Rattle.sys_abi.specs.declared.record.Record.{Record}
 use Rattle.disk_folder.specs.SeenFolder.{SeenFolder}
 use Rattle.plain_machine.specs.declared.kernel.PlainKernel.{PlainKernel}
 use Rattle.plain_machine.specs.declared.plain.Plain.{Plain}
-use Rattle.plain_machine.specs.Records.{Users}
 use Rattle.plain_machine.specs.Valid.{IsValid}
 use Rattle.guest_proc.specs.Guests.{GuestPart}
 use Rattle.image_store.specs.StoreStates.{Known, FitsFolder, next_generation}
 use Rattle.trace_log.specs.declared.requests.Schedule.{Schedule}
 use Rattle.run_loop.specs.declared.run_end.RunEnd.{RunEnd as LoopEnd}
 use Rattle.run_loop.specs.declared.run_end.RunEnd.TheVariants as run_ended
-use Rattle.run_loop.specs.RunEnds.{EndsAt}
+use Rattle.run_loop.specs.RunEnds.{KernelAtEnd}
 use Rattle.drive.specs.declared.run_status.RunStatus.{RunStatus}
 use Rattle.drive.specs.declared.run_status.RunStatus.TheVariants.{Ended, SinkFault}
 use Rattle.drive.specs.declared.run_status.RunEnd.TheVariants.{Done, Stuck, Budget, Memory}
@@ -51,6 +50,5 @@ end_told (Ended Budget) = run_ended.Budget
 end_told (Ended Memory) = run_ended.Memory
 end_told SinkFault = run_ended.SinkFault
 
-abbrev pub StandsAtEnd : LoopEnd → Plain → List Record → Option PlainKernel → Type 0
-StandsAtEnd end g trace back =
-    IfSome back (λ kernel. (users : Users) × EndsAt end g trace (record { kernel = kernel; users = users }))
+abbrev pub StandsAtEnd : Plain → List Record → Option PlainKernel → Type 0
+StandsAtEnd g trace back = IfSome back (KernelAtEnd g trace)

@@ -27,12 +27,11 @@ use wrap_calls::Wrapped;
 /// parts of the live processes, each under its number.
 ///
 /// The bytes that they write go to `out`. Where `every` is there a checkpoint is asked for after each so many
-/// records of work: its set goes to `disk` by the store, with generations above `opening`, and `log` gets a
-/// line for it. `trace` gets a record for each step of the run and a mark for each stage of a checkpoint.
+/// records of work: its set goes to `disk` by the store, with a generation above `opening`, and `log` gets a
+/// line for it. `trace` gets a record for each step of the run, and the marks of each checkpoint.
 ///
 /// The system always comes back: a checkpoint is done whole before the next record, so that no stage of one
-/// holds the system at the end. Where memory is wanted before the first record nothing was done, and it is the
-/// one that was given.
+/// holds the system at the end.
 pub fn drive<O: Sink, L: Sink, F: Folder>(
     alloc: Global,
     wrapped: Wrapped,
@@ -58,9 +57,9 @@ pub fn drive<O: Sink, L: Sink, F: Folder>(
         (sunk (L.seen log.old).taken (L.seen log.new).taken) }
     ensures in_rounds { GoesInRounds (schedule_of every opening) (state_of wrapped guests) trace.new.records }
 
-    // The system comes back, and stands for the kernel part at the end of the run.
+    // The system comes back, and stands for the kernel part at the end of the run, however it ended.
     ensures back { IsSome result.0 }
-    ensures state { StandsAtEnd (end_told result.1) (state_of wrapped guests) trace.new.records result.0 }
+    ensures state { StandsAtEnd (state_of wrapped guests) trace.new.records result.0 }
 
     // A crash at any moment leaves the set that counted before, or one of a cut of this run.
     ensures safe { IsSafe (state_of wrapped guests) trace.new.records (F.seen disk.old) (F.seen disk.new) }
@@ -83,7 +82,7 @@ pub fn drive<O: Sink, L: Sink, F: Folder>(
         checkpointer: Checkpointer::new(Schedule { every, opening }, store),
     };
     let end = start.run(alloc, out, log, disk, trace);
-    (Some(start.computation.kernel), status_of(end))
+    (Some(start.computation.into_kernel()), status_of(end))
 }
 
 /// The guests by their numbers, and a buffer for their calls.

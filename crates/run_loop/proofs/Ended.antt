@@ -3,6 +3,7 @@
 --     ran_out, filled_up, got_stuck    nobody lives, the trace is full, nobody can go on
 --     at_memory          memory was wanted before the next record
 --     at_break           the checkpointer broke off
+--     kernel_left        what is left of the kernel part
 use Rattle.std.proofs.Common.{◌≡◌, ℕ, ◌+◌, ◌<◌, ◌≤◌, true, false, List, ◌++◌, length, take, inl, inr, refl, sym, ap, subst, ◌∙◌, arith}
 use Rattle.std.specs.Prelude.{◌⊎◌}
 use Rattle.std.proofs.Math.Seq.{take-append-add}
@@ -30,7 +31,7 @@ use Rattle.checkpointer.proofs.Sinks.{took_front}
 use Rattle.run_loop.specs.declared.run_end.RunEnd.{RunEnd}
 use Rattle.run_loop.specs.declared.run_end.RunEnd.TheVariants as run_ended
 use Rattle.run_loop.specs.Going.{HasEnded, end_of}
-use Rattle.run_loop.specs.RunEnds.{EndsAt, IsRun, Shown, ShownInPart, RanOut, FilledUp, GotStuck}
+use Rattle.run_loop.specs.RunEnds.{EndsAt, KernelAtEnd, IsRun, Shown, ShownInPart, RanOut, FilledUp, GotStuck}
 
 -- lines that are cut off are a first part of all
 cut_front : (trace : List Record) (lines : List ℕ) (log : Sunk) → CutLines trace lines → Took log lines → TookFront log (log_text trace)
@@ -88,49 +89,55 @@ module _ (schedule : Schedule) (g h : Plain) (upcoming : Upcoming) (trace : Trac
     Going = IsUnderWay schedule g h upcoming checkpointer trace sink log first disk
 
     pub at_end : (under : Going) → IsSettled under.running.requests trace → length trace.records + trace.room ≡ room → ended h ≡ true
-        → HasEnded run_ended.Done schedule g room trace.records sink log first disk
+        → HasEnded run_ended.Done schedule g room trace.records h sink log first disk
     at_end under settled size over =
-        record { ends = (ran_out under.running settled size over, under.noted.logged); pace = tt; in_rounds = under.running.order; safe = under.safe }
+        record { ends = (ran_out under.running settled size over, under.noted.logged); left = steps_of schedule g h upcoming trace.records sink under.running; pace = tt; in_rounds = under.running.order; safe = under.safe }
 
     pub at_full : Going → trace.room ≡ 0 → length trace.records + trace.room ≡ room → ended h ≡ false
-        → HasEnded run_ended.Budget schedule g room trace.records sink log first disk
+        → HasEnded run_ended.Budget schedule g room trace.records h sink log first disk
     at_full under none size on =
-        record { ends = (filled_up under.running none size on, under.noted.logged); pace = tt; in_rounds = under.running.order; safe = under.safe }
+        record { ends = (filled_up under.running none size on, under.noted.logged); left = steps_of schedule g h upcoming trace.records sink under.running; pace = tt; in_rounds = under.running.order; safe = under.safe }
 
     pub at_rest : (under : Going) → IsAnswered under.running.requests → 0 < trace.room → length trace.records + trace.room ≡ room → IsStuck h → full_arrive h ≡ h
-        → HasEnded run_ended.Stuck schedule g room trace.records sink log first disk
+        → HasEnded run_ended.Stuck schedule g room trace.records h sink log first disk
     at_rest under free some size stuck arrived =
-        record { ends = (got_stuck under.running free some size stuck arrived, under.noted.logged); pace = tt; in_rounds = under.running.order; safe = under.safe }
+        record { ends = (got_stuck under.running free some size stuck arrived, under.noted.logged); left = steps_of schedule g h upcoming trace.records sink under.running; pace = tt; in_rounds = under.running.order; safe = under.safe }
 
-    pub at_memory : Going → length trace.records ≤ room → HasEnded run_ended.Memory schedule g room trace.records sink log first disk
+    pub at_memory : Going → length trace.records ≤ room → HasEnded run_ended.Memory schedule g room trace.records h sink log first disk
     at_memory under fits = record {
       ends = (running_shown under.running fits, took_front log (log_text trace.records) under.noted.logged);
+      left = steps_of schedule g h upcoming trace.records sink under.running;
       pace = (log_text trace.records, (inl refl, under.noted.logged));
       in_rounds = under.running.order;
       safe = under.safe;
     }
 
   pub at_break : (stop : Stop) (log : Sunk) (first disk : SeenFolder) → IsBrokenOff schedule g h upcoming trace sink log first disk → length trace.records ≤ room
-      → HasEnded (end_of stop) schedule g room trace.records sink log first disk
+      → HasEnded (end_of stop) schedule g room trace.records h sink log first disk
   at_break Sink log first disk broken fits = record {
     ends = (shown_in_part broken.running fits, cut_front trace.records broken.lines log broken.cut broken.logged);
+    left = (h, (steps_of schedule g h upcoming trace.records sink broken.running, refl));
     pace = inr (broken.running.shown, (broken.lines, (broken.cut, broken.logged)));
     in_rounds = broken.running.order;
     safe = broken.safe;
   }
   at_break Memory log first disk broken fits = record {
     ends = (running_shown broken.running fits, cut_front trace.records broken.lines log broken.cut broken.logged);
+    left = steps_of schedule g h upcoming trace.records sink broken.running;
     pace = (broken.lines, (inr broken.cut, broken.logged));
     in_rounds = broken.running.order;
     safe = broken.safe;
   }
 
 -- the same said of how it is told
-pub ended_so : {schedule : Schedule} {g : Plain} {room : ℕ} {trace : List Record} {sink log : Sunk} {first disk : SeenFolder} (end : RunEnd) (stop : Stop) → end ≡ end_of stop → HasEnded (end_of stop) schedule g room trace sink log first disk
-    → HasEnded end schedule g room trace sink log first disk
-ended_so {schedule} {g} {room} {trace} {sink} {log} {first} {disk} end stop is ended = subst (λ e. HasEnded e schedule g room trace sink log first disk) (sym is) ended
+pub ended_so : {schedule : Schedule} {g : Plain} {room : ℕ} {trace : List Record} {state : Plain} {sink log : Sunk} {first disk : SeenFolder} (end : RunEnd) (stop : Stop) → end ≡ end_of stop
+    → HasEnded (end_of stop) schedule g room trace state sink log first disk → HasEnded end schedule g room trace state sink log first disk
+ended_so {schedule} {g} {room} {trace} {state} {sink} {log} {first} {disk} end stop is ended = subst (λ e. HasEnded e schedule g room trace state sink log first disk) (sym is) ended
 
--- a run that was stopped did not come to its end
-pub ends_nowhere : (g : Plain) (trace : List Record) (state : Plain) (end : RunEnd) (stop : Stop) → end ≡ end_of stop → EndsAt end g trace state
-ends_nowhere g trace state end Sink is = subst (λ e. EndsAt e g trace state) (sym is) tt
-ends_nowhere g trace state end Memory is = subst (λ e. EndsAt e g trace state) (sym is) tt
+-- at each end the kernel part that is left is that at the end of the run
+pub kernel_left : (g : Plain) (trace : List Record) (state : Plain) (end : RunEnd) → EndsAt end g trace state → KernelAtEnd g trace state.kernel
+kernel_left g trace state run_ended.SinkFault left = left
+kernel_left g trace state run_ended.Done left = (state, (left, refl))
+kernel_left g trace state run_ended.Budget left = (state, (left, refl))
+kernel_left g trace state run_ended.Stuck left = (state, (left, refl))
+kernel_left g trace state run_ended.Memory left = (state, (left, refl))

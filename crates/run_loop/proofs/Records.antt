@@ -45,12 +45,12 @@ module _ (schedule : Schedule) (g h : Plain) (upcoming : Upcoming) (d : Due) (fr
       notes.took.outcome notes.took.shown (moved_on h at d r free there notes.no_mark))
 
   -- what a run has come to whose last record broke off
-  abbrev Breaks : ℕ → TraceState → Type 0
-  Breaks room trace =
-      ShownInPart schedule g room trace.records (sunk had has) × ConsoleStops g trace.records (sunk had has) × GoesInRounds schedule g trace.records
+  abbrev Breaks : ℕ → Plain → TraceState → Type 0
+  Breaks room last trace =
+      ShownInPart schedule g room trace.records (sunk had has) × ConsoleStops g trace.records (sunk had has) × GoesInRounds schedule g trace.records × (run g trace.records ≡ Some last)
 
-  pub breaks : (room : ℕ) (spoils : Spoils h (Some d) from to (sunk mid has)) → is_mark spoils.noted ≡ false → length from.records + 1 ≤ room → Breaks room to
-  breaks room spoils plain fits =
+  pub breaks : (room : ℕ) (k : Plain) (spoils : Spoils h k (Some d) from to (sunk mid has)) → is_mark spoils.noted ≡ false → length from.records + 1 ≤ room → Breaks room spoils.broke.state to
+  breaks room k spoils plain fits =
       let r = spoils.noted in
       let broke = spoils.broke in
       let o : Outcome = record { state = broke.state; console = broke.bytes } in
@@ -62,10 +62,12 @@ module _ (schedule : Schedule) (g h : Plain) (upcoming : Upcoming) (d : Due) (fr
       subst (TookThen (sunk had has) (console g from.records)) (sym (console_of_one h r o broke.outcome)) (took_then had mid has (console g from.records) broke.bytes running.shown broke.shown) in
       let part : TookFront (sunk had has) (console g (from.records ++ r ∷ [])) =
       subst (TookFront (sunk had has)) (sym (console_of_one_more g h from.records r o steps broke.outcome)) (took_more had mid has (console g from.records) broke.bytes running.shown broke.shown) in
+      let ends : run g (from.records ++ r ∷ []) ≡ Some broke.state =
+      runs schedule g broke.state (first_requests schedule) (next_requests schedule h running.requests r) (from.records ++ r ∷ []) reached in
       let shown : ShownInPart schedule g room (from.records ++ r ∷ []) (sunk had has) = record {
         state = broke.state;
         run = record {
-          steps = runs schedule g broke.state (first_requests schedule) (next_requests schedule h running.requests r) (from.records ++ r ∷ []) reached;
+          steps = ends;
           requests = next_requests schedule h running.requests r;
           reaches = reached;
           fits = omega (arith, length-append from.records (r ∷ []));
@@ -81,4 +83,4 @@ module _ (schedule : Schedule) (g h : Plain) (upcoming : Upcoming) (d : Due) (fr
         there = steps;
         shown = shows;
       } in
-      subst (λ (t : TraceState). Breaks room t) (sym broke.trace) (shown, stops, on.order)
+      subst (λ (t : TraceState). Breaks room broke.state t) (sym broke.trace) (shown, stops, on.order, ends)

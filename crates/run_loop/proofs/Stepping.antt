@@ -102,15 +102,16 @@ module _ (schedule : Schedule) (g : Plain) (now : Start) (rounds later : Rounds)
     less = ap (λ (t : TraceState). t.room) taken.0.took.trace
 
   -- the record was not made, or broke off
-  pub stops : (stop : Stop) (room : ℕ) → (stop ≡ Sink → Spoils h (chosen rounds h (Some choice)) from to (sunk mid has)) → (stop ≡ Memory → (to ≡ from) × (has ≡ mid)) → 0 < from.room → length from.records + from.room ≡ room
-      → HasEnded (end_of stop) schedule g room to.records (sunk had has) log first disk
-  stops Sink room fails wants some whole =
-      spoilt schedule g h before.upcoming place.d now.checkpointer from to had mid has log first disk before.under before.free place.there room (subst (λ due. Spoils h due from to (sunk mid has)) place.is (fails refl)) (omega arith)
-  stops Memory room fails wants some whole =
+  pub stops : (k : Plain) (stop : Stop) (room : ℕ) → (stop ≡ Sink → Spoils h k (chosen rounds h (Some choice)) from to (sunk mid has)) → (stop ≡ Memory → (to ≡ from) × (has ≡ mid)) → (stop ≡ Memory → k ≡ h) → 0 < from.room
+      → length from.records + from.room ≡ room → HasEnded (end_of stop) schedule g room to.records k (sunk had has) log first disk
+  stops k Sink room fails wants stays some whole =
+      spoilt schedule g h before.upcoming place.d now.checkpointer from to had mid has log first disk before.under before.free place.there room k (subst (λ due. Spoils h k due from to (sunk mid has)) place.is (fails refl)) (omega arith)
+  stops k Memory room fails wants stays some whole =
       let same = wants refl in
       let ended = at_memory schedule g h before.upcoming from (sunk had mid) room now.checkpointer log first disk before.under (omega arith) in
-      subst (λ (t : TraceState). HasEnded (end_of Memory) schedule g room t.records (sunk had has) log first disk) (sym same.0)
-      (subst (λ taken. HasEnded (end_of Memory) schedule g room from.records (sunk had taken) log first disk) (sym same.1) ended)
+      subst (λ (state : Plain). HasEnded (end_of Memory) schedule g room to.records state (sunk had has) log first disk) (sym (stays refl))
+      (subst (λ (t : TraceState). HasEnded (end_of Memory) schedule g room t.records h (sunk had has) log first disk) (sym same.0)
+      (subst (λ taken. HasEnded (end_of Memory) schedule g room from.records h (sunk had taken) log first disk) (sym same.1) ended))
 
 -- what a served request left, where the schedule is the checkpointer's
 module _ (schedule : Schedule) (g h k : Plain) (rounds : Rounds) (checkpointer later : Checkpointer) (from to : TraceState) (sink : Sunk) (had mid has : Option (List ℕ)) (first disk next : SeenFolder)
@@ -135,7 +136,7 @@ module _ (schedule : Schedule) (g h k : Plain) (rounds : Rounds) (checkpointer l
   pub breaks_off : (stop : Stop) (room : ℕ) → length to.records ≤ room
       → ((upcoming : Upcoming) (before : IsUnderWay checkpointer.schedule g h upcoming checkpointer from sink (sunk had mid) first disk) → WaitsIfAsked checkpointer.schedule before.running.requests
       → IsBrokenOff checkpointer.schedule g k upcoming to sink (sunk had has) first next)
-      → HasEnded (end_of stop) schedule g room to.records sink (sunk had has) first next
+      → HasEnded (end_of stop) schedule g room to.records k sink (sunk had has) first next
   breaks_off stop room fits fails =
-      subst (λ s. HasEnded (end_of stop) s g room to.records sink (sunk had has) first next) same
+      subst (λ s. HasEnded (end_of stop) s g room to.records k sink (sunk had has) first next) same
       (at_break checkpointer.schedule g k own.upcoming to sink room stop (sunk had has) first next (fails own.upcoming own.now own.waits) fits)

@@ -135,17 +135,18 @@ module _ (schedule : Schedule) (g h : Plain) (upcoming : Upcoming) (d : Due) (ch
         record { now = after.0; free = ap (λ (q : Requests). q.phase) after.1 ∙ arrival_frees schedule h r before.running.requests free notes.no_mark idle }
 
   -- the console took a first part of what the record writes
-  pub spoilt : (room : ℕ) → Spoils h (Some d) from to (sunk mid has) → length from.records + 1 ≤ room → HasEnded run_ended.SinkFault schedule g room to.records (sunk had has) log first disk
-  spoilt room spoils fits =
+  pub spoilt : (room : ℕ) (k : Plain) → Spoils h k (Some d) from to (sunk mid has) → length from.records + 1 ≤ room → HasEnded run_ended.SinkFault schedule g room to.records k (sunk had has) log first disk
+  spoilt room k spoils fits =
       let r = spoils.noted in
       let plain = work_no_mark r spoils.work in
-      let broken = breaks schedule g h upcoming d from to had mid has before.running free there room spoils plain fits in
+      let broken = breaks schedule g h upcoming d from to had mid has before.running free there room k spoils plain fits in
       let same : log_text (from.records ++ r ∷ []) ≡ log_text from.records =
       log_grows from.records r ∙ ap (λ line. log_text from.records ++ line) (no_line (after_all log_start from.records) r plain) ∙ append-nil (log_text from.records) in
       let logged : Took log (log_text to.records) =
       subst (λ (t : TraceState). Took log (log_text t.records)) (sym spoils.broke.trace) (before.noted.logged ∙ ap (appended log.before) (sym same)) in
       record {
         ends = (broken.0, took_front log (log_text to.records) logged);
+        left = (spoils.broke.state, (broken.3, spoils.broke.kernel));
         pace = inl (broken.1, logged);
         in_rounds = broken.2;
         safe = subst (λ (t : TraceState). IsSafe g t.records first disk) (sym spoils.broke.trace) (safe_quiet g from.records r first disk (no_set r plain) (no_fault r plain) before.safe);

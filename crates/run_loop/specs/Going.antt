@@ -24,7 +24,7 @@ use Rattle.checkpointer.specs.UnderWay.{IsUnderWay, IsSettled}
 use Rattle.run_loop.specs.declared.run_end.RunEnd.{RunEnd}
 use Rattle.run_loop.specs.declared.run_end.RunEnd.TheVariants.{SinkFault, Memory}
 use Rattle.run_loop.specs.declared.start.Start.{Start}
-use Rattle.run_loop.specs.RunEnds.{EndsRun}
+use Rattle.run_loop.specs.RunEnds.{EndsAt, EndsRun}
 use Rattle.run_loop.specs.Pace.{KeepsPace}
 
 pub record IsGoing (schedule : Schedule) (g : Plain) (now : Start) (rounds : Rounds) (trace : TraceState)
@@ -46,8 +46,9 @@ pub record IsChosen (schedule : Schedule) (g : Plain) (now : Start) (rounds : Ro
       ≡ chosen rounds (plain_of now.computation) (Some choice)
 
 pub record HasEnded (end : RunEnd) (schedule : Schedule) (g : Plain) (room : ℕ) (trace : List Record)
-    (sink log : Sunk) (first disk : SeenFolder) : Type 0 where
+    (state : Plain) (sink log : Sunk) (first disk : SeenFolder) : Type 0 where
   pub ends : EndsRun end schedule g room trace sink log
+  pub left : EndsAt end g trace state
   pub pace : KeepsPace end g trace sink log
   pub in_rounds : GoesInRounds schedule g trace
   pub safe : IsSafe g trace first disk

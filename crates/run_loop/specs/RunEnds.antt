@@ -2,9 +2,12 @@
 --     IsRun schedule g room trace state      the trace is a run from g to this state
 --     EndsRun end schedule g room trace ..   how it ended, what the console took, and the log of the lines
 --                                            for the checkpoints
---     EndsAt end g trace state               where nobody lives at its end, that is this state
+--     KernelAtEnd g trace kernel             the kernel part at the end of the run is this one
+--     EndsAt end g trace state               the state that is left is that at the end of the run; where the
+--                                            console failed its kernel part is, and an answer may not be put
 use Rattle.std.specs.Prelude.{◌≡◌, ◌⊎◌, ℕ, ◌≤◌, ◌<◌, true, false, List, length, Some}
 use Rattle.sys_abi.specs.declared.record.Record.{Record}
+use Rattle.plain_machine.specs.declared.kernel.PlainKernel.{PlainKernel}
 use Rattle.plain_machine.specs.declared.plain.Plain.{Plain}
 use Rattle.plain_machine.specs.Runs.{run, console}
 use Rattle.plain_machine.specs.Tests.{ended, full_arrive, IsStuck}
@@ -76,6 +79,9 @@ EndsRun SinkFault schedule g room trace sink log =
 EndsRun Memory schedule g room trace sink log =
     Shown schedule g room trace sink × TookFront log (log_text trace)
 
+abbrev pub KernelAtEnd : Plain → List Record → PlainKernel → Type 0
+KernelAtEnd g trace kernel = (last : Plain) × ((run g trace ≡ Some last) × (kernel ≡ last.kernel))
+
 abbrev pub EndsAt : RunEnd → Plain → List Record → Plain → Type 0
-EndsAt Done g trace state = run g trace ≡ Some state
-EndsAt _ g trace state = Unit {0}
+EndsAt SinkFault g trace state = KernelAtEnd g trace state.kernel
+EndsAt _ g trace state = run g trace ≡ Some state

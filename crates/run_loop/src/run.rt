@@ -123,7 +123,7 @@ impl Start {
             (sunk had (O.seen out.old).taken) (sunk told (L.seen log.old).taken) (F.seen first)
             (F.seen disk.old)
             → length trace.old.records + trace.old.room ≡ room
-            → HasEnded (end_of stop) schedule g room trace.new.records
+            → HasEnded (end_of stop) schedule g room trace.new.records (plain_of self.new.computation)
             (sunk had (O.seen out.new).taken) (sunk told (L.seen log.new).taken) (F.seen first)
             (F.seen disk.new)) }
         ensures size { OnOk result (length trace.new.records + trace.new.room

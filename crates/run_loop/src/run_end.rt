@@ -7,7 +7,7 @@ pub enum RunEnd {
     Budget,
     /// Somebody lives, and nobody can go on.
     Stuck,
-    /// The console failed.
+    /// The console or the log failed.
     SinkFault,
     /// There was no memory.
     Memory,

@@ -51,7 +51,7 @@ module _ (rounds : Rounds) (g h : Plain) (turn : Turn) (from to : TraceState) (c
       some_same : {d : Due} → Some (InTurn (place_in rounds turn)) ≡ Some d → d ≡ InTurn (place_in rounds turn)
       some_same is = cc
 
-  pub failed : CanTurn g turn → Failed g turn.process turn.thread turn.next from to console → Spoils g (chosen rounds g (Some (to_do.Turn turn))) from to console
+  pub failed : CanTurn g turn → Failed g h turn.process turn.thread turn.next from to console → Spoils g h (chosen rounds g (Some (to_do.Turn turn))) from to console
   failed can fails =
       let own = fails.due (place_in rounds turn) (turn_at rounds g turn can) in
       record { noted = fails.noted; own = own.due; work = own.work; broke = fails.broke }

@@ -90,11 +90,11 @@ pub record Notes (before after : Plain) (due : Option Due) (made : Made) (from t
   pub took : Takes before after noted from to console
 
 -- one more record that was due, which broke off
-pub record Spoils (before : Plain) (due : Option Due) (from to : TraceState) (console : Sunk) : Type 0 where
+pub record Spoils (before after : Plain) (due : Option Due) (from to : TraceState) (console : Sunk) : Type 0 where
   pub noted : Record
   pub own : is_due_at before due noted ≡ true
   pub work : is_work noted ≡ true
-  pub broke : Breaks before noted from to console
+  pub broke : Breaks before after noted from to console
 
 -- the round has come past the record
 abbrev pub IsPast : Rounds → Plain → Option Due → Record → Type 0

@@ -116,11 +116,12 @@ impl Rounds {
             (chosen self.old (plain_of computation.old) (Some choice)) notes.noted) }
         ensures ready { OnOk result (IsReady computation.new) }
         ensures told { OnOk result (IsToldOf self.new.come (plain_of computation.new).users) }
-        ensures failed { IsErrOf result Stop.Sink → Spoils (plain_of computation.old)
+        ensures failed { IsErrOf result Stop.Sink → Spoils (plain_of computation.old) (plain_of computation.new)
             (chosen self.old (plain_of computation.old) (Some choice)) trace.old trace.new
             (sunk (O.seen out.old).taken (O.seen out.new).taken) }
         ensures memory { IsErrOf result Stop.Memory →
             (trace.new ≡ trace.old) × ((O.seen out.new).taken ≡ (O.seen out.old).taken) }
+        ensures same { IsErrOf result Stop.Memory → plain_of computation.new ≡ plain_of computation.old }
         ensures cause { IsFaultOf result Stop.Sink (O.seen out.old).faults (O.seen out.new).faults }
         ensures later { (O.seen out.old).faults ≤ (O.seen out.new).faults }
     {

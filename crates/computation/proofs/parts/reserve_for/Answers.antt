@@ -7,4 +7,5 @@ pub returns-in_default : goal.returns-in_default
 returns-in_default c = record {
   same = refl;
   spare = λ reply. subst (λ added. IfSome added (λ _. 1 ≤ c.args.guest.now.spare)) (sym (adds_nothing c.args.request.now reply c.in_default.not-Clone)) tt;
+  err = tt;
 }

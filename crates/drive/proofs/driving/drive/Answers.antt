@@ -1,6 +1,7 @@
-use Rattle.std.proofs.Common.{ap, ◌∙◌}
+use Rattle.std.proofs.Common.{refl, sym, ap, subst, ◌∙◌}
 use Rattle.trace_log.specs.declared.requests.Schedule.{Schedule}
 use Rattle.computation.specs.Computations.{plain_of}
+use Rattle.run_loop.specs.RunEnds.{KernelAtEnd}
 use Rattle.drive.specs.Driving.{schedule_of, state_of}
 use Rattle.drive.proofs.Beginnings.{at_end, kept, ready, same_state, unbegun}
 use Rattle.drive.proofs.driving.drive.Goals as goal
@@ -18,7 +19,10 @@ returns-in_default-clause-in_rounds g c =
     (unbegun (schedule_of c.args.every c.args.opening) (state_of c.args.wrapped c.args.guests) c.args.trace.now (g.O.Sink.seen c.args.out.now).taken (g.L.Sink.seen c.args.log.now).taken (g.F.Folder.seen c.args.disk.now) c.requires.empty).in_rounds
 
 pub returns-in_default-clause-state : goal.returns-in_default-clause-state
-returns-in_default-clause-state g c = ((state_of c.args.wrapped c.args.guests).users, tt)
+returns-in_default-clause-state g c =
+    let state = state_of c.args.wrapped c.args.guests in
+    let begun = unbegun (schedule_of c.args.every c.args.opening) state c.args.trace.now (g.O.Sink.seen c.args.out.now).taken (g.L.Sink.seen c.args.log.now).taken (g.F.Folder.seen c.args.disk.now) c.requires.empty in
+    (state, (begun.left, refl))
 
 pub returns-in_default-clause-safe : goal.returns-in_default-clause-safe
 returns-in_default-clause-safe g c =
@@ -36,4 +40,5 @@ run-end-requires-clause-kept g c some =
 pub returns-clause-state : goal.returns-clause-state
 returns-clause-state g c =
     let state = plain_of c.run-end.new.self.computation in
-    (state.users, at_end c.run-end.result _ _ _ c.run-end.new.trace.records state c.status_of.ensures (same_state c.args.wrapped c.args.guests c.in-Ok.guests c.in-Ok.transfer c.in-Ok.ensures) c.run-end.ensures.state)
+    subst (KernelAtEnd (state_of c.args.wrapped c.args.guests) c.run-end.new.trace.records) (sym c.into_kernel.ensures)
+    (at_end c.run-end.result _ _ c.run-end.new.trace.records state (same_state c.args.wrapped c.args.guests c.in-Ok.guests c.in-Ok.transfer c.in-Ok.ensures) c.run-end.ensures.state)

@@ -38,6 +38,7 @@ returns-in_err-show-clause-failed g c = λ _.
       outcome = serve_goes (plain_of m) c.args.p c.args.t asks.user c.args.request.now m.transfer has.served asks.there asks.asks (c.requires.given asks.user asks.there) c.requires.kernels has.serves
           ∙ ap (λ bytes. Some (let o : Outcome = record { state = left; console = bytes } in o))
           (shown_is m.kernel c.args.p c.args.t.0 m.transfer c.args.request.now has.served is_shown c.shows-is_shown.ensures.told has.serves (c.shows-is_shown.ensures.shown c.args.t.0 m.transfer));
+      kernel = has.kernel;
       trace = c.append.ensures;
       shown = subst (TookFront (sunk (g.O.Sink.seen c.args.out.now).taken (g.O.Sink.seen c.show.new.out).taken))
           (as_it_stands m.kernel c.args.p c.args.t.0 m.transfer c.args.request.now has.served is_shown c.shows-is_shown.ensures.told has.serves c.as_slice.result.now (c.as_slice.ensures.value ∙ has.bytes)) c.in_err-show.ensures.err;

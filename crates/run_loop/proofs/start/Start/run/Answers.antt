@@ -6,7 +6,7 @@ use Rattle.computation.specs.Computations.{plain_of}
 use Rattle.computation.specs.Turns.{NewRound}
 use Rattle.run_loop.proofs.Choosing.{chosen_so, ended_if, goes_on_if, is_free, none_left, work_is_few}
 use Rattle.checkpointer.proofs.Running.{steps_of}
-use Rattle.run_loop.proofs.Ended.{at_end, at_full, at_memory, at_rest, ended_so, ends_nowhere}
+use Rattle.run_loop.proofs.Ended.{at_end, at_full, at_memory, at_rest, ended_so}
 use Rattle.run_loop.proofs.Standstill.{stands_still}
 use Rattle.run_loop.proofs.Starting.{starting}
 use Rattle.run_loop.proofs.start.Start.run.Goals as goal
@@ -18,6 +18,13 @@ returns-in_default-clause-ends g c =
     let begun = starting start s.checkpointer c.args.trace.now (g.O.Sink.seen c.args.out.now).taken (g.L.Sink.seen c.args.log.now).taken (g.F.Folder.seen c.args.disk.now) c.requires.empty c.requires.tally c.requires.lines in
     let none : length c.args.trace.now.records ≡ 0 = ap length c.requires.empty in
     (at_memory s.checkpointer.schedule start start NewRound c.args.trace.now _ c.args.trace.now.room s.checkpointer _ _ _ begun.now (omega arith)).ends
+
+pub returns-in_default-clause-state : goal.returns-in_default-clause-state
+returns-in_default-clause-state g c =
+    let s = c.args.self.now in
+    let start = plain_of s.computation in
+    let begun = starting start s.checkpointer c.args.trace.now (g.O.Sink.seen c.args.out.now).taken (g.L.Sink.seen c.args.log.now).taken (g.F.Folder.seen c.args.disk.now) c.requires.empty c.requires.tally c.requires.lines in
+    steps_of _ _ _ NewRound _ _ begun.now.running
 
 pub returns-in_default-clause-in_rounds : goal.returns-in_default-clause-in_rounds
 returns-in_default-clause-in_rounds g c =
@@ -67,6 +74,11 @@ returns-then-room-eq0-clause-ends g c =
     let on = goes_on_if (ended (plain_of l.self.computation)) (sym c.lives.ensures ∙ c.if-not-lives.false) in
     (at_full _ (plain_of c.args.self.now.computation) (plain_of l.self.computation) going.upcoming l.trace _ c.args.trace.now.room l.self.checkpointer _ _ _ going.under (sym c.room.ensures ∙ c.if-room-eq0.true) (l.invariant.size ∙ c.room-room.ensures) on).ends
 
+pub returns-then-room-eq0-clause-state : goal.returns-then-room-eq0-clause-state
+returns-then-room-eq0-clause-state g c =
+    let going = c.loop-record.invariant.going in
+    steps_of _ _ _ going.upcoming _ _ going.under.running
+
 pub returns-in_default-choose-clause-ends : goal.returns-in_default-choose-clause-ends
 returns-in_default-choose-clause-ends g c =
     let l = c.loop-record in
@@ -77,6 +89,11 @@ returns-in_default-choose-clause-ends g c =
     let nothing = none_left l.rounds h going.upcoming going.come (c.in_default-choose.ensures.due going.upcoming going.come) in
     let still = stands_still h l.invariant.ready.valid on nothing in
     (at_rest _ (plain_of c.args.self.now.computation) h going.upcoming l.trace _ c.args.trace.now.room l.self.checkpointer _ _ _ going.under (is_free _ _ _ _ l.trace _ _ _ _ going some) some (l.invariant.size ∙ c.room-room.ensures) still.0 still.1).ends
+
+pub returns-in_default-choose-clause-state : goal.returns-in_default-choose-clause-state
+returns-in_default-choose-clause-state g c =
+    let going = c.loop-record.invariant.going in
+    steps_of _ _ _ going.upcoming _ _ going.under.running
 
 pub step-requires-clause-work : goal.step-requires-clause-work
 step-requires-clause-work g c =
@@ -117,7 +134,14 @@ returns-in-Err-clause-in_rounds g c =
     (ended_so _ _ c.ended_by.ensures ended).in_rounds
 
 pub returns-in-Err-clause-state : goal.returns-in-Err-clause-state
-returns-in-Err-clause-state g c = ends_nowhere _ _ _ c.ended_by.result c.in-Err.stop c.ended_by.ensures
+returns-in-Err-clause-state g c =
+    let l = c.loop-record in
+    let s = c.args.self.now in
+    let going = l.invariant.going in
+    let some : 0 < l.trace.room = let room = c.room.ensures in let not_none = c.if-room-eq0.false in omega arith in
+    let chosen = chosen_so s.checkpointer.schedule (plain_of s.computation) l.self l.rounds l.trace _ _ _ _ going c.choose.new.self c.choose.result c.in-Some.choice some c.in-Some.is (c.choose.ensures.due going.upcoming going.come) in
+    let ended = c.in-Err.ensures.ended s.checkpointer.schedule (plain_of s.computation) c.args.trace.now.room (g.O.Sink.seen c.args.out.now).taken (g.L.Sink.seen c.args.log.now).taken c.args.disk.now chosen (l.invariant.size ∙ c.room-room.ensures) in
+    (ended_so _ _ c.ended_by.ensures ended).left
 
 pub returns-in-Err-clause-safe : goal.returns-in-Err-clause-safe
 returns-in-Err-clause-safe g c =
@@ -156,6 +180,11 @@ returns-then-lives-clause-ends g c =
     let on = goes_on_if (ended (plain_of l.self.computation)) (sym c.lives-2.ensures ∙ c.if-lives.true) in
     let none : l.trace.room ≡ 0 = let left = l.invariant.left in let over = c.loop-record-test.false in omega arith in
     (at_full _ (plain_of c.args.self.now.computation) (plain_of l.self.computation) going.upcoming l.trace _ c.args.trace.now.room l.self.checkpointer _ _ _ going.under none (l.invariant.size ∙ c.room-room.ensures) on).ends
+
+pub returns-then-lives-clause-state : goal.returns-then-lives-clause-state
+returns-then-lives-clause-state g c =
+    let going = c.loop-record.invariant.going in
+    steps_of _ _ _ going.upcoming _ _ going.under.running
 
 pub returns-clause-ends : goal.returns-clause-ends
 returns-clause-ends g c =

@@ -45,4 +45,5 @@ returns-in-Ok-Work-clause-ended g c = each_err c.serve.result (λ fails stop. λ
 pub returns-in-Err-clause-ended : goal.returns-in-Err-clause-ended
 returns-in-Err-clause-ended g c = λ schedule start room had told first before whole.
     stops schedule start c.args.self.now c.args.rounds.now c.take.new.self c.args.choice c.args.trace.now c.take.new.trace had (g.O.Sink.seen c.args.out.now).taken (g.O.Sink.seen c.take.new.out).taken (sunk told (g.L.Sink.seen c.args.log.now).taken) (g.F.Folder.seen first) (g.F.Folder.seen c.args.disk.now) before
-    c.in-Err.stop room (λ is. c.take.ensures.failed (c.in-Err.is ∙ ap Err is)) (λ is. c.take.ensures.memory (c.in-Err.is ∙ ap Err is)) c.requires.room whole
+    (plain_of c.take.new.computation) c.in-Err.stop room (λ is. c.take.ensures.failed (c.in-Err.is ∙ ap Err is)) (λ is. c.take.ensures.memory (c.in-Err.is ∙ ap Err is))
+    (λ is. c.take.ensures.same (c.in-Err.is ∙ ap Err is)) c.requires.room whole

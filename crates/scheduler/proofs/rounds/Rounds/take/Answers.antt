@@ -17,9 +17,10 @@ stop_is is = cc
 pub returns-in-Err-clause-failed : goal.returns-in-Err-clause-failed
 returns-in-Err-clause-failed g c = λ is.
     let now = plain_of c.args.computation.now in
+    let next = plain_of c.work.new.self in
     let console = sunk (g.O.Sink.seen c.args.out.now).taken (g.O.Sink.seen c.work.new.out).taken in
-    subst (λ choice. Spoils now (chosen c.args.self.now now (Some choice)) c.args.trace.now c.work.new.trace console) (sym c.in-Turn.is)
-    (failed c.args.self.now now now c.in-Turn.turn c.args.trace.now c.work.new.trace console (subst (CanTake now) c.in-Turn.is c.requires.can) (c.work.ensures.failed (c.in-Err.is ∙ ap Err (stop_is is))))
+    subst (λ choice. Spoils now next (chosen c.args.self.now now (Some choice)) c.args.trace.now c.work.new.trace console) (sym c.in-Turn.is)
+    (failed c.args.self.now now next c.in-Turn.turn c.args.trace.now c.work.new.trace console (subst (CanTake now) c.in-Turn.is c.requires.can) (c.work.ensures.failed (c.in-Err.is ∙ ap Err (stop_is is))))
 
 pub returns-in-Arrival-clause-ok : goal.returns-in-Arrival-clause-ok
 returns-in-Arrival-clause-ok g c =
