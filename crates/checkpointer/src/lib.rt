@@ -2,9 +2,10 @@
 //! of sets, and the computation that a set stands for.
 //!
 //! A [`Checkpointer`] is told of each record of work, and serves the request that it may have made. It has
-//! all bytes arrive that are missing, makes the cut, writes the files of [`images`] as a set, and puts the
-//! outcome on the trace and its line on the log; or the request lapses, where nobody lives, or is refused.
-//! [`restored`] is the way back.
+//! all bytes arrive that are missing, makes the cut, holds the computation with its channels drained
+//! (`staged_cut`), writes the files of [`images`] as a set, lets the computation go on, and puts the outcome on
+//! the trace and its line on the log; or the request lapses, where nobody lives, or is refused. [`restored`]
+//! is the way back.
 //!
 //! Proved, for every computation of any number of processes, all sinks and folders, also where these fail:
 //! the trace goes on being a run of the plain machine in the order of the rounds, requests are answered as

@@ -3,6 +3,9 @@ ghost use Rattle.std.specs.FinMap as map;
 ghost use Rattle.plain_process.specs.Valid.{Each};
 ghost use Rattle.plain_machine.specs.Tests.{full_arrive};
 ghost use Rattle.trace_log.specs.Requests.{CanBeHeld};
+ghost use Rattle.image_shared.specs.SharedFormat.{SpellsShared};
+ghost use Rattle.image_shared.specs.SharedFits.{IsShared};
+ghost use Rattle.image_codec.specs.KernelImages.{shared_of};
 ghost use Rattle.run_start.specs.Starts.{state_of, CanBegin};
 ghost use Rattle.checkpointer.specs.Images.{AreFilesOf, HasFile, IsFileOf};
 ghost use Rattle.checkpointer.specs.Sets.{SpellsState};
@@ -10,6 +13,7 @@ ghost use Rattle.checkpointer.specs.Sets.{SpellsState};
 use guest_proc::Guest;
 use id_maps::ByPid;
 use image_codec::{SetBytes, shared_image, write_process, write_shared};
+use plain_machine::PlainKernel;
 use run_start::Start;
 use std::alloc::{AllocError, Global};
 use views::list_of::ListOf;
@@ -24,12 +28,21 @@ pub fn images(alloc: Global, start: &Start) -> Result<SetBytes, AllocError>
     ensures some { IfOk result (λ set. 0 < length set.files) }
     ensures few { IfOk result (λ set. length set.files ≤ 129) }
 {
-    let shared = shared_image(alloc, &start.kernel)?;
-    let first = write_shared(alloc, &shared)?;
+    let first = shared_file(alloc, &start.kernel)?;
     let mut files = ListOf::new(alloc);
-    files.push(ListOf::from_vec(first))?;
+    files.push(first)?;
     push_files(alloc, &start.guests, &mut files)?;
     Ok(SetBytes::of_files(files))
+}
+
+/// The file of the shared image.
+fn shared_file(alloc: Global, kernel: &PlainKernel) -> Result<ListOf<u8>, AllocError>
+    requires { IsShared (shared_of kernel.now) }
+    ensures { IfOk result (λ file. SpellsShared file (shared_of kernel.now)) }
+{
+    let shared = shared_image(alloc, kernel)?;
+    let file = write_shared(alloc, &shared)?;
+    Ok(ListOf::from_vec(file))
 }
 
 /// Puts the file of each process behind those that are there.
