@@ -15,12 +15,13 @@
 //! Proved: a suspension is refused for the first descriptor that no image holds, exactly where there is one,
 //! and else for want of memory alone; after it no call is refused, and none takes memory but the one that
 //! makes the kernel part for the images. While the channels are drained or filled again the system stands for
-//! the kernel part with what the agents hold. A step that moves bytes leaves less to do, and while a drain or a refill is not done some agent's step or some move goes on
-//! with it; in a drain that agent is a live process. `drain_all` and `refill_all` make these steps and moves
-//! in rounds until nothing is left. After the last stage the system stands for the same kernel part with all
-//! bytes arrived, and one that is given up before the drain for the same kernel part as it was. Not proved:
-//! that the agent which can go on with a refill lives. The source is Ansel, Arya, Cooperman, "DMTCP:
-//! Transparent Checkpointing for Cluster Computations and the Desktop", 2009 (the stages of a checkpoint).
+//! the kernel part with what the agents hold. A step that moves bytes leaves less to do, and while a drain or a
+//! refill is not done some agent's step or some move goes on with it; in a drain that agent is a live process.
+//! `drain_all` and `refill_all` make these steps and moves in rounds until nothing is left. After the last
+//! stage the system stands for the same kernel part with all bytes arrived, and one that is given up before
+//! the drain for the same kernel part as it was. Not proved: that the agent which can go on with a refill
+//! lives. The source is Ansel, Arya, Cooperman, "DMTCP: Transparent Checkpointing for Cluster Computations and
+//! the Desktop", 2009 (the stages of a checkpoint).
 #![tactic(auto)]
 
 pub mod draining;

@@ -7,12 +7,12 @@
 //! reopens files, connects sockets again, forks the processes, rearranges their descriptors and refills the
 //! kernel's buffers.
 //!
-//! Proved: what it makes stands for the kernel part, for every valid one in which all bytes have arrived and
-//! no description is an end of a datagram pair, on 1 to 16 nodes; each real number and port is from those on
-//! that the nodes were to hand out; and each channel with two open sides was published in the directory at
-//! the node of its accepting end, and looked up there. The source is Ansel, Arya, Cooperman, "DMTCP:
-//! Transparent Checkpointing for Cluster Computations and the Desktop", 2009. Not claimed: that a real kernel
-//! restarts so, or that it succeeds wherever there is memory enough.
+//! Proved: what it makes stands for the kernel part, for every valid one in which all bytes have arrived
+//! and no description is an end of a datagram pair, on 1 to 16 nodes; each real number and port is from the
+//! base on that the nodes were given; and each channel with two open sides was published in the directory
+//! at the node of its accepting end, and looked up there. The source is Ansel, Arya, Cooperman, "DMTCP:
+//! Transparent Checkpointing for Cluster Computations and the Desktop", 2009. Not claimed: that a real
+//! kernel restarts so, or that it succeeds wherever there is memory enough.
 #![tactic(auto)]
 
 pub mod rebuilding;
