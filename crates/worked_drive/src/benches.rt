@@ -1,0 +1,143 @@
+//! What a run is made on, and the run of a computation.
+ghost use Rattle.std.specs.Prelude.{◌≡◌, suc, ◌<◌, [], is_some, IfOk, IfSome};
+ghost use Rattle.image_store.specs.StoreStates.{FitsFolder, next_generation};
+ghost use Rattle.computation.specs.Computations.{IsReady};
+
+use crate::guests::guests_of;
+use computation::Computation;
+use disk_folder::Folder;
+use drive::{RunStatus, drive};
+use edge_io::{MemSink, Sink};
+use image_store::Store;
+use mem_folder::MemFolder;
+use std::alloc::{AllocError, Global};
+use std::test::Fail;
+use trace_log::Trace;
+use wrap_calls::Wrapped;
+
+/// How many records a run has room for.
+const ROOM: u32 = 200;
+
+/// The streams, the folder and the trace of a run.
+#[derive(Drop)]
+pub struct Bench {
+    pub console: MemSink,
+    pub log: MemSink,
+    pub disk: MemFolder,
+    pub trace: Trace,
+}
+
+/// How a run ended, and the system as it is then.
+#[derive(Drop)]
+pub struct Outcome {
+    pub status: RunStatus,
+    pub system: Wrapped,
+}
+
+impl Bench {
+    pub fn new(alloc: Global) -> Result<Box<Bench>, AllocError>
+        ensures { IfOk result (λ bench. bench.value.trace.records ≡ []) }
+    {
+        let bench = Bench {
+            console: MemSink::new(alloc, &[])?,
+            log: MemSink::new(alloc, &[])?,
+            disk: MemFolder::new(alloc, &[])?,
+            trace: empty_trace(alloc)?,
+        };
+        Ok(Box::new(alloc, bench)?)
+    }
+
+    /// Runs a computation, with a checkpoint after each so many records of work, if any.
+    pub fn run(
+        &mut self,
+        alloc: Global,
+        computation: Box<Computation>,
+        every: Option<u32>,
+    ) -> Result<Box<Outcome>, Fail>
+        requires ready { IsReady computation.value }
+        requires every { IfSome every (λ every. 0 < every) }
+        requires empty { self.old.trace.records ≡ [] }
+    {
+        run_on(
+            alloc,
+            computation,
+            every,
+            &mut self.console,
+            &mut self.log,
+            &mut self.disk,
+            &mut self.trace,
+        )
+    }
+}
+
+fn empty_trace(alloc: Global) -> Result<Trace, AllocError>
+    ensures { IfOk result (λ trace. trace.records ≡ []) }
+{
+    let mut trace = Trace::new(alloc);
+    trace.reserve(ROOM)?;
+    Ok(trace)
+}
+
+/// A run with the store of the folder's sets, which is opened where there are checkpoints.
+fn run_on<O: Sink, L: Sink, F: Folder>(
+    alloc: Global,
+    computation: Box<Computation>,
+    every: Option<u32>,
+    out: &mut O,
+    log: &mut L,
+    disk: &mut F,
+    trace: &mut Trace,
+) -> Result<Box<Outcome>, Fail>
+    requires ready { IsReady computation.value }
+    requires every { IfSome every (λ every. 0 < every) }
+    requires empty { trace.old.records ≡ [] }
+{
+    let mut computation = computation;
+    let (store, opening) = opened(alloc, every, disk)?;
+    let guests = guests_of(alloc, &mut computation.guests)?;
+    let kernel = Box::into_inner(computation).into_kernel();
+    let (back, status) = drive(
+        alloc, kernel, guests, every, opening, store, out, log, disk, trace,
+    );
+    outcome_of(alloc, back, status)
+}
+
+fn outcome_of(
+    alloc: Global,
+    back: Option<Wrapped>,
+    status: RunStatus,
+) -> Result<Box<Outcome>, Fail> {
+    match back {
+        Some(system) => Ok(Box::new(alloc, Outcome { status, system })?),
+        None => Err(Fail::from("no system")),
+    }
+}
+
+fn opened<F: Folder>(
+    alloc: Global,
+    every: Option<u32>,
+    disk: &mut F,
+) -> Result<(Option<Store>, u64), Fail>
+    ensures stored { IfOk result (λ opened. is_some opened.0 ≡ is_some every) }
+    ensures follows { IfOk result (λ opened. IfSome opened.0
+        (λ store. next_generation store ≡ suc opened.1)) }
+    ensures fits { IfOk result (λ opened. IfSome opened.0 (λ store. FitsFolder store (F.seen disk.new))) }
+{
+    if every.is_none() {
+        return Ok((None, 0));
+    }
+    let store = Store::open_store(alloc, disk, 0)?;
+    let opening = opening_of(&store);
+    Ok((Some(store), opening))
+}
+
+/// The generation of the set that counts, if one does.
+fn opening_of(store: &Store) -> u64
+    requires { store.now.floor ≡ 0 }
+    ensures { next_generation store.now ≡ suc result }
+{
+    match store.last() {
+        Some(info) => info.generation,
+        None => 0,
+    }
+}
