@@ -2,21 +2,22 @@
 """Runs random jobs with checkpoints by two built programs, by the second one on random nodes: both must
 leave the same.
 
-    tools/compare_programs.py FIRST SECOND [SEEDS [FIRST_SEED]]
+    tools/compare_programs.py [--same-words] FIRST SECOND [SEEDS [FIRST_SEED]]
 
-FIRST and SECOND are built programs, of which the second one knows the options of nodes (docs/CLI.md).
-Both may be the same.
+FIRST and SECOND are built programs. Both may be the same. The second one has to know the options of nodes
+(docs/CLI.md), but with --same-words.
 
 Each seed makes a random job, mostly of several processes. It is launched with checkpoints and cut off,
 and gone on with by one to three restarts, each from what the call before left. Of one seed in eight
-there are also restarts from sets of a job in which little is left of something that has a limit, and of
-one in sixteen restarts from a set that has something of each kind, with another number in one of its
-fields.
+there are also restarts from sets of a job in which little is left of something that has a limit, of one in
+sixteen restarts from a set that has something of each kind, with another number in one of its fields, and
+of one in sixteen a ring.
 
 The second program's words say in each call how many nodes there are, and of a restart on which of them
 the hosts are and from what numbers on they give out processes and ports; now and then they leave some of
-this out. Status, console, log, trace and each file of the folder of sets are compared byte for byte. It
-ends with status 1, and keeps the files, where any two differ, or where no set was made.
+this out. With --same-words they are the first one's. Status, console, log, trace and each file of the folder
+of sets are compared byte for byte. It ends with status 1, and keeps the files, where any two differ, or
+where no set was made.
 """
 
 import random
@@ -37,6 +38,7 @@ from model import Outcome
 
 SEEDS = 1000
 REPORTED = 50  # seeds after which the counts so far are told
+SAME_WORDS = "--same-words"
 
 
 class Pair(Trial):
@@ -44,13 +46,13 @@ class Pair(Trial):
 
     names = ("first", "second")
 
-    def __init__(self, first: str, second: str, folder: Path) -> None:
+    def __init__(self, first: str, second: str, folder: Path, moves: bool) -> None:
         super().__init__(first, folder)
-        self.second = second
+        self.second, self.moves = second, moves
 
     def outcomes(self, case: Case) -> tuple[Case, Outcome, Outcome]:
-        """Makes a call by both, by the second one on nodes; gives it as the second one had it."""
-        moved = replace(case, words=on_nodes(self.nodes, case.words))
+        """Makes a call by both, by the second one on nodes, where it moves; gives it as that one had it."""
+        moved = replace(case, words=on_nodes(self.nodes, case.words)) if self.moves else case
         return moved, run_program(self.program, case), run_program(self.second, moved)
 
     def one_seed(self, seed: int) -> None:
@@ -60,6 +62,8 @@ class Pair(Trial):
             crowds(self, seed, rng)
         if rng.random() < 1 / 16:
             other_fields(self, seed, rng)
+        if rng.random() < 1 / 16:
+            ring(self, seed, rng)
 
 
 def launch_of(rng: random.Random) -> Case:
@@ -84,23 +88,32 @@ def run_job(pair: Pair, seed: int, rng: random.Random) -> None:
         left = pair.compare(seed, Case(words, {}, left.sets))
 
 
+def ring(pair: Pair, seed: int, rng: random.Random) -> None:
+    """A launch and a restart in one call."""
+    pair.counts.done["rings"] += 1
+    every = [] if rng.random() < 0.2 else ["--every", str(rng.choice([100, 137, 500, 1001]))]
+    pair.compare(seed, Case(["ring", str(rng.randint(2, 16)), *every], {}))
+
+
 def summary(pair: Pair, seeds: int) -> str:
     counts = pair.counts
-    done = ", ".join(f"{counts.done[name]} {name}" for name in ("jobs", "restarts", "damaged sets"))
+    kinds = ("jobs", "restarts", "damaged sets", "rings")
+    done = ", ".join(f"{counts.done[name]} {name}" for name in kinds)
     made = f"{counts.records:,} records, {counts.sets:,} sets"
     return f"{seeds} seeds: {done}, {made}, {counts.differ} differences"
 
 
 def main() -> int:
     """Tries all seeds."""
-    words = sys.argv[1:]
+    moves = SAME_WORDS not in sys.argv
+    words = [word for word in sys.argv[1:] if word != SAME_WORDS]
     if len(words) < 2:
         sys.exit(__doc__)
     first, second = built_program(words, 0), built_program(words, 1)
     seeds = int(words[2]) if len(words) > 2 else SEEDS
     begin = int(words[3]) if len(words) > 3 else 1
     folder = Path(tempfile.mkdtemp())
-    pair = Pair(first, second, folder)
+    pair = Pair(first, second, folder, moves)
     for done in range(1, seeds + 1):
         pair.one_seed(begin + done - 1)
         if done % REPORTED == 0:

@@ -13,7 +13,7 @@ other bytes in its range; a file that was made may be left out until the folder 
 until the one above is. Five runs are tried: a launch with checkpoints; the same, where a call of fsync
 fails, each in turn; the same, killed at a call of fsync, each in turn, and a restart from what it left
 unsynced; a restart from a folder that has sets; and a launch with a set that is shorter than the one that
-it is written over.
+it is written over. The first four are tried of a server with two clients too, with each fifth call of fsync.
 
 It fails where the set that counts in an image is older than the last that the log called complete, or is
 not whole, byte for byte as it was written; where none counts though one was complete; and where fewer than
@@ -30,6 +30,7 @@ import tempfile
 from dataclasses import dataclass, field
 
 from built import HOME, built_program
+from jobs import HANDLER, HELLO, SERVER
 
 TRACED = "trace=mkdir,openat,open,close,lseek,write,ftruncate,fsync,fdatasync"
 CALL = re.compile(r"(?:\d+ +)?(\w+)\((.*)\) += (-?\d+)(?:<([^>]*)>)?( .*)?$")
@@ -237,7 +238,7 @@ class Runs:
     def begin(self):
         shutil.rmtree(self.place, ignore_errors=True)
         os.mkdir(self.place)
-        for guest in ("hello.elf", "handler.elf"):
+        for guest in HELLO.files() | HANDLER.files() | SERVER.files():
             shutil.copy(f"{HOME}/examples/{guest}", self.place)
         return Watch(self.dice)
 
@@ -274,26 +275,48 @@ class Runs:
         return False
 
 
-LAUNCH = "launch --every 1 0:hello.elf"
-CUT_OFF = "launch --every 1 --records 3 0:hello.elf"
+LAUNCH = f"launch --every 1 {HELLO.words}"
+CUT_OFF = f"launch --every 1 --records 3 {HELLO.words}"
 RESTART = "restart --every 1"
-SHORTER = "launch --every 4 0:handler.elf"  # its last set is shorter than one before
+SHORTER = f"launch --every 4 {HANDLER.words}"  # its last set is shorter than one before
+JOB = f"launch --every 40 {SERVER.words}"
+JOB_CUT_OFF = f"launch --every 30 --records 120 {SERVER.words}"
+JOB_RESTART = "restart --every 40"
+EACH_OF_JOB = 5
+SYNC = re.compile(r"\bf(?:data)?sync\(")
+
+
+@dataclass
+class Counts:
+    """How many calls of fsync were tried, how many images were made, and how many calls are missed where they
+    are left out."""
+
+    syncs: int = 0
+    images: int = 0
+    missed: int = 0
+
+
+def try_syncs(runs, words, restart, stride, counts):
+    """Tries a launch, and each so-many-th of its calls of fsync, failing, and the last of a killed run."""
+    watch, status, told = runs.one(words)
+    if status != 0 or not watch.complete:
+        raise Wrong(f"{words}: status {status}, generation {watch.complete}")
+    counts.images += watch.images
+    for number in range(1, len(SYNC.findall(told)) + 1, stride):
+        counts.syncs += 1
+        counts.images += runs.one(words, f"error=EIO:when={number}")[0].images
+        counts.images += runs.one(words, f"signal=KILL:when={number}", restart)[0].images
 
 
 def try_runs(runs):
-    """Tries the runs, and returns how many calls of fsync one has, how many images were made, and how many
-    of the calls are missed where they are left out."""
-    watch, status, told = runs.one(LAUNCH)
-    if status != 0 or not watch.complete:
-        raise Wrong(f"{LAUNCH}: status {status}, generation {watch.complete}")
-    syncs = len(re.findall(r"\bf(?:data)?sync\(", told))
-    images = watch.images + runs.one(CUT_OFF, then=RESTART)[0].images + runs.one(SHORTER)[0].images
-    missed = 0
-    for number in range(1, syncs + 1):
-        images += runs.one(LAUNCH, f"error=EIO:when={number}")[0].images
-        images += runs.one(LAUNCH, f"signal=KILL:when={number}", RESTART)[0].images
-        missed += runs.finds_left_out(number)
-    return syncs, images, missed
+    """Tries all runs."""
+    counts = Counts()
+    for words, restart in ((CUT_OFF, RESTART), (SHORTER, None), (JOB_CUT_OFF, JOB_RESTART)):
+        counts.images += runs.one(words, then=restart)[0].images
+    try_syncs(runs, LAUNCH, RESTART, 1, counts)
+    counts.missed = sum(runs.finds_left_out(number) for number in range(1, counts.syncs + 1))
+    try_syncs(runs, JOB, JOB_RESTART, EACH_OF_JOB, counts)
+    return counts
 
 
 def main():
@@ -301,15 +324,15 @@ def main():
     dice = random.Random(int(sys.argv[2]) if len(sys.argv) > 2 else 1)
     with tempfile.TemporaryDirectory() as folder:
         try:
-            syncs, images, missed = try_runs(Runs(program, f"{folder}/here", dice))
+            counts = try_runs(Runs(program, f"{folder}/here", dice))
         except Wrong as wrong:
             print(f"FAILED: {wrong}", file=sys.stderr)
             return 1
     print(
-        f"{syncs} calls of fsync, each failing, and each the last of a killed run: {images} images, "
-        f"nothing lost; {missed} of the calls are missed where they are left out"
+        f"{counts.syncs} calls of fsync, each failing, and each the last of a killed run: {counts.images} images, "
+        f"nothing lost; {counts.missed} of the calls are missed where they are left out"
     )
-    return 0 if images >= 1000 and missed > 0 else 1
+    return 0 if counts.images >= 1000 and counts.missed > 0 else 1
 
 
 if __name__ == "__main__":

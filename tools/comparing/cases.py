@@ -1,6 +1,7 @@
 """A call of the program, what it leaves, and where two that were to leave the same differ."""
 
 import os
+import resource
 import shutil
 import subprocess
 import tempfile
@@ -11,7 +12,9 @@ from comparing.traces import first_difference
 from model import Outcome
 
 SET_FOLDER, TRACE_FILE = "dmtcp_set", "dmtcp.trace"
-LONGEST_RUN = 300  # seconds
+LONGEST_RUN = 30
+"""Seconds of the processor, after which a call is ended by a signal, so that its status differs."""
+LONGEST_WAIT = 7200  # seconds of the clock
 Names = tuple[str, str]
 """What the two are called whose outcomes are compared."""
 PROGRAM_AND_MODEL: Names = ("program", "model")
@@ -49,13 +52,19 @@ def new_trace(case: Case, folder: Path) -> bytes | None:
     return None if found == case.files.get(TRACE_FILE) else found
 
 
+def _limit_processor() -> None:
+    """Has the system end the process that is begun after so many seconds of the processor."""
+    resource.setrlimit(resource.RLIMIT_CPU, (LONGEST_RUN, LONGEST_RUN + 1))
+
+
 def run_program(program: str, case: Case) -> Outcome:
     """Makes the call by the built program, in a folder of its own."""
     folder = Path(tempfile.mkdtemp())
     try:
         lay_out(case, folder)
         words = [program, *map(os.fsencode, case.words)]
-        done = subprocess.run(words, cwd=folder, capture_output=True, timeout=LONGEST_RUN)
+        done = subprocess.run(words, cwd=folder, capture_output=True, timeout=LONGEST_WAIT,
+                              preexec_fn=_limit_processor)
         sets = read_all(folder / SET_FOLDER)
         return Outcome(done.returncode, done.stdout, done.stderr, new_trace(case, folder), sets)
     finally:

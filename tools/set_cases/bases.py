@@ -91,7 +91,7 @@ def with_user_parts(machine: Machine) -> list[bytes]:
         process.memory = Memory(0, 0, {RETURN_PAGE: _return_page()})
         for at, thread in enumerate(process.threads.values()):
             thread.pc = 0x10000 * (place + 1) + 4 * at
-            thread.mask = 1 << place
+            thread.mask = 1 << place % 32
     first, last = everyone[0], everyone[-1]
     first.memory.break_start, first.memory.break_now = 0x20000, 0x20001
     first.memory.pages[0x20] = blank_page(6)
