@@ -46,7 +46,7 @@ from jobs import Job as Example
 from model.store import Store
 from model.tests.shared_bytes import laid_out
 
-ROOM = 60
+ROOM = 40
 """Records of a launch beside its work: arrivals and marks are records too."""
 EVERYTHING = {"everything 1": 200, "everything 2": 200, "everything 3": 200}
 EXAMPLES_TRIED = ((SHELL, 130), (BUSY_SERVER, 300), (PIPELINE, 1900))
