@@ -1,1 +1,2 @@
 pub mod RetainedKeys
+pub mod NextConns

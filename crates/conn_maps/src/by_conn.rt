@@ -1,13 +1,15 @@
-ghost use Rattle.std.specs.Prelude.{◌≡◌, ◌↔◌, Bool, is_some, IsTrue, IfOk, OnOk, OnErr};
+ghost use Rattle.std.specs.Prelude.{◌≡◌, ◌↔◌, Bool, find, is_some, IsTrue, IfOk, OnOk, OnErr};
 ghost use Rattle.std.specs.Option.{option_copied, option_copied_mut};
 ghost use Rattle.std.specs.Borrow.{sem};
 ghost use Rattle.std.specs.FinMap as map;
 ghost use Rattle.conn_maps.specs.LentValues.{LendsByConn};
+ghost use Rattle.conn_maps.specs.NextConns.{is_above, bound_above};
 
 use std::alloc::{AllocError, Global};
 use std::collections::BTreeMap;
 use std::collections::btree_map::{Iter, Keys, Values};
 use std::marker::Model;
+use std::ops::Bound;
 use sys_abi::ConnId;
 use views::duplicate::{Duplicate, duplicate_tree};
 
@@ -100,6 +102,20 @@ impl<V> ByConn<V> {
         self.entries.retain(|key, _| keep(*key));
     }
 
+    /// The least channel above this one, or the least of all where none is given.
+    pub fn next_above(&self, above: Option<ConnId>) -> Option<ConnId>
+        ensures { result ≡ find (is_above above) (map.keys self.now) }
+    {
+        match self
+            .entries
+            .range((start_above(above), Bound::Unbounded))
+            .next()
+        {
+            Some((id, _)) => Some(*id),
+            None => None,
+        }
+    }
+
     /// The entries, in the order of their keys.
     pub fn iter(&self) -> Iter<'_, ConnId, V>
         ensures { result ≡ map.entries self.now }
@@ -119,6 +135,15 @@ impl<V> ByConn<V> {
         ensures { result ≡ map.values self.now }
     {
         self.entries.values()
+    }
+}
+
+fn start_above(above: Option<ConnId>) -> Bound<ConnId>
+    ensures { result ≡ bound_above above }
+{
+    match above {
+        Some(id) => Bound::Excluded(id),
+        None => Bound::Unbounded,
     }
 }
 

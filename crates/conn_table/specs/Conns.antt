@@ -1,6 +1,6 @@
 -- Channels by their names, and the addresses of their ends and of named descriptions.
 -- Source: `man 7 ip` (an address is a host and a port), `man 2 bind` (EADDRINUSE), `man 2 close`.
---     is_above above id            the channel comes after this one; each comes after none
+--     is_above above id            the channel comes after this one; each comes after none (of `conn_maps`)
 --     is_open conn                 a side is open
 --     has_address a conn           a side, open or closed, has the address
 --     without_end side conn        the channel with the side closed
@@ -9,16 +9,13 @@
 use Rattle.std.specs.Prelude.{ℕ, Bool, true, false, ◌||◌, slice_set, Option, Some, None, if◌then◌else◌}
 use Rattle.std.specs.Option.{option_map, option_map_or}
 use Rattle.std.specs.List.{list_any}
-use Rattle.std.specs.Ordering.{is_lt, eq_by_cmp}
+use Rattle.std.specs.Ordering.{eq_by_cmp}
 use Rattle.std.specs.FinMap as map
 use Rattle.sys_abi.specs.declared.identity.ConnId.{ConnId}
 use Rattle.sys_abi.specs.declared.identity.VirtAddr.{VirtAddr}
 use Rattle.sys_abi.specs.Orders.{conn_cmp, desc_cmp, address_cmp}
+pub use Rattle.conn_maps.specs.NextConns.{is_above}
 use Rattle.conn_table.specs.declared.conn.Conn.{Conn}
-
-abbrev pub is_above : Option ConnId → ConnId → Bool
-is_above None id = true
-is_above (Some above) id = is_lt (conn_cmp above id)
 
 abbrev pub is_open : Conn → Bool
 is_open conn = list_any (λ open_end. open_end) conn.open_ends

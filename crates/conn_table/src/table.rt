@@ -58,7 +58,7 @@ impl ConnTable {
     pub fn next_conn(&self, above: Option<ConnId>) -> Option<ConnId>
         ensures { result ≡ find (conns.is_above above) (map.keys self.now.conns) }
     {
-        self.conns.keys().copied().find(|id| is_above(above, *id))
+        self.conns.next_above(above)
     }
 
     /// Closes a side of a channel. The channel goes when its last open end is closed. Where there is no such
@@ -135,15 +135,6 @@ impl ConnTable {
         ensures { self.new ≡ record self.old { makers = map.remove self.old.makers p } }
     {
         self.makers.remove(p);
-    }
-}
-
-fn is_above(above: Option<ConnId>, id: ConnId) -> bool
-    ensures { result ≡ conns.is_above above id }
-{
-    match above {
-        None => true,
-        Some(least) => least.cmp(&id).is_lt(),
     }
 }
 

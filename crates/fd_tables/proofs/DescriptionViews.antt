@@ -25,7 +25,7 @@ use Rattle.fd_tables.specs.Parts.{is_after, bound_above}
 use Rattle.fd_tables.specs.Descriptions.{kept_at, descriptions_of, IsIndex}
 use Rattle.fd_tables.proofs.IndexLaws.{get-descriptions_of, found_none, not_indexed, add_seen, add_good, set_seen, take_seen, take_good}
 use Rattle.fd_tables.proofs.TableViews.{nothing_there}
-use Rattle.views.proofs.NextKeys.{first}
+use Rattle.views.proofs.NextKeys.{next-by}
 
 abbrev pub Index : Type 0
 Index = BTreeMap DescId ℕ
@@ -116,20 +116,6 @@ take_none m n slab now id none removed seen =
     ap (λ (i : FinMap desc_cmp ℕ). descriptions_of i slab) (removed ∙ remove_absent desc_total desc_exact (view desc_cmp m) id no_key) ∙ seen
     ∙ sym (remove_absent desc_total desc_exact now id (found_none (view desc_cmp m) slab now id no_key seen))
 
-find-filter : (p : DescId → Bool) (es : List (DescId × ℕ)) → option_map (λ e. e.0) (first (filter (λ e. p e.0) es)) ≡ find p (keys_of es)
-unfolding first
-find-filter p [] = refl
-find-filter p (e ∷ es) =
-    elim (p e.0) as (λ b. option_map (λ e. e.0) (first (cond b (e ∷ filter (λ e. p e.0) es) (filter (λ e. p e.0) es))) ≡ cond b (Some e.0) (find p (keys_of es))) [
-      | true ↦ refl
-      | false ↦ find-filter p es
-    ]
-
-first_taken : (es rest : List (DescId × ℕ)) (r : Option (Bor DescId × Bor ℕ)) → TakesFirst deref_pair es r rest → option_map (λ p. p.0.now) r ≡ option_map (λ e. e.0) (first es)
-unfolding first
-first_taken es rest None taken = ap (λ l. option_map (λ e. e.0) (first l)) (sym taken.0)
-first_taken es rest (Some x) taken = ap (λ l. option_map (λ e. e.0) (first l)) (sym taken)
-
 in_range-above : (above : Option DescId) (q : DescId) → range_contains desc_cmp (bound_above above) Unbounded q ≡ is_after above q
 in_range-above None q = refl
 in_range-above (Some a) q = elim (is_lt (desc_cmp a q)) as (λ b. (b && true) ≡ b) [ true ↦ refl | false ↦ refl ]
@@ -142,7 +128,6 @@ pub next_described : (above : Option DescId) (start : Bound DescId) (m : Index) 
     → start ≡ bound_above above → inside ≡ entries_between desc_cmp start Unbounded m.entries → TakesFirst deref_pair inside r rest → tree.IsOrdered desc_cmp m → described m slab ≡ now
     → option_map (λ p. p.0.now) r ≡ find (is_after above) (map.keys now)
 next_described above start m slab now inside rest r begins is taken ordered seen =
-    first_taken inside rest r taken
-    ∙ ap (λ es. option_map (λ e. e.0) (first es)) (is ∙ ap (λ b. entries_between desc_cmp b Unbounded m.entries) begins ∙ ap (λ (p : DescId → Bool). filter (λ e. p e.0) m.entries) (λ i q. in_range-above above q i))
-    ∙ find-filter (is_after above) m.entries
-    ∙ ap (find (is_after above)) (sym (keys-view desc_total m ordered) ∙ sym (keys_described m slab) ∙ ap map.keys seen)
+    next-by desc_cmp desc_total (is_after above) (bound_above above) m (view desc_cmp m) inside rest r (in_range-above above)
+    (is ∙ ap (λ b. entries_between desc_cmp b Unbounded m.entries) begins) taken ordered refl
+    ∙ ap (find (is_after above)) (sym (keys_described m slab) ∙ ap map.keys seen)
