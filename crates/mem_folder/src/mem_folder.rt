@@ -20,7 +20,6 @@ use views::list_of::ListOf;
 
 /// A folder in memory, which fails at calls that are named beforehand and keeps a record of all
 /// its calls. A call that answers `Memory` was not made.
-#[derive(Drop)]
 pub struct MemFolder {
     alloc: Global,
     start: Files,
@@ -28,6 +27,19 @@ pub struct MemFolder {
     files: Files,
     calls: Vec<Call>,
     fails: Vec<u64>,
+}
+
+// Written out, so that to other crates it is one call to drop a folder.
+impl Drop for MemFolder {
+    fn drop(self) {
+        let MemFolder {
+            alloc: _,
+            start: _,
+            files: _,
+            calls: _,
+            fails: _,
+        } = self;
+    }
 }
 
 impl Model for MemFolder {

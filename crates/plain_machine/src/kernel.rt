@@ -11,7 +11,6 @@ use views::list_of::ListOf;
 use views::number_map::NumberMap;
 
 /// The kernel part of a plain state: what all processes share, as flat maps.
-#[derive(Drop)]
 pub struct PlainKernel {
     pub processes: ByPid<Process>,
     pub makers: ByPid<Maker>,
@@ -30,6 +29,26 @@ pub struct PlainKernel {
     pub inboxes: ByDesc<ListOf<ListOf<u8>>>,
     /// The number that the next new process or thread gets.
     pub next_id: u32,
+}
+
+// Written out, so that to other crates it is one call to drop a kernel part.
+impl Drop for PlainKernel {
+    fn drop(self) {
+        let PlainKernel {
+            processes: _,
+            makers: _,
+            descriptors: _,
+            descriptions: _,
+            names: _,
+            files: _,
+            next_file: _,
+            channels: _,
+            directions: _,
+            listeners: _,
+            inboxes: _,
+            next_id: _,
+        } = self;
+    }
 }
 
 impl Duplicate for PlainKernel {

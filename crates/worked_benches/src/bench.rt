@@ -7,7 +7,6 @@ use worked_guests::fault::CaseFault;
 
 /// What a case is run on: what each call is given, the folder with the calls made there so far,
 /// what the last of them left, and a chain of calls beside the undisturbed one.
-#[derive(Drop)]
 pub struct Bench {
     alloc: Global,
     pub setting: Setting,
@@ -16,6 +15,21 @@ pub struct Bench {
     pub last: Option<Box<Outcome>>,
     whole: Option<Box<Outcome>>,
     chain: Chain,
+}
+
+// Written out, so that it is one call to drop a bench.
+impl Drop for Bench {
+    fn drop(self) {
+        let Bench {
+            alloc: _,
+            setting: _,
+            disk: _,
+            earlier: _,
+            last: _,
+            whole: _,
+            chain: _,
+        } = self;
+    }
 }
 
 impl Bench {

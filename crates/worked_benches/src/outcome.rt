@@ -16,11 +16,21 @@ pub struct Streams {
 }
 
 /// What a call left.
-#[derive(Drop)]
 pub struct Outcome {
     pub status: Status,
     pub trace: Trace,
     pub streams: Box<Streams>,
+}
+
+// Written out, so that it is one call to drop what a call left.
+impl Drop for Outcome {
+    fn drop(self) {
+        let Outcome {
+            status: _,
+            trace: _,
+            streams: _,
+        } = self;
+    }
 }
 
 impl Outcome {

@@ -8,13 +8,25 @@ use worked_guests::fault::CaseFault;
 
 /// What each call of a case is given: the files among its inputs, and which calls of the inputs,
 /// the console and the log are to fail.
-#[derive(Drop)]
 pub struct Setting {
     alloc: Global,
     files: BTreeMap<String, Vec<u8>>,
     inputs_fail: Vec<u64>,
     console_fails: Vec<u64>,
     log_fails: Vec<u64>,
+}
+
+// Written out, so that it is one call to drop a setting.
+impl Drop for Setting {
+    fn drop(self) {
+        let Setting {
+            alloc: _,
+            files: _,
+            inputs_fail: _,
+            console_fails: _,
+            log_fails: _,
+        } = self;
+    }
 }
 
 impl Setting {

@@ -19,7 +19,6 @@ use wrap_calls::Wrapped;
 const ROOM: u32 = 200;
 
 /// The streams, the folder and the trace of a run.
-#[derive(Drop)]
 pub struct Bench {
     pub console: MemSink,
     pub log: MemSink,
@@ -27,11 +26,32 @@ pub struct Bench {
     pub trace: Trace,
 }
 
+// Written out, so that it is one call to drop a bench.
+impl Drop for Bench {
+    fn drop(self) {
+        let Bench {
+            console: _,
+            log: _,
+            disk: _,
+            trace: _,
+        } = self;
+    }
+}
+
 /// How a run ended, and the system as it is then.
-#[derive(Drop)]
 pub struct Outcome {
     pub status: RunStatus,
     pub system: Wrapped,
+}
+
+// Written out, so that it is one call to drop what a run left.
+impl Drop for Outcome {
+    fn drop(self) {
+        let Outcome {
+            status: _,
+            system: _,
+        } = self;
+    }
 }
 
 impl Bench {
