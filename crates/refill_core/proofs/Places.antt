@@ -1,13 +1,15 @@
 -- The notes on a direction at their place in the list.
 --     at_place                an item is found at its direction
+--     at_found                an item on a direction is the one that is found there
 --     set_is_put              an item is replaced
-use Rattle.std.proofs.Common.{◌≡◌, ◌≢◌, ℕ, ◌<◌, Bool, [], ◌∷◌, ◌++◌, length, get_or, set, refl, sym, ap, ap₂, subst, ◌∙◌}
-use Rattle.std.specs.Prelude.{Some, All, if◌then◌else◌}
+use Rattle.std.proofs.Common.{◌≡◌, ◌≢◌, ℕ, ◌<◌, Bool, true, [], ◌∷◌, ◌++◌, length, get_or, set, refl, sym, ap, ap₂, subst, ◌∙◌}
+use Rattle.std.specs.Prelude.{Some, All, slice_get, if◌then◌else◌}
 use Rattle.std.specs.Ordering.{eq_by_cmp}
 use Rattle.std.proofs.Math.Seq.{set-append_seam}
 use Rattle.std.proofs.lemmas.List.{map-append}
 use Rattle.std.proofs.lemmas.List.Elements.{All-nil, All-cons, All-head, All-tail}
-use Rattle.views.proofs.MapLaws.{key_tied, other_key}
+use Rattle.std.proofs.lemmas.Option.{slice_get-get_or}
+use Rattle.views.proofs.MapLaws.{same_key, key_tied, other_key}
 use Rattle.sys_abi.specs.declared.identity.Dir.{Dir}
 use Rattle.sys_abi.specs.Orders.{dir_cmp}
 use Rattle.sys_abi.proofs.OrderLaws.{dir_total, dir_exact}
@@ -18,6 +20,12 @@ use Rattle.refill_core.proofs.Bytes.{at_itself, front_apart}
 
 pub at_place : (notes : Notes) (i : ℕ) (z : DirNotes) → i < length notes → Apart (dirs_of notes) → notes_at (get_or notes i z).dir notes ≡ Some (get_or notes i z)
 at_place notes i z below apart = let at = place notes i z below in at_itself notes at.front at.back (get_or notes i z) at.whole apart
+
+pub at_found : (notes : Notes) (i : ℕ) (z : DirNotes) (d : Dir) → i < length notes → Apart (dirs_of notes)
+    → eq_by_cmp dir_cmp (get_or notes i z).dir d ≡ true → slice_get notes i ≡ notes_at d notes
+at_found notes i z d below apart tied =
+    slice_get-get_or notes i z below ∙ sym (at_place notes i z below apart)
+    ∙ ap (λ (e : Dir). notes_at e notes) (same_key dir_total dir_exact (get_or notes i z).dir d tied)
 
 -- those on other directions stay
 untouched : (d : Dir) (v : DirNotes) (notes : Notes) → All (λ z. z.dir ≢ d) notes → put_notes d v notes ≡ notes

@@ -10,7 +10,7 @@ ghost use Rattle.seen_channels.specs.Directions as words;
 use id_maps::ByDir;
 use plain_tables::Direction;
 use std::alloc::{AllocError, Global};
-use views::duplicate::Duplicate;
+use views::list_of::ListOf;
 use wire_net::{DirBytes, Net};
 
 /// Each direction with the bytes of its list, all of which have arrived.
@@ -42,7 +42,7 @@ fn add_direction(
     if list.dir.side > 1 || !net.has(list.dir.conn) {
         return Ok(());
     }
-    let left = list.bytes.duplicate(alloc)?;
+    let left = ListOf::from_vec(list.bytes.as_slice().to_vec(alloc)?);
     let arrived = left.len() as u64;
     let direction = Direction {
         left,

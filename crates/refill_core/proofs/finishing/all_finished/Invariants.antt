@@ -3,5 +3,5 @@ use Rattle.std.specs.List.{list_all}
 use Rattle.refill_core.specs.Work.{is_finished}
 use Rattle.refill_core.proofs.finishing.all_finished.Given as goal
 
-abbrev pub invariant-loop-notes : goal.invariant-loop-notes
-invariant-loop-notes l = list_all (is_finished l.net.channels l.all) (take l.notes-index l.all) ≡ true
+abbrev pub invariant-loop-place : goal.invariant-loop-place
+invariant-loop-place l = list_all (is_finished l.net.channels l.all) (take l.place l.all) ≡ true
