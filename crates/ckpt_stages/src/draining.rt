@@ -1,11 +1,11 @@
-//! Rounds of a drain: each agent makes a step, and the bytes of each direction pass on.
-ghost use Rattle.std.specs.Prelude.{◌≡◌, ◌<◌, true};
+//! Rounds of a drain: each agent makes one step, and the bytes of each direction pass on.
+ghost use Rattle.std.specs.Prelude.{◌≡◌, ◌<◌, true, Some};
 ghost use Rattle.drain_core.specs.Drains.{is_done};
 ghost use Rattle.drain_core.specs.Work.{work_left, GoesOn};
 ghost use Rattle.cut_stages.specs.Drains.{drain_task};
 ghost use Rattle.cut_stages.specs.Rounds as words;
 
-use cut_stages::base::{PASSING, pump_on};
+use cut_stages::base::{PASSING, acts_among, pump_on};
 use drain_core::{Drain, drain_laws};
 use sys_abi::{Dir, RealPid};
 use wire_net::{AgentEnd, Net};
@@ -31,21 +31,22 @@ fn go_round(drain: &mut Drain, net: &mut Net, ends: &[AgentEnd])
         (words.under_way net.new drain.new) }
     ensures less { work_left net.new.channels drain.new < work_left net.old.channels drain.old }
 {
-    for e in ends {
-        take_turn(drain, net, *e);
+    for (place, e) in ends.iter().enumerate() {
+        take_turn(drain, net, &ends[..place], *e);
     }
 }
 
-/// Who acts for the end makes a step, and the bytes of the direction that the end sends pass on.
-fn take_turn(drain: &mut Drain, net: &mut Net, e: AgentEnd)
+/// Who acts for the end makes a step, unless it acts for an end before, and the bytes of the direction that
+/// the end sends pass on.
+fn take_turn(drain: &mut Drain, net: &mut Net, before: &[AgentEnd], e: AgentEnd)
     requires { words.IsGoing drain_task (words.under_way net.old drain.old) }
     ensures on { words.IsFurther drain_task (words.under_way net.old drain.old)
         (words.under_way net.new drain.new) }
     ensures passed { words.Passed drain_task
-        (words.IsStill drain_task (words.under_way net.old drain.old) e)
+        (words.IsStillAfter drain_task (words.under_way net.old drain.old) before.now e)
         (words.under_way net.old drain.old) (words.under_way net.new drain.new) }
 {
-    act(drain, net, e.agent);
+    act_once(drain, net, before, e.agent);
     let d = Dir {
         conn: e.conn,
         side: e.side,
@@ -53,17 +54,32 @@ fn take_turn(drain: &mut Drain, net: &mut Net, e: AgentEnd)
     pass_on(drain, net, d);
 }
 
-fn act(drain: &mut Drain, net: &mut Net, agent: Option<RealPid>)
+/// The agent makes a step, unless it acts for an end before, where it had its step.
+fn act_once(drain: &mut Drain, net: &mut Net, before: &[AgentEnd], agent: Option<RealPid>)
     requires { words.IsGoing drain_task (words.under_way net.old drain.old) }
     ensures on { words.IsFurther drain_task (words.under_way net.old drain.old)
         (words.under_way net.new drain.new) }
     ensures passed { words.Passed drain_task
-        (words.IsIdle drain_task (words.under_way net.old drain.old) agent)
+        (words.IsIdleAfter drain_task (words.under_way net.old drain.old) before.now agent)
         (words.under_way net.old drain.old) (words.under_way net.new drain.new) }
 {
     let Some(p) = agent else {
         return;
     };
+    if acts_among(p, before) {
+        return;
+    }
+    act(drain, net, p);
+}
+
+fn act(drain: &mut Drain, net: &mut Net, p: RealPid)
+    requires { words.IsGoing drain_task (words.under_way net.old drain.old) }
+    ensures on { words.IsFurther drain_task (words.under_way net.old drain.old)
+        (words.under_way net.new drain.new) }
+    ensures passed { words.Passed drain_task
+        (words.IsIdle drain_task (words.under_way net.old drain.old) (Some p))
+        (words.under_way net.old drain.old) (words.under_way net.new drain.new) }
+{
     drain.step(net, p);
 }
 

@@ -3,6 +3,7 @@
 --     going_on, acting_on          what holds all along
 --     then_passed, so_passed       one thing after the other;  with what else is so
 --     front_begun, front_on        a round, as far as the listed ends have had their turns
+--     idle_among, turn_passed      who acts for an end before is idle;  a turn of an end
 --     round_passed                 a round leaves less, where somebody goes on
 --     alive_among                  who acts for a listed end is a live process
 use Rattle.std.proofs.Common.{◌≡◌, ◌≢◌, ◌==◌, ◌+◌, ◌<◌, ◌≤◌, ℕ, Bool, true, false, ◌&&◌, ◌||◌, List, [], ◌∷◌, take, length, get_or, Option, Some, None, inl, inr, refl, sym, ap, subst, ◌∙◌, arith}
@@ -30,7 +31,8 @@ use Rattle.wire_net.specs.Runs.{UnderWay}
 use Rattle.wire_net.proofs.FramedEnds.{for_framed}
 use Rattle.wire_net.proofs.NotedAgents.{noted_named}
 use Rattle.host_tables.specs.Numbers.{Pids}
-use Rattle.cut_stages.specs.Rounds.{acts_among, IsAlive, IsLed, Task, IsGoing, AreActing, IsFurther, IsStill, Passed, SomeGoesOn}
+use Rattle.stage_lists.specs.Agents.{place_of}
+use Rattle.cut_stages.specs.Rounds.{acts_among, IsAlive, IsLed, Task, IsGoing, AreActing, IsFurther, IsQuiet, IsStill, IsIdleAfter, IsStillAfter, Passed, SomeGoesOn}
 use Rattle.cut_stages.proofs.Cutting.{on_channels, there_before}
 use Rattle.cut_stages.proofs.NamedEnds.{its_agent}
 
@@ -124,14 +126,16 @@ module _ (task : Task) where
   }
 
   pub front_on : (ends : List AgentEnd) (n : ℕ) (z e : AgentEnd) (s t u : UnderWay) → n < length ends
-      → e ≡ get_or ends n z → IsFront ends n s t → IsFurther task t u → Passed task (IsStill task t e) t u
-      → IsFront ends (n + 1) s u
+      → e ≡ get_or ends n z → IsFront ends n s t → IsFurther task t u
+      → Passed task (IsStillAfter task t (take n ends) e) t u → IsFront ends (n + 1) s u
   front_on ends n z e s t u below is front on passed = record {
     on = further_on s t u front.on on;
-    passed = so_passed (All (IsStill task s) (take n ends) × IsStill task s e)
+    passed = so_passed (All (IsStill task s) (take n ends) × IsStillAfter task s (take n ends) e)
         (All (IsStill task s) (take (n + 1) ends)) s u
-        (λ both. All-more (IsStill task s) ends n z below both.0 (subst (IsStill task s) is both.1))
-        (then_passed (All (IsStill task s) (take n ends)) (λ x. IsStill task x e) s t u front.passed passed);
+        (λ both. All-more (IsStill task s) ends n z below both.0
+        (subst (IsStill task s) is (both.1 both.0)))
+        (then_passed (All (IsStill task s) (take n ends)) (λ x. IsStillAfter task x (take n ends) e) s t u
+        front.passed passed);
   }
 
   still_among : (s : UnderWay) (p : RealPid) (ends : List AgentEnd) → All (IsStill task s) ends
@@ -143,6 +147,22 @@ module _ (task : Task) where
         | true ↦ λ is there. (All-head (IsStill task s) e ends all).idle p (agent_is p e.agent is)
         | false ↦ λ other there. still_among s p ends (All-tail (IsStill task s) e ends all) there
       ] refl among
+
+  -- who acted for an end before is idle, if all of them are still
+  pub idle_among : (s : UnderWay) (before : List AgentEnd) (o : Option RealPid) (p : RealPid) → o ≡ Some p
+      → acts_among p before ≡ true → IsIdleAfter task s before o
+  idle_among s before o p is among all q same =
+      subst (λ (a : Option RealPid). IfSome a
+      (λ (r : RealPid). task.answer r s.net.channels s.notes ≢ Moved))
+      (sym is ∙ same) (still_among s p before all among)
+
+  pub turn_passed : (before : List AgentEnd) (e : AgentEnd) (s t u : UnderWay)
+      → Passed task (IsIdleAfter task s before e.agent) s t → Passed task (IsQuiet t (place_of e)) t u
+      → Passed task (IsStillAfter task s before e) s u
+  turn_passed before e s t u acted passed =
+      so_passed (IsIdleAfter task s before e.agent × IsQuiet s (place_of e)) (IsStillAfter task s before e)
+      s u (λ both all. record { idle = both.0 all; quiet = both.1 })
+      (then_passed (IsIdleAfter task s before e.agent) (λ x. IsQuiet x (place_of e)) s t u acted passed)
 
   no_move : (s : UnderWay) (ends : List AgentEnd) → All (IsStill task s) ends → AreActing ends s
       → CanMove s.net.channels s.notes → ⊥

@@ -1,4 +1,4 @@
--- Rounds in which each agent makes a step and the bytes of each direction pass on, until nothing is left to do.
+-- Rounds in which each agent makes one step and the bytes of each direction pass on, until nothing is left.
 -- Source: DMTCP's stages "drain kernel buffers" and "refill kernel buffers".
 --     acts_among p ends      the process acts for an end that is listed
 --     AreLed ends notes      all who act for directions that are noted act for ends that are listed
@@ -9,6 +9,8 @@
 --     IsFurther task s s'    of the system s, with bytes moved on
 --     IsIdle, IsQuiet        who acts for an end can move nothing;  nothing is on its way on a direction
 --     IsStill task s e       both, of an end
+--     IsIdleAfter            who acts for an end is idle, if all ends before it are still
+--     IsStillAfter           an end is still, if all ends before it are
 --     IsAlive k pids e       who acts for an end is a live process
 --     Passed task Idle s s'  nothing changed and it is so, or less is left to do
 use Rattle.std.specs.Prelude.{◌≡◌, ◌≢◌, ◌<◌, ◌⊎◌, ℕ, Bool, true, List, length, Option, Some, IsSome, IfSome, All}
@@ -85,6 +87,12 @@ IsQuiet s d =
 pub record IsStill (task : Task) (s : UnderWay) (e : AgentEnd) : Type 0 where
   pub idle : IsIdle task s e.agent
   pub quiet : IsQuiet s (place_of e)
+
+abbrev pub IsIdleAfter : Task → UnderWay → List AgentEnd → Option RealPid → Type 0
+IsIdleAfter task s before agent = All (IsStill task s) before → IsIdle task s agent
+
+abbrev pub IsStillAfter : Task → UnderWay → List AgentEnd → AgentEnd → Type 0
+IsStillAfter task s before e = All (IsStill task s) before → IsStill task s e
 
 abbrev pub Passed : Task → Type 0 → UnderWay → UnderWay → Type 0
 Passed task Idle s t =

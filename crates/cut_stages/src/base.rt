@@ -3,6 +3,7 @@ ghost use Rattle.std.specs.Prelude.{◌≡◌, ◌<◌};
 ghost use Rattle.wire_channels.specs.Frames.{SameFrames};
 ghost use Rattle.cut_stages.specs.Drains.{pumped};
 ghost use Rattle.cut_stages.specs.Cuts as words;
+ghost use Rattle.cut_stages.specs.Rounds as rounds;
 
 use barrier_core::Barrier;
 use host_tables::System;
@@ -10,7 +11,7 @@ use id_maps::ByDesc;
 use leader_vote::vote;
 use stage_lists::owners::put_owners;
 use sys_abi::{Dir, RealPid, VPid};
-use wire_net::{Net, Place};
+use wire_net::{AgentEnd, Net, Place, is_agent};
 use wrap_names::stood::Stood;
 
 /// At most so many bytes of a direction pass on in a round: no queue holds more.
@@ -53,4 +54,11 @@ pub fn pump_on(net: &mut Net, d: Dir, n: u32)
 {
     net.move_bytes(d, Place::Send, n);
     net.move_bytes(d, Place::Wire, n);
+}
+
+/// Whether the process acts for one of the ends.
+pub fn acts_among(p: RealPid, ends: &[AgentEnd]) -> bool
+    ensures { result ≡ rounds.acts_among p ends.now }
+{
+    ends.iter().any(|end| is_agent(end.agent, p))
 }

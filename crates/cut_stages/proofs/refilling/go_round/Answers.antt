@@ -5,28 +5,28 @@ use Rattle.cut_stages.proofs.Led.{refill_movers}
 use Rattle.cut_stages.proofs.Rounds.{going_on, front_begun, front_on, round_passed}
 use Rattle.cut_stages.proofs.refilling.go_round.Goals as goal
 
-pub loop-e-init : goal.loop-e-init
-loop-e-init c =
+pub loop-place-init : goal.loop-place-init
+loop-place-init c =
     front_begun refill_task c.args.ends.now (under_way c.args.net.now c.args.refill.now)
     c.requires.going.fits
 
 pub take_turn-requires : goal.take_turn-requires
 take_turn-requires c =
     going_on refill_task (under_way c.args.net.now c.args.refill.now)
-    (under_way c.loop-e.net c.loop-e.refill) c.requires.going c.loop-e.invariant.on
+    (under_way c.loop-place.net c.loop-place.refill) c.requires.going c.loop-place.invariant.on
 
-pub loop-e-preserved : goal.loop-e-preserved
-loop-e-preserved c =
-    front_on refill_task c.args.ends.now c.loop-e.e-index _ _ (under_way c.args.net.now c.args.refill.now)
-    (under_way c.loop-e.net c.loop-e.refill) (under_way c.take_turn.new.net c.take_turn.new.refill)
-    c.loop-e-test.true refl c.loop-e.invariant c.take_turn.ensures.on c.take_turn.ensures.passed
+pub loop-place-preserved : goal.loop-place-preserved
+loop-place-preserved c =
+    front_on refill_task c.args.ends.now c.loop-place.place _ _ (under_way c.args.net.now c.args.refill.now)
+    (under_way c.loop-place.net c.loop-place.refill) (under_way c.take_turn.new.net c.take_turn.new.refill)
+    c.loop-place-test.true refl c.loop-place.invariant c.take_turn.ensures.on c.take_turn.ensures.passed
 
 pub returns-clause-on : goal.returns-clause-on
-returns-clause-on c = c.loop-e.invariant.on
+returns-clause-on c = c.loop-place.invariant.on
 
 pub returns-clause-less : goal.returns-clause-less
 returns-clause-less c =
-    round_passed refill_task c.args.ends.now c.loop-e.e-index (under_way c.args.net.now c.args.refill.now)
-    (under_way c.loop-e.net c.loop-e.refill) c.loop-e-test.false c.requires.acting
+    round_passed refill_task c.args.ends.now c.loop-place.place (under_way c.args.net.now c.args.refill.now)
+    (under_way c.loop-place.net c.loop-place.refill) c.loop-place-test.false c.requires.acting
     (refill_movers c.args.ends.now c.args.net.now.channels c.args.refill.now c.requires.acting.led)
-    c.requires.left c.loop-e.invariant
+    c.requires.left c.loop-place.invariant
