@@ -2,8 +2,9 @@
 --     no_direction               a channel that is not there has no directions
 --     read_refused               then a read is refused
 --     read_nothing, read_some    no byte has arrived, or none is asked for; so many are read
+--     received_there             bytes that are read stand in a direction that is there
 --     taken_told, never_fails    what the network answers then
-use Rattle.std.proofs.Common.{◌≡◌, ℕ, ◌-◌, ◌<◌, ◌≤◌, min, Bool, true, false, ◌&&◌, ◌||◌, List, [], ◌∷◌, take, length, Some, None, Result, Ok, Err, refl, sym, ap, ◌∙◌, subst, arith}
+use Rattle.std.proofs.Common.{◌≡◌, ℕ, ◌-◌, ◌<◌, ◌≤◌, min, Bool, true, false, ◌&&◌, ◌||◌, List, [], ◌∷◌, take, length, Option, Some, None, Result, Ok, Err, refl, sym, ap, ◌∙◌, subst, arith}
 use Rattle.std.specs.Prelude.{◌==◌, if◌then◌else◌}
 use Rattle.std.specs.FinMap as map
 use Rattle.std.proofs.lemmas.Bool.{eqb-true}
@@ -24,6 +25,7 @@ use Rattle.plain_machine.specs.Transfers.Answers.{gave}
 use Rattle.plain_machine.specs.Transfers.Streams.{read_stream, without_front, taken_bytes}
 use Rattle.wire_channels.specs.declared.net_fault.NetFault.{NetFault}
 use Rattle.wire_channels.specs.declared.net_fault.NetFault.TheVariants as fault
+use Rattle.wire_channels.specs.Answers.{received_on}
 use Rattle.wire_channels.specs.Channels as channels
 use Rattle.wire_channels.specs.Directions.{Direction, standing, receive_answer, after_receive}
 use Rattle.host_closes.proofs.ClosedEnds.{plain_of}
@@ -86,6 +88,15 @@ module _ (y : Direction) (count n : ℕ) (is : min count (length y.received) ≡
     where
       err_ok : ◌≡◌ {A = Result ℕ NetFault} (Err e) (Ok n) → ⊥
       err_ok h = cc
+
+-- bytes that are read stand in a direction that is there
+pub received_there : (o : Option Direction) (count : ℕ) → (min count (length (received_on o)) ≡ 0 → ⊥)
+    → (y : Direction) × (o ≡ Some y)
+received_there None count some = absurd (some (none count))
+  where
+    none : (n : ℕ) → min n 0 ≡ 0
+    none n = grind arith
+received_there (Some y) count some = (y, refl)
 
 -- where nothing is taken nothing changes
 none_taken : (x : plain_direction.Direction) → without_front 0 x ≡ x

@@ -2,9 +2,10 @@
 --     write_refused                  the direction is not there
 --     write_nothing, write_broken    no byte is asked for; nothing more is sent, or nobody reads
 --     write_full, write_sent         there is no room; so many bytes are sent
+--     taking                         a direction that takes bytes is there, and is not broken
 --     full_answer, sent_answer       what the network answers then
-use Rattle.std.proofs.Common.{◌≡◌, ℕ, ◌-◌, ◌<◌, min, Bool, true, false, ◌&&◌, ◌||◌, List, take, length, Some, None, Result, Ok, Err, refl, sym, ap, ◌∙◌, subst, arith}
-use Rattle.std.specs.Prelude.{◌==◌, not, if◌then◌else◌}
+use Rattle.std.proofs.Common.{◌≡◌, ℕ, ◌-◌, ◌<◌, min, Bool, true, false, ◌&&◌, ◌||◌, List, take, length, Option, Some, None, Result, Ok, Err, refl, sym, ap, ◌∙◌, subst, arith}
+use Rattle.std.specs.Prelude.{◌==◌, not, IsErr, if◌then◌else◌}
 use Rattle.std.specs.FinMap as map
 use Rattle.std.proofs.lemmas.Bool.{eqb-true, eq-eqb}
 use Rattle.std.proofs.lemmas.List.{append-nil, length-take, take_min}
@@ -24,6 +25,7 @@ use Rattle.plain_machine.specs.Transfers.Answers.{broken_pipe}
 use Rattle.plain_machine.specs.Transfers.Streams.{is_broken, write_stream, write_direction, sent, fitting_bytes, with_sent}
 use Rattle.wire_channels.specs.declared.net_fault.NetFault.{NetFault}
 use Rattle.wire_channels.specs.declared.net_fault.NetFault.TheVariants as fault
+use Rattle.wire_channels.specs.Answers.{send_answer_on}
 use Rattle.wire_channels.specs.Channels as channels
 use Rattle.wire_channels.specs.Directions.{Direction, room, send_answer, after_send}
 use Rattle.host_closes.proofs.ClosedEnds.{plain_of}
@@ -41,10 +43,14 @@ use Rattle.host_streams.proofs.ReadRows.{not_equal}
 abbrev by_tests : Bool → Bool → ℕ → Result ℕ NetFault
 by_tests b full m = if b then Err fault.Ended else if full then Err fault.NotReady else Ok m
 
-full_by : (b full : Bool) (m : ℕ) (e : NetFault) → b ≡ false → by_tests b full m ≡ Err e → full ≡ true
-full_by true full m e no_b is = true_false no_b
-full_by false true m e no_b is = refl
-full_by false false m e no_b is = cc
+full_by : (b full : Bool) (m : ℕ) → b ≡ false → IsErr (by_tests b full m) → full ≡ true
+full_by true full m no_b is = true_false no_b
+full_by false true m no_b is = refl
+full_by false false m no_b is = is
+
+flows_by : (b full : Bool) (m n : ℕ) → by_tests b full m ≡ Ok n → b ≡ false
+flows_by true full m n is = cc
+flows_by false full m n is = refl
 
 sent_by : (b full : Bool) (m n : ℕ) → b ≡ false → by_tests b full m ≡ Ok n → n ≡ m
 sent_by true full m n no_b is = true_false no_b
@@ -58,14 +64,21 @@ and_left false b e = e
 abbrev pub is_broken_in : Direction → Bool
 is_broken_in y = y.is_ended || y.is_unread
 
+-- a direction that takes bytes is there, and is not broken
+pub taking : (o : Option Direction) (n m : ℕ) → send_answer_on o n ≡ Ok m
+    → (y : Direction) × ((o ≡ Some y) × (is_broken_in y ≡ false))
+taking None n m is = cc
+taking (Some y) n m is =
+    (y, (refl, flows_by (is_broken_in y) ((room y == 0) && not (n == 0)) (min n (room y)) m is))
+
 module _ (y : Direction) (n : ℕ) (flows : is_broken_in y ≡ false) where
   abbrev is_full : Bool
   is_full = (room y == 0) && not (n == 0)
 
-  pub full_answer : (e : NetFault) → send_answer y n ≡ Err e → room y ≡ 0
-  full_answer e is =
+  pub full_answer : IsErr (send_answer y n) → room y ≡ 0
+  full_answer is =
       eqb-true (room y) 0
-      (and_left (room y == 0) (not (n == 0)) (full_by (is_broken_in y) is_full (min n (room y)) e flows is))
+      (and_left (room y == 0) (not (n == 0)) (full_by (is_broken_in y) is_full (min n (room y)) flows is))
 
   pub sent_answer : (m : ℕ) → send_answer y n ≡ Ok m → m ≡ min n (room y)
   sent_answer m is = sent_by (is_broken_in y) is_full (min n (room y)) m flows is

@@ -4,12 +4,13 @@
 --     received_at, standing_at      how many bytes can be read, and how many stand in it
 --     is_broken_at                  nothing more is sent, or nobody reads
 --     can_receive, can_send         a read or a write of so many bytes has an answer yet
-use Rattle.std.specs.Prelude.{ℕ, ◌==◌, ◌||◌, ◌&&◌, Bool, false, not, nat_lt, length, is_some}
+--     IsRefused                     the network takes none of so many bytes
+use Rattle.std.specs.Prelude.{ℕ, ◌==◌, ◌||◌, ◌&&◌, Bool, false, not, nat_lt, length, is_some, IsErr}
 use Rattle.std.specs.Option.{option_map_or}
 use Rattle.std.specs.FinMap as map
 use Rattle.views.specs.Limits.{DIRECTION_LIMIT}
 use Rattle.sys_abi.specs.declared.identity.Dir.{Dir}
-use Rattle.wire_channels.specs.Answers.{received_on}
+use Rattle.wire_channels.specs.Answers.{received_on, send_answer_on}
 use Rattle.wire_channels.specs.Channels.{direction_at}
 use Rattle.wire_channels.specs.Directions.{standing}
 use Rattle.wire_net.specs.Networks.{Network}
@@ -36,3 +37,6 @@ can_receive t d count =
 abbrev pub can_send : Network → Dir → ℕ → Bool
 can_send t d count =
     not (is_there t d) || (count == 0) || is_broken_at t d || nat_lt (standing_at t d) DIRECTION_LIMIT
+
+abbrev pub IsRefused : Network → Dir → ℕ → Type 0
+IsRefused t d n = IsErr (send_answer_on (direction_at t.channels d) n)

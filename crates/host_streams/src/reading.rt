@@ -31,11 +31,13 @@ fn can_receive(net: &Net, from: Dir, count: u32) -> bool
     requires { from.side < 2 }
     ensures { result ≡ words.can_receive net.now from count }
 {
+    if received_at(net, from) > 0 {
+        return true;
+    }
     let is_there = net.has(from.conn);
-    let received = received_at(net, from);
     let is_broken = is_broken_at(net, from);
     let standing = standing_at(net, from);
-    !is_there || count == 0 || received > 0 || is_broken && standing == 0
+    !is_there || count == 0 || is_broken && standing == 0
 }
 
 /// A read of at most so many bytes, at the end of that side (`man 2 read`). Takes no memory.
@@ -52,15 +54,15 @@ pub fn read_stream(
     ensures nodes { kernel.new.net.nodes ≡ kernel.old.net.nodes }
     ensures next { kernel.new.procs.next ≡ kernel.old.procs.next }
 {
-    if !kernel.net.has(conn) {
-        return Attempt::Fails(Errno(ENOTCONN));
-    }
     let from = Dir {
         conn,
         side: across(side),
     };
     let waiting = count.min(received_at(&kernel.net, from));
     if waiting == 0 {
+        if !kernel.net.has(conn) {
+            return Attempt::Fails(Errno(ENOTCONN));
+        }
         return Attempt::Gives(0);
     }
     match kernel.net.receive(from, waiting, transfer) {

@@ -1,5 +1,5 @@
 //! A write to a channel (`man 2 write`, `man 7 pipe`).
-ghost use Rattle.std.specs.Prelude.{◌≡◌, ◌<◌, false, None, Some};
+ghost use Rattle.std.specs.Prelude.{◌≡◌, ◌≢◌, ◌<◌, length, false, None, Some};
 ghost use Rattle.std.specs.FinMap as map;
 ghost use Rattle.views.specs.Numbers.{ThreadNumber};
 ghost use Rattle.plain_machine.specs.declared.kernel.PlainKernel.{PlainKernel};
@@ -37,10 +37,12 @@ fn can_send(net: &Net, to: Dir, count: u32) -> bool
     requires { to.side < 2 }
     ensures { result ≡ words.can_send net.now to count }
 {
+    if standing_at(net, to) < DIRECTION_LIMIT {
+        return true;
+    }
     let is_there = net.has(to.conn);
     let is_broken = is_broken_at(net, to);
-    let standing = standing_at(net, to);
-    !is_there || count == 0 || is_broken || standing < DIRECTION_LIMIT
+    !is_there || count == 0 || is_broken
 }
 
 /// A write of the bytes in the transfer, by a thread that asks for so many, at the end of that side
@@ -65,18 +67,45 @@ pub fn write_stream(
     if side > 1 {
         return Attempt::Fails(Errno(EPIPE));
     }
-    if !kernel.net.has(conn) {
+    let to = Dir { conn, side };
+    if count == 0 {
+        return unsent(kernel, who, thread, to, count, transfer);
+    }
+    match kernel.net.send(to, transfer.as_slice()) {
+        Ok(sent) => Attempt::Gives(sent),
+        Err(_) => unsent(kernel, who, thread, to, count, transfer),
+    }
+}
+
+/// A write of which the direction takes no byte: none is asked for, or it is not there, or nothing more is
+/// sent, or nobody reads, or there is no room.
+fn unsent(
+    kernel: &mut Kernel,
+    who: RealPid,
+    thread: u32,
+    to: Dir,
+    count: u32,
+    transfer: &Transfer,
+) -> Attempt
+    requires asking { IsAsking kernel.old.procs who thread }
+    requires near { to.side < 2 }
+    requires refused { count ≢ 0 → words.IsRefused kernel.old.net to (length transfer.now) }
+    ensures row { Through kernel.old who (λ g k p. (t : ThreadNumber)
+        → map.get g.pids t ≡ Some (real who.node thread)
+        → Serves ByNumber same g kernel.old kernel.new transfer.now transfer.now result
+        (streams.write_stream k p t to count transfer.now)) }
+    ensures nodes { kernel.new.net.nodes ≡ kernel.old.net.nodes }
+    ensures next { kernel.new.procs.next ≡ kernel.old.procs.next }
+{
+    let _ = transfer;
+    if !kernel.net.has(to.conn) {
         return Attempt::Fails(Errno(EPIPE));
     }
     if count == 0 {
         return Attempt::Gives(0);
     }
-    let to = Dir { conn, side };
     if is_broken_at(&kernel.net, to) {
         return broken_pipe(kernel, who, thread);
     }
-    match kernel.net.send(to, transfer.as_slice()) {
-        Ok(sent) => Attempt::Gives(sent),
-        Err(_) => Attempt::Gives(0),
-    }
+    Attempt::Gives(0)
 }

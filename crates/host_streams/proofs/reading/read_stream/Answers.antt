@@ -2,10 +2,11 @@ use Rattle.std.proofs.Common.{◌-◌, min, take, length, sym, ap, ◌∙◌, su
 use Rattle.plain_tables.specs.Objects.{dir}
 use Rattle.plain_machine.specs.Transfers.Streams.{read_stream}
 use Rattle.wire_channels.specs.Answers.{received_on, receive_answer_on}
+use Rattle.wire_channels.specs.Channels.{direction_at}
 use Rattle.wire_net.specs.Networks.{Network}
 use Rattle.host_tables.specs.Serves.{Serves, ByNumber, same}
 use Rattle.host_tables.specs.declared.attempt.Attempt.TheVariants as answer
-use Rattle.host_streams.proofs.ReadRows.{read_refused, read_nothing, read_some, taken_told}
+use Rattle.host_streams.proofs.ReadRows.{read_refused, read_nothing, read_some, received_there, taken_told}
 use Rattle.host_streams.proofs.Readiness.{direction_gone, direction_found}
 use Rattle.host_streams.proofs.reading.read_stream.Goals as goal
 
@@ -35,10 +36,11 @@ returns-in-Ok-clause-row c g k st =
     let d = dir c.args.conn c.across.result in
     let before = c.args.transfer.now in
     let now = c.receive.new.xfer in
-    let found = direction_found real.net.channels d (sym c.has.ensures ∙ c.if-not-has.false) in
+    let counts = ap (min c.args.count) c.received_at.ensures.count in
+    let found = received_there (direction_at real.net.channels d) c.args.count
+    (λ none. c.if-waiting-eq0.false (c.min-waiting.ensures ∙ counts ∙ none)) in
     let y = found.0 in
-    let waits = ap (min c.args.count) (c.received_at.ensures.count
-    ∙ ap (λ o. length (received_on o)) found.1) in
+    let waits = counts ∙ ap (λ o. min c.args.count (length (received_on o))) found.1 in
     let answers = ap (λ o. receive_answer_on o c.min-waiting.result) found.1 in
     let told = taken_told y c.args.count c.min-waiting.result (sym waits
     ∙ sym c.min-waiting.ensures) c.if-waiting-eq0.false c.in-Ok.taken
