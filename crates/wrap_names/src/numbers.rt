@@ -13,13 +13,19 @@ pub struct Caller {
     pub thread: u32,
 }
 
-/// The real process and thread that stand for a guest's.
+/// The real process and thread that stand for a guest's. The first thread of a process has its number.
 pub fn caller_of(ids: &Ids, p: VPid, t: Tid) -> Option<Caller>
     ensures { result ≡ caller_in ids.now.pids p t.0 }
 {
     let Ok(who) = ids.real_pid(p.0) else {
         return None;
     };
+    if t.0 == p.0 {
+        return Some(Caller {
+            who,
+            thread: who.pid,
+        });
+    }
     let Some(thread) = real_thread(ids, who.node, t.0) else {
         return None;
     };

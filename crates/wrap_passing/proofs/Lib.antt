@@ -1,3 +1,5 @@
+pub mod FcntlCalls
+pub mod OwnNumber
 pub mod RealCalls
 pub mod Passing
 pub mod KeptRows

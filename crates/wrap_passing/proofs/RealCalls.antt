@@ -31,10 +31,11 @@ use Rattle.host_tables.specs.Serves.{ValueOf, ValueOfCommand, ByPid, ByPidUnless
 use Rattle.host_tables.specs.Stands.{Given}
 use Rattle.host_tables.specs.Systems.{given_of}
 use Rattle.wrap_names.specs.Naming.{desc_in}
-use Rattle.wrap_passing.specs.Asking.{real_of, is_passed, is_making, is_wait, is_served}
+use Rattle.wrap_passing.specs.Asking.{real_of, argument_read, is_passed, is_making, is_wait, is_served}
 use Rattle.wrap_passing.specs.Telling.{told_owner, told_value, virt_number}
 use Rattle.wrap_names.specs.Wrapping.{IsWrapped}
 use Rattle.wrap_names.proofs.Named.{neighbour_is, pipe_is, new_desc}
+use Rattle.wrap_passing.proofs.FcntlCalls.{target_is, fcntl_same}
 
 module _ (s : System) (next_id : ℕ) (k : PlainKernel) (w : IsWrapped s next_id k) (p : VPid) where
   module _ (t : ℕ) (q : Request) (given : List ℕ) (asked : IsAsked k p t q given) where
@@ -48,7 +49,8 @@ module _ (s : System) (next_id : ℕ) (k : PlainKernel) (w : IsWrapped s next_id
       → (given : List Byte) (r : Request) → is_served r ≡ true
       → IsNamed (given_of s) k who p 0 given (real_of s p who r)
   unfolding real_of
-  named who paired book given (Fcntl fd command argument) served = neighbour_is s next_id k w p argument
+  named who paired book given (Fcntl fd command argument) served =
+      target_is s next_id k w p (argument_read (fcntl_command command) argument)
   named who paired book given (Kill number signal) served = neighbour_is s next_id k w p number
   named who paired book given (Tgkill number tid signal) served = (neighbour_is s next_id k w p number, refl)
   named who paired book given (Wait4 number status options usage) served = neighbour_is s next_id k w p number
@@ -99,7 +101,7 @@ each_plain s p who (Fcntl fd command argument) served = record {
   after = λ who k p given n m g. refl;
   value = λ who n m g inverse h. by_command g inverse who n m (fcntl_command command) h;
   loud = λ m. refl;
-  row_is = λ k p t given. refl;
+  row_is = λ k p t given. fcntl_same k p fd command argument;
 }
 each_plain s p who (Unlinkat directory path flags) served = record {
   after = λ who k p given n m g. refl;

@@ -1,9 +1,13 @@
 //! A guest's call over real numbers.
 ghost use Rattle.std.specs.Prelude.{◌≡◌};
+ghost use Rattle.plain_process.specs.Commands.{fcntl_command};
+ghost use Rattle.wrap_passing.specs.Asking as words;
 ghost use Rattle.wrap_passing.specs.Asking.{real_of};
 
 use call_table::Request;
 use host_tables::{RealRequest, System};
+use plain_machine::FIRST_PID;
+use plain_process::commands::FcntlCommand;
 use sys_abi::{RealPid, VPid};
 use wrap_names::naming::{leads_to_pipe, named, next_desc};
 use wrap_names::numbers::real_thread;
@@ -19,12 +23,7 @@ pub fn real_of(system: &System, p: VPid, who: RealPid, request: &Request) -> Rea
             fd,
             command,
             argument,
-        } => RealRequest::Fcntl {
-            fd,
-            command,
-            argument,
-            target: named(system, p, argument),
-        },
+        } => fcntl_of(system, p, fd, command, argument_read(command, argument)),
         Request::Unlinkat {
             directory,
             flags,
@@ -83,4 +82,36 @@ pub fn real_of(system: &System, p: VPid, who: RealPid, request: &Request) -> Rea
         },
         _ => RealRequest::Unknown(0),
     }
+}
+
+/// What the command reads of its argument: one that asks reads none.
+fn argument_read(command: u32, argument: u32) -> u32
+    ensures { result ≡ words.argument_read (fcntl_command command) argument }
+{
+    match FcntlCommand::of(command) {
+        Some(FcntlCommand::GetFd | FcntlCommand::GetFl | FcntlCommand::GetOwn) => 0,
+        _ => argument,
+    }
+}
+
+/// fcntl, with the process that its argument names.
+fn fcntl_of(system: &System, p: VPid, fd: u32, command: u32, argument: u32) -> RealRequest
+    ensures { result ≡ words.fcntl_of system.now p fd command argument }
+{
+    RealRequest::Fcntl {
+        fd,
+        command,
+        argument,
+        target: target_of(system, p, argument),
+    }
+}
+
+/// The process that the argument names. No number below the first one is looked up, since no process has it.
+fn target_of(system: &System, p: VPid, number: u32) -> Option<RealPid>
+    ensures { result ≡ words.target_in system.now p number }
+{
+    if number < FIRST_PID {
+        return None;
+    }
+    named(system, p, number)
 }

@@ -31,7 +31,8 @@ pub fn serves(request: &Request) -> bool
     }
 }
 
-/// A call that pairs nothing and names nothing.
+/// A call that pairs nothing and names nothing. A process's own number is the one by which its guest knows
+/// it, and is told as it is.
 pub fn serve(
     system: &mut System,
     stood: &Stood,
@@ -47,6 +48,9 @@ pub fn serve(
     ensures { StandsAfter system.new next_id stood.now.kernel transfer.old transfer.new result
         (row stood.now.kernel p t.0 request.now transfer.old) }
 {
+    if asks_own_number(request) {
+        return KernelReply::Done(p.0);
+    }
     if makes_description(request) {
         return serve_making(system, stood, next_id, p, t, request, transfer);
     }
@@ -54,6 +58,17 @@ pub fn serve(
         return serve_wait(system, stood, next_id, p, t, request, transfer);
     }
     serve_passed(system, stood, next_id, p, t, request, transfer)
+}
+
+/// Whether the call asks for the caller's own number.
+#[tactic(auto, unfolding(crate::specs::Asking::is_own_number))]
+fn asks_own_number(request: &Request) -> bool
+    ensures { result ≡ naming.is_own_number request.now }
+{
+    match *request {
+        Request::Getpid => true,
+        _ => false,
+    }
 }
 
 /// Whether the call makes one description.
