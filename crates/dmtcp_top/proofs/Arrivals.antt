@@ -14,7 +14,6 @@ use Rattle.endings.specs.declared.ending.Ending.{Ending}
 use Rattle.endings.specs.declared.ending.Ending.TheVariants.{Done, Usage, InputFault, Missing, BadElf, TooBig, SinkFault, DiskFault, NoSet, Damaged, Budget, Stuck, Memory}
 use Rattle.run_loop.specs.declared.run_end.RunEnd.{RunEnd}
 use Rattle.run_loop.specs.declared.run_end.RunEnd.TheVariants.{Done as RunDone, Budget as RunBudget, Stuck as RunStuck, SinkFault as RunSinkFault, Memory as RunMemory}
-use Rattle.run_loop.specs.declared.start.Start.{Start}
 use Rattle.job_words.specs.declared.job.Job.TheVariants.{Launch, Restart}
 use Rattle.job_words.specs.declared.job.LaunchJob.{LaunchJob}
 use Rattle.job_words.specs.declared.job.RestartJob.{RestartJob}
@@ -27,20 +26,13 @@ use Rattle.dmtcp_top.specs.Launches.Begun.{ByLaunch, ByRestart}
 use Rattle.run_loop.specs.RunEnds.{EndsRun}
 use Rattle.dmtcp_top.specs.Ends.{NotBegun}
 use Rattle.dmtcp_top.specs.Ends.NeedsStore.{ToLaunch, ToRestart}
-use Rattle.dmtcp_top.specs.Endings.{IsAtEnding, KeepsPaceAt}
-use Rattle.computation.specs.Computations.{plain_of}
-use Rattle.dmtcp_top.specs.Loads.{IsLaunched, IsRestarted, RefusesWords, RefusesLaunch, RefusesRestart}
+use Rattle.dmtcp_top.specs.declared.start.Start.{Start}
+use Rattle.dmtcp_top.specs.Endings.{IsAtEnding, KeepsPaceAt, ending_by}
+use Rattle.dmtcp_top.specs.Loads.{IsLaunched, IsRestarted, RefusesWords, RefusesLaunch, RefusesRestart, plain_of}
 use Rattle.run_loop.specs.Pace.{KeepsPace}
 use Rattle.run_loop.specs.Pace.{LinesOf}
 use Rattle.dmtcp_top.proofs.Decisions.{of_job}
 use Rattle.checkpointer.proofs.Sinks.{took_front}
-
-abbrev pub ending_by : RunEnd → ℕ → Ending
-ending_by RunDone records = Done
-ending_by RunBudget records = Budget records
-ending_by RunStuck records = Stuck
-ending_by RunSinkFault records = SinkFault
-ending_by RunMemory records = Memory
 
 -- a trace of no records has no lines
 silent_log : (trace : List Record) (log : Sunk) → trace ≡ [] → Took log [] → Took log (log_text trace)
@@ -133,9 +125,9 @@ module _ (words : List (List ℕ)) (files : Option NamedFiles) (folder : Option 
   restart_refused (Budget number) job asks why = absurd why
   restart_refused Stuck job asks why = absurd why
 
--- how a computation began
+-- how a run began
 abbrev pub beginning_of : Start → Beginning
-beginning_of start = record { state = plain_of start.computation; schedule = start.checkpointer.schedule }
+beginning_of start = record { state = plain_of start; schedule = start.checkpoints.schedule }
 
 -- a run that began so comes to its end so
 module _ (words : List (List ℕ)) (files : Option NamedFiles) (folder : Option Folder) (trace : List Record) (console log : Sunk) (at : Beginning) where
@@ -169,7 +161,7 @@ begins_so state other schedule same states schedules = ap (λ g. same_beginning 
 
 pub launch_arrives : (words : List (List ℕ)) (files : Option NamedFiles) (folder : Option Folder) (trace : List Record) (console log : Sunk) (end : RunEnd) (start : Start) (job : LaunchJob) (room : ℕ)
     → Asks words (Launch job) → (launched : IsLaunched files folder job start) → room ≡ job.records
-    → EndsRun end start.checkpointer.schedule (plain_of start.computation) room trace console log
+    → EndsRun end start.checkpoints.schedule (plain_of start) room trace console log
     → IsAtEnding (ending_by end job.records) (session (given words files folder) (Some (beginning_of start)) trace console) log
 launch_arrives words files folder trace console log end start job room asks launched full ends =
     let begun : Begun (given words files folder) = ByLaunch (record {
@@ -180,22 +172,22 @@ launch_arrives words files folder trace console log end start job room asks laun
       opening = launched.opening;
       opened = launched.opened;
     }) in
-    let from = begins_so (plain_of start.computation) (origin begun) start.checkpointer.schedule (schedule_of (settings_of (Launch job)) launched.opening) launched.state launched.checkpointer.schedule in
+    let from = begins_so (plain_of start) (origin begun) start.checkpoints.schedule (schedule_of (settings_of (Launch job)) launched.opening) launched.state launched.schedule in
     arrives_by words files folder trace console log (beginning_of start) end begun job.records from refl (ends_at words files folder trace console log (beginning_of start) end begun room from full ends)
 
 pub restart_arrives : (words : List (List ℕ)) (files : Option NamedFiles) (folder : Option Folder) (trace : List Record) (console log : Sunk) (end : RunEnd) (start : Start) (job : RestartJob) (room : ℕ)
     → Asks words (Restart job) → (restarted : IsRestarted folder (settings_of (Restart job)) start) → room ≡ job.records
-    → EndsRun end start.checkpointer.schedule (plain_of start.computation) room trace console log
+    → EndsRun end start.checkpoints.schedule (plain_of start) room trace console log
     → IsAtEnding (ending_by end job.records) (session (given words files folder) (Some (beginning_of start)) trace console) log
 restart_arrives words files folder trace console log end start job room asks restarted full ends =
     let begun : Begun (given words files folder) = ByRestart (record {
       asked = record { job = job; asks = asks };
       generation = restarted.generation;
-      state = plain_of start.computation;
+      state = plain_of start;
       valid = restarted.ready.valid;
       images = restarted.images;
       spelled = restarted.spelled;
       counted = restarted.counted;
     }) in
-    let from = begins_so (plain_of start.computation) (plain_of start.computation) start.checkpointer.schedule (schedule_of (settings_of (Restart job)) restarted.generation) refl restarted.checkpointer.schedule in
+    let from = begins_so (plain_of start) (plain_of start) start.checkpoints.schedule (schedule_of (settings_of (Restart job)) restarted.generation) refl restarted.schedule in
     arrives_by words files folder trace console log (beginning_of start) end begun job.records from refl (ends_at words files folder trace console log (beginning_of start) end begun room from full ends)

@@ -1,10 +1,12 @@
 -- Looking at the folder of sets before a run, and the run after it.
 --     looks_none, looks_then           no call of the folder, and two stretches that only look
 --     whole_unbegun, whole_begun       what a crash leaves of a call that began no run, and of one that did
---     kept                             what a checkpointer knows whose sets follow those of a store
---     launched, restarted              the run begins at the state that was loaded, or restored
+--     has_none, has_store              the store of the run's sets
+--     begins_at                        the run begins at the state of the start that was loaded, or restored
+--     launched, restarted              so it begins as a launch or a restart does
 use Rattle.std.proofs.Common.{◌≡◌, ℕ, suc, List, [], Option, Some, None, inl, inr, refl, sym, ap, subst, ◌∙◌, arith}
-use Rattle.std.specs.Prelude.{◌⊎◌, IfSome, Result, Ok, Err, max, option_map}
+use Rattle.std.specs.Prelude.{◌⊎◌, IfSome, Result, Ok, Err, is_some, max, option_map}
+use Rattle.std.specs.FinMap as map
 use Rattle.std.proofs.Math.Nat.{zero-max}
 use Rattle.std.specs.List.{Contains}
 use Rattle.std.specs.Option.{ForSome, option_map_or}
@@ -13,11 +15,13 @@ use Rattle.sys_abi.specs.declared.record.Record.TheVariants.{Complete}
 use Rattle.disk_folder.specs.Files.{FolderFiles as Folder}
 use Rattle.disk_folder.specs.Crash.{Same}
 use Rattle.disk_folder.proofs.Stretches.{joins, weakens, told_then}
+use Rattle.sys_abi.specs.declared.identity.VPid.{VPid}
+use Rattle.guest_proc.specs.Guests.{GuestPart}
+use Rattle.computation.proofs.States.{Guests, seen}
+use Rattle.trace_log.specs.declared.requests.Schedule.{Schedule}
 use Rattle.disk_folder.specs.SeenFolder.{SeenFolder}
 use Rattle.dmtcp_top.specs.Sessions.{Beginning}
-use Rattle.trace_log.specs.Requests.{first_tally}
 use Rattle.image_store.specs.declared.set_info.SetInfo.{SetInfo}
-use Rattle.image_store.specs.Slots.{last}
 use Rattle.image_format.specs.declared.damage.Damage.{Damage}
 use Rattle.image_codec.specs.Sets.{DamagedFiles}
 use Rattle.image_store.specs.SetDamages.{HasDamage}
@@ -25,23 +29,25 @@ use Rattle.image_store.specs.FoundSets.{FoundSet, set_of, last_set, IsSet, HasSe
 use Rattle.image_store.specs.StoreStates.{Known, FitsFolder, next_generation, generation_after}
 use Rattle.image_store.specs.StoreCrashes.{ChangesNothing}
 use Rattle.image_store.proofs.Passing.{passes_then}
-use Rattle.checkpointer.specs.declared.checkpointer.Checkpointer.{Checkpointer}
 use Rattle.endings.specs.declared.ending.Ending.{Ending}
 use Rattle.endings.specs.declared.ending.Ending.TheVariants.{Done, Usage, InputFault, Missing, BadElf, TooBig, SinkFault, DiskFault, NoSet, Damaged, Budget, Stuck, Memory}
 use Rattle.run_start.specs.declared.start.Start.{Start as Origin}
 use Rattle.checkpointer.specs.Sets.{SpellsSet, SpellsState, SpoilsSet}
 use Rattle.dmtcp_top.specs.declared.settings.Settings.{Settings}
-use Rattle.checkpointer.specs.Keeping.{IsOpening, SpellsCut, CountsFaults, IsKept, IsSafe}
+use Rattle.checkpointer.specs.Keeping.{IsOpening, SpellsCut, CountsFaults, IsSafe}
 use Rattle.dmtcp_top.specs.Launches.{schedule_of}
-use Rattle.dmtcp_top.specs.Loads.{BeginsAt, IsFresh, IsLaunched, IsMade, IsOriginIn, IsRestarted, IsRestored, OnlyLooks, Restored}
+use Rattle.dmtcp_top.specs.Loads.{BeginsAt, HasStore, IsLaunched, IsMade, IsOriginIn, IsRestarted, IsRestored, OnlyLooks, Restored, store_for}
 use Rattle.dmtcp_top.specs.Jobs.{settings_of}
+use Rattle.plain_machine.specs.declared.kernel.PlainKernel.{PlainKernel}
 use Rattle.plain_machine.specs.declared.plain.Plain.{Plain}
+use Rattle.plain_machine.specs.Valid.{IsValid}
 use Rattle.edge_io.specs.Inputs.{NamedFiles}
 use Rattle.job_words.specs.declared.job.Job.TheVariants.{Launch}
 use Rattle.job_words.specs.declared.job.LaunchJob.{LaunchJob}
 use Rattle.launch_start.specs.JobStarts.{IsLoaded}
-use Rattle.run_loop.specs.declared.start.Start.{Start}
-use Rattle.run_start.specs.Starts.{state_of}
+use Rattle.dmtcp_top.specs.declared.start.Checkpoints.{Checkpoints}
+use Rattle.dmtcp_top.specs.declared.start.Start.{Start}
+use Rattle.run_start.specs.Starts.{state_of, AreParts, CanBegin}
 use Rattle.dmtcp_top.specs.Promise.{SpellsCutOf, StaysWhole}
 
 nothing_there : (generation : ℕ) → Contains {X = Record} [] (Complete generation) → ⊥
@@ -120,22 +126,43 @@ next_after : (store : Known) → store.floor ≡ 0 → next_generation store ≡
 unfolding generation_after
 next_after store none = ap (λ floor. suc (max floor (generation_of store.last))) none ∙ ap suc (zero-max (generation_of store.last))
 
-none_some : {A : Type 0} (o : Option A) (a : A) → o ≡ Some a → o ≡ None → ⊥
-none_some o a some none = cc
+-- no checkpoints are asked for
+pub has_none : (checkpoints : Checkpoints) (settings : Settings) (opening : ℕ) (folder : SeenFolder)
+    → settings.every ≡ None → checkpoints.schedule ≡ schedule_of settings opening → checkpoints.store ≡ None
+    → HasStore checkpoints folder
+has_none checkpoints settings opening folder none scheduled unstored = record {
+  stored = ap is_some unstored ∙ sym (ap (λ (s : Schedule). is_some s.every) scheduled ∙ ap is_some none);
+  follows = subst (λ o. IfSome o (λ known. next_generation known ≡ suc checkpoints.schedule.opening)) (sym unstored) tt;
+  fits = subst (λ (o : Option Known). IfSome o (λ known. FitsFolder known folder)) (sym unstored) tt;
+}
 
-pub kept : (checkpointer : Checkpointer) (settings : Settings) (store : Known) (folder : SeenFolder) → checkpointer.store ≡ Some store → checkpointer.tally ≡ first_tally (schedule_of settings (generation_of store.last))
-    → store.floor ≡ 0 → FitsFolder store folder → IsKept checkpointer folder
-kept checkpointer settings store folder stored tallied none fits = record {
-  fits = λ other is. let same : store ≡ other = cc in
-      (subst (λ (s : Known). FitsFolder s folder) same fits, ap next_generation (sym same) ∙ next_after store none ∙ ap suc (sym greatest));
-  above = λ files is. told_then (last files) (λ info at.
-      let found : store.last ≡ Some info = sym (fits files is).last ∙ at in
-      let bound : checkpointer.tally.greatest ≡ info.generation = greatest ∙ ap generation_of found in omega arith);
-  floor = λ no_store. absurd (none_some checkpointer.store store stored no_store);
+is_stored : (every : Option ℕ) (store : Known) → is_some (store_for every store) ≡ is_some every
+is_stored None store = refl
+is_stored (Some n) store = refl
+
+if_stored : (P : Known → Type 0) (every : Option ℕ) (store : Known) → P store → IfSome (store_for every store) P
+if_stored P None store holds = tt
+if_stored P (Some n) store holds = holds
+
+pub has_store : (checkpoints : Checkpoints) (settings : Settings) (store : Known) (folder : SeenFolder)
+    → checkpoints.schedule ≡ schedule_of settings (generation_of store.last)
+    → checkpoints.store ≡ store_for settings.every store → store.floor ≡ 0 → FitsFolder store folder
+    → HasStore checkpoints folder
+has_store checkpoints settings store folder scheduled stored none fits = record {
+  stored = ap is_some stored ∙ is_stored settings.every store
+      ∙ sym (ap (λ (s : Schedule). is_some s.every) scheduled);
+  follows = subst (λ o. IfSome o Follows) (sym stored) (if_stored Follows settings.every store next);
+  fits = subst (λ o. IfSome o Fits) (sym stored) (if_stored Fits settings.every store fits);
 }
   where
-    greatest : checkpointer.tally.greatest ≡ generation_of store.last
-    greatest = ap (λ tally. tally.greatest) tallied
+    Follows : Known → Type 0
+    Follows known = next_generation known ≡ suc checkpoints.schedule.opening
+
+    Fits : Known → Type 0
+    Fits known = FitsFolder known folder
+
+    next : Follows store
+    next = next_after store none ∙ ap (λ (s : Schedule). suc s.opening) (sym scheduled)
 
 module _ (folder : SeenFolder) (store : Known) (info : SetInfo) (known : store.last ≡ Some info) (fits : FitsFolder store folder) where
   -- the set that counts is the one that the store knows
@@ -190,25 +217,40 @@ module _ (folder : SeenFolder) (store : Known) (info : SetInfo) (known : store.l
 
 -- ---- the run at a state that was loaded or restored
 
-pub launched : (files : Option NamedFiles) (folder : Option Folder) (job : LaunchJob) (origin : Origin) (checkpointer : Checkpointer) (start : Start) → IsLoaded files job origin → IsMade folder (settings_of (Launch job)) checkpointer
-    → BeginsAt (state_of origin) checkpointer start → IsLaunched files folder job start
-launched files folder job origin checkpointer start loaded made begins = record {
+same_state : (k l : PlainKernel) (guests others : Guests) → k ≡ l → guests ≡ others → seen k guests ≡ seen l others
+same_state k l guests others kernel same = ap (λ (x : PlainKernel). seen x guests) kernel ∙ ap (seen l) same
+
+pub begins_at : (origin : Origin) (system : PlainKernel) (guests : List (VPid × GuestPart))
+    (checkpoints : Checkpoints) → CanBegin origin → AreParts origin system guests
+    → BeginsAt (state_of origin) checkpoints (record { system = system; guests = guests; checkpoints = checkpoints })
+begins_at origin system guests checkpoints can parts = record {
+  state = same;
+  ready = record { valid = subst IsValid (sym same) can.valid; numbered = parts.numbered };
+  checkpoints = refl;
+}
+  where
+    same : seen system (map.from_entries guests) ≡ state_of origin
+    same = same_state system origin.kernel (map.from_entries guests) origin.guests parts.kernel parts.guests
+
+pub launched : (files : Option NamedFiles) (folder : Option Folder) (job : LaunchJob) (origin : Origin) (checkpoints : Checkpoints) (start : Start) → IsLoaded files job origin → IsMade folder (settings_of (Launch job)) checkpoints
+    → BeginsAt (state_of origin) checkpoints start → IsLaunched files folder job start
+launched files folder job origin checkpoints start loaded made begins = record {
   inputs = loaded.inputs;
   loaded = loaded.loaded;
   state = begins.state ∙ loaded.state;
   ready = begins.ready;
   opening = made.opening;
   opened = made.opened;
-  checkpointer = subst (λ (c : Checkpointer). IsFresh c (settings_of (Launch job)) made.opening) (sym begins.checkpointer) made.fresh;
+  schedule = ap (λ (c : Checkpoints). c.schedule) begins.checkpoints ∙ made.schedule;
 }
 
-pub restarted : (folder : Option Folder) (info : SetInfo) (settings : Settings) (origin : Origin) (checkpointer : Checkpointer) (start : Start) → IsRestored info folder origin → IsFresh checkpointer settings info.generation
-    → BeginsAt (state_of origin) checkpointer start → IsRestarted folder settings start
-restarted folder info settings origin checkpointer start restored fresh begins = record {
+pub restarted : (folder : Option Folder) (info : SetInfo) (settings : Settings) (origin : Origin) (checkpoints : Checkpoints) (start : Start) → IsRestored info folder origin → checkpoints.schedule ≡ schedule_of settings info.generation
+    → BeginsAt (state_of origin) checkpoints start → IsRestarted folder settings start
+restarted folder info settings origin checkpoints start restored scheduled begins = record {
   generation = info.generation;
   images = restored.images;
   spelled = subst (SpellsState restored.images) (sym begins.state) restored.spelled;
   counted = subst (λ (g : Plain). IfSome folder (λ files. SpellsSet files info.generation g)) (sym begins.state) restored.counted;
   ready = begins.ready;
-  checkpointer = subst (λ (c : Checkpointer). IsFresh c settings info.generation) (sym begins.checkpointer) fresh;
+  schedule = ap (λ (c : Checkpoints). c.schedule) begins.checkpoints ∙ scheduled;
 }

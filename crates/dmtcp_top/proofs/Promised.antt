@@ -7,6 +7,7 @@ use Rattle.std.specs.Prelude.{◌⊎◌, Result, Ok, Err, IfErr}
 use Rattle.views.specs.Faults.{Rose}
 use Rattle.views.proofs.FaultCounts.{Rose-after}
 use Rattle.sys_abi.specs.declared.record.Record.{Record}
+use Rattle.plain_machine.specs.declared.kernel.PlainKernel.{PlainKernel}
 use Rattle.edge_io.specs.Sink.{SeenSink}
 use Rattle.option_words.specs.Options.{Text}
 use Rattle.endings.specs.declared.status.Status.{Status}
@@ -18,7 +19,6 @@ use Rattle.dmtcp_top.specs.Endings.{ComesToEnd, IsCarriedOut, ending_in}
 use Rattle.dmtcp_top.specs.Loads.{RefusesWords}
 use Rattle.dmtcp_top.specs.Promise.{IsPromised}
 use Rattle.dmtcp_top.specs.Sessions.{Outside, InputsFailed, StreamsFailed, FolderFailed, outside, session_in}
-use Rattle.computation.specs.declared.computation.Computation.{Computation}
 use Rattle.computation.specs.Sinks.{sunk}
 use Rattle.dmtcp_top.proofs.Arrivals.{words_refused, unbegun_paced}
 use Rattle.dmtcp_top.proofs.Conclusions.{call_ends, call_keeps_pace, status_kept}
@@ -28,13 +28,13 @@ use Rattle.dmtcp_top.proofs.SetLaws.{set_laws}
 use Rattle.checkpointer.proofs.Sinks.{took_nothing}
 
 -- what was carried out came to its end
-pub come_of : (result : Result Computation Ending) (words : List Text) (trace : List Record) (before now : Outside) → IsCarriedOut result words trace before now → ComesToEnd (ending_in result) words trace before now
-come_of (Ok c) words trace before now out = out.come
+pub come_of : (result : Result PlainKernel Ending) (words : List Text) (trace : List Record) (before now : Outside) → IsCarriedOut result words trace before now → ComesToEnd (ending_in result) words trace before now
+come_of (Ok system) words trace before now out = out.come
 come_of (Err ending) words trace before now out = out.come
 
 -- and what its ending says of what failed outside
-pub ended_by : {P : Type 0} (result : Result Computation Ending) (wanted : Status) → IsDone ≢ wanted → IfErr result (λ ending. status_of ending ≡ wanted → P) → status_of (ending_in result) ≡ wanted → P
-ended_by (Ok c) wanted apart holds is = absurd (apart is)
+pub ended_by : {P : Type 0} (result : Result PlainKernel Ending) (wanted : Status) → IsDone ≢ wanted → IfErr result (λ ending. status_of ending ≡ wanted → P) → status_of (ending_in result) ≡ wanted → P
+ended_by (Ok system) wanted apart holds is = absurd (apart is)
 ended_by (Err ending) wanted apart holds is = holds is
 
 pub refused_start : (ending : Ending) (words : List Text) (trace : List Record) (at : Outside) → trace ≡ [] → RefusesWords ending words → ComesToEnd ending words trace at at

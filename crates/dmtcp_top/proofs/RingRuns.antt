@@ -17,6 +17,7 @@ use Rattle.sys_abi.specs.declared.record.Record.TheVariants.{User, Call, Deliver
 use Rattle.disk_folder.specs.Files.{FolderFiles as Folder}
 use Rattle.disk_folder.specs.SeenFolder.{SeenFolder}
 use Rattle.disk_folder.proofs.Stretches.{joins, weakens}
+use Rattle.plain_machine.specs.declared.kernel.PlainKernel.{PlainKernel}
 use Rattle.plain_machine.specs.declared.plain.Plain.{Plain}
 use Rattle.plain_machine.specs.Runs.{run}
 use Rattle.option_words.specs.Options.{Text}
@@ -28,11 +29,9 @@ use Rattle.trace_log.proofs.RequestMarks.{has_no_marks}
 use Rattle.endings.specs.declared.status.Status.TheVariants.{Memory as IsMemory}
 use Rattle.endings.specs.declared.ending.Ending.TheVariants.{Memory}
 use Rattle.endings.specs.Log.{memory_line}
-use Rattle.computation.specs.declared.computation.Computation.{Computation}
-use Rattle.computation.specs.Computations.{plain_of}
 use Rattle.checkpointer.specs.Keeping.{IsOpening, CountsFaults}
 use Rattle.checkpointer.proofs.Sinks.{took_front}
-use Rattle.run_loop.specs.RunEnds.{IsRun, RanOut}
+use Rattle.run_loop.specs.RunEnds.{IsRun, KernelAtEnd, RanOut}
 use Rattle.ring_demo.specs.Values.{content_named}
 use Rattle.dmtcp_top.specs.Sessions.{Session, Beginning, Outside, session_in, log_in}
 use Rattle.dmtcp_top.specs.Launches.{beginning, origin}
@@ -66,8 +65,8 @@ state_at half came at g start steps =
 pub wants_memory : (half : Session) → CameTo RanOut half → Reaches IsMemory half memory_line
 wants_memory half came = (inr (record { begun = came.begun; start = came.start; run = came.run.shown }), refl)
 
-pub memory_then : (c : Computation) (words : List Text) (trace : List Record) (before now : Outside) → IsRunOut c words trace before now → IsStopped Memory words trace before now
-memory_then c words trace before now out =
+pub memory_then : (system : PlainKernel) (words : List Text) (trace : List Record) (before now : Outside) → IsRunOut system words trace before now → IsStopped Memory words trace before now
+memory_then system words trace before now out =
     let come = out.come in
     let lines = come.there.1 in
     record {
@@ -85,12 +84,12 @@ if_some : (o : Option Beginning) (P Q : Beginning → Type 0) → IfSome o P →
 if_some None P Q holds next = tt
 if_some (Some b) P Q holds next = next b holds
 
-pub half_done : (c : Computation) (left : List ℕ) (words : List Text) (trace : List Record) (before now : Outside) → IsRunOut c words trace before now → left ≡ content_named c.kernel (codes "value")
+pub half_done : (system : PlainKernel) (left : List ℕ) (words : List Text) (trace : List Record) (before now : Outside) → IsRunOut system words trace before now → left ≡ content_named system (codes "value")
     → IsHalfDone left words trace before now
-half_done c left words trace before now out is = record {
+half_done system left words trace before now out is = record {
   come = out.come;
-  value = if_some out.come.start (λ begun. run begun.state trace ≡ Some (plain_of c)) (λ begun. (g : Plain) × (run begun.state trace ≡ Some g) × (left ≡ content_named g.kernel (codes "value")))
-      out.state (λ begun steps. (plain_of c, steps, is));
+  value = if_some out.come.start (λ begun. KernelAtEnd begun.state trace system) (λ begun. (g : Plain) × (run begun.state trace ≡ Some g) × (left ≡ content_named g.kernel (codes "value")))
+      out.state (λ begun at. (at.0, at.1.0, is ∙ ap (λ k. content_named k (codes "value")) at.1.1));
 }
 
 -- what the half left is what its run left

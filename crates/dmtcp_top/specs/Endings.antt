@@ -2,22 +2,25 @@
 --     IsAtEnding ending session log        what holds there
 --     KeepsPaceAt ending session log       how far console and log came, with a run by one thread
 --     ComesToEnd ending words trace before now     both, and what a crash leaves
---     IsCarriedOut result words trace before now     the same of a run, with the computation at its end
+--     ending_by end records                how a call ends whose run ended so, in a trace of this room
+--     IsLeft result back end records       what such a run leaves
+--     IsCarriedOut result words trace before now     how a run came to its end, with the system there
 use Rattle.std.specs.Prelude.{◌≡◌, ◌≢◌, ℕ, List, Option, Some, Result, Ok, Err, IfSome}
 use Rattle.sys_abi.specs.declared.record.Record.{Record}
+use Rattle.plain_machine.specs.declared.kernel.PlainKernel.{PlainKernel}
 use Rattle.option_words.specs.Options.{Text}
 use Rattle.trace_log.specs.LogText.{log_text}
 use Rattle.endings.specs.declared.status.Status.TheVariants.{Done as IsDone, Memory as IsMemory}
 use Rattle.endings.specs.declared.ending.Ending.{Ending}
-use Rattle.endings.specs.declared.ending.Ending.TheVariants.{Done, SinkFault, Memory}
+use Rattle.endings.specs.declared.ending.Ending.TheVariants.{Done, SinkFault, Budget, Stuck, Memory}
 use Rattle.endings.specs.Log.{memory_line}
 use Rattle.endings.specs.Endings.{status_of, line_of}
-use Rattle.plain_machine.specs.Runs.{run}
-use Rattle.computation.specs.declared.computation.Computation.{Computation}
-use Rattle.computation.specs.Computations.{plain_of}
 use Rattle.computation.specs.Sinks.{Sunk, Took, TookFront}
-use Rattle.dmtcp_top.specs.Sessions.{Session, Beginning, Outside, session_in, log_in}
+use Rattle.run_loop.specs.declared.run_end.RunEnd.{RunEnd}
+use Rattle.run_loop.specs.declared.run_end.RunEnd.TheVariants as run_ended
+use Rattle.run_loop.specs.RunEnds.{KernelAtEnd}
 use Rattle.run_loop.specs.Pace.{LinesOf}
+use Rattle.dmtcp_top.specs.Sessions.{Session, Beginning, Outside, session_in, log_in}
 use Rattle.dmtcp_top.specs.Ends.{Reaches, SinkFailed, Stopped, CallGoesInRounds}
 use Rattle.dmtcp_top.specs.Promise.{StaysWhole}
 
@@ -43,16 +46,28 @@ pub record ComesToEnd (ending : Ending) (words : List Text) (trace : List Record
   pub in_rounds : CallGoesInRounds (session_in words start trace before now)
   pub whole : StaysWhole start trace before.folder now.folder
 
+abbrev pub ending_by : RunEnd → ℕ → Ending
+ending_by run_ended.Done records = Done
+ending_by run_ended.Budget records = Budget records
+ending_by run_ended.Stuck records = Stuck
+ending_by run_ended.SinkFault records = SinkFault
+ending_by run_ended.Memory records = Memory
+
+-- where nobody lives it is the system that came back
+abbrev pub IsLeft : Result PlainKernel Ending → Option PlainKernel → RunEnd → ℕ → Type 0
+IsLeft (Ok system) back end records = (back ≡ Some system) × (end ≡ run_ended.Done)
+IsLeft (Err ending) back end records = (ending ≡ ending_by end records) × (end ≢ run_ended.Done)
+
 -- how the call ends whose run gave this
-abbrev pub ending_in : Result Computation Ending → Ending
-ending_in (Ok c) = Done
+abbrev pub ending_in : Result PlainKernel Ending → Ending
+ending_in (Ok system) = Done
 ending_in (Err ending) = ending
 
--- nobody lives at the end of the run, which is where the computation stands
-pub record IsRunOut (c : Computation) (words : List Text) (trace : List Record) (before now : Outside)
+-- nobody lives at the end of the run, and this is the kernel part there
+pub record IsRunOut (system : PlainKernel) (words : List Text) (trace : List Record) (before now : Outside)
     : Type 0 where
   pub come : ComesToEnd Done words trace before now
-  pub state : IfSome come.start (λ begun. run begun.state trace ≡ Some (plain_of c))
+  pub state : IfSome come.start (λ begun. KernelAtEnd begun.state trace system)
 
 -- it came to its end otherwise
 pub record IsStopped (ending : Ending) (words : List Text) (trace : List Record) (before now : Outside)
@@ -60,6 +75,6 @@ pub record IsStopped (ending : Ending) (words : List Text) (trace : List Record)
   pub come : ComesToEnd ending words trace before now
   pub other : status_of ending ≢ IsDone
 
-abbrev pub IsCarriedOut : Result Computation Ending → List Text → List Record → Outside → Outside → Type 0
-IsCarriedOut (Ok c) words trace before now = IsRunOut c words trace before now
+abbrev pub IsCarriedOut : Result PlainKernel Ending → List Text → List Record → Outside → Outside → Type 0
+IsCarriedOut (Ok system) words trace before now = IsRunOut system words trace before now
 IsCarriedOut (Err ending) words trace before now = IsStopped ending words trace before now

@@ -1,10 +1,14 @@
--- What beginning a run gives: a computation at its start with its checkpointer, or how the call ends without
--- them.
-use Rattle.std.specs.Prelude.{◌≡◌, ◌≢◌, ℕ, List, Option, None, Result, Ok, Err, IfSome}
+-- What beginning a run gives: the system and the guests with which it begins and its checkpoints, or how the
+-- call ends without them.
+--     plain_of start      the plain state with which a run begins
+--     IsReady start       that state can be run
+--     HasStore ..         a run's sets have a store exactly where it asks for checkpoints
+use Rattle.std.specs.Prelude.{◌≡◌, ◌≢◌, ℕ, suc, List, All, Option, Some, None, is_some, Result, Ok, Err, IfSome}
 use Rattle.plain_machine.specs.declared.plain.Plain.{Plain}
+use Rattle.plain_machine.specs.Valid.{IsValid}
 use Rattle.disk_folder.specs.Moments.{LeavesOnly}
 use Rattle.image_store.specs.declared.set_info.SetInfo.{SetInfo}
-use Rattle.image_store.specs.StoreStates.{Known}
+use Rattle.image_store.specs.StoreStates.{Known, FitsFolder, next_generation}
 use Rattle.image_store.specs.StoreCrashes.{ChangesNothing}
 use Rattle.checkpointer.specs.Keeping.{Counts}
 use Rattle.edge_io.specs.Inputs.{NamedFiles}
@@ -12,8 +16,6 @@ use Rattle.disk_folder.specs.Files.{FolderFiles as Folder}
 use Rattle.disk_folder.specs.SeenFolder.{SeenFolder}
 use Rattle.image_codec.specs.Sets.{DamagedFiles}
 use Rattle.image_store.specs.Slots.{last}
-use Rattle.trace_log.specs.LogText.{at_start}
-use Rattle.trace_log.specs.Requests.{first_tally}
 use Rattle.endings.specs.declared.ending.Ending.{Ending}
 use Rattle.endings.specs.declared.ending.Ending.TheVariants.{Usage, InputFault, Missing, BadElf, TooBig, DiskFault, NoSet, Damaged, Memory}
 use Rattle.option_words.specs.Options.{Text}
@@ -22,27 +24,41 @@ use Rattle.job_words.specs.declared.job.Job.TheVariants.{Launch, Restart, Help}
 use Rattle.job_words.specs.declared.job.LaunchJob.{LaunchJob}
 use Rattle.run_start.specs.declared.start.Start.{Start as Origin}
 use Rattle.dmtcp_top.specs.declared.settings.Settings.{Settings}
-use Rattle.checkpointer.specs.declared.checkpointer.Checkpointer.{Checkpointer}
-use Rattle.run_loop.specs.declared.start.Start.{Start}
+use Rattle.dmtcp_top.specs.declared.start.Checkpoints.{Checkpoints}
+use Rattle.dmtcp_top.specs.declared.start.Start.{Start}
 use Rattle.checkpointer.specs.Sets.{SpellsState, SpellsSet, SpoilsSet}
 use Rattle.dmtcp_top.specs.Jobs.{AskNothing, AskSomething, Asks, settings_of}
 use Rattle.launch_start.specs.JobInputs.{JobInputs, AreLoaded, IsFirstRefusal, unread, missing, bad, too_big, loaded_job}
 use Rattle.dmtcp_top.specs.Launches.{Opens, schedule_of}
-use Rattle.computation.specs.Computations.{plain_of, IsReady}
+use Rattle.drive.specs.Driving as drive
 use Rattle.run_start.specs.Starts.{state_of, CanBegin}
 
--- before the first record
-pub record IsFresh (checkpointer : Checkpointer) (settings : Settings) (opening : ℕ) : Type 0 where
-  pub schedule : checkpointer.schedule ≡ schedule_of settings opening
-  pub tally : checkpointer.tally ≡ first_tally (schedule_of settings opening)
-  pub lines : checkpointer.lines ≡ at_start
+abbrev pub plain_of : Start → Plain
+plain_of start = drive.state_of start.system start.guests
 
--- the checkpointer of a launch: its sets follow the one that counts, for which nobody asks where there are no
+-- that state is a valid one, and each guest stands under its own number
+pub record IsReady (start : Start) : Type 0 where
+  pub valid : IsValid (plain_of start)
+  pub numbered : All (λ entry. entry.1.pid ≡ entry.0) start.guests
+
+-- the store of a run's sets, which is let go where no checkpoints are asked for
+abbrev pub store_for : Option ℕ → Known → Option Known
+store_for None store = None
+store_for (Some every) store = Some store
+
+-- the store is there exactly where checkpoints are asked for, it fits the folder, and its next set follows the
+-- opening one
+pub record HasStore (checkpoints : Checkpoints) (folder : SeenFolder) : Type 0 where
+  pub stored : is_some checkpoints.store ≡ is_some checkpoints.schedule.every
+  pub follows : IfSome checkpoints.store (λ known. next_generation known ≡ suc checkpoints.schedule.opening)
+  pub fits : IfSome checkpoints.store (λ known. FitsFolder known folder)
+
+-- the checkpoints of a launch: its sets follow the one that counts, for which nobody asks where there are no
 -- checkpoints
-pub record IsMade (folder : Option Folder) (settings : Settings) (checkpointer : Checkpointer) : Type 0 where
+pub record IsMade (folder : Option Folder) (settings : Settings) (checkpoints : Checkpoints) : Type 0 where
   pub opening : ℕ
   pub opened : Opens folder settings.every opening
-  pub fresh : IsFresh checkpointer settings opening
+  pub schedule : checkpoints.schedule ≡ schedule_of settings opening
 
 -- why there is none
 abbrev pub IsUnmade : Settings → Ending → Type 0
@@ -50,31 +66,31 @@ IsUnmade settings DiskFault = settings.every ≢ None
 IsUnmade settings Memory = Unit {0}
 IsUnmade settings _ = ⊥
 
--- the run begins at this state with this checkpointer
-pub record BeginsAt (at : Plain) (checkpoints : Checkpointer) (start : Start) : Type 0 where
-  pub state : plain_of start.computation ≡ at
-  pub ready : IsReady start.computation
-  pub checkpointer : start.checkpointer ≡ checkpoints
+-- the run begins at this state with these checkpoints
+pub record BeginsAt (at : Plain) (asked : Checkpoints) (start : Start) : Type 0 where
+  pub state : plain_of start ≡ at
+  pub ready : IsReady start
+  pub checkpoints : start.checkpoints ≡ asked
 
--- the computation stands at the start of the job
+-- the run begins at the start of the job
 pub record IsLaunched (files : Option NamedFiles) (folder : Option Folder) (job : LaunchJob) (start : Start)
     : Type 0 where
   pub inputs : JobInputs
   pub loaded : AreLoaded files job inputs
-  pub state : plain_of start.computation ≡ loaded_job inputs
-  pub ready : IsReady start.computation
+  pub state : plain_of start ≡ loaded_job inputs
+  pub ready : IsReady start
   pub opening : ℕ
   pub opened : Opens folder job.every opening
-  pub checkpointer : IsFresh start.checkpointer (settings_of (Launch job)) opening
+  pub schedule : start.checkpoints.schedule ≡ schedule_of (settings_of (Launch job)) opening
 
--- the computation stands at the state that the set which counts spells
+-- the run begins at the state that the set which counts spells
 pub record IsRestarted (folder : Option Folder) (settings : Settings) (start : Start) : Type 0 where
   pub generation : ℕ
   pub images : List (List ℕ)
-  pub spelled : SpellsState images (plain_of start.computation)
-  pub counted : IfSome folder (λ files. SpellsSet files generation (plain_of start.computation))
-  pub ready : IsReady start.computation
-  pub checkpointer : IsFresh start.checkpointer settings generation
+  pub spelled : SpellsState images (plain_of start)
+  pub counted : IfSome folder (λ files. SpellsSet files generation (plain_of start))
+  pub ready : IsReady start
+  pub schedule : start.checkpoints.schedule ≡ schedule_of settings generation
 
 -- how the words end a call without a job. For help no memory is wanted
 abbrev pub RefusesWords : Ending → List Text → Type 0
@@ -82,7 +98,7 @@ RefusesWords Usage words = AskNothing words
 RefusesWords Memory words = AskSomething words × (Asks words Help → ⊥)
 RefusesWords _ words = ⊥
 
--- how a launch ends without a computation, and why
+-- how a launch ends without a run, and why
 abbrev pub RefusesLaunch : Ending → Option NamedFiles → LaunchJob → Type 0
 RefusesLaunch (InputFault who) files job = IsFirstRefusal files job (unread who.now)
 RefusesLaunch (Missing who) files job = IsFirstRefusal files job (missing who.now)

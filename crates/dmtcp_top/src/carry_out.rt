@@ -1,25 +1,27 @@
-ghost use Rattle.std.specs.Prelude.{◌≡◌, ◌≤◌, ◌⊎◌, List, [], None, IfErr};
+ghost use Rattle.std.specs.Prelude.{◌≡◌, ◌≢◌, ◌≤◌, ◌⊎◌, List, [], None, IfErr, IsSome, OnOk};
 ghost use Rattle.views.specs.Faults.{Rose};
 ghost use Rattle.option_words.specs.Options.{Text};
 ghost use Rattle.endings.specs.Endings.{status_of};
-ghost use Rattle.dmtcp_top.specs.Endings.{IsCarriedOut, ending_in};
+ghost use Rattle.run_loop.specs.declared.run_end.RunEnd.TheVariants as run_ended;
+ghost use Rattle.drive.specs.Driving.{end_told};
+ghost use Rattle.dmtcp_top.specs.Endings.{IsCarriedOut, IsLeft, ending_by, ending_in};
 ghost use Rattle.dmtcp_top.specs.Jobs.{Asks, IsOneRun, IsQuiet, settings_of};
 ghost use Rattle.dmtcp_top.specs.Loads.{OnlyLooks};
 ghost use Rattle.dmtcp_top.specs.Sessions.{outside};
 
 use crate::loading::begin;
 use crate::settings::Settings;
-use computation::Computation;
 use disk_folder::Folder;
+use drive::{RunEnd, RunStatus, drive};
 use edge_io::{Inputs, Sink};
 use endings::{Ending, Status};
 use job_words::Job;
-use run_loop::RunEnd;
 use std::alloc::Global;
-use trace_log::Trace;
+use trace_log::{Schedule, Trace};
+use wrap_calls::Wrapped;
 
 /// Makes the run that a job asks for, to the last line of the log, which is left out. Where nobody lives at
-/// its end it gives the computation as it is then.
+/// its end it gives the system as it is then.
 pub(crate) fn carry_out<'a, I: Inputs, O: Sink, L: Sink, F: Folder>(
     alloc: Global,
     job: &'a Job,
@@ -28,7 +30,7 @@ pub(crate) fn carry_out<'a, I: Inputs, O: Sink, L: Sink, F: Folder>(
     log: &mut L,
     disk: &mut F,
     trace: &mut Trace,
-) -> Result<Computation, Ending<'a>>
+) -> Result<Wrapped, Ending<'a>>
     requires empty { trace.old.records ≡ [] }
     requires asked { (words : List Text) × Asks words job.now }
     requires run { IsOneRun job.now }
@@ -52,21 +54,61 @@ pub(crate) fn carry_out<'a, I: Inputs, O: Sink, L: Sink, F: Folder>(
     if trace.reserve(records).is_err() {
         return Err(Ending::Memory);
     }
-    let mut start = match begin(alloc, job, inputs, disk) {
+    let start = match begin(alloc, job, inputs, disk) {
         Ok(start) => start,
         Err(ending) => return Err(ending),
     };
-    match start.run(alloc, out, log, disk, trace) {
-        RunEnd::Done => Ok(start.computation),
-        RunEnd::Budget => Err(Ending::Budget(records)),
-        RunEnd::Stuck => Err(Ending::Stuck),
-        RunEnd::SinkFault => Err(Ending::SinkFault),
-        RunEnd::Memory => Err(Ending::Memory),
+    let Schedule { every, opening } = start.checkpoints.schedule;
+    let (back, status) = drive(
+        alloc,
+        start.system,
+        start.guests,
+        every,
+        opening,
+        start.checkpoints.store,
+        out,
+        log,
+        disk,
+        trace,
+    );
+    left_by(back, status, records)
+}
+
+/// The system that came back, where nobody lives, or how the call ends whose run ended otherwise.
+fn left_by<'a>(
+    back: Option<Wrapped>,
+    status: RunStatus,
+    records: u32,
+) -> Result<Wrapped, Ending<'a>>
+    requires { IsSome back }
+    ensures { IsLeft result back (end_told status) records }
+{
+    let Some(system) = back else {
+        unreachable!();
+    };
+    match ended_by(status, records) {
+        Ok(()) => Ok(system),
+        Err(ending) => Err(ending),
+    }
+}
+
+/// How the call ends whose run ended so, where that is not for want of live processes.
+fn ended_by<'a>(status: RunStatus, records: u32) -> Result<(), Ending<'a>>
+    ensures done { OnOk result (end_told status ≡ run_ended.Done) }
+    ensures otherwise { IfErr result (λ ending. (ending ≡ ending_by (end_told status) records)
+        × (end_told status ≢ run_ended.Done)) }
+{
+    match status {
+        RunStatus::Ended(RunEnd::Done) => Ok(()),
+        RunStatus::Ended(RunEnd::Budget) => Err(Ending::Budget(records)),
+        RunStatus::Ended(RunEnd::Stuck) => Err(Ending::Stuck),
+        RunStatus::Ended(RunEnd::Memory) => Err(Ending::Memory),
+        RunStatus::SinkFault => Err(Ending::SinkFault),
     }
 }
 
 /// How the call ends whose run was made so.
-pub(crate) fn ending_of<'a>(carried: Result<Computation, Ending<'a>>) -> Ending<'a>
+pub(crate) fn ending_of<'a>(carried: Result<Wrapped, Ending<'a>>) -> Ending<'a>
     ensures { result ≡ ending_in carried.entry }
 {
     match carried {

@@ -1,4 +1,4 @@
-ghost use Rattle.std.specs.Prelude.{◌≡◌, ◌≢◌, ℕ, List, None, Some, IfOk, IfErr, All};
+ghost use Rattle.std.specs.Prelude.{◌≡◌, ◌≢◌, List, None, Some, IfOk, IfErr, All};
 ghost use Rattle.std.specs.Option.{option_map_or};
 ghost use Rattle.views.specs.Faults.{Rose};
 ghost use Rattle.plain_process.specs.Valid.{IsByte};
@@ -6,16 +6,17 @@ ghost use Rattle.image_store.specs.FoundSets.{last_set, HasSet};
 ghost use Rattle.image_store.specs.StoreStates.{FitsFolder};
 ghost use Rattle.option_words.specs.Options.{Text};
 ghost use Rattle.job_words.specs.declared.job.Job.TheVariants.{Launch};
-ghost use Rattle.checkpointer.specs.Keeping.{IsKept};
 ghost use Rattle.run_start.specs.Starts.{state_of, CanBegin};
 ghost use Rattle.rebuild_tables.specs.Hosts.{IsHosts};
 ghost use Rattle.endings.specs.Endings.{status_of};
 ghost use Rattle.dmtcp_top.specs.Jobs.{Asks, IsOneRun, IsQuiet, settings_of};
-ghost use Rattle.dmtcp_top.specs.Loads.{Begins, BeginsAt, IsFresh, IsMade, IsOriginIn, IsUnmade, Launches, OnlyLooks, Reopened, Restarts, Restored};
+ghost use Rattle.dmtcp_top.specs.Launches.{schedule_of};
+ghost use Rattle.dmtcp_top.specs.Loads.{Begins, BeginsAt, HasStore, IsMade, IsOriginIn, IsUnmade, Launches, OnlyLooks, Reopened, Restarts, Restored, store_for};
 
 use crate::hosts::{launch_hosts, restart_hosts};
 use crate::settings::Settings;
-use checkpointer::{Checkpointer, restored};
+use crate::start::{Checkpoints, Start};
+use checkpointer::restored;
 use disk_folder::Folder;
 use edge_io::Inputs;
 use endings::{Ending, Status};
@@ -25,7 +26,6 @@ use image_store::{SetInfo, Store, StoreFault};
 use job_words::{Job, LaunchJob};
 use launch_start::{load, look_at_bytes};
 use rebuild::decode_set;
-use run_loop::Start;
 use run_start::Start as Origin;
 use std::alloc::{AllocError, Global};
 use views::list_of::ListOf;
@@ -40,8 +40,7 @@ pub(crate) fn begin<'a, I: Inputs, F: Folder>(
     requires asked { (words : List Text) × Asks words job.now }
     requires run { IsOneRun job.now }
     ensures begins { Begins result job.now (I.seen inputs.old).files (F.seen disk.old).files }
-    ensures kept { IfOk result (λ start. start.checkpointer.schedule.every ≢ None
-        → IsKept start.checkpointer (F.seen disk.new)) }
+    ensures stored { IfOk result (λ start. HasStore start.checkpoints (F.seen disk.new)) }
     ensures input { IfErr result (λ ending. status_of ending ≡ Status.InputFault
         → Rose (I.seen inputs.old).faults (I.seen inputs.new).faults) }
     ensures sink { IfErr result (λ ending. status_of ending ≢ Status.SinkFault) }
@@ -70,8 +69,7 @@ fn launch<'a, I: Inputs, F: Folder>(
     requires asked { (words : List Text) × Asks words (Launch job.now) }
     requires set { settings ≡ settings_of (Launch job.now) }
     ensures launches { Launches result (I.seen inputs.old).files (F.seen disk.old).files job.now }
-    ensures kept { IfOk result (λ start. start.checkpointer.schedule.every ≢ None
-        → IsKept start.checkpointer (F.seen disk.new)) }
+    ensures stored { IfOk result (λ start. HasStore start.checkpoints (F.seen disk.new)) }
     ensures input { IfErr result (λ ending. status_of ending ≡ Status.InputFault
         → Rose (I.seen inputs.old).faults (I.seen inputs.new).faults) }
     ensures disk { IfErr result (λ ending. status_of ending ≡ Status.DiskFault
@@ -81,8 +79,8 @@ fn launch<'a, I: Inputs, F: Folder>(
     ensures same { (I.seen inputs.new).files ≡ (I.seen inputs.old).files }
 {
     let origin = load(alloc, job, inputs)?;
-    let checkpointer = first_checkpointer(alloc, settings, disk)?;
-    let start = start_at(alloc, origin, &launch_hosts(job), checkpointer)?;
+    let checkpoints = first_checkpoints(alloc, settings, disk)?;
+    let start = start_at(alloc, origin, &launch_hosts(job), checkpoints)?;
     Ok(start)
 }
 
@@ -91,36 +89,47 @@ fn start_at(
     alloc: Global,
     origin: Origin,
     hosts: &Hosts,
-    checkpointer: Checkpointer,
+    checkpoints: Checkpoints,
 ) -> Result<Start, AllocError>
     requires can { CanBegin origin }
     requires hosts { IsHosts hosts.now }
-    ensures { IfOk result (BeginsAt (state_of origin) checkpointer) }
+    ensures { IfOk result (BeginsAt (state_of origin) checkpoints) }
 {
+    let (system, guests) = origin.into_system(alloc, hosts)?;
     Ok(Start {
-        computation: origin.begin(alloc, hosts)?,
-        checkpointer,
+        system,
+        guests,
+        checkpoints,
     })
 }
 
-/// The checkpointer of a launch. The folder is not looked at where there are no checkpoints.
-fn first_checkpointer<'a, F: Folder>(
+/// The checkpoints of a launch. The folder is not looked at where there are none.
+fn first_checkpoints<'a, F: Folder>(
     alloc: Global,
     settings: Settings,
     disk: &mut F,
-) -> Result<Checkpointer, Ending<'a>>
+) -> Result<Checkpoints, Ending<'a>>
     ensures made { IfOk result (IsMade (F.seen disk.old).files settings) }
     ensures unmade { IfErr result (IsUnmade settings) }
-    ensures kept { IfOk result (λ checkpointer. checkpointer.schedule.every ≢ None
-        → IsKept checkpointer (F.seen disk.new)) }
+    ensures stored { IfOk result (λ checkpoints. HasStore checkpoints (F.seen disk.new)) }
     ensures disk { IfErr result (λ ending. status_of ending ≡ Status.DiskFault
         → Rose (F.seen disk.old).faults (F.seen disk.new).faults) }
     ensures looks { OnlyLooks (F.seen disk.old) (F.seen disk.new) }
     ensures untouched { settings.every ≡ None → disk.new ≡ disk.old }
 {
     match settings.every {
-        None => Ok(Checkpointer::new(settings.schedule(0), None)),
-        Some(_) => Ok(checkpointer_of(settings, open(alloc, disk)?)),
+        None => Ok(no_checkpoints(settings)),
+        Some(_) => Ok(checkpoints_after(settings, open(alloc, disk)?)),
+    }
+}
+
+fn no_checkpoints(settings: Settings) -> Checkpoints
+    ensures schedule { result.schedule ≡ schedule_of settings 0 }
+    ensures store { result.store ≡ None }
+{
+    Checkpoints {
+        schedule: settings.schedule(0),
+        store: None,
     }
 }
 
@@ -139,17 +148,30 @@ fn open<'a, F: Folder>(alloc: Global, disk: &mut F) -> Result<Store, Ending<'a>>
     }
 }
 
-/// The checkpointer of a run whose sets follow those of this store.
-fn checkpointer_of(settings: Settings, store: Store) -> Checkpointer
-    ensures fresh { IsFresh result settings
+/// The checkpoints of a run whose sets follow those of this store.
+fn checkpoints_after(settings: Settings, store: Store) -> Checkpoints
+    ensures schedule { result.schedule ≡ schedule_of settings
         (option_map_or (λ (info : SetInfo). info.generation) store.last 0) }
-    ensures store { result.store ≡ Some store }
+    ensures store { result.store ≡ store_for settings.every store }
 {
     let opening = match store.last() {
         Some(info) => info.generation,
         None => 0,
     };
-    Checkpointer::new(settings.schedule(opening), Some(store))
+    Checkpoints {
+        schedule: settings.schedule(opening),
+        store: store_for(settings.every, store),
+    }
+}
+
+/// The store, where checkpoints are asked for.
+fn store_for(every: Option<u32>, store: Store) -> Option<Store>
+    ensures { result ≡ store_for every store }
+{
+    match every {
+        None => None,
+        Some(_) => Some(store),
+    }
 }
 
 /// The run at the state that the set which counts spells, on these hosts.
@@ -161,7 +183,7 @@ fn restart<'a, F: Folder>(
 ) -> Result<Start, Ending<'a>>
     requires { IsHosts hosts.now }
     ensures restarts { Restarts result (F.seen disk.old).files settings }
-    ensures kept { IfOk result (λ start. IsKept start.checkpointer (F.seen disk.new)) }
+    ensures stored { IfOk result (λ start. HasStore start.checkpoints (F.seen disk.new)) }
     ensures disk { IfErr result (λ ending. status_of ending ≡ Status.DiskFault
         → Rose (F.seen disk.old).faults (F.seen disk.new).faults) }
     ensures looks { OnlyLooks (F.seen disk.old) (F.seen disk.new) }
@@ -171,7 +193,7 @@ fn restart<'a, F: Folder>(
         return Err(Ending::NoSet);
     };
     let origin = restore(alloc, &store, info, disk)?;
-    let start = start_at(alloc, origin, hosts, checkpointer_of(settings, store))?;
+    let start = start_at(alloc, origin, hosts, checkpoints_after(settings, store))?;
     Ok(start)
 }
 

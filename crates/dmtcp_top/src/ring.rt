@@ -167,8 +167,8 @@ fn half<'a, L: Sink, F: Folder>(
 {
     let mut inputs = RingInputs;
     let mut console = Discard;
-    let computation = carry_out(alloc, job, &mut inputs, &mut console, log, disk, trace)?;
-    Ok(content_of(alloc, &computation.kernel, VALUE)?)
+    let system = carry_out(alloc, job, &mut inputs, &mut console, log, disk, trace)?;
+    Ok(content_of(alloc, &system, VALUE)?)
 }
 
 /// The bytes of the file of this name, none where there is no such file.

@@ -12,6 +12,7 @@ ghost use Rattle.rebuild_system.specs.Restarts.{AllArrived};
 ghost use Rattle.wrap_names.specs.Wrapping.{IsWrapped};
 ghost use Rattle.computation.specs.Computations.{plain_of, IsReady};
 
+use crate::listing::listed;
 use computation::Computation;
 use discovery::Directory;
 use elf32::Program;
@@ -40,7 +41,7 @@ impl Drop for Start {
 }
 
 impl Start {
-    ghost use Rattle.run_start.specs.Starts.{state_of, CanBegin, IsStart};
+    ghost use Rattle.run_start.specs.Starts.{state_of, AreParts, CanBegin, IsStart};
 
     /// The start of a job without programs and files.
     pub fn empty(alloc: Global) -> Start
@@ -116,6 +117,22 @@ impl Start {
             guests: self.into_guests(),
             transfer,
         })
+    }
+
+    /// The system on these hosts with which a run begins at this state, and the own part of each process that
+    /// lives in it, under its number.
+    pub fn into_system(
+        self,
+        alloc: Global,
+        hosts: &Hosts,
+    ) -> Result<(Wrapped, ListOf<(VPid, Guest)>), AllocError>
+        requires can { CanBegin self }
+        requires hosts { IsHosts hosts.now }
+        ensures { IfOk result (λ parts. AreParts self parts.0 parts.1) }
+    {
+        let system = wrapped_on(alloc, &self.kernel, hosts)?;
+        let guests = listed(alloc, self.into_guests())?;
+        Ok((system, guests))
     }
 }
 
