@@ -56,9 +56,17 @@ pub fn pump_on(net: &mut Net, d: Dir, n: u32)
     net.move_bytes(d, Place::Wire, n);
 }
 
-/// Whether the process acts for one of the ends.
+/// Whether the process acts for one of the ends. They are looked at from the last one on: ends of one agent
+/// mostly stand together.
 pub fn acts_among(p: RealPid, ends: &[AgentEnd]) -> bool
     ensures { result ≡ rounds.acts_among p ends.now }
 {
-    ends.iter().any(|end| is_agent(end.agent, p))
+    let mut place = ends.len();
+    while place > 0 {
+        place -= 1;
+        if is_agent(ends[place].agent, p) {
+            return true;
+        }
+    }
+    false
 }

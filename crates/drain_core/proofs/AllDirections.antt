@@ -31,7 +31,7 @@ back_of P [] rest all = all
 back_of P (y ∷ front) rest all = back_of P front rest (All-tail P y (front ++ rest) all)
 
 -- of a direction, as of the notes on it
-of_dirs : (P : Dir → Type 0) (notes : Notes) → All P (dirs_of notes) → All (λ y. P y.dir) notes
+pub of_dirs : (P : Dir → Type 0) (notes : Notes) → All P (dirs_of notes) → All (λ y. P y.dir) notes
 of_dirs P [] all = All-nil (λ (y : DirNotes). P y.dir)
 of_dirs P (x ∷ notes) all = All-cons (λ (y : DirNotes). P y.dir) x notes (All-head P x.dir (dirs_of notes) all) (of_dirs P notes (All-tail P x.dir (dirs_of notes) all))
 

@@ -4,6 +4,7 @@
 --     fits_begun                  they fit the network
 --     kept_begun                  the bytes of each direction are those in its queues
 --     noted_begun                 each direction of the network is noted
+--     new_sides, new_dirs         the room's notes, before they are opened
 use Rattle.std.proofs.Common.{◌≡◌, ℕ, ◌+◌, ◌-◌, ◌<◌, ◌≤◌, Bool, true, false, List, [], ◌∷◌, map as each, length, refl, sym, ap, ap₂, subst, ◌∙◌, arith, inl, inr}
 use Rattle.std.specs.Prelude.{Option, Some, None, All, is_some, ◌||◌, if◌then◌else◌}
 use Rattle.std.specs.Option.{option_map_or}
@@ -160,3 +161,7 @@ noted_begun m ends (named ∷ lengths) d = ap (λ (b : Bool). eq_by_cmp dir_cmp 
 -- the room's notes, before they are opened
 pub new_sides : (lengths : List Named) → All (λ named. named.0.side < 2) lengths → All (λ x. x.dir.side < 2) (all_notes lengths)
 new_sides lengths sides = All-map (λ (x : DirNotes). x.dir.side < 2) new_notes lengths sides
+
+pub new_dirs : (lengths : List Named) → dirs_of (all_notes lengths) ≡ each (λ named. named.0) lengths
+new_dirs [] = refl
+new_dirs (named ∷ lengths) = ap (λ (ds : List Dir). named.0 ∷ ds) (new_dirs lengths)

@@ -18,3 +18,4 @@ mod DrainedLists
 mod KeptLists
 mod Staying
 mod RunLaws
+mod ComingNotes

@@ -1,6 +1,6 @@
 -- Who leads what names an end, looked for one description after the other.
---     AreOthers b listeners conn side above      nobody leads one that names the end, of those that do not
---                                                come after the last one
+--     AreOthers b listeners conn side from above      nobody leads one that names the end, of those after the
+--                                                first one that do not come after the last one
 --     others_begun, others_on, others_fewer, others_done
 --     not_queued, is_queued, none_queued         a connection looked for in a queue place by place
 use Rattle.std.proofs.Common.{◌≡◌, ◌+◌, ◌<◌, zero, suc, Bool, true, false, ◌||◌, List, [], ◌∷◌, take, inl, inr, refl, sym, ap, subst, ◌∙◌, arith}
@@ -21,35 +21,35 @@ use Rattle.fd_tables.specs.Parts.{is_after}
 use Rattle.fd_book.specs.Books.{Books}
 use Rattle.wire_channels.specs.declared.listener.Listener.{Listener}
 use Rattle.wire_channels.specs.Listeners.{Listeners}
-use Rattle.stage_lists.specs.Agents.{leads_end, waits_in, IsAgent}
+use Rattle.stage_lists.specs.Agents.{leads_end, waits_in, IsAgentAfter}
 use Rattle.stage_lists.proofs.KeptOwners.{value_of}
 use Rattle.stage_lists.proofs.Walks.{count_of, next_is, walked, none_left, fewer_left}
 
-abbrev pub AreOthers : Books → Listeners → ConnId → ℕ → Option DescId → Type 0
-AreOthers b listeners conn side above =
-    (id : DescId) (d : Desc) → map.get b.descriptions id ≡ Some d → is_after above id ≡ false
-    → leads_end listeners conn side d ≡ None
+abbrev pub AreOthers : Books → Listeners → ConnId → ℕ → Option DescId → Option DescId → Type 0
+AreOthers b listeners conn side from above =
+    (id : DescId) (d : Desc) → map.get b.descriptions id ≡ Some d → is_after from id ≡ true
+    → is_after above id ≡ false → leads_end listeners conn side d ≡ None
 
-module _ (b : Books) (listeners : Listeners) (conn : ConnId) (side : ℕ) where
-  pub others_begun : AreOthers b listeners conn side None
-  others_begun id d is behind = true_false behind
+module _ (b : Books) (listeners : Listeners) (conn : ConnId) (side : ℕ) (from : Option DescId) where
+  pub others_begun : AreOthers b listeners conn side from from
+  others_begun id d is after behind = true_false (sym after ∙ behind)
 
   module _ (above : Option DescId) (id : DescId)
       (next : find (is_after above) (map.keys b.descriptions) ≡ Some id) where
     its : IsSome (map.get b.descriptions id) × (is_after above id ≡ true)
     its = next_is desc_total desc_exact b.descriptions is_after (λ k. refl) (λ a k. refl) above id next
 
-    pub others_on : AreOthers b listeners conn side above
+    pub others_on : AreOthers b listeners conn side from above
         → option_and_then (leads_end listeners conn side) (map.get b.descriptions id) ≡ None
-        → AreOthers b listeners conn side (Some id)
-    others_on others nobody q d is behind =
+        → AreOthers b listeners conn side from (Some id)
+    others_on others nobody q d is after behind =
         elim (walked desc_total desc_exact b.descriptions is_after (λ k. refl) (λ a k. refl) above id q d
         next is behind) [
           | inl same ↦
               sym (ap (option_and_then (leads_end listeners conn side)) (ap (map.get b.descriptions) (sym
               same) ∙ is))
               ∙ nobody
-          | inr before ↦ others q d is before
+          | inr before ↦ others q d is after before
         ]
 
     pub others_fewer : count_of (is_after (Some id)) (map.keys b.descriptions)
@@ -59,15 +59,15 @@ module _ (b : Books) (listeners : Listeners) (conn : ConnId) (side : ℕ) where
 
     pub leader_found : (p : RealPid)
         → option_and_then (leads_end listeners conn side) (map.get b.descriptions id) ≡ Some p
-        → IsAgent b listeners conn side (Some p)
+        → IsAgentAfter b listeners from conn side (Some p)
     leader_found p leads =
         let x = value_of (map.get b.descriptions id) its.0 in
         (id, (x.0, (x.1, sym (ap (option_and_then (leads_end listeners conn side)) x.1) ∙ leads)))
 
   pub others_done : (above : Option DescId) → find (is_after above) (map.keys b.descriptions) ≡ None
-      → AreOthers b listeners conn side above → IsAgent b listeners conn side None
-  others_done above none others id d is =
-      others id d is
+      → AreOthers b listeners conn side from above → IsAgentAfter b listeners from conn side None
+  others_done above none others id d is after =
+      others id d is after
       (none_left desc_total desc_exact b.descriptions is_after (λ k. refl) (λ a k. refl) above id d none is)
 
 -- a queue, place by place

@@ -4,8 +4,9 @@
 --     names_end listeners conn side     the object is that end, or a listener at which it waits
 --     leads_end                         the leader of a description that names the end
 --     IsAgent b listeners conn side p   p leads one of those that name the end, or nobody leads one
+--     IsAgentAfter                      the same, where nobody leads one of those after a description
 --     place_of e, IsActedFor            the direction that an end sends;  its agent is such a leader
-use Rattle.std.specs.Prelude.{◌≡◌, ◌==◌, ◌&&◌, ℕ, Bool, false, take, Option, Some, None, if◌then◌else◌}
+use Rattle.std.specs.Prelude.{◌≡◌, ◌==◌, ◌&&◌, ℕ, Bool, true, false, take, Option, Some, None, if◌then◌else◌}
 use Rattle.std.specs.Option.{option_map_or}
 use Rattle.std.specs.List.{list_any}
 use Rattle.std.specs.Ordering.{eq_by_cmp}
@@ -18,6 +19,7 @@ use Rattle.sys_abi.specs.Orders.{conn_cmp}
 use Rattle.fd_tables.specs.declared.description.Desc.{Desc}
 use Rattle.fd_tables.specs.declared.description.Object.{Object}
 use Rattle.fd_tables.specs.declared.description.Object.TheVariants.{Stream, Listener as ListenerObject}
+use Rattle.fd_tables.specs.Parts.{is_after}
 use Rattle.fd_book.specs.Books.{Books}
 use Rattle.wire_channels.specs.declared.listener.Listener.{Listener}
 use Rattle.wire_channels.specs.Listeners.{Listeners}
@@ -42,6 +44,12 @@ IsAgent b listeners conn side None =
 IsAgent b listeners conn side (Some p) =
     (id : DescId) × ((d : Desc)
     × ((map.get b.descriptions id ≡ Some d) × (leads_end listeners conn side d ≡ Some p)))
+
+abbrev pub IsAgentAfter : Books → Listeners → Option DescId → ConnId → ℕ → Option RealPid → Type 0
+IsAgentAfter b listeners above conn side None =
+    (id : DescId) (d : Desc) → map.get b.descriptions id ≡ Some d → is_after above id ≡ true
+    → leads_end listeners conn side d ≡ None
+IsAgentAfter b listeners above conn side (Some p) = IsAgent b listeners conn side (Some p)
 
 abbrev pub place_of : AgentEnd → Dir
 place_of e = record { conn = e.conn; side = e.side }

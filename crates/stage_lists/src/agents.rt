@@ -1,6 +1,6 @@
 //! Who acts for the ends of channels, once leaders are elected.
 ghost use Rattle.std.specs.Prelude.{◌≡◌, false, [], length, map as each, All};
-ghost use Rattle.std.specs.Option.{option_map_or, option_and_then};
+ghost use Rattle.std.specs.Option.{option_map, option_map_or, option_and_then};
 ghost use Rattle.std.specs.FinMap as map;
 ghost use Rattle.wire_net.specs.Reserves.{reserve};
 ghost use Rattle.stage_lists.specs.Agents as words;
@@ -12,36 +12,91 @@ use wire_net::{AgentEnd, Net, Room};
 /// The side of a connection that waits to be accepted.
 const ACCEPTING_SIDE: u8 = 1;
 
+/// Behind which description the last end of each side was found: the next one mostly stands near it.
+#[derive(Drop)]
+struct Nearby {
+    connecting: Option<DescId>,
+    accepting: Option<DescId>,
+}
+
+/// Who leads a description, and the one before that, if there is one.
+#[derive(Drop)]
+struct Found {
+    leader: RealPid,
+    behind: Option<DescId>,
+}
+
 /// Lists the sending end of each direction with its agent, in room that was taken for them. Takes no memory.
 pub fn name_agents(ends: &mut Room<AgentEnd>, dirs: &[Dir], book: &Book, net: &Net)
     requires { ends.old ≡ reserve [] (length dirs.now) }
     ensures places { each words.place_of ends.new.items ≡ dirs.now }
     ensures agents { All (words.IsActedFor book.now net.now.listeners) ends.new.items }
 {
+    let mut nearby = Nearby {
+        connecting: None,
+        accepting: None,
+    };
     for d in dirs {
-        ends.push(end_at(book, net, *d));
+        ends.push(end_at(book, net, &mut nearby, *d));
     }
 }
 
-fn end_at(book: &Book, net: &Net, d: Dir) -> AgentEnd
+fn end_at(book: &Book, net: &Net, nearby: &mut Nearby, d: Dir) -> AgentEnd
     ensures place { words.place_of result ≡ d }
     ensures agent { words.IsActedFor book.now net.now.listeners result }
 {
+    let agent = if d.side == ACCEPTING_SIDE {
+        agent_at(book, net, &mut nearby.accepting, d.conn, d.side)
+    } else {
+        agent_at(book, net, &mut nearby.connecting, d.conn, d.side)
+    };
     AgentEnd {
         conn: d.conn,
         side: d.side,
-        agent: agent_at(book, net, d.conn, d.side),
+        agent,
     }
 }
 
-/// The leader of a description that names the end, if one does.
-fn agent_at(book: &Book, net: &Net, conn: ConnId, side: u8) -> Option<RealPid>
+/// The leader of a description that names the end, if one does. It is looked for first behind a description
+/// that may be near, and then behind none.
+fn agent_at(
+    book: &Book,
+    net: &Net,
+    near: &mut Option<DescId>,
+    conn: ConnId,
+    side: u8,
+) -> Option<RealPid>
     ensures { words.IsAgent book.now net.now.listeners conn side result }
 {
-    let mut above = None;
+    if let Some(found) = agent_after(book, net, *near, conn, side) {
+        *near = found.behind;
+        return Some(found.leader);
+    }
+    let Some(found) = agent_after(book, net, None, conn, side) else {
+        return None;
+    };
+    *near = found.behind;
+    Some(found.leader)
+}
+
+/// The leader of a description after that one which names the end, if one does.
+fn agent_after(
+    book: &Book,
+    net: &Net,
+    after: Option<DescId>,
+    conn: ConnId,
+    side: u8,
+) -> Option<Found>
+    ensures { words.IsAgentAfter book.now net.now.listeners after conn side
+        (option_map (λ found. found.leader) result) }
+{
+    let mut above = after;
     while let Some(id) = book.next_desc(above) {
         if let Some(leader) = leader_at(book, net, id, conn, side) {
-            return Some(leader);
+            return Some(Found {
+                leader,
+                behind: above,
+            });
         }
         above = Some(id);
     }

@@ -1,11 +1,11 @@
-use Rattle.std.proofs.Common.{◌≡◌, Bool, true, false, sym, ap, ◌∙◌}
+use Rattle.std.proofs.Common.{false, sym, ap, ◌∙◌}
 use Rattle.std.specs.Prelude.{Option}
 use Rattle.std.specs.Option.{option_map_or}
 use Rattle.std.specs.Ordering.{is_eq, eq_by_cmp}
 use Rattle.std.specs.FinMap as map
 use Rattle.sys_abi.specs.declared.identity.ConnId.{ConnId}
 use Rattle.sys_abi.specs.Orders.{conn_cmp}
-use Rattle.stage_lists.proofs.Acting.{not_queued, is_queued, none_queued}
+use Rattle.stage_lists.proofs.Acting.{not_queued, is_queued}
 use Rattle.stage_lists.proofs.agents.waits_at.Goals as goal
 
 pub returns-then-is_eq : goal.returns-then-is_eq

@@ -5,15 +5,21 @@ use Rattle.wire_net.specs.declared.cut_room.RoomParts.{RoomParts}
 use Rattle.wire_channels.specs.declared.limits.TheConstants.{QUEUE_LIMIT}
 use Rattle.wire_net.specs.CutRooms.{all_notes}
 use Rattle.wire_net.specs.Whereabouts.{whereabouts}
-use Rattle.drain_core.specs.Drains.{Notes, Fits, dirs_of, has_notes}
+use Rattle.drain_core.specs.Drains.{Notes, Fits, Apart, dirs_of, has_notes}
 use Rattle.drain_core.specs.Holding.{agents_of}
 use Rattle.drain_core.specs.Openings.{opened, begun}
-use Rattle.drain_core.proofs.Beginning.{dirs_begun, fits_begun, kept_begun, noted_begun, new_sides}
+use Rattle.drain_core.proofs.Beginning.{dirs_begun, fits_begun, kept_begun, noted_begun, new_sides, new_dirs}
 use Rattle.wire_net.proofs.EachItem.{written_back}
 use Rattle.drain_core.proofs.drain.Drain.begin.Goals as goal
 
-pub open_all-requires : goal.open_all-requires
-open_all-requires c =
+pub open_all-requires-clause-apart : goal.open_all-requires-clause-apart
+open_all-requires-clause-apart c =
+    subst (λ (l : Notes). Apart (dirs_of l))
+    (sym (c.deref_mut.ensures.value ∙ c.into_vec-notes.ensures ∙ ap (λ (parts : RoomParts). parts.notes) (c.into_parts-parts.ensures.whole c.requires.whole)))
+    (subst Apart (sym (new_dirs c.args.room.lengths)) c.requires.naming.apart)
+
+pub open_all-requires-clause-sides : goal.open_all-requires-clause-sides
+open_all-requires-clause-sides c =
     subst (All (λ (x : DirNotes). x.dir.side < 2))
     (sym (c.deref_mut.ensures.value ∙ c.into_vec-notes.ensures ∙ ap (λ (parts : RoomParts). parts.notes) (c.into_parts-parts.ensures.whole c.requires.whole)))
     (new_sides c.args.room.lengths c.requires.naming.sides)
