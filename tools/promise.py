@@ -23,7 +23,7 @@ COLUMNS = 110
 
 HEAD = re.compile(r"(?:abbrev|unfoldable)?\s*(?:pub )?(?:record |data )?(\S+)")
 DEFINES = re.compile(r"(?:abbrev |unfoldable )(?:pub )?\S|pub (?:record|data) \S|(?:record|data) \S")
-IMPORT = re.compile(r"(?:pub |ghost )?use Rattle\.([\w.]+?)(?:\.\{(.*)\}| as (\w+));?$")
+IMPORT = re.compile(r"(?:unfoldable )?(?:pub |ghost )?use Rattle\.([\w.]+?)(?:\.\{(.*)\}| as (\w+));?$")
 NAME = re.compile(r"[A-Za-z_][\w'-]*(?:\.[A-Za-z_][\w'-]*)*")
 
 Definition = collections.namedtuple("Definition", "crate path name lines")
@@ -72,8 +72,9 @@ def definitions_in(module, lines):
     """Yields the definitions of a file, each with its lines that are neither empty nor a comment."""
     held = []
     for line in [*lines, "abbrev "]:
-        starts = DEFINES.match(line) or line == "abbrev "
-        if (starts or line.startswith(("use ", "pub use "))) and held:
+        uses = IMPORT.match(line)
+        starts = DEFINES.match(line) and not uses or line == "abbrev "
+        if (starts or uses) and held:
             yield Definition(module.crate, module.path, HEAD.match(held[0]).group(1), tuple(held))
             held = []
         if starts and line != "abbrev " or held and line.strip() and not line.startswith("--"):
@@ -98,6 +99,13 @@ def contract():
     return imports_of(lines), lines[begin:end]
 
 
+def origin(place, name, known):
+    """Returns where a name that may have been handed on is defined, and its name there."""
+    while place in known and name not in known[place].definitions and name in known[place].imports:
+        place, name = known[place].imports[name]
+    return place, name
+
+
 def cited(lines, imports, own, known):
     """Yields the definitions that some lines name."""
     for word in NAME.findall("\n".join(lines)):
@@ -106,7 +114,7 @@ def cited(lines, imports, own, known):
             yield own[first]
             continue
         place, name = imports.get(first, (None, None))
-        name = name or (rest[0] if rest else None)
+        place, name = origin(place, name or (rest[0] if rest else None), known)
         if place in known and name in known[place].definitions:
             yield known[place].definitions[name]
 

@@ -23,8 +23,7 @@ use Rattle.image_process.specs.declared.thread_image.ThreadImage.{ThreadImage}
 use Rattle.image_process.specs.ProcessFits.{threads_of}
 use Rattle.image_process.specs.ProcessImages.{SpellsProcess}
 use Rattle.image_process.specs.UserParts.{thread_entry, user_of}
-use Rattle.run_start.specs.declared.start.Start.{Start}
-use Rattle.run_start.specs.Starts.{state_of, CanBegin}
+use Rattle.staged_cut.specs.HandedOn.{Start, state_of, CanBegin}
 use Rattle.checkpointer.specs.Images.{HasFile, IsFileOf, AreFilesOf}
 
 -- one more file

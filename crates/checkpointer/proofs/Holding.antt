@@ -4,7 +4,7 @@
 use Rattle.std.proofs.Common.{◌≡◌, ap, ◌∙◌}
 use Rattle.computation.specs.declared.computation.Computation.{Computation}
 use Rattle.computation.specs.Computations.{plain_of}
-use Rattle.run_start.specs.Starts.{state_of}
+use Rattle.staged_cut.specs.HandedOn.{state_of}
 use Rattle.staged_cut.specs.declared.holding.Held.{Held}
 use Rattle.staged_cut.specs.Holdings.{IsHeld}
 

@@ -24,8 +24,7 @@ use Rattle.image_shared.specs.SharedFormat.{SpellsShared}
 use Rattle.image_codec.specs.KernelImages.{IsImage, KernelHasImage, process_image, shared_of}
 use Rattle.image_codec.specs.Sets.{SpellsFiles, SpellsImages, live_count, user_entry}
 use Rattle.image_codec.specs.LiveImages.{HavePlaces, PartsHavePlaces}
-use Rattle.run_start.specs.declared.start.Start.{Start}
-use Rattle.run_start.specs.Starts.{state_of, CanBegin}
+use Rattle.staged_cut.specs.HandedOn.{Start, state_of, CanBegin}
 use Rattle.checkpointer.specs.Images.{AreFilesOf}
 use Rattle.checkpointer.specs.Sets.{SpellsState}
 use Rattle.checkpointer.proofs.Supported.{has_arrived, is_supported}

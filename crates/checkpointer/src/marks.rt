@@ -3,11 +3,11 @@ ghost use Rattle.trace_log.specs.Spelling.{is_spellable};
 ghost use Rattle.trace_log.specs.LogText.{after_all};
 ghost use Rattle.trace_log.specs.Requests.{tally_after, cut_marks};
 ghost use Rattle.computation.specs.Takes.{with_record};
-ghost use Rattle.run_start.specs.Starts.{state_of, CanBegin};
+ghost use Rattle.staged_cut.specs.HandedOn.{state_of, CanBegin};
 ghost use Rattle.checkpointer.specs.Marks.{mark_of, marks_of, with_marks};
 
 use crate::checkpointer::Checkpointer;
-use run_start::Start;
+use staged_cut::Start;
 use sys_abi::{Dir, Record};
 use trace_log::Trace;
 

@@ -2,14 +2,14 @@ ghost use Rattle.std.specs.Prelude.{◌≡◌, ℕ, List, All, IfOk, map as each
 ghost use Rattle.std.specs.FinMap as map;
 ghost use Rattle.plain_process.specs.Valid.{IsByte};
 ghost use Rattle.image_codec.specs.Sets.{SpellsFiles, IsStateOf};
-ghost use Rattle.run_start.specs.Starts.{state_of, CanBegin};
+ghost use Rattle.staged_cut.specs.HandedOn.{state_of, CanBegin};
 ghost use Rattle.checkpointer.specs.Images.{IsWithin, guest_entry};
 
 use guest_proc::Guest;
 use id_maps::ByPid;
 use image_codec::{ProcImage, restored_kernel};
 use rebuild::Decoded;
-use run_start::Start;
+use staged_cut::Start;
 use std::alloc::{AllocError, Global};
 use views::list_of::ListOf;
 

@@ -6,7 +6,7 @@ ghost use Rattle.trace_log.specs.Requests.{CanBeHeld};
 ghost use Rattle.image_shared.specs.SharedFormat.{SpellsShared};
 ghost use Rattle.image_shared.specs.SharedFits.{IsShared};
 ghost use Rattle.image_codec.specs.KernelImages.{shared_of};
-ghost use Rattle.run_start.specs.Starts.{state_of, CanBegin};
+ghost use Rattle.staged_cut.specs.HandedOn.{state_of, CanBegin};
 ghost use Rattle.checkpointer.specs.Images.{AreFilesOf, HasFile, IsFileOf};
 ghost use Rattle.checkpointer.specs.Sets.{SpellsState};
 
@@ -14,7 +14,7 @@ use guest_proc::Guest;
 use id_maps::ByPid;
 use image_codec::{SetBytes, shared_image, write_process, write_shared};
 use plain_machine::PlainKernel;
-use run_start::Start;
+use staged_cut::Start;
 use std::alloc::{AllocError, Global};
 use views::list_of::ListOf;
 

@@ -3,8 +3,8 @@ ghost use Rattle.plain_machine.specs.Tests.{unsupported};
 ghost use Rattle.computation.specs.Computations.{plain_of};
 ghost use Rattle.checkpointer.specs.Marks.{unsupported_at};
 
-use ckpt_stages::first_unsupported as supports;
 use computation::Computation;
+use staged_cut::first_unsupported as supports;
 use sys_abi::{Fd, Kind, VPid};
 
 /// A descriptor of a process that refers to what no image holds.

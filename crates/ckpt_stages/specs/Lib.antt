@@ -2,3 +2,4 @@ pub mod Elections
 pub mod Suspensions
 pub mod Faults
 pub mod Kinds
+pub mod HandedOn

@@ -39,7 +39,7 @@ use Rattle.host_tables.specs.declared.attempt.Attempt.TheVariants as attempt
 use Rattle.host_tables.specs.declared.reply.KernelReply.{KernelReply}
 use Rattle.host_tables.specs.declared.reply.KernelReply.TheVariants as waits
 use Rattle.host_tables.specs.Serves.{IsReply}
-use Rattle.wrap_names.specs.Wrapping.{Answers}
+use Rattle.wrap_calls.specs.HandedOn.{Answers}
 use Rattle.plain_machine.specs.Kernel.{is_live}
 use Rattle.plain_machine.specs.Records.{Users, living, users_after, with_child}
 use Rattle.plain_machine.specs.RowLaws.{IsServed, IsMade}

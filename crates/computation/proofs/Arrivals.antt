@@ -21,7 +21,7 @@ use Rattle.plain_machine.specs.declared.kernel.PlainKernel.{PlainKernel}
 use Rattle.plain_machine.specs.Tests.{all_arrived}
 use Rattle.plain_machine.specs.Channels.{arrived_more, with_direction}
 use Rattle.plain_machine.specs.Kernels.{IsKernel}
-use Rattle.wrap_names.specs.Changes.{after_arrival, arrived_in}
+use Rattle.wrap_calls.specs.HandedOn.{after_arrival, arrived_in}
 use Rattle.views.proofs.MapLaws.{true_false}
 use Rattle.plain_machine.specs.Records.{Outcome, quiet, outcome, outcome_of_arrival}
 use Rattle.computation.specs.Turns.{if_missing, coming, missing_in}

@@ -23,7 +23,7 @@ use Rattle.plain_machine.specs.Rows.Write.{is_writable, write_access, write_obje
 use Rattle.plain_machine.specs.Serve.{is_console, row, serve}
 use Rattle.plain_machine.specs.Waiting.{need_ready}
 use Rattle.host_tables.specs.Serves.{bytes_or}
-use Rattle.wrap_looks.specs.Console.{written, takes_writes, writes_console, console_write}
+use Rattle.wrap_calls.specs.HandedOn.{written, takes_writes, writes_console, console_write}
 
 module _ (k : PlainKernel) (p : VPid) (t fd count : ℕ) (given : List ℕ) where
   -- a write to a console that is open for writing

@@ -37,7 +37,7 @@ use Rattle.plain_machine.specs.Valid.{IsValid}
 use Rattle.plain_machine.proofs.RowBounds.{next_is_nobody}
 use Rattle.host_tables.specs.declared.reply.KernelReply.{KernelReply}
 use Rattle.host_tables.specs.declared.reply.KernelReply.TheVariants.{Done, Error as Fails, NotReady, Memory}
-use Rattle.wrap_names.specs.Wrapping.{Answers}
+use Rattle.wrap_calls.specs.HandedOn.{Answers}
 use Rattle.guest_proc.specs.Guests.{GuestPart, HasThread}
 use Rattle.computation.specs.Parts.{Guests, Grown, Reserved, born_if, grown_by, is_fork, told_as, with_twin}
 use Rattle.computation.proofs.Answered.{makes_fork, born_as, unborn_as}

@@ -19,3 +19,4 @@ mod serving;
 mod work;
 
 pub use computation::{Computation, Did, Next, Stop};
+pub use wrap_calls::Wrapped;

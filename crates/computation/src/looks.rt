@@ -8,7 +8,7 @@ ghost use Rattle.plain_process.specs.Steps.{user_step};
 ghost use Rattle.plain_machine.specs.Attempts.{Served};
 ghost use Rattle.plain_machine.specs.Records.{Users, is_unready, waits_at};
 ghost use Rattle.plain_machine.specs.Serve.{row};
-ghost use Rattle.wrap_looks.specs.Console.{console_write};
+ghost use Rattle.wrap_calls.specs.HandedOn.{console_write};
 ghost use Rattle.computation.specs.Turns.{signal_for};
 
 use call_table::{Request, is_local};

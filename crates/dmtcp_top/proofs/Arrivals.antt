@@ -12,8 +12,8 @@ use Rattle.trace_log.specs.declared.requests.Schedule.{Schedule}
 use Rattle.trace_log.specs.LogText.{log_text}
 use Rattle.endings.specs.declared.ending.Ending.{Ending}
 use Rattle.endings.specs.declared.ending.Ending.TheVariants.{Done, Usage, InputFault, Missing, BadElf, TooBig, SinkFault, DiskFault, NoSet, Damaged, Budget, Stuck, Memory}
-use Rattle.run_loop.specs.declared.run_end.RunEnd.{RunEnd}
-use Rattle.run_loop.specs.declared.run_end.RunEnd.TheVariants.{Done as RunDone, Budget as RunBudget, Stuck as RunStuck, SinkFault as RunSinkFault, Memory as RunMemory}
+use Rattle.drive.specs.HandedOn.{RunEnd, EndsRun, KeepsPace, LinesOf}
+use Rattle.drive.specs.RunEndVariants.{Done as RunDone, Budget as RunBudget, Stuck as RunStuck, SinkFault as RunSinkFault, Memory as RunMemory}
 use Rattle.job_words.specs.declared.job.Job.TheVariants.{Launch, Restart}
 use Rattle.job_words.specs.declared.job.LaunchJob.{LaunchJob}
 use Rattle.job_words.specs.declared.job.RestartJob.{RestartJob}
@@ -23,16 +23,13 @@ use Rattle.computation.specs.Sinks.{Sunk, Took}
 use Rattle.dmtcp_top.specs.Sessions.{Beginning, Session, given, session}
 use Rattle.dmtcp_top.specs.Launches.{LaunchAsked, RestartAsked, Begun, origin, settings_in, schedule_in, beginning, schedule_of}
 use Rattle.dmtcp_top.specs.Launches.Begun.{ByLaunch, ByRestart}
-use Rattle.run_loop.specs.RunEnds.{EndsRun}
 use Rattle.dmtcp_top.specs.Ends.{NotBegun}
 use Rattle.dmtcp_top.specs.Ends.NeedsStore.{ToLaunch, ToRestart}
 use Rattle.dmtcp_top.specs.declared.start.Start.{Start}
 use Rattle.dmtcp_top.specs.Endings.{IsAtEnding, KeepsPaceAt, ending_by}
 use Rattle.dmtcp_top.specs.Loads.{IsLaunched, IsRestarted, RefusesWords, RefusesLaunch, RefusesRestart, plain_of}
-use Rattle.run_loop.specs.Pace.{KeepsPace}
-use Rattle.run_loop.specs.Pace.{LinesOf}
 use Rattle.dmtcp_top.proofs.Decisions.{of_job}
-use Rattle.checkpointer.proofs.Sinks.{took_front}
+use Rattle.drive.proofs.HandedOn.{took_front}
 
 -- a trace of no records has no lines
 silent_log : (trace : List Record) (log : Sunk) → trace ≡ [] → Took log [] → Took log (log_text trace)

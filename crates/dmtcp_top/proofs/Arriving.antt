@@ -21,7 +21,7 @@ use Rattle.plain_machine.specs.Records.{Outcome, outcome, step, outcome_of_arriv
 use Rattle.plain_machine.specs.Tests.{ended, has_life, full_arrive, all_arrived}
 use Rattle.plain_process.proofs.Giving.{Giving, gives, nothing, where_}
 use Rattle.dmtcp_top.specs.OneOrder.{ComesToRest}
-use Rattle.checkpointer.proofs.Walks.{left_true, right_true}
+use Rattle.drive.proofs.HandedOn.{left_true, right_true}
 
 record HasArrived (g : Plain) (dir : Dir) (n : ℕ) (found : Option Direction) (o : Outcome) : Type 0 where
   pub direction : Direction

@@ -12,12 +12,11 @@ use Rattle.endings.specs.declared.ending.Ending.TheVariants.{Done, Usage, InputF
 use Rattle.endings.specs.Log.{memory_line}
 use Rattle.computation.specs.Sinks.{Sunk, sunk, Took, TookFront}
 use Rattle.dmtcp_top.specs.Sessions.{Session}
-use Rattle.run_loop.specs.Pace.{StopsAtRecord, LinesOf}
-use Rattle.checkpointer.specs.Pace.{CutLines}
+use Rattle.drive.specs.HandedOn.{StopsAtRecord, LinesOf, CutLines}
 use Rattle.dmtcp_top.specs.Ends.{Ends, Reaches, SinkFailed, LogFailed, Stopped, CallKeepsPace}
 use Rattle.endings.specs.Endings.{status_of, line_of, Concludes}
 use Rattle.dmtcp_top.specs.Endings.{IsAtEnding, KeepsPaceAt}
-use Rattle.checkpointer.proofs.Sinks.{took_both, took_then}
+use Rattle.drive.proofs.HandedOn.{took_both, took_then}
 
 -- no first part of nothing is more than nothing
 take_of_nothing : (n : ℕ) (xs : List ℕ) → xs ≡ [] → take n xs ≡ []

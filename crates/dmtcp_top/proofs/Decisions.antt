@@ -16,7 +16,7 @@ use Rattle.endings.specs.declared.status.Status.{Status}
 use Rattle.endings.specs.declared.status.Status.TheVariants.{Done, Usage, InputFault, Missing, BadElf, SinkFault, DiskFault, NoSet, Damaged, Budget, Stuck, Memory, TooBig}
 use Rattle.dmtcp_top.specs.Jobs.{Asks, AskNothing, AskSomething}
 use Rattle.launch_start.specs.JobInputs.{JobInputs, Refusal, missing, bad, too_big, IsMissing, IsBad, IsTooBig, AreInputs, first_refusal, inputs_in}
-use Rattle.checkpointer.specs.Sets.{SpellsSet, SpoilsSet}
+use Rattle.drive.specs.HandedOn.{SpellsSet, SpoilsSet}
 use Rattle.computation.specs.Sinks.{Sunk}
 use Rattle.dmtcp_top.specs.Sessions.{Session}
 use Rattle.dmtcp_top.specs.Launches.{LaunchAsked, RestartAsked, Begun}

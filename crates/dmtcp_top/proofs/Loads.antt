@@ -31,10 +31,9 @@ use Rattle.image_store.specs.StoreCrashes.{ChangesNothing}
 use Rattle.image_store.proofs.Passing.{passes_then}
 use Rattle.endings.specs.declared.ending.Ending.{Ending}
 use Rattle.endings.specs.declared.ending.Ending.TheVariants.{Done, Usage, InputFault, Missing, BadElf, TooBig, SinkFault, DiskFault, NoSet, Damaged, Budget, Stuck, Memory}
-use Rattle.run_start.specs.declared.start.Start.{Start as Origin}
-use Rattle.checkpointer.specs.Sets.{SpellsSet, SpellsState, SpoilsSet}
+use Rattle.launch_start.specs.HandedOn.{Start as Origin, state_of, AreParts, CanBegin}
+use Rattle.drive.specs.HandedOn.{SpellsSet, SpellsState, SpoilsSet, IsOpening, SpellsCut, CountsFaults, IsSafe}
 use Rattle.dmtcp_top.specs.declared.settings.Settings.{Settings}
-use Rattle.checkpointer.specs.Keeping.{IsOpening, SpellsCut, CountsFaults, IsSafe}
 use Rattle.dmtcp_top.specs.Launches.{schedule_of}
 use Rattle.dmtcp_top.specs.Loads.{BeginsAt, HasStore, IsLaunched, IsMade, IsOriginIn, IsRestarted, IsRestored, OnlyLooks, Restored, store_for}
 use Rattle.dmtcp_top.specs.Jobs.{settings_of}
@@ -47,7 +46,6 @@ use Rattle.job_words.specs.declared.job.LaunchJob.{LaunchJob}
 use Rattle.launch_start.specs.JobStarts.{IsLoaded}
 use Rattle.dmtcp_top.specs.declared.start.Checkpoints.{Checkpoints}
 use Rattle.dmtcp_top.specs.declared.start.Start.{Start}
-use Rattle.run_start.specs.Starts.{state_of, AreParts, CanBegin}
 use Rattle.dmtcp_top.specs.Promise.{SpellsCutOf, StaysWhole}
 
 nothing_there : (generation : ℕ) → Contains {X = Record} [] (Complete generation) → ⊥

@@ -26,10 +26,8 @@ use Rattle.trace_log.specs.declared.requests.Tally.{Tally}
 use Rattle.trace_log.specs.Requests.{Requests, Phase, NoRequest, Requested, AfterCut, asks, is_mark, is_multiple_of, next_requests, phase_after, tally_after}
 use Rattle.trace_log.proofs.RequestMarks.{has_no_marks, is_each_without_marks}
 use Rattle.computation.specs.Turns.{Place, Arrival, InTurn, Upcoming, due_signal, turn_of, turn_with, NewRound, After, threads_in, first_thread, first_turn, coming, round_of, round_from, new_round, next_turn, same_turn, stands_in, goes_on, due_at, is_due_at}
-use Rattle.checkpointer.specs.Rounds.{Standing, GoesInRounds, is_due, is_first_arrival, is_due_for_cut, request_waits, moved, moved_by, standing_after, each_is_due, first_standing}
-use Rattle.run_loop.specs.declared.run_end.RunEnd.{RunEnd}
-use Rattle.run_loop.specs.declared.run_end.RunEnd.TheVariants.{Done as RunDone, Budget as RunBudget, Stuck as RunStuck, SinkFault as RunSinkFault, Memory as RunMemory}
-use Rattle.run_loop.specs.RunEnds.{IsRun, RanOut, EndsRun}
+use Rattle.drive.specs.HandedOn.{Standing, GoesInRounds, is_due, is_first_arrival, is_due_for_cut, request_waits, moved, moved_by, standing_after, each_is_due, first_standing, RunEnd, IsRun, RanOut, EndsRun}
+use Rattle.drive.specs.RunEndVariants.{Done as RunDone, Budget as RunBudget, Stuck as RunStuck, SinkFault as RunSinkFault, Memory as RunMemory}
 use Rattle.job_words.specs.declared.job.Job.TheVariants.{Launch, Restart}
 use Rattle.dmtcp_top.specs.Jobs.{NameNoEvery}
 use Rattle.dmtcp_top.specs.Launches.{Begun, origin, schedule_in, beginning}
@@ -38,8 +36,7 @@ use Rattle.computation.specs.Sinks.{Sunk, Took}
 use Rattle.dmtcp_top.specs.Sessions.{Session, Given, Beginning}
 use Rattle.dmtcp_top.specs.Ends.{CameTo, CallGoesInRounds}
 use Rattle.dmtcp_top.specs.OneOrder.{work_in, steps_in, OneOrder, OneTrace, EndsThere, OneEnd, OneEnding, EndsSo, OneAnswer, BeganWith, RunsToEnd, no_checkpoints, ComesToRest, IsAnswer}
-use Rattle.checkpointer.proofs.Walks.{left_true, right_true, mark_stays}
-use Rattle.checkpointer.proofs.Running.{mark_is_quiet}
+use Rattle.drive.proofs.HandedOn.{left_true, right_true, mark_stays, mark_is_quiet}
 use Rattle.dmtcp_top.proofs.AtRest.{at_rest, nobody_there}
 use Rattle.dmtcp_top.proofs.Arriving.{arrives_fully, arrives_quietly, ends_on, rests_on, none_arrives}
 use Rattle.dmtcp_top.proofs.Determined.{one_record}

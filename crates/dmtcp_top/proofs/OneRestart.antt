@@ -8,15 +8,14 @@ use Rattle.plain_machine.specs.Valid.{IsValid}
 use Rattle.disk_folder.specs.Files.{FolderFiles as Folder}
 use Rattle.trace_log.specs.declared.requests.Schedule.{Schedule}
 use Rattle.job_words.specs.declared.job.Job.TheVariants.{Restart}
-use Rattle.run_loop.specs.declared.run_end.RunEnd.{RunEnd}
-use Rattle.run_loop.specs.declared.run_end.RunEnd.TheVariants.{Done as RunDone, Budget as RunBudget, Stuck as RunStuck, Memory as RunMemory}
+use Rattle.drive.specs.HandedOn.{RunEnd, SpellsSet}
+use Rattle.drive.specs.RunEndVariants.{Done as RunDone, Budget as RunBudget, Stuck as RunStuck, Memory as RunMemory}
 use Rattle.dmtcp_top.specs.declared.settings.Settings.{Settings}
 use Rattle.endings.specs.declared.status.Status.{Status}
 use Rattle.endings.specs.declared.status.Status.TheVariants.{Done, Budget, Stuck, Memory}
 use Rattle.dmtcp_top.specs.Jobs.{settings_of}
 use Rattle.computation.specs.Sinks.{Sunk}
 use Rattle.dmtcp_top.specs.Sessions.{Session}
-use Rattle.checkpointer.specs.Sets.{SpellsSet}
 use Rattle.dmtcp_top.specs.Launches.{RestartAsked, Begun, origin, settings_in, opening_in, schedule_of}
 use Rattle.dmtcp_top.specs.Launches.Begun.{ByLaunch, ByRestart}
 use Rattle.dmtcp_top.specs.Ends.{Ends, RunsOn, CallGoesInRounds}

@@ -25,7 +25,7 @@ use Rattle.dmtcp_top.proofs.Conclusions.{call_ends, call_keeps_pace, status_kept
 use Rattle.dmtcp_top.proofs.Decisions.{words_decide, inputs_decide, decided}
 use Rattle.dmtcp_top.proofs.Loads.{looks_none, whole_unbegun}
 use Rattle.dmtcp_top.proofs.SetLaws.{set_laws}
-use Rattle.checkpointer.proofs.Sinks.{took_nothing}
+use Rattle.drive.proofs.HandedOn.{took_nothing}
 
 -- what was carried out came to its end
 pub come_of : (result : Result PlainKernel Ending) (words : List Text) (trace : List Record) (before now : Outside) → IsCarriedOut result words trace before now → ComesToEnd (ending_in result) words trace before now

@@ -17,7 +17,7 @@ use Rattle.endings.specs.declared.status.Status.TheVariants.{Memory as IsMemory}
 use Rattle.endings.specs.declared.ending.Ending.TheVariants.{Memory}
 use Rattle.endings.specs.Log.{memory_line}
 use Rattle.computation.specs.Sinks.{sunk}
-use Rattle.checkpointer.proofs.Sinks.{took_nothing}
+use Rattle.drive.proofs.HandedOn.{took_nothing}
 use Rattle.ring_demo.specs.RingJobs.{launch_of, launch_settings, members, restart_of, restart_settings}
 use Rattle.ring_demo.proofs.RingBounds.{ring_bounds}
 use Rattle.ring_demo.proofs.RingWords.{launch_asked, restart_asked, launch_there}

@@ -19,7 +19,7 @@ use Rattle.endings.specs.declared.ending.Ending.TheVariants.{Done, Usage, InputF
 use Rattle.endings.specs.Endings.{status_of, line_of, Concludes}
 use Rattle.endings.specs.Log.{done_line}
 use Rattle.computation.specs.Sinks.{Sunk, sunk, Took, TookFront}
-use Rattle.checkpointer.proofs.Sinks.{took_both, took_then}
+use Rattle.drive.proofs.HandedOn.{took_both, took_then}
 use Rattle.dmtcp_top.specs.Sessions.{StreamsFailed, FolderFailed, outside}
 use Rattle.dmtcp_top.specs.Ring.{RingCall, RingEnded, RingEnds, RingCutOff, IsRing, call_of}
 use Rattle.dmtcp_top.specs.RingEndings.{IsTold, SummaryFailed, RingIsAt, RingComesToEnd}

@@ -25,8 +25,8 @@ use Rattle.endings.specs.Endings.{status_of, line_of}
 use Rattle.endings.specs.Log.{done_line, missing_line, bad_program_line, too_big_line, memory_line}
 use Rattle.launch_start.specs.JobInputs.{missing, bad, too_big, first_refusal, inputs_in}
 use Rattle.computation.specs.Sinks.{Sunk, sunk, Took, TookFront}
-use Rattle.checkpointer.proofs.Sinks.{took_both, took_front}
-use Rattle.run_loop.specs.RunEnds.{IsRun, RanOut, ShownInPart}
+use Rattle.drive.proofs.HandedOn.{took_both, took_front}
+use Rattle.drive.specs.HandedOn.{IsRun, RanOut, ShownInPart}
 use Rattle.ring_demo.specs.RingJobs.{launch_of, restart_of, ring_files}
 use Rattle.ring_demo.specs.Values.{content_named, summary}
 use Rattle.dmtcp_top.specs.declared.ring.Values.{Values}

@@ -8,7 +8,7 @@ use Rattle.dmtcp_top.specs.OneOrder.{SetIsValid}
 use Rattle.image_store.specs.FoundSets.{FoundSet, IsSet}
 use Rattle.trace_log.specs.Requests.{CutAt}
 use Rattle.dmtcp_top.specs.Promise.{OneState, RoundTrip}
-use Rattle.checkpointer.specs.Sets.{SpellsState}
+use Rattle.drive.specs.HandedOn.{SpellsState}
 use Rattle.dmtcp_top.proofs.SetLaws.{set_laws}
 
 as_set : (found : FoundSet) (generation : ℕ) (images : List (List ℕ)) (g : Plain) → IsSet found generation images → SpellsState images g → SpellsFilesSet found.manifest images generation g

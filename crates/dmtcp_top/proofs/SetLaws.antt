@@ -12,7 +12,7 @@ use Rattle.image_store.specs.Slots.{last}
 use Rattle.image_store.specs.FoundSets.{FoundSet, set_of, last_set, IsSet, HasSet}
 use Rattle.image_store.specs.SetDamages.{IsFirstDamage, HasDamage}
 use Rattle.image_store.proofs.SetLaws.{one_set, apart, one_damage}
-use Rattle.checkpointer.specs.Sets.{SpellsSet, SpoilsSet}
+use Rattle.drive.specs.HandedOn.{SpellsSet, SpoilsSet}
 use Rattle.dmtcp_top.specs.Promise.{OneDamage}
 
 pub record SetLaws : Type 0 where

@@ -26,13 +26,8 @@ use Rattle.launch_start.specs.JobInputs.{Refusal, unread, missing, bad, too_big,
 use Rattle.endings.specs.Log.{done_line, usage_line, input_fault_line, missing_line, bad_program_line, too_big_line, disk_fault_line, no_set_line, damaged_line, budget_line, stuck_line, memory_line}
 use Rattle.computation.specs.Sinks.{Sunk, Took, TookFront}
 use Rattle.dmtcp_top.specs.Sessions.{Given, Beginning, Session}
-use Rattle.checkpointer.specs.Pace.{TookThen}
-use Rattle.checkpointer.specs.Sets.{SpellsSet, SpoilsSet}
+use Rattle.drive.specs.HandedOn.{TookThen, SpellsSet, SpoilsSet, GoesInRounds, RanOut, FilledUp, GotStuck, Shown, ShownInPart, CutLines, StopsAtRecord}
 use Rattle.dmtcp_top.specs.Launches.{LaunchAsked, RestartAsked, Begun, origin, settings_in, schedule_in, beginning}
-use Rattle.checkpointer.specs.Rounds.{GoesInRounds}
-use Rattle.run_loop.specs.RunEnds.{RanOut, FilledUp, GotStuck, Shown, ShownInPart}
-use Rattle.checkpointer.specs.Pace.{CutLines}
-use Rattle.run_loop.specs.Pace.{StopsAtRecord}
 
 -- a run was begun, and it came to this
 pub record CameTo (There : Schedule → Plain → ℕ → List Record → Sunk → Type 0) (session : Session)

@@ -15,7 +15,7 @@ use Rattle.dmtcp_top.specs.declared.settings.Settings.{Settings}
 use Rattle.dmtcp_top.specs.Jobs.{Asks, settings_of}
 use Rattle.launch_start.specs.JobInputs.{JobInputs, AreLoaded, loaded_job}
 use Rattle.dmtcp_top.specs.Sessions.{Given, Beginning}
-use Rattle.checkpointer.specs.Sets.{SpellsState, SpellsSet, opening_of}
+use Rattle.drive.specs.HandedOn.{SpellsState, SpellsSet, opening_of}
 
 -- the words ask for a launch
 pub record LaunchAsked (given : Given) : Type 0 where

@@ -10,7 +10,7 @@ use Rattle.disk_folder.specs.Moments.{LeavesOnly}
 use Rattle.image_store.specs.declared.set_info.SetInfo.{SetInfo}
 use Rattle.image_store.specs.StoreStates.{Known, FitsFolder, next_generation}
 use Rattle.image_store.specs.StoreCrashes.{ChangesNothing}
-use Rattle.checkpointer.specs.Keeping.{Counts}
+use Rattle.drive.specs.HandedOn.{Counts, SpellsState, SpellsSet, SpoilsSet}
 use Rattle.edge_io.specs.Inputs.{NamedFiles}
 use Rattle.disk_folder.specs.Files.{FolderFiles as Folder}
 use Rattle.disk_folder.specs.SeenFolder.{SeenFolder}
@@ -22,16 +22,14 @@ use Rattle.option_words.specs.Options.{Text}
 use Rattle.job_words.specs.declared.job.Job.{Job}
 use Rattle.job_words.specs.declared.job.Job.TheVariants.{Launch, Restart, Help}
 use Rattle.job_words.specs.declared.job.LaunchJob.{LaunchJob}
-use Rattle.run_start.specs.declared.start.Start.{Start as Origin}
+use Rattle.launch_start.specs.HandedOn.{Start as Origin, state_of, CanBegin}
 use Rattle.dmtcp_top.specs.declared.settings.Settings.{Settings}
 use Rattle.dmtcp_top.specs.declared.start.Checkpoints.{Checkpoints}
 use Rattle.dmtcp_top.specs.declared.start.Start.{Start}
-use Rattle.checkpointer.specs.Sets.{SpellsState, SpellsSet, SpoilsSet}
 use Rattle.dmtcp_top.specs.Jobs.{AskNothing, AskSomething, Asks, settings_of}
 use Rattle.launch_start.specs.JobInputs.{JobInputs, AreLoaded, IsFirstRefusal, unread, missing, bad, too_big, loaded_job}
 use Rattle.dmtcp_top.specs.Launches.{Opens, schedule_of}
 use Rattle.drive.specs.Driving as drive
-use Rattle.run_start.specs.Starts.{state_of, CanBegin}
 
 abbrev pub plain_of : Start → Plain
 plain_of start = drive.state_of start.system start.guests

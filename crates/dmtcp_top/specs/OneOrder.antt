@@ -32,12 +32,9 @@ use Rattle.endings.specs.declared.status.Status.{Status}
 use Rattle.endings.specs.declared.status.Status.TheVariants.{Done, Budget, Stuck, Memory as WantsMemory}
 use Rattle.dmtcp_top.specs.Jobs.{NameNoEvery}
 use Rattle.dmtcp_top.specs.Launches.{RestartAsked}
-use Rattle.checkpointer.specs.Sets.{SpellsState, SpellsSet}
-use Rattle.checkpointer.specs.Rounds.{GoesInRounds}
+use Rattle.drive.specs.HandedOn.{SpellsState, SpellsSet, GoesInRounds, RunEnd, IsRun, RanOut, EndsRun}
 use Rattle.computation.specs.Turns.{new_round}
-use Rattle.run_loop.specs.declared.run_end.RunEnd.{RunEnd}
-use Rattle.run_loop.specs.declared.run_end.RunEnd.TheVariants.{Done as Ended, SinkFault, Memory}
-use Rattle.run_loop.specs.RunEnds.{IsRun, RanOut, EndsRun}
+use Rattle.drive.specs.RunEndVariants.{Done as Ended, SinkFault, Memory}
 use Rattle.computation.specs.Sinks.{Sunk, Took}
 use Rattle.dmtcp_top.specs.Sessions.{Beginning, Session}
 use Rattle.dmtcp_top.specs.Ends.{Ends, IsDecided, CallGoesInRounds}

@@ -20,8 +20,7 @@ use Rattle.endings.specs.declared.status.Status.TheVariants.{InputFault, SinkFau
 use Rattle.dmtcp_top.specs.Sessions.{Beginning, Outside, InputsFailed, StreamsFailed, FolderFailed, given_in, session_in, log_in}
 use Rattle.trace_log.specs.Requests.{CutAt}
 use Rattle.dmtcp_top.specs.Ends.{Ends, CallKeepsPace, CallGoesInRounds, WordsDecide, InputsDecide, IsDecided}
-use Rattle.checkpointer.specs.Sets.{SpellsSet, SpoilsSet}
-use Rattle.checkpointer.specs.Keeping.{IsOpening, SpellsCut, KeepsComplete, CountsFaults}
+use Rattle.drive.specs.HandedOn.{SpellsSet, SpoilsSet, IsOpening, SpellsCut, KeepsComplete, CountsFaults}
 
 pub record SpellsCutOf (start : Option Beginning) (trace : List Record) (image : Folder) : Type 0 where
   pub begun : Beginning

@@ -16,8 +16,7 @@ use Rattle.endings.specs.Log.{done_line}
 use Rattle.job_words.specs.declared.job.RingJob.{RingJob}
 use Rattle.job_words.specs.Commands.{words_of_command}
 use Rattle.computation.specs.Sinks.{Sunk, sunk, Took, TookFront}
-use Rattle.checkpointer.specs.Pace.{TookThen}
-use Rattle.run_loop.specs.RunEnds.{RanOut, ShownInPart}
+use Rattle.drive.specs.HandedOn.{TookThen, RanOut, ShownInPart}
 use Rattle.ring_demo.specs.RingJobs.{launch_of, restart_of, ring_files}
 use Rattle.ring_demo.specs.Values.{content_named, summary}
 use Rattle.dmtcp_top.specs.Sessions.{Session, Beginning, Outside, StreamsFailed, FolderFailed, given, session, log_in}

@@ -26,7 +26,7 @@ use Rattle.endings.specs.declared.ending.Ending.TheVariants.{Done, SinkFault, Me
 use Rattle.endings.specs.Endings.{status_of, line_of}
 use Rattle.endings.specs.Log.{done_line}
 use Rattle.computation.specs.Sinks.{Sunk, Took, TookFront}
-use Rattle.run_loop.specs.RunEnds.{RanOut}
+use Rattle.drive.specs.HandedOn.{RanOut}
 use Rattle.ring_demo.specs.RingJobs.{launch_of, launch_settings, members, restart_of, ring_files}
 use Rattle.ring_demo.specs.Values.{content_named}
 use Rattle.dmtcp_top.specs.declared.ring.Values.{Values}

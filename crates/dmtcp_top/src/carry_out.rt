@@ -2,7 +2,7 @@ ghost use Rattle.std.specs.Prelude.{◌≡◌, ◌≢◌, ◌≤◌, ◌⊎◌, 
 ghost use Rattle.views.specs.Faults.{Rose};
 ghost use Rattle.option_words.specs.Options.{Text};
 ghost use Rattle.endings.specs.Endings.{status_of};
-ghost use Rattle.run_loop.specs.declared.run_end.RunEnd.TheVariants as run_ended;
+ghost use Rattle.drive.specs.RunEndVariants as run_ended;
 ghost use Rattle.drive.specs.Driving.{end_told};
 ghost use Rattle.dmtcp_top.specs.Endings.{IsCarriedOut, IsLeft, ending_by, ending_in};
 ghost use Rattle.dmtcp_top.specs.Jobs.{Asks, IsOneRun, IsQuiet, settings_of};
@@ -12,13 +12,12 @@ ghost use Rattle.dmtcp_top.specs.Sessions.{outside};
 use crate::loading::begin;
 use crate::settings::Settings;
 use disk_folder::Folder;
-use drive::{RunEnd, RunStatus, drive};
+use drive::{RunEnd, RunStatus, Wrapped, drive};
 use edge_io::{Inputs, Sink};
 use endings::{Ending, Status};
 use job_words::Job;
 use std::alloc::Global;
 use trace_log::{Schedule, Trace};
-use wrap_calls::Wrapped;
 
 /// Makes the run that a job asks for, to the last line of the log, which is left out. Where nobody lives at
 /// its end it gives the system as it is then.

@@ -6,7 +6,7 @@ ghost use Rattle.image_store.specs.FoundSets.{last_set, HasSet};
 ghost use Rattle.image_store.specs.StoreStates.{FitsFolder};
 ghost use Rattle.option_words.specs.Options.{Text};
 ghost use Rattle.job_words.specs.declared.job.Job.TheVariants.{Launch};
-ghost use Rattle.run_start.specs.Starts.{state_of, CanBegin};
+ghost use Rattle.launch_start.specs.HandedOn.{state_of, CanBegin};
 ghost use Rattle.rebuild_tables.specs.Hosts.{IsHosts};
 ghost use Rattle.endings.specs.Endings.{status_of};
 ghost use Rattle.dmtcp_top.specs.Jobs.{Asks, IsOneRun, IsQuiet, settings_of};
@@ -16,17 +16,16 @@ ghost use Rattle.dmtcp_top.specs.Loads.{Begins, BeginsAt, HasStore, IsMade, IsOr
 use crate::hosts::{launch_hosts, restart_hosts};
 use crate::settings::Settings;
 use crate::start::{Checkpoints, Start};
-use checkpointer::restored;
 use disk_folder::Folder;
+use drive::restored;
 use edge_io::Inputs;
 use endings::{Ending, Status};
 use host_tables::Hosts;
 use image_codec::{ReadFault, SetBytes};
 use image_store::{SetInfo, Store, StoreFault};
 use job_words::{Job, LaunchJob};
-use launch_start::{load, look_at_bytes};
+use launch_start::{Start as Origin, load, look_at_bytes};
 use rebuild::decode_set;
-use run_start::Start as Origin;
 use std::alloc::{AllocError, Global};
 use views::list_of::ListOf;
 

@@ -15,6 +15,7 @@ ghost use Rattle.dmtcp_top.specs.Sessions.{outside};
 
 use crate::carry_out::carry_out;
 use disk_folder::Folder;
+use drive::Wrapped;
 use edge_io::Sink;
 use endings::{Ending, Status};
 use job_words::{Job, RingJob};
@@ -23,7 +24,6 @@ use seen_channels::files::seen_names;
 use std::alloc::{AllocError, Global};
 use trace_log::Trace;
 use views::list_of::ListOf;
-use wrap_calls::Wrapped;
 
 /// The file in which the processes of a ring leave the value of their counter.
 const VALUE: &[u8; 5] = b"value";

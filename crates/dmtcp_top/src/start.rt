@@ -1,9 +1,9 @@
+use drive::Wrapped;
 use guest_proc::Guest;
 use image_store::Store;
 use sys_abi::VPid;
 use trace_log::Schedule;
 use views::list_of::ListOf;
-use wrap_calls::Wrapped;
 
 /// When a run asks for checkpoints, and the store to which their sets go.
 #[derive(Drop)]

@@ -29,11 +29,7 @@ use Rattle.trace_log.specs.declared.requests.Schedule.{Schedule}
 use Rattle.trace_log.specs.LogText.{at_start}
 use Rattle.trace_log.specs.Requests.{first_tally}
 use Rattle.trace_log.specs.Trace.{TraceState}
-use Rattle.computation.specs.Computations.{plain_of, IsReady}
-use Rattle.computation.specs.Sinks.{sunk}
-use Rattle.computation.specs.Turns.{NewRound}
-use Rattle.checkpointer.specs.declared.checkpointer.Checkpointer.{Checkpointer}
-use Rattle.checkpointer.specs.Keeping.{IsKept}
+use Rattle.run_loop.specs.HandedOn.{plain_of, IsReady, sunk, NewRound, Checkpointer, IsKept}
 use Rattle.run_loop.specs.declared.run_end.RunEnd.{RunEnd as LoopEnd}
 use Rattle.run_loop.specs.declared.run_end.RunEnd.TheVariants as run_ended
 use Rattle.run_loop.specs.Going.{HasEnded}

@@ -1,27 +1,22 @@
 ghost use Rattle.std.specs.Prelude.{◌≡◌, ◌≤◌, ◌⊎◌, [], None, IfOk, IsSome};
 ghost use Rattle.std.specs.FinMap as map;
 ghost use Rattle.views.specs.Faults.{Rose};
-ghost use Rattle.computation.specs.Sinks.{sunk};
-ghost use Rattle.checkpointer.specs.Keeping.{IsSafe};
-ghost use Rattle.checkpointer.specs.Rounds.{GoesInRounds};
+ghost use Rattle.run_loop.specs.HandedOn.{sunk, IsSafe, GoesInRounds};
 ghost use Rattle.run_loop.specs.RunEnds.{EndsRun};
 ghost use Rattle.run_loop.specs.Pace.{KeepsPace};
 ghost use Rattle.drive.specs.Driving.{schedule_of, state_of, end_told, CanDrive, StandsAtEnd};
 
 use crate::run_status::{RunEnd, RunStatus, status_of};
-use checkpointer::Checkpointer;
-use computation::Computation;
 use disk_folder::Folder;
 use edge_io::Sink;
 use guest_proc::Guest;
 use id_maps::ByPid;
 use image_store::Store;
-use run_loop::Start;
+use run_loop::{Checkpointer, Computation, Start, Wrapped};
 use std::alloc::{AllocError, Global};
 use sys_abi::{Transfer, VPid};
 use trace_log::{Schedule, Trace};
 use views::list_of::ListOf;
-use wrap_calls::Wrapped;
 
 /// Runs the processes of a system until nobody lives or can go on, or the trace is full. `guests` are the own
 /// parts of the live processes, each under its number.

@@ -14,4 +14,5 @@ mod driving;
 mod run_status;
 
 pub use driving::drive;
+pub use run_loop::{Computation, Wrapped, restored};
 pub use run_status::{RunEnd, RunStatus};

@@ -13,7 +13,7 @@ use Rattle.plain_machine.specs.declared.kernel.PlainKernel.{PlainKernel}
 use Rattle.plain_machine.specs.Channels.{close_pending, close_queue, without_listener, close_listener}
 use Rattle.wire_channels.specs.declared.listener.Listener.{Listener}
 use Rattle.wire_channels.specs.Channels as channels
-use Rattle.wire_net.specs.Networks.{waiting_at}
+use Rattle.host_tables.specs.HandedOn.{waiting_at}
 use Rattle.host_tables.specs.declared.kernel.Kernel.{Kernel}
 use Rattle.host_tables.specs.Descriptions.{address_of}
 use Rattle.host_tables.specs.Network.{SameListener}

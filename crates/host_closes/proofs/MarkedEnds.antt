@@ -24,7 +24,7 @@ use Rattle.plain_tables.specs.Tables.{Channels, Directions}
 use Rattle.plain_machine.specs.declared.kernel.PlainKernel.{PlainKernel}
 use Rattle.wire_channels.specs.declared.channel.Channel.{Channel}
 use Rattle.wire_channels.specs.Channels as channels
-use Rattle.wire_net.specs.Networks.{Network}
+use Rattle.host_tables.specs.HandedOn.{Network}
 use Rattle.host_tables.specs.declared.kernel.Kernel.{Kernel}
 use Rattle.host_tables.specs.Network.{Conns, kind_of, seen_channel, SameChannels, SameDirections, IsSilent}
 use Rattle.host_tables.specs.Stands.{Given, Stands}

@@ -4,3 +4,4 @@ pub mod Closes
 pub mod HeldChanges
 pub mod Owners
 pub mod FcntlRows
+pub mod HandedOn

@@ -8,3 +8,4 @@ pub mod Conditions
 pub mod Requests
 pub mod Serves
 pub mod Systems
+pub mod HandedOn

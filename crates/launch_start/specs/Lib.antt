@@ -1,2 +1,3 @@
 pub mod JobInputs
 pub mod JobStarts
+pub mod HandedOn

@@ -14,3 +14,4 @@ mod read_inputs;
 
 pub use job_start::load;
 pub use read_inputs::look_at_bytes;
+pub use run_start::Start;

@@ -6,3 +6,4 @@ pub mod Ended
 pub mod Turning
 pub mod Stepping
 pub mod Choosing
+pub mod HandedOn

@@ -1,3 +1,4 @@
 pub mod RunEnds
 pub mod Pace
 pub mod Going
+pub mod HandedOn

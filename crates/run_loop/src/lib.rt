@@ -16,5 +16,7 @@ pub mod run;
 pub mod run_end;
 pub mod start;
 
+pub use checkpointer::{Checkpointer, restored};
+pub use computation::{Computation, Wrapped};
 pub use run_end::RunEnd;
 pub use start::Start;

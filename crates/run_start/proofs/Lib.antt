@@ -1,2 +1,3 @@
 mod Listed
 mod Starts
+pub mod HandedOn

@@ -9,4 +9,5 @@
 mod listing;
 pub mod start;
 
+pub use computation::{Computation, Wrapped};
 pub use start::Start;

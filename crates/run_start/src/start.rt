@@ -13,7 +13,7 @@ ghost use Rattle.wrap_names.specs.Wrapping.{IsWrapped};
 ghost use Rattle.computation.specs.Computations.{plain_of, IsReady};
 
 use crate::listing::listed;
-use computation::Computation;
+use computation::{Computation, Wrapped};
 use discovery::Directory;
 use elf32::Program;
 use guest_proc::Guest;
@@ -24,7 +24,6 @@ use rebuild_system::rebuild;
 use std::alloc::{AllocError, Global};
 use sys_abi::{Transfer, VPid};
 use views::list_of::ListOf;
-use wrap_calls::Wrapped;
 
 /// From where a computation begins: the kernel part of a plain state, and each live process's own part.
 pub struct Start {

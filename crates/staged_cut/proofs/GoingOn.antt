@@ -11,9 +11,8 @@ use Rattle.plain_tables.specs.declared.channel.Direction.{Direction}
 use Rattle.plain_machine.specs.declared.kernel.PlainKernel.{PlainKernel}
 use Rattle.plain_machine.specs.Tests.{all_arrived, unsupported}
 use Rattle.plain_machine.specs.Valid.{IsValid}
-use Rattle.computation.specs.declared.computation.Computation.{Computation}
-use Rattle.computation.specs.Computations.{plain_of, IsReady}
-use Rattle.computation.proofs.States.{Guests, plain_is}
+use Rattle.run_start.specs.HandedOn.{Computation, plain_of, IsReady}
+use Rattle.run_start.proofs.HandedOn.{Guests, plain_is}
 use Rattle.run_start.specs.declared.start.Start.{Start}
 use Rattle.run_start.specs.Starts.{CanBegin}
 use Rattle.seen_kernel.specs.Seen.{all_in}

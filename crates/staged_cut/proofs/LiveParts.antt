@@ -15,8 +15,7 @@ use Rattle.plain_tables.specs.declared.process.Process.{Process}
 use Rattle.plain_tables.specs.Tables.{is_live_process}
 use Rattle.plain_machine.specs.Kernel.{is_live}
 use Rattle.plain_machine.specs.Valid.{IsValid}
-use Rattle.computation.specs.declared.computation.Computation.{Computation}
-use Rattle.computation.specs.Computations.{plain_of}
+use Rattle.run_start.specs.HandedOn.{Computation, plain_of}
 
 there_if_live : (found : Option Process) → is_live_process found ≡ true → IsSome found
 there_if_live None lives = true_false (sym lives)

@@ -4,7 +4,7 @@
 -- Source: Ansel, Arya, Cooperman, "DMTCP: Transparent Checkpointing for Cluster Computations and the
 -- Desktop", 2009.
 use Rattle.std.specs.Prelude.{◌≡◌}
-use Rattle.computation.specs.declared.computation.Computation.{Computation}
+use Rattle.run_start.specs.HandedOn.{Computation}
 use Rattle.run_start.specs.Starts.{CanBegin}
 use Rattle.staged_cut.specs.declared.holding.Held.{Held}
 

@@ -15,9 +15,9 @@ use barrier_core::{Barrier, Stage};
 use ckpt_stages::first_unsupported::first_unsupported;
 use ckpt_stages::{DrainedSet, Elected, StageFault, Suspended};
 use host_tables::System;
+use run_start::Wrapped;
 use std::alloc::{AllocError, Global};
 use sys_abi::VPid;
-use wrap_calls::Wrapped;
 use wrap_names::stood::Stood;
 
 /// Suspends all processes, has them elect leaders, and drains all channels. `live` names the live processes.

@@ -5,25 +5,23 @@ ghost use Rattle.sys_abi.specs.declared.identity.VPid.{VPid};
 ghost use Rattle.barrier_core.specs.declared.members.TheConstants.{MEMBER_LIMIT};
 ghost use Rattle.plain_machine.specs.Kernel.{is_live};
 ghost use Rattle.plain_machine.specs.Tests.{unsupported};
-ghost use Rattle.computation.specs.Computations.{plain_of, IsReady};
+ghost use Rattle.run_start.specs.HandedOn.{plain_of, IsReady};
 ghost use Rattle.seen_kernel.specs.Seen.{all_in};
 ghost use Rattle.seen_kernel.specs.Unheld.{AllArrived};
 ghost use Rattle.staged_cut.specs.Holdings.{IsHeld};
 
 use crate::draining::drain;
 use crate::refilling::refill;
-use computation::Computation;
-use cut_stages::{DrainedSet, PutOutcome};
+use ckpt_stages::{DrainedSet, PutOutcome};
 use guest_proc::Guest;
 use host_tables::Hosts;
 use id_maps::ByPid;
 use plain_machine::PlainKernel;
-use run_start::Start;
+use run_start::{Computation, Start, Wrapped};
 use std::alloc::{AllocError, Global};
 use std::mem;
 use sys_abi::VPid;
 use views::list_of::ListOf;
-use wrap_calls::Wrapped;
 
 /// A computation whose channels are drained: what its agents took off them, and the start of one that goes
 /// on from here, of which images are made.

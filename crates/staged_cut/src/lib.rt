@@ -25,6 +25,8 @@ pub mod holding;
 mod refilling;
 mod standing;
 
+pub use ckpt_stages::{PutOutcome, first_unsupported};
 pub use draining::drain;
 pub use holding::{Held, hold, release};
 pub use refilling::refill;
+pub use run_start::Start;

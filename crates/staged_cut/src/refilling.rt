@@ -3,8 +3,8 @@ ghost use Rattle.std.specs.Prelude.{◌≡◌};
 ghost use Rattle.seen_kernel.specs.Seen.{all_in};
 
 use crate::standing::{stood_after, wrap};
-use cut_stages::{DrainedSet, PutOutcome, Refilled};
-use wrap_calls::Wrapped;
+use ckpt_stages::{DrainedSet, PutOutcome, Refilled};
+use run_start::Wrapped;
 
 /// Has the agents give the bytes back, and resumes all processes: the system stands for the kernel part with
 /// all bytes of all directions arrived. Takes no memory.

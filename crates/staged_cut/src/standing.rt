@@ -3,9 +3,9 @@ ghost use Rattle.std.specs.Prelude.{◌≡◌};
 ghost use Rattle.plain_machine.specs.declared.kernel.PlainKernel.{PlainKernel};
 ghost use Rattle.wrap_names.specs.Wrapping.{IsWrapped};
 
-use cut_stages::Refilled;
+use ckpt_stages::Refilled;
 use host_tables::System;
-use wrap_calls::Wrapped;
+use run_start::Wrapped;
 use wrap_names::stood::Stood;
 
 /// The kernel part that the caller's proof names for a system that runs.

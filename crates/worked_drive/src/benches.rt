@@ -1,19 +1,17 @@
 //! What a run is made on, and the run of a computation.
 ghost use Rattle.std.specs.Prelude.{◌≡◌, suc, ◌<◌, [], is_some, IfOk, IfSome};
 ghost use Rattle.image_store.specs.StoreStates.{FitsFolder, next_generation};
-ghost use Rattle.computation.specs.Computations.{IsReady};
+ghost use Rattle.drive.specs.HandedOn.{IsReady};
 
 use crate::guests::guests_of;
-use computation::Computation;
 use disk_folder::Folder;
-use drive::{RunStatus, drive};
+use drive::{Computation, RunStatus, Wrapped, drive};
 use edge_io::{MemSink, Sink};
 use image_store::Store;
 use mem_folder::MemFolder;
 use std::alloc::{AllocError, Global};
 use std::test::Fail;
 use trace_log::Trace;
-use wrap_calls::Wrapped;
 
 /// How many records a run has room for.
 const ROOM: u32 = 200;

@@ -4,11 +4,10 @@ ghost use Rattle.std.specs.Prelude.{◌≡◌, []};
 use crate::asserts::same;
 use crate::benches::Bench;
 use crate::jobs::begun;
-use drive::{RunEnd, RunStatus};
+use drive::{RunEnd, RunStatus, Wrapped};
 use std::alloc::Global;
 use std::test::Fail;
 use sys_abi::{ConnId, Dir, VPid};
-use wrap_calls::Wrapped;
 
 /// Makes a stream pair, writes 7 bytes on side 0's end, reads 2 on side 1's end, and then reads on side 0's
 /// end, on which nothing comes. Each of the first three calls makes two records of work.

@@ -7,7 +7,7 @@ ghost use Rattle.wrap_names.specs.Naming as words;
 
 use conn_table::ConnTable;
 use fd_book::Object;
-use host_descriptors::held_at;
+use host_streams::held_at;
 use host_tables::System;
 use sys_abi::{ConnId, DescId, Maker, RealPid, VPid};
 

@@ -4,8 +4,7 @@ use Rattle.views.specs.Maps.{map_values}
 use Rattle.guest_proc.specs.Guests.{GuestPart}
 use Rattle.image_codec.specs.Sets.{IsStateOf}
 use Rattle.image_codec.proofs.ValidSets.{set_is_valid}
-use Rattle.run_start.specs.declared.start.Start.{Start}
-use Rattle.run_start.specs.Starts.{state_of}
+use Rattle.staged_cut.specs.HandedOn.{Start, state_of}
 use Rattle.checkpointer.proofs.RestoredStates.{all_within, is_shared, no_datagram, numbered, users_are}
 use Rattle.checkpointer.proofs.restoring.restored.Goals as goal
 

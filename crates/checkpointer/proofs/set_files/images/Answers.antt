@@ -1,6 +1,6 @@
 use Rattle.std.proofs.Common.{◌≡◌, ℕ, List, [], ◌∷◌, ◌++◌, length, sym, ap, subst, ◌∙◌, arith}
 use Rattle.std.specs.FinMap as map
-use Rattle.run_start.specs.Starts.{state_of}
+use Rattle.staged_cut.specs.HandedOn.{state_of}
 use Rattle.image_codec.proofs.FittingKernels.{kernel_has_image}
 use Rattle.image_codec.proofs.LiveParts.{parts_have_places}
 use Rattle.checkpointer.specs.Sets.{SpellsState}

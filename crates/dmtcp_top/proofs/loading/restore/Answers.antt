@@ -2,8 +2,8 @@ use Rattle.std.proofs.Common.{Err, IfSome, ap, sym, subst, ◌∙◌}
 use Rattle.image_format.specs.declared.damage.Damage.{Damage as Place}
 use Rattle.image_store.specs.declared.set_info.SetInfo.{SetInfo}
 use Rattle.image_store.specs.FoundSets.{last_set, HasSet}
-use Rattle.checkpointer.specs.Sets.{SpoilsSet}
-use Rattle.checkpointer.proofs.Safety.{at_some}
+use Rattle.drive.specs.HandedOn.{SpoilsSet}
+use Rattle.drive.proofs.HandedOn.{at_some}
 use Rattle.dmtcp_top.proofs.Loads.{damage_found, restored}
 use Rattle.dmtcp_top.proofs.loading.restore.Goals as goal
 

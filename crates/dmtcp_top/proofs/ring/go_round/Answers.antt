@@ -1,5 +1,5 @@
 use Rattle.computation.specs.Sinks.{sunk}
-use Rattle.checkpointer.proofs.Sinks.{took_nothing}
+use Rattle.drive.proofs.HandedOn.{took_nothing}
 use Rattle.dmtcp_top.proofs.RingHalves.{told_so}
 use Rattle.dmtcp_top.proofs.ring.go_round.Goals as goal
 

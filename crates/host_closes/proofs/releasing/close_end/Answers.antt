@@ -1,7 +1,7 @@
 use Rattle.std.proofs.Common.{sym, subst}
 use Rattle.std.specs.Prelude.{None}
 use Rattle.plain_machine.specs.Channels.{close_side}
-use Rattle.wire_net.specs.Networks.{Network}
+use Rattle.host_tables.specs.HandedOn.{Network}
 use Rattle.host_tables.specs.Stands.{Stands}
 use Rattle.host_closes.proofs.ClosedEnds.{end_closed}
 use Rattle.host_closes.proofs.releasing.close_end.Goals as goal

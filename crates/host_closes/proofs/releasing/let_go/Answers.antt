@@ -1,5 +1,5 @@
 use Rattle.std.proofs.Common.{sym, ap, subst}
-use Rattle.wire_net.specs.Networks.{Network}
+use Rattle.host_tables.specs.HandedOn.{Network}
 use Rattle.host_closes.specs.LetGo.{HasLetGo}
 use Rattle.host_closes.proofs.LetGoes.{listener_let_go}
 use Rattle.host_closes.proofs.releasing.let_go.Goals as goal

@@ -1,6 +1,6 @@
 use Rattle.std.proofs.Common.{ap, ◌∙◌}
 use Rattle.seen_kernel.specs.Seen.{all_in}
-use Rattle.cut_stages.specs.Resumptions.{Filling}
+use Rattle.ckpt_stages.specs.HandedOn.{Filling}
 use Rattle.staged_cut.proofs.refilling.refill.Goals as goal
 
 pub returns : goal.returns

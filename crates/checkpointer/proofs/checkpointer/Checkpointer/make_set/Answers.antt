@@ -12,7 +12,7 @@ use Rattle.image_store.specs.FoundSets.{last_set, HasSet}
 use Rattle.image_store.specs.StoreStates.{Known, next_generation}
 use Rattle.image_store.specs.StoreCrashes.{OldOrNew}
 use Rattle.checkpointer.specs.declared.checkpointer.Checkpointer.{Checkpointer}
-use Rattle.run_start.specs.Starts.{state_of}
+use Rattle.staged_cut.specs.HandedOn.{state_of}
 use Rattle.checkpointer.specs.Keeping.{IsPut, IsSafe}
 use Rattle.computation.specs.Sinks.{sunk, Took, TookFront}
 use Rattle.checkpointer.proofs.Sinks.{OnErr-map}

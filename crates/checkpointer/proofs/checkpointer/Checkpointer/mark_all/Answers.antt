@@ -6,7 +6,7 @@ use Rattle.sys_abi.specs.declared.identity.Dir.{Dir}
 use Rattle.sys_abi.proofs.OrderLaws.{dir_total, dir_exact}
 use Rattle.plain_tables.specs.declared.channel.Direction.{Direction}
 use Rattle.trace_log.specs.Requests.{left_in}
-use Rattle.run_start.specs.Starts.{state_of}
+use Rattle.staged_cut.specs.HandedOn.{state_of}
 use Rattle.checkpointer.specs.Marks.{mark_of, marks_of}
 use Rattle.checkpointer.proofs.Passing.{AreSoFar, so_far_none, so_far_next}
 use Rattle.checkpointer.proofs.checkpointer.Checkpointer.mark_all.Goals as goal

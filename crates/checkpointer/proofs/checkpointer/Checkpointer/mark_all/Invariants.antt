@@ -2,7 +2,7 @@ use Rattle.std.proofs.Common.{◌≤◌, length}
 use Rattle.std.specs.List.{filter_map}
 use Rattle.views.proofs.MapValues.{EachEntry}
 use Rattle.trace_log.specs.Requests.{left_in}
-use Rattle.run_start.specs.Starts.{state_of}
+use Rattle.staged_cut.specs.HandedOn.{state_of}
 use Rattle.checkpointer.specs.Marks.{mark_of, marks_of}
 use Rattle.checkpointer.proofs.Passing.{AreSoFar}
 use Rattle.checkpointer.proofs.checkpointer.Checkpointer.mark_all.Given as goal

@@ -2,7 +2,7 @@ use Rattle.std.proofs.Common.{take, ap, ◌∙◌, arith}
 use Rattle.trace_log.specs.Trace.{TraceState}
 use Rattle.trace_log.specs.LogText.{after_all}
 use Rattle.trace_log.specs.Requests.{cut_marks}
-use Rattle.run_start.specs.Starts.{state_of}
+use Rattle.staged_cut.specs.HandedOn.{state_of}
 use Rattle.checkpointer.specs.declared.checkpointer.Checkpointer.{Checkpointer}
 use Rattle.checkpointer.specs.declared.marks.Pass.TheVariants as pass
 use Rattle.checkpointer.specs.Marks.{marks_of}

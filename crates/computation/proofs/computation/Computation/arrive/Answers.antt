@@ -2,7 +2,7 @@ use Rattle.std.proofs.Common.{◌≡◌, None, refl, ap, ◌∙◌}
 use Rattle.sys_abi.specs.declared.record.Record.TheVariants.{Arrive}
 use Rattle.plain_machine.specs.declared.kernel.PlainKernel.{PlainKernel}
 use Rattle.plain_machine.specs.declared.plain.Plain.{Plain}
-use Rattle.wrap_names.specs.Changes.{after_arrival}
+use Rattle.wrap_calls.specs.HandedOn.{after_arrival}
 use Rattle.computation.specs.Computations.{plain_of}
 use Rattle.computation.specs.Takes.{with_record}
 use Rattle.computation.proofs.Arrivals.{with_all, missing_at, found_at, arrival_goes, arrived_kernel, side_is, rest_is}

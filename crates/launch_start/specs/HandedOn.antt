@@ -1,0 +1,3 @@
+-- What is handed on of the libraries below, so that who uses this one need not name them.
+pub use Rattle.run_start.specs.Starts.{state_of, CanBegin, AreParts}
+pub use Rattle.run_start.specs.declared.start.Start.{Start}
