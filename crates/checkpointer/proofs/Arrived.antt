@@ -14,7 +14,7 @@ use Rattle.plain_machine.specs.Records.{Outcome, outcome, outcome_of_arrival, wi
 use Rattle.plain_machine.specs.Tests.{has_life, unsupported, all_arrived, full_arrive}
 use Rattle.plain_machine.specs.Valid.{IsValid}
 use Rattle.trace_log.specs.Requests.{CanBeHeld, can_be_held}
-use Rattle.computation.specs.Turns.{coming, if_missing, missing_in}
+use Rattle.trace_log.specs.Turns.{coming, if_missing, missing_in}
 use Rattle.plain_process.proofs.Giving.{Giving, gives, nothing, where_}
 use Rattle.checkpointer.proofs.Walks.{arrival_of}
 

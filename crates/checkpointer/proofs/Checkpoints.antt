@@ -14,15 +14,14 @@ use Rattle.plain_machine.specs.declared.plain.Plain.{Plain}
 use Rattle.plain_machine.specs.Tests.{ended, full_arrive}
 use Rattle.trace_log.specs.declared.requests.Schedule.{Schedule}
 use Rattle.trace_log.specs.declared.requests.Tally.{Tally}
-use Rattle.trace_log.specs.Trace.{TraceState}
+use Rattle.trace_log.specs.Trace.{TraceState, with_record}
 use Rattle.trace_log.specs.Requests.{Requests, Phase, NoRequest, Requested, AfterCut, MayStand, MayStandIn, CanBeHeld, IsUnsupported, is_mark, is_outcome, is_multiple_of, asks, cut_marks, tally_after, next_requests, phase_after}
 use Rattle.trace_log.specs.LogText.{line_of, after}
+use Rattle.trace_log.specs.Turns.{Upcoming}
 use Rattle.checkpointer.specs.declared.checkpointer.Checkpointer.{Checkpointer}
-use Rattle.computation.specs.Sinks.{Sunk, sunk, Took, TookFront}
-use Rattle.computation.specs.Takes.{with_record}
+use Rattle.edge_io.specs.Sunk.{Sunk, sunk, Took, TookFront}
 use Rattle.checkpointer.specs.Running.{IsNoted}
 use Rattle.checkpointer.specs.Keeping.{IsSafe}
-use Rattle.computation.specs.Turns.{Upcoming}
 use Rattle.checkpointer.specs.UnderWay.{IsUnderWay, IsBrokenOff}
 use Rattle.checkpointer.proofs.Running.{running_mark, noted_mark, part_noted}
 

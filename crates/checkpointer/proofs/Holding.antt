@@ -2,9 +2,7 @@
 --     held_state      the start from which it would go on is at its state
 --     same_parts      two computations are one whose parts are
 use Rattle.std.proofs.Common.{◌≡◌, ap, ◌∙◌}
-use Rattle.computation.specs.declared.computation.Computation.{Computation}
-use Rattle.computation.specs.Computations.{plain_of}
-use Rattle.staged_cut.specs.HandedOn.{state_of}
+use Rattle.staged_cut.specs.HandedOn.{Computation, plain_of, state_of}
 use Rattle.staged_cut.specs.declared.holding.Held.{Held}
 use Rattle.staged_cut.specs.Holdings.{IsHeld}
 

@@ -9,6 +9,7 @@ use Rattle.sys_abi.specs.declared.identity.Dir.{Dir}
 use Rattle.sys_abi.specs.declared.record.Record.{Record}
 use Rattle.sys_abi.specs.declared.record.Record.TheVariants.{Cut, Drained, Refilled, Complete}
 use Rattle.edge_io.specs.Sink.{appended}
+use Rattle.edge_io.specs.Sunk.{Sunk, sunk}
 use Rattle.disk_folder.specs.SeenFolder.{SeenFolder}
 use Rattle.disk_folder.specs.Moments.{LeavesOnly}
 use Rattle.image_store.specs.StoreCrashes.{ChangesNothing}
@@ -19,12 +20,10 @@ use Rattle.plain_tables.specs.declared.channel.Direction.{Direction}
 use Rattle.trace_log.specs.declared.requests.Schedule.{Schedule}
 use Rattle.trace_log.specs.declared.requests.Tally.{Tally}
 use Rattle.trace_log.specs.declared.log_lines.Progress.{Progress}
-use Rattle.trace_log.specs.Trace.{TraceState}
+use Rattle.trace_log.specs.Trace.{TraceState, with_record}
 use Rattle.trace_log.specs.Requests.{Requests, Requested, AfterCut, CanBeHeld, CutAt, can_be_held, is_mark, left_in, all_left, cut_marks, next_requests, phase_after_mark, tally_after}
 use Rattle.trace_log.specs.LogText.{line_of, after, after_all}
-use Rattle.computation.specs.Sinks.{Sunk, sunk}
-use Rattle.computation.specs.Takes.{with_record}
-use Rattle.computation.specs.Turns.{Upcoming, coming}
+use Rattle.trace_log.specs.Turns.{Upcoming, coming}
 use Rattle.checkpointer.specs.declared.checkpointer.Checkpointer.{Checkpointer}
 use Rattle.checkpointer.specs.Keeping.{Counts, is_disk_fault}
 use Rattle.checkpointer.specs.Marks.{mark_of, marks_of, with_marks}

@@ -6,6 +6,7 @@ use Rattle.sys_abi.specs.declared.identity.Dir.{Dir}
 use Rattle.sys_abi.specs.declared.record.Record.{Record}
 use Rattle.sys_abi.specs.declared.record.Record.TheVariants.{User, Call, Deliver, Arrive, Cut, Drained, Refilled, Complete, Refused, Lapsed}
 use Rattle.edge_io.specs.Sink.{appended}
+use Rattle.edge_io.specs.Sunk.{Sunk, sunk, Took, TookFront}
 use Rattle.trace_log.specs.declared.requests.Schedule.{Schedule}
 use Rattle.trace_log.specs.declared.requests.Tally.{Tally}
 use Rattle.trace_log.specs.declared.log_lines.Progress.{Progress}
@@ -13,14 +14,13 @@ use Rattle.trace_log.specs.Requests.{Requests, Requested, RunsTo, LeadsTo, MaySt
 use Rattle.trace_log.specs.LogText.{at_start as log_start, after, after_all, line_of, log_text}
 use Rattle.trace_log.proofs.RequestFronts.{goes_on_by_one, runs}
 use Rattle.trace_log.proofs.LogLines.{log_grows}
+use Rattle.trace_log.specs.Turns.{Upcoming, NewRound, coming}
 use Rattle.views.proofs.MapLaws.{true_false}
 use Rattle.plain_machine.specs.declared.plain.Plain.{Plain}
 use Rattle.plain_machine.specs.Records.{Outcome, outcome, step, quiet}
 use Rattle.plain_machine.specs.Runs.{run, console, console_from}
 use Rattle.plain_machine.specs.Tests.{is_work}
 use Rattle.plain_machine.proofs.RunLaws.{console_of_one_more}
-use Rattle.computation.specs.Sinks.{Sunk, sunk, Took, TookFront}
-use Rattle.computation.specs.Turns.{Upcoming, NewRound, coming}
 use Rattle.checkpointer.specs.declared.checkpointer.Checkpointer.{Checkpointer}
 use Rattle.checkpointer.specs.Rounds.{Standing, is_due, moved, first_standing, each_is_due}
 use Rattle.checkpointer.specs.Running.{walk, IsRunning, IsNoted}

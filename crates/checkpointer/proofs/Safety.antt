@@ -16,13 +16,12 @@ use Rattle.disk_folder.proofs.Stretches.{joins, weakens, told_then}
 use Rattle.disk_folder.specs.SeenFolder.{SeenFolder}
 use Rattle.plain_machine.specs.declared.plain.Plain.{Plain}
 use Rattle.trace_log.specs.Requests.{CutAt}
-use Rattle.checkpointer.specs.Sets.{SpellsState}
+use Rattle.checkpointer.specs.Sets.{SpellsState, IsAtLeast}
 use Rattle.image_store.specs.declared.set_info.SetInfo.{SetInfo}
 use Rattle.image_store.specs.Slots.{last}
 use Rattle.image_store.specs.FoundSets.{FoundSet, set_of, last_set, HasSet}
 use Rattle.image_store.specs.StoreStates.{NoneAbove}
 use Rattle.image_store.specs.StoreCrashes.{OldOrNew, ChangesNothing}
-use Rattle.checkpointer.specs.Sets.{IsAtLeast}
 use Rattle.checkpointer.specs.Keeping.{IsGood, KeepsComplete, is_disk_fault, CountsFaults, IsSafe}
 
 either : {A B P : Type 0} → A ⊎ B → (A → P) → (B → P) → P

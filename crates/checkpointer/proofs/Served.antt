@@ -13,6 +13,7 @@ use Rattle.sys_abi.specs.declared.record.Record.TheVariants.{Cut, Complete, Refu
 use Rattle.sys_abi.specs.declared.record.Cause.{Cause}
 use Rattle.sys_abi.specs.declared.record.Cause.TheVariants.{Unsupported, DiskFault, Memory}
 use Rattle.edge_io.specs.Sink.{appended}
+use Rattle.edge_io.specs.Sunk.{Sunk, sunk, Took, TookFront}
 use Rattle.disk_folder.specs.Files.{FolderFiles as Folder}
 use Rattle.disk_folder.specs.Moments.{LeavesOnly}
 use Rattle.disk_folder.specs.SeenFolder.{SeenFolder}
@@ -21,19 +22,17 @@ use Rattle.plain_machine.specs.Tests.{ended, full_arrive}
 use Rattle.trace_log.specs.declared.requests.Schedule.{Schedule}
 use Rattle.trace_log.specs.declared.requests.Tally.{Tally}
 use Rattle.trace_log.specs.declared.log_lines.Progress.{Progress}
-use Rattle.trace_log.specs.Trace.{TraceState}
+use Rattle.trace_log.specs.Trace.{TraceState, with_record}
 use Rattle.trace_log.specs.Requests.{Requests, Requested, AfterCut, CanBeHeld, IsUnsupported, CutAt, cut_marks, tally_after, next_requests}
 use Rattle.trace_log.specs.LogText.{line_of, after}
+use Rattle.trace_log.specs.Turns.{Upcoming}
 use Rattle.image_store.specs.declared.set_info.SetInfo.{SetInfo}
 use Rattle.image_store.specs.Slots.{last}
 use Rattle.image_store.specs.FoundSets.{last_set, HasSet}
 use Rattle.image_store.specs.StoreStates.{Known, FitsFolder, generation_after, next_generation}
 use Rattle.image_store.specs.StoreCrashes.{OldOrNew, ChangesNothing}
 use Rattle.checkpointer.specs.declared.checkpointer.Checkpointer.{Checkpointer}
-use Rattle.computation.specs.Sinks.{Sunk, sunk, Took, TookFront}
-use Rattle.computation.specs.Takes.{with_record}
 use Rattle.checkpointer.specs.Keeping.{IsKept, IsPut, IsSafe, Counts, CountsFaults, IsOutside}
-use Rattle.computation.specs.Turns.{Upcoming}
 use Rattle.checkpointer.specs.UnderWay.{IsUnderWay, IsBrokenOff, IsSettled}
 use Rattle.checkpointer.proofs.Sinks.{took_nothing}
 use Rattle.checkpointer.proofs.Running.{steps_of}

@@ -4,7 +4,7 @@ use Rattle.std.specs.Prelude.{min}
 use Rattle.std.proofs.Math.Seq.{take-append-add, take-length}
 use Rattle.std.proofs.lemmas.List.{take-append-le, take_min}
 use Rattle.edge_io.specs.Sink.{appended}
-use Rattle.computation.specs.Sinks.{Sunk, sunk, Took, TookFront}
+use Rattle.edge_io.specs.Sunk.{Sunk, sunk, Took, TookFront}
 use Rattle.checkpointer.specs.Pace.{TookThen}
 
 pub took_nothing : (taken : Option (List ℕ)) → Took (sunk taken taken) []

@@ -13,7 +13,7 @@ use Rattle.plain_machine.specs.Records.{step}
 use Rattle.plain_machine.specs.Runs.{run}
 use Rattle.trace_log.specs.declared.requests.Schedule.{Schedule}
 use Rattle.trace_log.specs.Requests.{NoRequest, Requested, can_be_held, is_mark}
-use Rattle.computation.specs.Turns.{Due, After, coming, missing_in, due_at, is_arrival, is_due_at, is_same_dir}
+use Rattle.trace_log.specs.Turns.{Due, After, coming, missing_in, due_at, is_arrival, is_due_at, is_same_dir}
 use Rattle.checkpointer.specs.Rounds.{Standing, is_due_for_cut, is_first_arrival, is_due, request_waits, moved, moved_by, standing_after, each_is_due}
 use Rattle.checkpointer.specs.Running.{walk}
 

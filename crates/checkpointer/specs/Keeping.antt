@@ -11,7 +11,7 @@ use Rattle.sys_abi.specs.declared.record.Record.{Record}
 use Rattle.sys_abi.specs.declared.record.Record.TheVariants.{Complete, Refused}
 use Rattle.sys_abi.specs.declared.record.Cause.{Cause}
 use Rattle.sys_abi.specs.declared.record.Cause.TheVariants.{Unsupported, DiskFault, Memory}
-use Rattle.checkpointer.specs.Sets.{SpellsState}
+use Rattle.checkpointer.specs.Sets.{SpellsState, SpellsSet, IsAtLeast}
 use Rattle.image_store.specs.StoreCrashes.{OldOrNew}
 use Rattle.image_store.specs.declared.store_fault.StoreFault.{StoreFault}
 use Rattle.image_store.specs.declared.store_fault.StoreFault.TheVariants as disk_failed
@@ -24,7 +24,6 @@ use Rattle.image_store.specs.Slots.{last}
 use Rattle.image_store.specs.FoundSets.{last_set, HasSet}
 use Rattle.image_store.specs.StoreStates.{Known, FitsFolder, next_generation}
 use Rattle.checkpointer.specs.declared.checkpointer.Checkpointer.{Checkpointer}
-use Rattle.checkpointer.specs.Sets.{SpellsSet, IsAtLeast}
 
 -- the set that counts in the image is the one of an image that a crash could leave before
 pub record IsOpening (before : Folder → Type 0) (image : Folder) : Type 0 where

@@ -6,7 +6,7 @@ use Rattle.views.specs.Numbers.{Byte}
 use Rattle.sys_abi.specs.declared.record.Record.{Record}
 use Rattle.trace_log.specs.Requests.{is_outcome}
 use Rattle.trace_log.specs.LogText.{at_start, after_all, line_of, log_text}
-use Rattle.computation.specs.Sinks.{Sunk, Took}
+use Rattle.edge_io.specs.Sunk.{Sunk, Took}
 
 -- in the call the sink took these bytes, and then some first part of those that follow
 abbrev pub TookThen : Sunk → List Byte → List Byte → Type 0

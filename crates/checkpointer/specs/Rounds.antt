@@ -16,7 +16,7 @@ use Rattle.plain_machine.specs.declared.plain.Plain.{Plain}
 use Rattle.plain_machine.specs.Records.{step}
 use Rattle.trace_log.specs.declared.requests.Schedule.{Schedule}
 use Rattle.trace_log.specs.Requests.{Phase, Requested, Requests, can_be_held, is_mark, first_requests, next_requests}
-use Rattle.computation.specs.Turns.{Due, Upcoming, NewRound, After, coming, due_at, is_arrival, is_due_at}
+use Rattle.trace_log.specs.Turns.{Due, Upcoming, NewRound, After, coming, due_at, is_arrival, is_due_at}
 
 -- how far the rounds and the requests have come
 pub record Standing : Type 0 where

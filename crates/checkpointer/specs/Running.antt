@@ -11,8 +11,8 @@ use Rattle.plain_machine.specs.Runs.{console}
 use Rattle.trace_log.specs.declared.requests.Schedule.{Schedule}
 use Rattle.trace_log.specs.Requests.{NoRequest, Requests, RunsTo}
 use Rattle.trace_log.specs.LogText.{at_start, after_all, log_text}
-use Rattle.computation.specs.Sinks.{Sunk, Took}
-use Rattle.computation.specs.Turns.{Upcoming}
+use Rattle.trace_log.specs.Turns.{Upcoming}
+use Rattle.edge_io.specs.Sunk.{Sunk, Took}
 use Rattle.checkpointer.specs.declared.checkpointer.Checkpointer.{Checkpointer}
 use Rattle.checkpointer.specs.Rounds.{Standing, standing_after, first_standing, GoesInRounds}
 

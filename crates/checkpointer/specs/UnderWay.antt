@@ -10,8 +10,8 @@ use Rattle.plain_machine.specs.declared.plain.Plain.{Plain}
 use Rattle.trace_log.specs.declared.requests.Schedule.{Schedule}
 use Rattle.trace_log.specs.Trace.{TraceState}
 use Rattle.trace_log.specs.Requests.{Requests, NoRequest, Requested, asks}
-use Rattle.computation.specs.Sinks.{Sunk, Took}
-use Rattle.computation.specs.Turns.{Upcoming}
+use Rattle.trace_log.specs.Turns.{Upcoming}
+use Rattle.edge_io.specs.Sunk.{Sunk, Took}
 use Rattle.checkpointer.specs.declared.checkpointer.Checkpointer.{Checkpointer}
 use Rattle.checkpointer.specs.Pace.{CutLines}
 use Rattle.checkpointer.specs.Running.{IsRunning, IsNoted}

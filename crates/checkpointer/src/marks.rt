@@ -2,7 +2,7 @@ ghost use Rattle.std.specs.Prelude.{◌≡◌, ℕ, ◌+◌, ◌*◌, ◌-◌, �
 ghost use Rattle.trace_log.specs.Spelling.{is_spellable};
 ghost use Rattle.trace_log.specs.LogText.{after_all};
 ghost use Rattle.trace_log.specs.Requests.{tally_after, cut_marks};
-ghost use Rattle.computation.specs.Takes.{with_record};
+ghost use Rattle.trace_log.specs.Trace.{with_record};
 ghost use Rattle.staged_cut.specs.HandedOn.{state_of, CanBegin};
 ghost use Rattle.checkpointer.specs.Marks.{mark_of, marks_of, with_marks};
 

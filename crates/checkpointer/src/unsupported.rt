@@ -1,10 +1,9 @@
 ghost use Rattle.std.specs.Prelude.{◌≡◌, option_map};
 ghost use Rattle.plain_machine.specs.Tests.{unsupported};
-ghost use Rattle.computation.specs.Computations.{plain_of};
+ghost use Rattle.staged_cut.specs.HandedOn.{plain_of};
 ghost use Rattle.checkpointer.specs.Marks.{unsupported_at};
 
-use computation::Computation;
-use staged_cut::first_unsupported as supports;
+use staged_cut::{Computation, first_unsupported as supports};
 use sys_abi::{Fd, Kind, VPid};
 
 /// A descriptor of a process that refers to what no image holds.

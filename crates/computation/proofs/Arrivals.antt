@@ -24,7 +24,7 @@ use Rattle.plain_machine.specs.Kernels.{IsKernel}
 use Rattle.wrap_calls.specs.HandedOn.{after_arrival, arrived_in}
 use Rattle.views.proofs.MapLaws.{true_false}
 use Rattle.plain_machine.specs.Records.{Outcome, quiet, outcome, outcome_of_arrival}
-use Rattle.computation.specs.Turns.{if_missing, coming, missing_in}
+use Rattle.trace_log.specs.Turns.{if_missing, coming, missing_in}
 use Rattle.computation.proofs.Threads.{one_more, none_more}
 
 abbrev pub is_missing : Direction → Bool

@@ -25,7 +25,7 @@ use Rattle.computation.specs.declared.computation.Computation.{Computation}
 use Rattle.computation.specs.declared.computation.Next.TheVariants.{Deliver, GoOn}
 use Rattle.computation.specs.Computations.{plain_of, IsReady, IsTurnAt}
 use Rattle.computation.specs.Takes.{IsDueWork}
-use Rattle.computation.specs.Turns.{Place, goes_on, goes_on_at, is_turn_of, is_due_signal, stands_in, traps_in}
+use Rattle.trace_log.specs.Turns.{Place, goes_on, goes_on_at, is_turn_of, is_due_signal, stands_in, traps_in}
 use Rattle.computation.proofs.Numbered.{Numbered}
 use Rattle.computation.proofs.States.{plain_is}
 use Rattle.computation.proofs.Threads.{call_goes, not_not}

@@ -20,7 +20,7 @@ use Rattle.call_table.specs.declared.request.Request.{Request}
 use Rattle.call_table.specs.Requests.{is_local}
 use Rattle.sys_abi.specs.Signals.{is_signal, has_signal}
 use Rattle.sys_abi.proofs.OrderLaws.{vpid_total, vpid_exact}
-use Rattle.trace_log.specs.Trace.{TraceState}
+use Rattle.trace_log.specs.Trace.{TraceState, with_record}
 use Rattle.plain_process.specs.declared.user_part.UserPart.{UserPart}
 use Rattle.plain_process.specs.declared.user_part.ThreadPart.{ThreadPart}
 use Rattle.plain_process.specs.Buffers.{lent}
@@ -41,8 +41,8 @@ use Rattle.guest_proc.proofs.LocalAnswers.{local_fault}
 use Rattle.computation.specs.declared.computation.Computation.{Computation}
 use Rattle.computation.specs.Computations.{plain_of}
 use Rattle.computation.specs.Parts.{Guests, kernel_found, delivery_at}
-use Rattle.computation.specs.Sinks.{sunk}
-use Rattle.computation.specs.Takes.{Takes, CanDeliver, with_record}
+use Rattle.edge_io.specs.Sunk.{sunk}
+use Rattle.computation.specs.Takes.{Takes, CanDeliver}
 use Rattle.computation.proofs.States.{seen}
 use Rattle.computation.proofs.Taking.{quiet_takes, valid_after}
 use Rattle.computation.proofs.Threads.{asked, signals}

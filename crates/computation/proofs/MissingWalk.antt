@@ -19,7 +19,7 @@ use Rattle.sys_abi.proofs.OrderLaws.{dir_total}
 use Rattle.plain_tables.specs.declared.channel.Direction.{Direction}
 use Rattle.plain_machine.specs.declared.plain.Plain.{Plain}
 use Rattle.wrap_calls.specs.HandedOn.{is_above}
-use Rattle.computation.specs.Turns.{coming, if_missing, missing_in}
+use Rattle.trace_log.specs.Turns.{coming, if_missing, missing_in}
 use Rattle.computation.proofs.Arrivals.{above_if_found}
 use Rattle.computation.proofs.Threads.{one_more, none_more}
 

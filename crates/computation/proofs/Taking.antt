@@ -4,13 +4,13 @@
 use Rattle.std.proofs.Common.{◌≡◌, ℕ, List, [], Option, Some, None, refl, sym, ap, subst, ◌∙◌, append-nil}
 use Rattle.std.specs.Option.{option_map}
 use Rattle.sys_abi.specs.declared.record.Record.{Record}
-use Rattle.trace_log.specs.Trace.{TraceState}
+use Rattle.trace_log.specs.Trace.{TraceState, with_record}
 use Rattle.plain_machine.specs.declared.plain.Plain.{Plain}
 use Rattle.plain_machine.specs.Records.{Outcome, outcome, quiet}
 use Rattle.plain_machine.specs.Valid.{IsValid}
 use Rattle.plain_machine.proofs.StepBounds.{step_keeps_valid}
-use Rattle.computation.specs.Sinks.{Sunk, sunk, Took}
-use Rattle.computation.specs.Takes.{Takes, with_record}
+use Rattle.edge_io.specs.Sunk.{Sunk, sunk, Took}
+use Rattle.computation.specs.Takes.{Takes}
 
 pub took_nothing : (taken : Option (List ℕ)) → Took (sunk taken taken) []
 took_nothing None = refl

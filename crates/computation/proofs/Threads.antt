@@ -37,7 +37,7 @@ use Rattle.guest_proc.specs.Guests.{GuestPart, ran_at}
 use Rattle.guest_proc.specs.declared.ran.Ran.TheVariants.{Asks as RanAsks, Trapped as RanTrapped, Waits as RanWaits}
 use Rattle.plain_tables.specs.declared.channel.Direction.{Direction}
 use Rattle.sys_abi.specs.declared.identity.Dir.{Dir}
-use Rattle.computation.specs.Turns.{coming, if_missing, signal_for, due_signal, goes_on, goes_on_at}
+use Rattle.trace_log.specs.Turns.{coming, if_missing, signal_for, due_signal, goes_on, goes_on_at}
 use Rattle.computation.specs.Takes.{CanDeliver}
 
 pub part_of : (guests : map.FinMap vpid_cmp GuestPart) (p : VPid) (found : Option GuestPart) → found ≡ map.get guests p

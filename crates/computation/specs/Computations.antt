@@ -13,6 +13,7 @@ use Rattle.sys_abi.specs.declared.identity.Tid.{Tid}
 use Rattle.sys_abi.specs.declared.record.Record.{Record}
 use Rattle.sys_abi.specs.declared.record.Record.TheVariants.{User, Call, Deliver}
 use Rattle.trace_log.specs.Trace.{TraceState}
+use Rattle.trace_log.specs.Turns.{Place, goes_on, stands_in}
 use Rattle.plain_process.specs.declared.user_part.UserPart.{UserPart}
 use Rattle.plain_machine.specs.declared.plain.Plain.{Plain}
 use Rattle.plain_machine.specs.Records.{Users}
@@ -25,8 +26,7 @@ use Rattle.computation.specs.declared.computation.Did.TheVariants as did_was
 use Rattle.computation.specs.declared.computation.Next.{Next}
 use Rattle.computation.specs.declared.computation.Next.TheVariants as next_is
 use Rattle.computation.specs.Parts.{StandsAt}
-use Rattle.computation.specs.Sinks.{Sunk}
-use Rattle.computation.specs.Turns.{Place, goes_on, stands_in}
+use Rattle.edge_io.specs.Sunk.{Sunk}
 use Rattle.computation.specs.Takes.{CanDeliver, Takes, Breaks, IsDueWork}
 
 abbrev pub plain_of : Computation → Plain

@@ -1,21 +1,18 @@
 -- What one record does to a plain state, the trace and the console.
 --     Takes, Breaks     a record on the trace, with its bytes on the console, or a first part of them
 --     IsDueWork         it is work that is due at the place in the rounds
-use Rattle.std.specs.Prelude.{◌≡◌, ℕ, ◌-◌, true, List, [], ◌∷◌, ◌++◌, Some, is_some}
+use Rattle.std.specs.Prelude.{◌≡◌, ℕ, true, List, ◌++◌, Some, is_some}
 use Rattle.sys_abi.specs.declared.identity.VPid.{VPid}
 use Rattle.sys_abi.specs.declared.identity.Tid.{Tid}
 use Rattle.sys_abi.specs.declared.identity.Signal.{Signal}
 use Rattle.sys_abi.specs.declared.record.Record.{Record}
 use Rattle.sys_abi.specs.declared.record.Record.TheVariants.{Deliver}
-use Rattle.trace_log.specs.Trace.{TraceState}
+use Rattle.trace_log.specs.Trace.{TraceState, with_record}
+use Rattle.trace_log.specs.Turns.{Place, is_due_in}
 use Rattle.plain_machine.specs.declared.plain.Plain.{Plain}
 use Rattle.plain_machine.specs.Records.{outcome}
 use Rattle.plain_machine.specs.Tests.{is_work}
-use Rattle.computation.specs.Turns.{Place, is_due_in}
-use Rattle.computation.specs.Sinks.{Sunk, Took, TookFront}
-
-abbrev pub with_record : TraceState → Record → TraceState
-with_record trace r = record { records = trace.records ++ r ∷ []; room = trace.room - 1 }
+use Rattle.edge_io.specs.Sunk.{Sunk, Took, TookFront}
 
 -- the signal is that of the trap at which the thread stands, or it is pending and the thread's mask lets it
 -- through

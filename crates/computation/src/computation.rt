@@ -5,8 +5,8 @@ ghost use Rattle.views.specs.NumberMap.{is_above};
 ghost use Rattle.sys_abi.specs.declared.record.Record.TheVariants as a_record;
 ghost use Rattle.plain_machine.specs.Kernel.{is_live};
 ghost use Rattle.plain_machine.specs.Tests.{ended};
-ghost use Rattle.computation.specs.Sinks.{sunk};
-ghost use Rattle.computation.specs.Turns.{coming, due_signal, goes_on, missing_in, threads_in};
+ghost use Rattle.edge_io.specs.Sunk.{sunk};
+ghost use Rattle.trace_log.specs.Turns.{coming, due_signal, goes_on, missing_in, threads_in};
 ghost use Rattle.computation.specs.Takes.{CanDeliver, Takes};
 
 use crate::looks::{is_idle, signal_due};

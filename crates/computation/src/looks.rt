@@ -9,7 +9,7 @@ ghost use Rattle.plain_machine.specs.Attempts.{Served};
 ghost use Rattle.plain_machine.specs.Records.{Users, is_unready, waits_at};
 ghost use Rattle.plain_machine.specs.Serve.{row};
 ghost use Rattle.wrap_calls.specs.HandedOn.{console_write};
-ghost use Rattle.computation.specs.Turns.{signal_for};
+ghost use Rattle.trace_log.specs.Turns.{signal_for};
 
 use call_table::{Request, is_local};
 use guest_proc::{Guest, Ran};

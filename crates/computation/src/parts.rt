@@ -8,7 +8,7 @@ ghost use Rattle.plain_machine.specs.Kernel.{is_live, has_thread};
 ghost use Rattle.plain_machine.specs.Records.{Users};
 ghost use Rattle.guest_proc.specs.Guests.{HasThread, delivered_by, part_after, ran_at};
 ghost use Rattle.computation.specs.Parts.{delivery_at, kernel_found};
-ghost use Rattle.computation.specs.Sinks.{sunk, Took, TookFront};
+ghost use Rattle.edge_io.specs.Sunk.{sunk, Took, TookFront};
 
 use crate::computation::Stop;
 use crate::looks::is_idle;

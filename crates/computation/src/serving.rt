@@ -14,7 +14,7 @@ ghost use Rattle.plain_tables.specs.Tables.{pid};
 ghost use Rattle.plain_machine.specs.Kernel.{is_live};
 ghost use Rattle.plain_machine.specs.Serve.{serve};
 ghost use Rattle.guest_proc.specs.Guests.{GuestPart, HasThread};
-ghost use Rattle.computation.specs.Sinks.{sunk};
+ghost use Rattle.edge_io.specs.Sunk.{sunk};
 ghost use Rattle.computation.specs.Takes.{Takes, Breaks};
 ghost use Rattle.computation.specs.Parts.{AsksAt, CanAnswer, Grown, Guests, HasServed, Reserved, born_if, given_back, grown_by, is_fork, is_fork_form, left_by, told_as, with_twin};
 

@@ -6,7 +6,7 @@ ghost use Rattle.plain_process.specs.Buffers.{lent};
 ghost use Rattle.plain_process.specs.declared.user_part.UserPart.{UserPart};
 ghost use Rattle.plain_machine.specs.Kernel.{is_live};
 ghost use Rattle.plain_machine.specs.Records.{step};
-ghost use Rattle.computation.specs.Sinks.{sunk};
+ghost use Rattle.edge_io.specs.Sunk.{sunk};
 ghost use Rattle.computation.specs.Takes.{CanDeliver, Takes, Breaks};
 ghost use Rattle.computation.specs.Parts.{AsksAt, StandsAt, kernel_after, guests_after};
 

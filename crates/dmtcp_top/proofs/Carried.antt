@@ -13,6 +13,7 @@ use Rattle.std.proofs.Common.{◌≡◌, ◌≢◌, ℕ, ◌<◌, true, List, []
 use Rattle.std.specs.Prelude.{◌⊎◌, IfErr, IfSome, Result, Ok, Err, OnOk, OnErr, is_ok, is_err}
 use Rattle.sys_abi.specs.declared.record.Record.{Record}
 use Rattle.edge_io.specs.Inputs.{NamedFiles}
+use Rattle.edge_io.specs.Sunk.{Sunk, Took}
 use Rattle.disk_folder.specs.Files.{FolderFiles as Folder}
 use Rattle.disk_folder.specs.SeenFolder.{SeenFolder}
 use Rattle.trace_log.specs.declared.requests.Schedule.{Schedule}
@@ -27,7 +28,6 @@ use Rattle.job_words.specs.declared.job.Job.{Job}
 use Rattle.job_words.specs.declared.job.LaunchJob.{LaunchJob}
 use Rattle.job_words.specs.declared.job.Job.TheVariants.{Launch, Restart, Ring, Help}
 use Rattle.job_words.proofs.JobFacts.{launch_every, restart_every}
-use Rattle.computation.specs.Sinks.{Sunk, Took}
 use Rattle.drive.specs.HandedOn.{GoesInRounds, RunEnd, EndsRun, KernelAtEnd}
 use Rattle.drive.specs.RunEndVariants.{Done as RunDone, Budget as RunBudget, Stuck as RunStuck, SinkFault as RunSinkFault, Memory as RunMemory}
 use Rattle.drive.specs.declared.run_status.RunStatus.{RunStatus}

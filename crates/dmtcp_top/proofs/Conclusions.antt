@@ -2,6 +2,7 @@
 use Rattle.std.specs.Prelude.{◌⊎◌}
 use Rattle.std.proofs.Common.{◌≡◌, ◌≢◌, ℕ, zero, suc, List, [], ◌++◌, take, Option, inl, inr, refl, sym, ap, subst, ◌∙◌, append-nil}
 use Rattle.edge_io.specs.Sink.{appended}
+use Rattle.edge_io.specs.Sunk.{Sunk, sunk, Took, TookFront}
 use Rattle.sys_abi.specs.declared.record.Record.{Record}
 use Rattle.plain_machine.specs.declared.plain.Plain.{Plain}
 use Rattle.trace_log.specs.LogText.{log_text}
@@ -10,7 +11,6 @@ use Rattle.endings.specs.declared.status.Status.TheVariants.{SinkFault as IsSink
 use Rattle.endings.specs.declared.ending.Ending.{Ending}
 use Rattle.endings.specs.declared.ending.Ending.TheVariants.{Done, Usage, InputFault, Missing, BadElf, TooBig, SinkFault, DiskFault, NoSet, Damaged, Budget, Stuck, Memory}
 use Rattle.endings.specs.Log.{memory_line}
-use Rattle.computation.specs.Sinks.{Sunk, sunk, Took, TookFront}
 use Rattle.dmtcp_top.specs.Sessions.{Session}
 use Rattle.drive.specs.HandedOn.{StopsAtRecord, LinesOf, CutLines}
 use Rattle.dmtcp_top.specs.Ends.{Ends, Reaches, SinkFailed, LogFailed, Stopped, CallKeepsPace}

@@ -2,6 +2,7 @@
 use Rattle.std.proofs.Common.{◌≡◌, ◌≢◌, ℕ, List, Option, Some, None, IfSome, inl, inr, refl, sym, ap, subst, ◌∙◌}
 use Rattle.std.specs.Prelude.{◌↔◌}
 use Rattle.edge_io.specs.Inputs.{NamedFiles}
+use Rattle.edge_io.specs.Sunk.{Sunk}
 use Rattle.disk_folder.specs.Files.{FolderFiles as Folder}
 use Rattle.plain_machine.specs.declared.plain.Plain.{Plain}
 use Rattle.image_format.specs.declared.damage.Damage.{Damage}
@@ -17,7 +18,6 @@ use Rattle.endings.specs.declared.status.Status.TheVariants.{Done, Usage, InputF
 use Rattle.dmtcp_top.specs.Jobs.{Asks, AskNothing, AskSomething}
 use Rattle.launch_start.specs.JobInputs.{JobInputs, Refusal, missing, bad, too_big, IsMissing, IsBad, IsTooBig, AreInputs, first_refusal, inputs_in}
 use Rattle.drive.specs.HandedOn.{SpellsSet, SpoilsSet}
-use Rattle.computation.specs.Sinks.{Sunk}
 use Rattle.dmtcp_top.specs.Sessions.{Session}
 use Rattle.dmtcp_top.specs.Launches.{LaunchAsked, RestartAsked, Begun}
 use Rattle.dmtcp_top.specs.Launches.Begun.{ByLaunch, ByRestart}

@@ -20,7 +20,7 @@ use Rattle.plain_machine.specs.Records.{Outcome, QUANTUM, outcome, outcome_of_us
 use Rattle.plain_process.specs.Steps.{UserStep, Stepped, Asks, Trapped, Waits, NoThread, stepped, user_step, user_steps}
 use Rattle.plain_process.proofs.Giving.{Giving, gives, nothing, where_, then_}
 use Rattle.plain_process.proofs.StepsInRow.{steps_stopped}
-use Rattle.computation.specs.Turns.{Place, Due, Arrival, InTurn, is_turn_of, traps_in, is_due_signal, is_due_in, is_due_at, is_arrival, is_same_dir, is_all_missing, missing_in}
+use Rattle.trace_log.specs.Turns.{Place, Due, Arrival, InTurn, is_turn_of, traps_in, is_due_signal, is_due_in, is_due_at, is_arrival, is_same_dir, is_all_missing, missing_in}
 use Rattle.drive.proofs.HandedOn.{left_true, right_true}
 
 -- the record is of the thread whose turn it is: it runs, its call is served, or this signal is delivered to it

@@ -17,7 +17,7 @@ use Rattle.disk_folder.specs.Crash.{Same}
 use Rattle.disk_folder.proofs.Stretches.{joins, weakens, told_then}
 use Rattle.sys_abi.specs.declared.identity.VPid.{VPid}
 use Rattle.guest_proc.specs.Guests.{GuestPart}
-use Rattle.computation.proofs.States.{Guests, seen}
+use Rattle.launch_start.proofs.HandedOn.{Guests, seen}
 use Rattle.trace_log.specs.declared.requests.Schedule.{Schedule}
 use Rattle.disk_folder.specs.SeenFolder.{SeenFolder}
 use Rattle.dmtcp_top.specs.Sessions.{Beginning}

@@ -25,14 +25,14 @@ use Rattle.trace_log.specs.declared.requests.Schedule.{Schedule}
 use Rattle.trace_log.specs.declared.requests.Tally.{Tally}
 use Rattle.trace_log.specs.Requests.{Requests, Phase, NoRequest, Requested, AfterCut, asks, is_mark, is_multiple_of, next_requests, phase_after, tally_after}
 use Rattle.trace_log.proofs.RequestMarks.{has_no_marks, is_each_without_marks}
-use Rattle.computation.specs.Turns.{Place, Arrival, InTurn, Upcoming, due_signal, turn_of, turn_with, NewRound, After, threads_in, first_thread, first_turn, coming, round_of, round_from, new_round, next_turn, same_turn, stands_in, goes_on, due_at, is_due_at}
+use Rattle.trace_log.specs.Turns.{Place, Arrival, InTurn, Upcoming, due_signal, turn_of, turn_with, NewRound, After, threads_in, first_thread, first_turn, coming, round_of, round_from, new_round, next_turn, same_turn, stands_in, goes_on, due_at, is_due_at}
 use Rattle.drive.specs.HandedOn.{Standing, GoesInRounds, is_due, is_first_arrival, is_due_for_cut, request_waits, moved, moved_by, standing_after, each_is_due, first_standing, RunEnd, IsRun, RanOut, EndsRun}
 use Rattle.drive.specs.RunEndVariants.{Done as RunDone, Budget as RunBudget, Stuck as RunStuck, SinkFault as RunSinkFault, Memory as RunMemory}
 use Rattle.job_words.specs.declared.job.Job.TheVariants.{Launch, Restart}
 use Rattle.dmtcp_top.specs.Jobs.{NameNoEvery}
 use Rattle.dmtcp_top.specs.Launches.{Begun, origin, schedule_in, beginning}
 use Rattle.dmtcp_top.specs.Launches.Begun.{ByLaunch, ByRestart}
-use Rattle.computation.specs.Sinks.{Sunk, Took}
+use Rattle.edge_io.specs.Sunk.{Sunk, Took}
 use Rattle.dmtcp_top.specs.Sessions.{Session, Given, Beginning}
 use Rattle.dmtcp_top.specs.Ends.{CameTo, CallGoesInRounds}
 use Rattle.dmtcp_top.specs.OneOrder.{work_in, steps_in, OneOrder, OneTrace, EndsThere, OneEnd, OneEnding, EndsSo, OneAnswer, BeganWith, RunsToEnd, no_checkpoints, ComesToRest, IsAnswer}

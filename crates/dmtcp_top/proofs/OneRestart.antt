@@ -14,7 +14,7 @@ use Rattle.dmtcp_top.specs.declared.settings.Settings.{Settings}
 use Rattle.endings.specs.declared.status.Status.{Status}
 use Rattle.endings.specs.declared.status.Status.TheVariants.{Done, Budget, Stuck, Memory}
 use Rattle.dmtcp_top.specs.Jobs.{settings_of}
-use Rattle.computation.specs.Sinks.{Sunk}
+use Rattle.edge_io.specs.Sunk.{Sunk}
 use Rattle.dmtcp_top.specs.Sessions.{Session}
 use Rattle.dmtcp_top.specs.Launches.{RestartAsked, Begun, origin, settings_in, opening_in, schedule_of}
 use Rattle.dmtcp_top.specs.Launches.Begun.{ByLaunch, ByRestart}

@@ -9,6 +9,7 @@ use Rattle.views.proofs.FaultCounts.{Rose-after}
 use Rattle.sys_abi.specs.declared.record.Record.{Record}
 use Rattle.plain_machine.specs.declared.kernel.PlainKernel.{PlainKernel}
 use Rattle.edge_io.specs.Sink.{SeenSink}
+use Rattle.edge_io.specs.Sunk.{sunk}
 use Rattle.option_words.specs.Options.{Text}
 use Rattle.endings.specs.declared.status.Status.{Status}
 use Rattle.endings.specs.declared.status.Status.TheVariants.{Done as IsDone, Usage as IsUsage, InputFault, SinkFault, DiskFault, Memory as IsMemory}
@@ -19,7 +20,6 @@ use Rattle.dmtcp_top.specs.Endings.{ComesToEnd, IsCarriedOut, ending_in}
 use Rattle.dmtcp_top.specs.Loads.{RefusesWords}
 use Rattle.dmtcp_top.specs.Promise.{IsPromised}
 use Rattle.dmtcp_top.specs.Sessions.{Outside, InputsFailed, StreamsFailed, FolderFailed, outside, session_in}
-use Rattle.computation.specs.Sinks.{sunk}
 use Rattle.dmtcp_top.proofs.Arrivals.{words_refused, unbegun_paced}
 use Rattle.dmtcp_top.proofs.Conclusions.{call_ends, call_keeps_pace, status_kept}
 use Rattle.dmtcp_top.proofs.Decisions.{words_decide, inputs_decide, decided}

@@ -7,6 +7,7 @@ use Rattle.views.specs.Faults.{Rose}
 use Rattle.sys_abi.specs.declared.record.Record.{Record}
 use Rattle.edge_io.specs.Inputs.{SeenInputs}
 use Rattle.edge_io.specs.Sink.{SeenSink}
+use Rattle.edge_io.specs.Sunk.{sunk}
 use Rattle.disk_folder.specs.SeenFolder.{SeenFolder}
 use Rattle.option_words.specs.Options.{Text}
 use Rattle.job_words.specs.declared.job.Job.TheVariants.{Ring, Help}
@@ -16,7 +17,6 @@ use Rattle.endings.specs.declared.status.Status.TheVariants.{SinkFault as IsSink
 use Rattle.endings.specs.declared.ending.Ending.{Ending}
 use Rattle.endings.specs.declared.ending.Ending.TheVariants.{Done, Usage, InputFault, Missing, BadElf, TooBig, SinkFault, DiskFault, NoSet, Damaged, Budget, Stuck, Memory}
 use Rattle.endings.specs.Endings.{status_of, Concludes}
-use Rattle.computation.specs.Sinks.{sunk}
 use Rattle.dmtcp_top.specs.Jobs.{Asks}
 use Rattle.dmtcp_top.specs.Loads.{RefusesWords}
 use Rattle.dmtcp_top.specs.Ring.{IsRing}

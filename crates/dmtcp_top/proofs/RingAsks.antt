@@ -5,6 +5,7 @@
 use Rattle.std.proofs.Common.{◌≡◌, List, [], None, inl, refl, ◌∙◌}
 use Rattle.sys_abi.specs.declared.record.Record.{Record}
 use Rattle.edge_io.specs.Sink.{SeenSink}
+use Rattle.edge_io.specs.Sunk.{sunk}
 use Rattle.disk_folder.specs.SeenFolder.{SeenFolder}
 use Rattle.option_words.specs.Options.{Text}
 use Rattle.job_words.specs.declared.job.Job.TheVariants.{Launch, Restart, Ring}
@@ -16,7 +17,6 @@ use Rattle.job_words.specs.Jobs.{IsLaunchOf, IsRestartOf}
 use Rattle.endings.specs.declared.status.Status.TheVariants.{Memory as IsMemory}
 use Rattle.endings.specs.declared.ending.Ending.TheVariants.{Memory}
 use Rattle.endings.specs.Log.{memory_line}
-use Rattle.computation.specs.Sinks.{sunk}
 use Rattle.drive.proofs.HandedOn.{took_nothing}
 use Rattle.ring_demo.specs.RingJobs.{launch_of, launch_settings, members, restart_of, restart_settings}
 use Rattle.ring_demo.proofs.RingBounds.{ring_bounds}

@@ -9,6 +9,7 @@ use Rattle.views.proofs.FaultCounts.{Rose-after}
 use Rattle.sys_abi.specs.declared.record.Record.{Record}
 use Rattle.edge_io.specs.Inputs.{SeenInputs}
 use Rattle.edge_io.specs.Sink.{SeenSink, appended}
+use Rattle.edge_io.specs.Sunk.{Sunk, sunk, Took, TookFront}
 use Rattle.disk_folder.specs.SeenFolder.{SeenFolder}
 use Rattle.trace_log.specs.LogText.{log_text}
 use Rattle.job_words.specs.declared.job.RingJob.{RingJob}
@@ -18,7 +19,6 @@ use Rattle.endings.specs.declared.ending.Ending.{Ending}
 use Rattle.endings.specs.declared.ending.Ending.TheVariants.{Done, Usage, InputFault, Missing, BadElf, TooBig, SinkFault, DiskFault, NoSet, Damaged, Budget, Stuck, Memory}
 use Rattle.endings.specs.Endings.{status_of, line_of, Concludes}
 use Rattle.endings.specs.Log.{done_line}
-use Rattle.computation.specs.Sinks.{Sunk, sunk, Took, TookFront}
 use Rattle.drive.proofs.HandedOn.{took_both, took_then}
 use Rattle.dmtcp_top.specs.Sessions.{StreamsFailed, FolderFailed, outside}
 use Rattle.dmtcp_top.specs.Ring.{RingCall, RingEnded, RingEnds, RingCutOff, IsRing, call_of}

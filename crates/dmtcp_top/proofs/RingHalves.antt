@@ -6,6 +6,7 @@ use Rattle.std.proofs.Common.{◌≡◌, ◌≢◌, ℕ, List, [], take, Option,
 use Rattle.std.specs.Prelude.{IfSome, codes}
 use Rattle.sys_abi.specs.declared.record.Record.{Record}
 use Rattle.edge_io.specs.Sink.{SeenSink, appended}
+use Rattle.edge_io.specs.Sunk.{Sunk, sunk, Took, TookFront}
 use Rattle.disk_folder.specs.Files.{FolderFiles as Folder}
 use Rattle.disk_folder.specs.SeenFolder.{SeenFolder}
 use Rattle.plain_machine.specs.declared.plain.Plain.{Plain}
@@ -24,7 +25,6 @@ use Rattle.endings.specs.declared.ending.Ending.TheVariants.{Done, Usage, InputF
 use Rattle.endings.specs.Endings.{status_of, line_of}
 use Rattle.endings.specs.Log.{done_line, missing_line, bad_program_line, too_big_line, memory_line}
 use Rattle.launch_start.specs.JobInputs.{missing, bad, too_big, first_refusal, inputs_in}
-use Rattle.computation.specs.Sinks.{Sunk, sunk, Took, TookFront}
 use Rattle.drive.proofs.HandedOn.{took_both, took_front}
 use Rattle.drive.specs.HandedOn.{IsRun, RanOut, ShownInPart}
 use Rattle.ring_demo.specs.RingJobs.{launch_of, restart_of, ring_files}

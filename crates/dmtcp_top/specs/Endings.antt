@@ -15,7 +15,7 @@ use Rattle.endings.specs.declared.ending.Ending.{Ending}
 use Rattle.endings.specs.declared.ending.Ending.TheVariants.{Done, SinkFault, Budget, Stuck, Memory}
 use Rattle.endings.specs.Log.{memory_line}
 use Rattle.endings.specs.Endings.{status_of, line_of}
-use Rattle.computation.specs.Sinks.{Sunk, Took, TookFront}
+use Rattle.edge_io.specs.Sunk.{Sunk, Took, TookFront}
 use Rattle.drive.specs.HandedOn.{RunEnd, KernelAtEnd, LinesOf}
 use Rattle.drive.specs.RunEndVariants as run_ended
 use Rattle.dmtcp_top.specs.Sessions.{Session, Beginning, Outside, session_in, log_in}

@@ -12,6 +12,7 @@ use Rattle.views.specs.Numbers.{Byte}
 use Rattle.sys_abi.specs.declared.record.Record.{Record}
 use Rattle.elf32.specs.declared.fault.ElfFault.{ElfFault}
 use Rattle.edge_io.specs.Inputs.{NamedFiles}
+use Rattle.edge_io.specs.Sunk.{Sunk, Took, TookFront}
 use Rattle.disk_folder.specs.Files.{FolderFiles as Folder}
 use Rattle.plain_machine.specs.declared.plain.Plain.{Plain}
 use Rattle.image_format.specs.declared.damage.Damage.{Damage}
@@ -24,7 +25,6 @@ use Rattle.option_words.specs.Options.{Text}
 use Rattle.dmtcp_top.specs.Jobs.{AskNothing, AskSomething}
 use Rattle.launch_start.specs.JobInputs.{Refusal, unread, missing, bad, too_big, JobInputs, IsMissing, IsBad, IsTooBig, IsFirstRefusal, AreLoaded, first_refusal, inputs_in}
 use Rattle.endings.specs.Log.{done_line, usage_line, input_fault_line, missing_line, bad_program_line, too_big_line, disk_fault_line, no_set_line, damaged_line, budget_line, stuck_line, memory_line}
-use Rattle.computation.specs.Sinks.{Sunk, Took, TookFront}
 use Rattle.dmtcp_top.specs.Sessions.{Given, Beginning, Session}
 use Rattle.drive.specs.HandedOn.{TookThen, SpellsSet, SpoilsSet, GoesInRounds, RanOut, FilledUp, GotStuck, Shown, ShownInPart, CutLines, StopsAtRecord}
 use Rattle.dmtcp_top.specs.Launches.{LaunchAsked, RestartAsked, Begun, origin, settings_in, schedule_in, beginning}

@@ -6,7 +6,7 @@ use Rattle.sys_abi.specs.declared.record.Record.{Record}
 use Rattle.endings.specs.declared.status.Status.{Status}
 use Rattle.endings.specs.declared.status.Status.TheVariants.{Done, SinkFault}
 use Rattle.endings.specs.Log.{line, done_line}
-use Rattle.computation.specs.Sinks.{Sunk, sunk, Took, TookFront}
+use Rattle.edge_io.specs.Sunk.{Sunk, sunk, Took, TookFront}
 use Rattle.dmtcp_top.specs.Sessions.{Outside, StreamsFailed, log_in}
 
 abbrev pub help_text : List ℕ

@@ -27,15 +27,15 @@ use Rattle.plain_process.specs.Valid.{IsByte}
 use Rattle.plain_machine.specs.Valid.{IsValid}
 use Rattle.trace_log.specs.declared.requests.Schedule.{Schedule}
 use Rattle.trace_log.specs.Requests.{is_mark}
+use Rattle.trace_log.specs.Turns.{new_round}
 use Rattle.disk_folder.specs.Files.{FolderFiles as Folder}
 use Rattle.endings.specs.declared.status.Status.{Status}
 use Rattle.endings.specs.declared.status.Status.TheVariants.{Done, Budget, Stuck, Memory as WantsMemory}
 use Rattle.dmtcp_top.specs.Jobs.{NameNoEvery}
 use Rattle.dmtcp_top.specs.Launches.{RestartAsked}
 use Rattle.drive.specs.HandedOn.{SpellsState, SpellsSet, GoesInRounds, RunEnd, IsRun, RanOut, EndsRun}
-use Rattle.computation.specs.Turns.{new_round}
 use Rattle.drive.specs.RunEndVariants.{Done as Ended, SinkFault, Memory}
-use Rattle.computation.specs.Sinks.{Sunk, Took}
+use Rattle.edge_io.specs.Sunk.{Sunk, Took}
 use Rattle.dmtcp_top.specs.Sessions.{Beginning, Session}
 use Rattle.dmtcp_top.specs.Ends.{Ends, IsDecided, CallGoesInRounds}
 

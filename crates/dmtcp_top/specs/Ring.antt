@@ -15,7 +15,7 @@ use Rattle.endings.specs.declared.status.Status.TheVariants.{Done, Usage, InputF
 use Rattle.endings.specs.Log.{done_line}
 use Rattle.job_words.specs.declared.job.RingJob.{RingJob}
 use Rattle.job_words.specs.Commands.{words_of_command}
-use Rattle.computation.specs.Sinks.{Sunk, sunk, Took, TookFront}
+use Rattle.edge_io.specs.Sunk.{Sunk, sunk, Took, TookFront}
 use Rattle.drive.specs.HandedOn.{TookThen, RanOut, ShownInPart}
 use Rattle.ring_demo.specs.RingJobs.{launch_of, restart_of, ring_files}
 use Rattle.ring_demo.specs.Values.{content_named, summary}

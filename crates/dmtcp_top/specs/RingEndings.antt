@@ -7,6 +7,7 @@
 use Rattle.std.specs.Prelude.{◌≡◌, ◌⊎◌, ℕ, List, [], codes, Some, None, Result, Ok, Err, IfSome}
 use Rattle.sys_abi.specs.declared.record.Record.{Record}
 use Rattle.edge_io.specs.Sink.{SeenSink}
+use Rattle.edge_io.specs.Sunk.{Sunk, Took, TookFront}
 use Rattle.disk_folder.specs.SeenFolder.{SeenFolder}
 use Rattle.plain_machine.specs.declared.plain.Plain.{Plain}
 use Rattle.plain_machine.specs.Runs.{run}
@@ -25,7 +26,6 @@ use Rattle.endings.specs.declared.ending.Ending.{Ending}
 use Rattle.endings.specs.declared.ending.Ending.TheVariants.{Done, SinkFault, Memory}
 use Rattle.endings.specs.Endings.{status_of, line_of}
 use Rattle.endings.specs.Log.{done_line}
-use Rattle.computation.specs.Sinks.{Sunk, Took, TookFront}
 use Rattle.drive.specs.HandedOn.{RanOut}
 use Rattle.ring_demo.specs.RingJobs.{launch_of, launch_settings, members, restart_of, ring_files}
 use Rattle.ring_demo.specs.Values.{content_named}

@@ -6,11 +6,11 @@ use Rattle.sys_abi.specs.declared.record.Record.{Record}
 use Rattle.views.specs.Faults.{Rose}
 use Rattle.edge_io.specs.Inputs.{NamedFiles, SeenInputs}
 use Rattle.edge_io.specs.Sink.{SeenSink}
+use Rattle.edge_io.specs.Sunk.{Sunk, sunk}
 use Rattle.disk_folder.specs.Files.{FolderFiles as Folder}
 use Rattle.disk_folder.specs.SeenFolder.{SeenFolder}
 use Rattle.plain_machine.specs.declared.plain.Plain.{Plain}
 use Rattle.trace_log.specs.declared.requests.Schedule.{Schedule}
-use Rattle.computation.specs.Sinks.{Sunk, sunk}
 
 -- what a call was given: the words of the command line, and the files that the inputs hold and those that the
 -- folder of sets had at the start, where they tell them

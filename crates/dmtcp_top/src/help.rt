@@ -1,6 +1,6 @@
 ghost use Rattle.std.specs.Prelude.{◌≡◌, ◌⊎◌};
 ghost use Rattle.views.specs.Faults.{Rose};
-ghost use Rattle.computation.specs.Sinks.{sunk};
+ghost use Rattle.edge_io.specs.Sunk.{sunk};
 ghost use Rattle.dmtcp_top.specs.Help.{HelpEnds};
 
 use edge_io::Sink;

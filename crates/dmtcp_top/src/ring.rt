@@ -1,11 +1,11 @@
 ghost use Rattle.std.specs.Prelude.{◌≡◌, ◌≢◌, ◌≤◌, ◌⊎◌, List, [], None, IfOk, IfErr};
 ghost use Rattle.views.specs.Faults.{Rose};
 ghost use Rattle.edge_io.specs.Inputs.{SeenInputs};
+ghost use Rattle.edge_io.specs.Sunk.{sunk};
 ghost use Rattle.option_words.specs.Options.{Text};
 ghost use Rattle.job_words.specs.declared.job.Job.TheVariants.{Ring};
 ghost use Rattle.job_words.specs.declared.job.RingJob.{RingJob};
 ghost use Rattle.endings.specs.Endings.{status_of};
-ghost use Rattle.computation.specs.Sinks.{sunk};
 ghost use Rattle.ring_demo.specs.Values.{content_named, summary};
 ghost use Rattle.dmtcp_top.specs.Jobs.{Asks, IsOneRun, settings_of};
 ghost use Rattle.dmtcp_top.specs.Loads.{OnlyLooks};

@@ -2,7 +2,7 @@
 --     status_of ending, line_of ending     its status and its last line
 --     Concludes ending status log          the status that it gets when the line has been put
 use Rattle.std.specs.Prelude.{◌≡◌, ℕ, ◌⊎◌, List, []}
-use Rattle.computation.specs.Sinks.{Sunk, Took, TookFront}
+use Rattle.edge_io.specs.Sunk.{Sunk, Took, TookFront}
 use Rattle.endings.specs.declared.status.Status.{Status}
 use Rattle.endings.specs.declared.status.Status.TheVariants.{Done as IsDone, Usage as IsUsage, InputFault as IsInputFault, Missing as IsMissing, BadElf as IsBadElf, TooBig as IsTooBig, SinkFault as IsSinkFault, DiskFault as IsDiskFault, NoSet as IsNoSet, Damaged as IsDamaged, Budget as IsBudget, Stuck as IsStuck, Memory as IsMemory}
 use Rattle.endings.specs.declared.ending.Ending.{Ending}

@@ -3,3 +3,4 @@ pub mod Refusals
 pub mod JobInputs
 pub mod JobStarts
 pub mod JobNames
+pub mod HandedOn

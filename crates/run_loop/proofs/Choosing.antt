@@ -17,11 +17,10 @@ use Rattle.trace_log.specs.declared.requests.Tally.{Tally}
 use Rattle.trace_log.specs.Trace.{TraceState}
 use Rattle.trace_log.specs.Requests.{Requests, IsAnswered}
 use Rattle.trace_log.proofs.RequestCounts.{counts_work}
-use Rattle.computation.specs.declared.computation.Did.{Did}
-use Rattle.computation.specs.declared.computation.Did.TheVariants.{Delivered, Served, Ran}
-use Rattle.computation.specs.Computations.{plain_of, IsDid}
-use Rattle.computation.specs.Sinks.{Sunk}
-use Rattle.computation.specs.Turns.{Upcoming, due_at, new_round}
+use Rattle.trace_log.specs.Turns.{Upcoming, due_at, new_round}
+use Rattle.scheduler.specs.HandedOn.{Did, plain_of, IsDid}
+use Rattle.scheduler.specs.DidVariants.{Delivered, Served, Ran}
+use Rattle.edge_io.specs.Sunk.{Sunk}
 use Rattle.scheduler.specs.declared.rounds.Chosen.{Chosen}
 use Rattle.scheduler.specs.declared.rounds.Come.{Come}
 use Rattle.scheduler.specs.declared.rounds.Come.TheVariants as has_come

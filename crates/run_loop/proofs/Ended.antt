@@ -9,6 +9,7 @@ use Rattle.std.specs.Prelude.{◌⊎◌}
 use Rattle.std.proofs.Math.Seq.{take-append-add}
 use Rattle.sys_abi.specs.declared.record.Record.{Record}
 use Rattle.edge_io.specs.Sink.{appended}
+use Rattle.edge_io.specs.Sunk.{Sunk, Took, TookFront}
 use Rattle.disk_folder.specs.SeenFolder.{SeenFolder}
 use Rattle.plain_machine.specs.declared.plain.Plain.{Plain}
 use Rattle.plain_machine.specs.Runs.{console}
@@ -18,10 +19,9 @@ use Rattle.trace_log.specs.Trace.{TraceState}
 use Rattle.trace_log.specs.Requests.{IsAnswered}
 use Rattle.trace_log.specs.LogText.{at_start as log_start, after_all, line_of, log_text}
 use Rattle.trace_log.proofs.LogLines.{log_grows}
-use Rattle.computation.specs.declared.computation.Stop.{Stop}
-use Rattle.computation.specs.declared.computation.Stop.TheVariants.{Sink, Memory}
-use Rattle.computation.specs.Sinks.{Sunk, Took, TookFront}
-use Rattle.computation.specs.Turns.{Upcoming}
+use Rattle.trace_log.specs.Turns.{Upcoming}
+use Rattle.scheduler.specs.HandedOn.{Stop}
+use Rattle.scheduler.specs.StopVariants.{Sink, Memory}
 use Rattle.checkpointer.specs.declared.checkpointer.Checkpointer.{Checkpointer}
 use Rattle.checkpointer.specs.Pace.{CutLines}
 use Rattle.checkpointer.specs.Running.{IsRunning}

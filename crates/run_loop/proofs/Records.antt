@@ -13,8 +13,8 @@ use Rattle.trace_log.specs.declared.requests.Schedule.{Schedule}
 use Rattle.trace_log.specs.Trace.{TraceState}
 use Rattle.trace_log.specs.Requests.{IsAnswered, is_mark, first_requests, next_requests}
 use Rattle.trace_log.proofs.RequestFronts.{runs}
-use Rattle.computation.specs.Sinks.{sunk, TookFront}
-use Rattle.computation.specs.Turns.{Due, Upcoming, After, due_at}
+use Rattle.trace_log.specs.Turns.{Due, Upcoming, After, due_at}
+use Rattle.edge_io.specs.Sunk.{sunk, TookFront}
 use Rattle.scheduler.specs.declared.rounds.Made.{Made}
 use Rattle.scheduler.specs.Scheduling.{Notes, Spoils}
 use Rattle.checkpointer.specs.Pace.{TookThen}

@@ -29,7 +29,7 @@ use Rattle.plain_process.specs.Steps.{UserStep, Stepped, Asks, Trapped, Waits, N
 use Rattle.plain_machine.specs.Records.{Outcome, outcome, step, outcome_of_user, outcome_of_call, outcome_of_ask, outcome_of_signal, outcome_of_pending, deliverable, if_ends}
 use Rattle.plain_machine.specs.Tests.{ended, is_work, all_arrived, full_arrive, has_life, IsStuck}
 use Rattle.plain_machine.specs.Valid.{IsValid}
-use Rattle.computation.specs.Turns.{Place, InTurn, goes_on_at, goes_on, due_signal, signal_for, turn_with, turn_of, threads_in, first_thread, first_turn, if_missing, coming, round_of, new_round, next_turn, same_turn, after_turn, stands_in}
+use Rattle.trace_log.specs.Turns.{Place, InTurn, goes_on_at, goes_on, due_signal, signal_for, turn_with, turn_of, threads_in, first_thread, first_turn, if_missing, coming, round_of, new_round, next_turn, same_turn, after_turn, stands_in}
 use Rattle.run_loop.proofs.Lives.{nobody_lives}
 
 -- no turn follows

@@ -7,8 +7,8 @@ use Rattle.trace_log.specs.declared.log_lines.Progress.{Progress}
 use Rattle.trace_log.specs.Trace.{TraceState}
 use Rattle.trace_log.specs.LogText.{at_start as log_start}
 use Rattle.trace_log.specs.Requests.{IsAnswered, first_tally}
-use Rattle.computation.specs.Sinks.{sunk}
-use Rattle.computation.specs.Turns.{NewRound}
+use Rattle.trace_log.specs.Turns.{NewRound}
+use Rattle.edge_io.specs.Sunk.{sunk}
 use Rattle.checkpointer.specs.declared.checkpointer.Checkpointer.{Checkpointer}
 use Rattle.checkpointer.specs.UnderWay.{IsUnderWay}
 use Rattle.checkpointer.proofs.Running.{running_start}

@@ -15,12 +15,10 @@ use Rattle.plain_machine.specs.declared.plain.Plain.{Plain}
 use Rattle.trace_log.specs.declared.requests.Schedule.{Schedule}
 use Rattle.trace_log.specs.Trace.{TraceState}
 use Rattle.trace_log.specs.Requests.{one_more_work}
-use Rattle.computation.specs.declared.computation.Computation.{Computation}
-use Rattle.computation.specs.declared.computation.Stop.{Stop}
-use Rattle.computation.specs.declared.computation.Stop.TheVariants.{Sink, Memory}
-use Rattle.computation.specs.Computations.{plain_of}
-use Rattle.computation.specs.Sinks.{Sunk, sunk}
-use Rattle.computation.specs.Turns.{Due, Upcoming, After, due_at}
+use Rattle.trace_log.specs.Turns.{Due, Upcoming, After, due_at}
+use Rattle.scheduler.specs.HandedOn.{Computation, Stop, plain_of}
+use Rattle.scheduler.specs.StopVariants.{Sink, Memory}
+use Rattle.edge_io.specs.Sunk.{Sunk, sunk}
 use Rattle.scheduler.specs.declared.rounds.Come.{Come}
 use Rattle.scheduler.specs.declared.rounds.Chosen.{Chosen}
 use Rattle.scheduler.specs.declared.rounds.Chosen.TheVariants as to_do

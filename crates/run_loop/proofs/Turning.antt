@@ -10,6 +10,7 @@ use Rattle.sys_abi.specs.declared.identity.Dir.{Dir}
 use Rattle.sys_abi.specs.declared.record.Record.{Record}
 use Rattle.sys_abi.specs.declared.record.Record.TheVariants.{User, Call, Deliver, Arrive, Cut, Drained, Refilled, Complete, Refused, Lapsed}
 use Rattle.edge_io.specs.Sink.{appended}
+use Rattle.edge_io.specs.Sunk.{Sunk, sunk, Took}
 use Rattle.disk_folder.specs.SeenFolder.{SeenFolder}
 use Rattle.plain_machine.specs.declared.plain.Plain.{Plain}
 use Rattle.plain_machine.specs.Tests.{is_work}
@@ -19,8 +20,7 @@ use Rattle.trace_log.specs.Trace.{TraceState}
 use Rattle.trace_log.specs.LogText.{at_start as log_start, after_all, log_text}
 use Rattle.trace_log.specs.Requests.{Requests, Phase, NoRequest, Requested, IsAnswered, is_mark, one_more_work, tally_after, asks, phase_after, next_requests}
 use Rattle.trace_log.proofs.LogLines.{log_grows}
-use Rattle.computation.specs.Sinks.{Sunk, sunk, Took}
-use Rattle.computation.specs.Turns.{Due, Arrival, Upcoming, After, coming, due_at, is_due_at}
+use Rattle.trace_log.specs.Turns.{Due, Arrival, Upcoming, After, coming, due_at, is_due_at}
 use Rattle.scheduler.specs.declared.rounds.Come.{Come}
 use Rattle.scheduler.specs.declared.rounds.Come.TheVariants as has_come
 use Rattle.scheduler.specs.declared.rounds.Made.{Made}

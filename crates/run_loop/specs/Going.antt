@@ -10,11 +10,10 @@ use Rattle.plain_machine.specs.declared.plain.Plain.{Plain}
 use Rattle.trace_log.specs.declared.requests.Schedule.{Schedule}
 use Rattle.trace_log.specs.Trace.{TraceState}
 use Rattle.trace_log.specs.Requests.{IsAnswered}
-use Rattle.computation.specs.declared.computation.Stop.{Stop}
-use Rattle.computation.specs.declared.computation.Stop.TheVariants as stopped_by
-use Rattle.computation.specs.Computations.{plain_of}
-use Rattle.computation.specs.Sinks.{Sunk}
-use Rattle.computation.specs.Turns.{Upcoming, due_at}
+use Rattle.trace_log.specs.Turns.{Upcoming, due_at}
+use Rattle.scheduler.specs.HandedOn.{Stop, plain_of}
+use Rattle.scheduler.specs.StopVariants as stopped_by
+use Rattle.edge_io.specs.Sunk.{Sunk}
 use Rattle.scheduler.specs.declared.rounds.Chosen.{Chosen}
 use Rattle.scheduler.specs.declared.rounds.Rounds.{Rounds}
 use Rattle.scheduler.specs.Scheduling.{IsCome, chosen}

@@ -5,6 +5,6 @@ unfoldable pub use Rattle.checkpointer.specs.Rounds.{each_is_due}
 pub use Rattle.checkpointer.specs.Pace.{TookThen, CutLines}
 pub use Rattle.checkpointer.specs.Sets.{SpellsSet, SpoilsSet, SpellsState, opening_of}
 pub use Rattle.checkpointer.specs.declared.checkpointer.Checkpointer.{Checkpointer}
-pub use Rattle.computation.specs.Sinks.{sunk}
-pub use Rattle.computation.specs.Computations.{plain_of, IsReady}
-pub use Rattle.computation.specs.Turns.{NewRound}
+pub use Rattle.edge_io.specs.Sunk.{sunk}
+pub use Rattle.scheduler.specs.HandedOn.{plain_of, IsReady}
+pub use Rattle.trace_log.specs.Turns.{NewRound}

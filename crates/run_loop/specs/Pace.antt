@@ -13,7 +13,7 @@ use Rattle.plain_machine.specs.Tests.{is_work}
 use Rattle.trace_log.specs.LogText.{log_text}
 use Rattle.run_loop.specs.declared.run_end.RunEnd.{RunEnd}
 use Rattle.run_loop.specs.declared.run_end.RunEnd.TheVariants.{SinkFault, Memory}
-use Rattle.computation.specs.Sinks.{Sunk, Took}
+use Rattle.edge_io.specs.Sunk.{Sunk, Took}
 use Rattle.checkpointer.specs.Pace.{CutLines, TookThen}
 
 -- the trace ends with a record of work, and the console took what those before it write and a first part of

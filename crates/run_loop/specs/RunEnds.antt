@@ -3,8 +3,8 @@
 --     EndsRun end schedule g room trace ..   how it ended, what the console took, and the log of the lines
 --                                            for the checkpoints
 --     KernelAtEnd g trace kernel             the kernel part at the end of the run is this one
---     EndsAt end g trace state               the state that is left is that at the end of the run; where the
---                                            console failed its kernel part is, and an answer may not be put
+--     EndsAt end g trace state               the state that is left is that at the end of the run; where a sink
+--                                            failed its kernel part is, and an answer may not be put
 use Rattle.std.specs.Prelude.{◌≡◌, ◌⊎◌, ℕ, ◌≤◌, ◌<◌, true, false, List, length, Some}
 use Rattle.sys_abi.specs.declared.record.Record.{Record}
 use Rattle.plain_machine.specs.declared.kernel.PlainKernel.{PlainKernel}
@@ -16,7 +16,7 @@ use Rattle.trace_log.specs.Requests.{Requests, RunsTo, IsAnswered}
 use Rattle.trace_log.specs.LogText.{log_text}
 use Rattle.run_loop.specs.declared.run_end.RunEnd.{RunEnd}
 use Rattle.run_loop.specs.declared.run_end.RunEnd.TheVariants.{Done, Budget, Stuck, SinkFault, Memory}
-use Rattle.computation.specs.Sinks.{Sunk, Took, TookFront}
+use Rattle.edge_io.specs.Sunk.{Sunk, Took, TookFront}
 
 -- each record is a step of the plain machine, requests are made and answered as the schedule asks, and there
 -- are no more records than there is room for

@@ -7,9 +7,9 @@
 //! marks of each checkpoint in place; how it ended is told as it is, and nobody can go on where it says so;
 //! the console took what the run writes and the log its lines, where neither failed; where one did, or memory
 //! was wanted, nothing is missing but a part of what belongs to the last record; the computation that is left
-//! stands for the state at the end of the run, or, where the console failed, for that state's kernel part; a
-//! crash at any moment leaves the set that counted before, or one of a cut of this run. Not claimed: that
-//! memory is there.
+//! stands for the state at the end of the run, or, where a sink failed, for that state's kernel part; a crash
+//! at any moment leaves the set that counted before, or one of a cut of this run. Not claimed: that memory is
+//! there.
 #![tactic(auto)]
 
 pub mod run;
@@ -17,6 +17,6 @@ pub mod run_end;
 pub mod start;
 
 pub use checkpointer::{Checkpointer, restored};
-pub use computation::{Computation, Wrapped};
 pub use run_end::RunEnd;
+pub use scheduler::{Computation, Wrapped};
 pub use start::Start;

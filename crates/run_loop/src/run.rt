@@ -4,8 +4,8 @@ ghost use Rattle.plain_machine.specs.declared.plain.Plain.{Plain};
 ghost use Rattle.trace_log.specs.declared.requests.Schedule.{Schedule};
 ghost use Rattle.trace_log.specs.LogText.{at_start};
 ghost use Rattle.trace_log.specs.Requests.{first_tally};
-ghost use Rattle.computation.specs.Computations.{plain_of, IsReady};
-ghost use Rattle.computation.specs.Sinks.{sunk};
+ghost use Rattle.scheduler.specs.HandedOn.{plain_of, IsReady};
+ghost use Rattle.edge_io.specs.Sunk.{sunk};
 ghost use Rattle.scheduler.specs.Scheduling.{CanTake, IsToldOf};
 ghost use Rattle.checkpointer.specs.Keeping.{IsKept, IsSafe};
 ghost use Rattle.checkpointer.specs.Rounds.{GoesInRounds};
@@ -15,10 +15,9 @@ ghost use Rattle.run_loop.specs.Going.{IsGoing, IsChosen, HasEnded, end_of};
 
 use crate::run_end::RunEnd;
 use crate::start::Start;
-use computation::Stop;
 use disk_folder::Folder;
 use edge_io::Sink;
-use scheduler::{Chosen, Made, Rounds};
+use scheduler::{Chosen, Made, Rounds, Stop};
 use std::alloc::Global;
 use trace_log::Trace;
 

@@ -1,5 +1,5 @@
 use checkpointer::Checkpointer;
-use computation::Computation;
+use scheduler::Computation;
 
 /// A run at its start: the computation, and what makes its checkpoints.
 #[derive(Drop)]

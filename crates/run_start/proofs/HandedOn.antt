@@ -1,2 +1,2 @@
 -- What is handed on of the libraries below, so that who uses this one need not name them.
-pub use Rattle.computation.proofs.States.{Guests, plain_is}
+pub use Rattle.computation.proofs.States.{Guests, seen, plain_is}

@@ -7,7 +7,7 @@ use Rattle.std.specs.FinMap as map
 use Rattle.std.proofs.lemmas.Grind.{common_steps}
 use Rattle.std.proofs.lemmas.Option.{none-some, same_Some}
 use Rattle.std.proofs.lemmas.List.Elements.{All-append, All-nil}
-use Rattle.plain_machine.specs.Valid.{AreNamed}
+use Rattle.plain_machine.specs.Valid.{AreNamed, IsValid}
 use Rattle.plain_process.specs.Launches.{IsLaunched}
 use Rattle.views.specs.Maps.{map_values}
 use Rattle.views.proofs.MapValues.{get-map_values, map_values-insert}
@@ -34,7 +34,6 @@ use Rattle.computation.specs.Computations.{IsReady}
 use Rattle.computation.proofs.States.{Guests, seen, plain_is}
 use Rattle.run_start.specs.declared.start.Start.{Start}
 use Rattle.run_start.specs.Starts.{CanBegin, IsStart}
-use Rattle.plain_machine.specs.Valid.{IsValid}
 
 pub all_launched : (jobs : List Launched) (job : Launched) → All IsLaunched jobs → IsLaunched job → All IsLaunched (jobs ++ job ∷ [])
 all_launched jobs job all is = All-append IsLaunched jobs (job ∷ []) all one

@@ -9,5 +9,5 @@
 mod listing;
 pub mod start;
 
-pub use computation::{Computation, Wrapped};
+pub use computation::{Computation, Stop, Wrapped};
 pub use start::Start;

@@ -6,7 +6,7 @@ use Rattle.std.specs.FinMap as map
 use Rattle.sys_abi.specs.declared.identity.VPid.{VPid}
 use Rattle.plain_machine.specs.declared.plain.Plain.{Plain}
 use Rattle.plain_process.specs.declared.user_part.UserPart.{UserPart}
-use Rattle.computation.specs.Turns.{Place, Due, InTurn, turn_of, first_thread, first_turn, threads_in}
+use Rattle.trace_log.specs.Turns.{Place, Due, InTurn, turn_of, first_thread, first_turn, threads_in}
 
 module _ (g : Plain) (p : VPid) (processes : List VPid) where
   pub no_thread : first_thread g p processes [] ≡ None

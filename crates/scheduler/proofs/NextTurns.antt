@@ -12,7 +12,7 @@ use Rattle.plain_machine.specs.declared.plain.Plain.{Plain}
 use Rattle.plain_tables.specs.Tables.{pid}
 use Rattle.computation.specs.declared.computation.Did.TheVariants.{Delivered, Served, Ran}
 use Rattle.computation.specs.Computations.{IsDid, first_signal}
-use Rattle.computation.specs.Turns.{Place, Due, Arrival, InTurn, Upcoming, NewRound, After, coming, first_turn, goes_on, round_of, new_round, next_turn, same_turn, after_turn, stands_in, due_at, round_from}
+use Rattle.trace_log.specs.Turns.{Place, Due, Arrival, InTurn, Upcoming, NewRound, After, coming, first_turn, goes_on, round_of, new_round, next_turn, same_turn, after_turn, stands_in, due_at, round_from}
 use Rattle.scheduler.specs.declared.rounds.Rounds.{Rounds}
 use Rattle.scheduler.specs.declared.rounds.Turn.{Turn}
 use Rattle.scheduler.specs.declared.rounds.Come.TheVariants as has_come

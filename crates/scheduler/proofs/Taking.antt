@@ -8,13 +8,13 @@ use Rattle.sys_abi.specs.declared.record.Record.TheVariants.{User, Call, Deliver
 use Rattle.views.proofs.MapLaws.{true_false}
 use Rattle.trace_log.specs.Trace.{TraceState}
 use Rattle.trace_log.specs.Requests.{is_mark}
+use Rattle.trace_log.specs.Turns.{Place, Due, Arrival, InTurn, After, coming, missing_in, is_due_at, is_arrival, is_same_dir}
 use Rattle.plain_machine.specs.declared.plain.Plain.{Plain}
 use Rattle.plain_machine.specs.Tests.{is_work}
 use Rattle.computation.specs.declared.computation.Did.{Did}
 use Rattle.computation.specs.Computations.{IsTurnAt, Worked, Failed}
-use Rattle.computation.specs.Sinks.{Sunk}
+use Rattle.edge_io.specs.Sunk.{Sunk}
 use Rattle.computation.specs.Takes.{Takes}
-use Rattle.computation.specs.Turns.{Place, Due, Arrival, InTurn, After, coming, missing_in, is_due_at, is_arrival, is_same_dir}
 use Rattle.scheduler.specs.declared.rounds.Turn.{Turn}
 use Rattle.scheduler.specs.declared.rounds.Come.TheVariants as has_come
 use Rattle.scheduler.specs.declared.rounds.Chosen.{Chosen}

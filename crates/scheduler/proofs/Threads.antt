@@ -14,7 +14,7 @@ use Rattle.plain_process.specs.declared.user_part.ThreadPart.{ThreadPart}
 use Rattle.plain_machine.specs.declared.plain.Plain.{Plain}
 use Rattle.plain_machine.specs.Kernel.{is_live}
 use Rattle.plain_machine.specs.Valid.{IsValid}
-use Rattle.computation.specs.Turns.{threads_in}
+use Rattle.trace_log.specs.Turns.{threads_in}
 
 abbrev pub threads_of : Option UserPart → map.FinMap nat_cmp ThreadPart
 threads_of None = map.empty

@@ -1,1 +1,4 @@
 pub mod Scheduling
+pub mod HandedOn
+pub mod StopVariants
+pub mod DidVariants

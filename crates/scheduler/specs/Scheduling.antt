@@ -11,14 +11,14 @@ use Rattle.sys_abi.specs.declared.identity.Dir.{Dir}
 use Rattle.sys_abi.specs.declared.record.Record.{Record}
 use Rattle.trace_log.specs.Trace.{TraceState}
 use Rattle.trace_log.specs.Requests.{is_mark}
+use Rattle.trace_log.specs.Turns.{Place, Due, Arrival, InTurn, Upcoming, NewRound, After, coming, is_due_at, stands_in}
 use Rattle.plain_machine.specs.declared.plain.Plain.{Plain}
 use Rattle.plain_machine.specs.Records.{Users}
 use Rattle.plain_machine.specs.Tests.{is_work}
 use Rattle.plain_tables.specs.Tables.{pid}
 use Rattle.computation.specs.Computations.{CanWork, IsDid, IsTold, first_signal}
-use Rattle.computation.specs.Sinks.{Sunk}
+use Rattle.edge_io.specs.Sunk.{Sunk}
 use Rattle.computation.specs.Takes.{Takes, Breaks}
-use Rattle.computation.specs.Turns.{Place, Due, Arrival, InTurn, Upcoming, NewRound, After, coming, is_due_at, stands_in}
 use Rattle.scheduler.specs.declared.rounds.Turn.{Turn}
 use Rattle.scheduler.specs.declared.rounds.Come.{Come}
 use Rattle.scheduler.specs.declared.rounds.Come.TheVariants as has_come

@@ -12,4 +12,5 @@
 pub mod queue;
 pub mod rounds;
 
+pub use computation::{Computation, Stop, Wrapped};
 pub use rounds::{Chosen, Made, Rounds};

@@ -20,8 +20,7 @@ use Rattle.plain_tables.specs.Objects.{is_datagram}
 use Rattle.plain_tables.specs.Tables.{refers_to, is_held}
 use Rattle.plain_machine.specs.declared.plain.Plain.{Plain}
 use Rattle.plain_machine.specs.Kernels.{IsKernel}
-use Rattle.plain_machine.specs.Tests.{UnsupportedAt, first_of, unsupported, unsupported_entry, unsupported_by}
-use Rattle.plain_machine.specs.Tests.{unsupported_kind}
+use Rattle.plain_machine.specs.Tests.{UnsupportedAt, first_of, unsupported, unsupported_entry, unsupported_by, unsupported_kind}
 
 none_of : {K X B : Type 0} (f : K × X → Option B) (es : List (K × X)) → first_of (filter_map f es) ≡ None
     → EachEntry (λ q v. f (q, v) ≡ None) es

@@ -3,9 +3,7 @@
 --     left_begun, left_on, all_marked      before the first vote, after each, and after the last
 --     stays_on                  nothing but the votes changes
 --     entered_named             each one that may vote is named, where all live processes are
-use Rattle.std.proofs.Common.{◌≡◌, ◌≢◌, ◌+◌, ◌<◌, ◌≤◌, ℕ, Bool, true, false, cond}
-use Rattle.std.proofs.Common.{List, [], ◌∷◌, length, map as each, get_or, Option, Some, None, inl, inr}
-use Rattle.std.proofs.Common.{refl, sym, ap, subst, ◌∙◌, arith}
+use Rattle.std.proofs.Common.{◌≡◌, ◌≢◌, ◌+◌, ◌<◌, ◌≤◌, ℕ, Bool, true, false, cond, List, [], ◌∷◌, length, map as each, get_or, Option, Some, None, inl, inr, refl, sym, ap, subst, ◌∙◌, arith}
 use Rattle.std.specs.Prelude.{IsSome, is_some, Contains, ◌&&◌}
 use Rattle.std.specs.Option.{option_map_or}
 use Rattle.std.specs.List.{list_all}

@@ -1,3 +1,4 @@
 -- What is handed on of the libraries below, so that who uses this one need not name them.
 pub use Rattle.run_start.specs.Starts.{state_of, CanBegin}
 pub use Rattle.run_start.specs.declared.start.Start.{Start}
+pub use Rattle.run_start.specs.HandedOn.{Computation, plain_of, IsReady}

@@ -29,4 +29,4 @@ pub use ckpt_stages::{PutOutcome, first_unsupported};
 pub use draining::drain;
 pub use holding::{Held, hold, release};
 pub use refilling::refill;
-pub use run_start::Start;
+pub use run_start::{Computation, Start, Stop};

@@ -5,3 +5,4 @@ pub mod LogText
 pub mod Requests
 pub mod RequestLaws
 pub mod RequestSteps
+pub mod Turns

@@ -1,6 +1,6 @@
 use Rattle.std.proofs.Common.{refl, sym, ap, ◌∙◌}
 use Rattle.std.specs.Option.{option_map}
-use Rattle.computation.specs.Computations.{plain_of}
+use Rattle.staged_cut.specs.HandedOn.{plain_of}
 use Rattle.checkpointer.specs.Marks.{unsupported_at}
 use Rattle.checkpointer.proofs.unsupported.first_unsupported.Goals as goal
 

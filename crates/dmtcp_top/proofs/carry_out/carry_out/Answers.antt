@@ -1,7 +1,7 @@
 use Rattle.std.proofs.Common.{◌≡◌, [], None, ap, sym, subst, ◌∙◌}
 use Rattle.trace_log.specs.Trace.{TraceState}
 use Rattle.endings.specs.declared.ending.Ending.TheVariants.{Memory}
-use Rattle.computation.specs.Sinks.{sunk}
+use Rattle.edge_io.specs.Sunk.{sunk}
 use Rattle.drive.proofs.HandedOn.{took_nothing}
 use Rattle.drive.specs.Driving.{end_told}
 use Rattle.dmtcp_top.specs.declared.settings.Settings.{Settings}

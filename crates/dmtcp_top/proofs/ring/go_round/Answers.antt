@@ -1,4 +1,4 @@
-use Rattle.computation.specs.Sinks.{sunk}
+use Rattle.edge_io.specs.Sunk.{sunk}
 use Rattle.drive.proofs.HandedOn.{took_nothing}
 use Rattle.dmtcp_top.proofs.RingHalves.{told_so}
 use Rattle.dmtcp_top.proofs.ring.go_round.Goals as goal

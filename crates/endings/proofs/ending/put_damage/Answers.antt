@@ -2,7 +2,7 @@ use Rattle.std.proofs.Common.{◌≡◌, ℕ, List, ◌++◌, ap, subst, ◌∙�
 use Rattle.std.specs.Prelude.{codes}
 use Rattle.std.specs.Fmt.{decimal}
 use Rattle.endings.specs.Log.{place_text, damaged_line}
-use Rattle.computation.specs.Sinks.{sunk, Took, TookFront}
+use Rattle.edge_io.specs.Sunk.{sunk, Took, TookFront}
 use Rattle.endings.proofs.Sinks.{took_both, took_more, front_grows, OnErr-of_any, OnErr-map}
 use Rattle.endings.proofs.Sinks.{OnOk-map}
 use Rattle.endings.proofs.ending.put_damage.Goals as goal

@@ -1,5 +1,5 @@
 use Rattle.std.proofs.Common.{◌++◌}
-use Rattle.computation.specs.Sinks.{sunk, TookFront}
+use Rattle.edge_io.specs.Sunk.{sunk, TookFront}
 use Rattle.endings.proofs.Sinks.{took_both, took_more, front_grows, OnErr-of_any, OnErr-map}
 use Rattle.endings.proofs.ending.put_three.Goals as goal
 

@@ -2,14 +2,13 @@ use Rattle.std.proofs.Common.{◌≡◌, ℕ, ◌+◌, ◌-◌, ◌^◌, ◌<◌
 use Rattle.std.specs.Prelude.{OnOk, OnErr}
 use Rattle.std.proofs.lemmas.List.{length-append}
 use Rattle.views.specs.Faults.{IsFaultOf}
-use Rattle.computation.specs.declared.computation.Computation.{Computation}
-use Rattle.computation.specs.declared.computation.Stop.TheVariants.{Sink}
+use Rattle.staged_cut.specs.HandedOn.{Computation, plain_of, IsReady}
+use Rattle.staged_cut.specs.StopVariants.{Sink}
 use Rattle.plain_machine.specs.declared.plain.Plain.{Plain}
 use Rattle.trace_log.specs.Trace.{TraceState}
 use Rattle.trace_log.specs.Requests.{Requested}
-use Rattle.computation.specs.Computations.{plain_of, IsReady}
-use Rattle.computation.specs.Sinks.{Sunk, sunk}
-use Rattle.computation.specs.Turns.{Upcoming}
+use Rattle.trace_log.specs.Turns.{Upcoming}
+use Rattle.edge_io.specs.Sunk.{Sunk, sunk}
 use Rattle.checkpointer.specs.declared.checkpointer.Checkpointer.{Checkpointer}
 use Rattle.checkpointer.specs.Keeping.{IsKept}
 use Rattle.checkpointer.specs.UnderWay.{IsUnderWay, IsBrokenOff, IsSettled}

@@ -1,9 +1,9 @@
 use Rattle.std.proofs.Common.{◌≡◌, ℕ, ◌+◌, List, [], length, Option}
 use Rattle.plain_machine.specs.declared.plain.Plain.{Plain}
 use Rattle.trace_log.specs.Requests.{CanBeHeld, Requested}
-use Rattle.computation.specs.Computations.{plain_of, IsReady}
-use Rattle.computation.specs.Sinks.{Sunk, sunk}
-use Rattle.computation.specs.Turns.{Upcoming}
+use Rattle.trace_log.specs.Turns.{Upcoming}
+use Rattle.staged_cut.specs.HandedOn.{plain_of, IsReady}
+use Rattle.edge_io.specs.Sunk.{Sunk, sunk}
 use Rattle.checkpointer.specs.UnderWay.{IsUnderWay}
 use Rattle.checkpointer.proofs.checkpointer.Checkpointer.checkpoint.Given as goal
 

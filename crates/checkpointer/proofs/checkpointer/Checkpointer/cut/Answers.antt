@@ -5,10 +5,10 @@ use Rattle.sys_abi.specs.declared.record.Cause.TheVariants.{Memory}
 use Rattle.plain_machine.specs.declared.plain.Plain.{Plain}
 use Rattle.plain_machine.specs.Tests.{full_arrive}
 use Rattle.trace_log.specs.Requests.{Requested}
+use Rattle.trace_log.specs.Turns.{Upcoming}
 use Rattle.seen_kernel.specs.Seen.{all_in}
-use Rattle.computation.specs.Computations.{plain_of}
-use Rattle.computation.specs.Sinks.{Sunk, sunk}
-use Rattle.computation.specs.Turns.{Upcoming}
+use Rattle.staged_cut.specs.HandedOn.{plain_of}
+use Rattle.edge_io.specs.Sunk.{Sunk, sunk}
 use Rattle.checkpointer.specs.declared.checkpointer.Checkpointer.{Checkpointer}
 use Rattle.checkpointer.specs.UnderWay.{IsUnderWay, IsBrokenOff, IsSettled}
 use Rattle.checkpointer.proofs.Sinks.{OnErr-map}

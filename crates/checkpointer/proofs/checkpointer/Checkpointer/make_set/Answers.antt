@@ -14,7 +14,7 @@ use Rattle.image_store.specs.StoreCrashes.{OldOrNew}
 use Rattle.checkpointer.specs.declared.checkpointer.Checkpointer.{Checkpointer}
 use Rattle.staged_cut.specs.HandedOn.{state_of}
 use Rattle.checkpointer.specs.Keeping.{IsPut, IsSafe}
-use Rattle.computation.specs.Sinks.{sunk, Took, TookFront}
+use Rattle.edge_io.specs.Sunk.{sunk, Took, TookFront}
 use Rattle.checkpointer.proofs.Sinks.{OnErr-map}
 use Rattle.checkpointer.proofs.Results.{OnOk-map}
 use Rattle.checkpointer.proofs.Checkpoints.{outcome_tally, cut_tally}

@@ -12,7 +12,7 @@ use Rattle.plain_machine.specs.Tests.{ended, unsupported}
 use Rattle.trace_log.specs.declared.requests.Tally.{Tally}
 use Rattle.trace_log.specs.Requests.{IsUnsupported, NoRequest, Requested, asks}
 use Rattle.trace_log.specs.Spelling.{kind_number}
-use Rattle.computation.specs.Computations.{plain_of}
+use Rattle.staged_cut.specs.HandedOn.{plain_of}
 use Rattle.checkpointer.specs.declared.checkpointer.Checkpointer.{Checkpointer}
 use Rattle.checkpointer.specs.declared.unsupported.Unsupported.{Unsupported as Found}
 use Rattle.checkpointer.specs.Marks.{unsupported_at}

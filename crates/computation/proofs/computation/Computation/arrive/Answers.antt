@@ -4,7 +4,7 @@ use Rattle.plain_machine.specs.declared.kernel.PlainKernel.{PlainKernel}
 use Rattle.plain_machine.specs.declared.plain.Plain.{Plain}
 use Rattle.wrap_calls.specs.HandedOn.{after_arrival}
 use Rattle.computation.specs.Computations.{plain_of}
-use Rattle.computation.specs.Takes.{with_record}
+use Rattle.trace_log.specs.Trace.{with_record}
 use Rattle.computation.proofs.Arrivals.{with_all, missing_at, found_at, arrival_goes, arrived_kernel, side_is, rest_is}
 use Rattle.computation.proofs.Taking.{quiet_takes, valid_after}
 use Rattle.computation.proofs.computation.Computation.arrive.Goals as goal

@@ -15,7 +15,7 @@ use Rattle.plain_machine.specs.Records.{Outcome, living, users_after}
 use Rattle.host_tables.specs.Serves.{bytes_or}
 use Rattle.computation.specs.Computations.{plain_of}
 use Rattle.computation.specs.Parts.{given_back, left_by}
-use Rattle.computation.specs.Sinks.{sunk, Took, TookFront}
+use Rattle.edge_io.specs.Sunk.{sunk, Took, TookFront}
 use Rattle.computation.proofs.AnswerBytes.{fits, same_put}
 use Rattle.computation.proofs.Answered.{answer_fits, answer_adds, guest_at, grown_at, apart, final_is, left_living, made_of, lives_of}
 use Rattle.computation.proofs.Effects.{same_part, found_part, serve_goes}

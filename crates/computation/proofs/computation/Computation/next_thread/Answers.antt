@@ -1,7 +1,7 @@
 use Rattle.std.proofs.Common.{Some, find, sym, ap, ◌∙◌}
 use Rattle.std.specs.Option.{option_copied}
 use Rattle.views.specs.NumberMap.{is_above}
-use Rattle.computation.specs.Turns.{threads_in}
+use Rattle.trace_log.specs.Turns.{threads_in}
 use Rattle.computation.proofs.Threads.{part_of}
 use Rattle.computation.proofs.computation.Computation.next_thread.Goals as goal
 

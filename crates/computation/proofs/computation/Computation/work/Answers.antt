@@ -3,7 +3,7 @@ use Rattle.plain_process.specs.Steps.{user_step}
 use Rattle.sys_abi.specs.declared.record.Record.TheVariants.{User, Deliver}
 use Rattle.guest_proc.specs.declared.ran.Ran.TheVariants.{Whole, Asks, Trapped, Waits}
 use Rattle.computation.specs.Computations.{plain_of, CanWork, IsTurnAt}
-use Rattle.computation.specs.Turns.{goes_on_at}
+use Rattle.trace_log.specs.Turns.{goes_on_at}
 use Rattle.computation.proofs.Due.{goes_at_place, user_due, trap_due, waits_still}
 use Rattle.computation.proofs.Quanta.{stands_not}
 use Rattle.computation.proofs.Threads.{asks_at, traps_at, trap_can}

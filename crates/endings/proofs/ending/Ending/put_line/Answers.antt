@@ -2,7 +2,7 @@ use Rattle.std.proofs.Common.{ℕ, List, ◌++◌, sym, subst}
 use Rattle.std.specs.Prelude.{codes}
 use Rattle.endings.specs.declared.ending.Ending.{Ending}
 use Rattle.endings.specs.Endings.{line_of}
-use Rattle.computation.specs.Sinks.{sunk, Took, TookFront}
+use Rattle.edge_io.specs.Sunk.{sunk, Took, TookFront}
 use Rattle.endings.proofs.Sinks.{OnOk-map}
 use Rattle.endings.proofs.Sinks.{OnErr-map}
 use Rattle.endings.proofs.ending.Ending.put_line.Goals as goal

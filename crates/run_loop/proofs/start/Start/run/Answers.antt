@@ -1,9 +1,9 @@
 -- The answers of a run: how the loop begins, what each record keeps, and how the run ends.
 use Rattle.std.proofs.Common.{◌≡◌, ◌<◌, length, inl, refl, sym, ap, ◌∙◌, arith}
 use Rattle.trace_log.specs.declared.requests.Schedule.{Schedule}
+use Rattle.trace_log.specs.Turns.{NewRound}
 use Rattle.plain_machine.specs.Tests.{ended}
-use Rattle.computation.specs.Computations.{plain_of}
-use Rattle.computation.specs.Turns.{NewRound}
+use Rattle.scheduler.specs.HandedOn.{plain_of}
 use Rattle.run_loop.proofs.Choosing.{chosen_so, ended_if, goes_on_if, is_free, none_left, work_is_few}
 use Rattle.checkpointer.proofs.Running.{steps_of}
 use Rattle.run_loop.proofs.Ended.{at_end, at_full, at_memory, at_rest, ended_so}

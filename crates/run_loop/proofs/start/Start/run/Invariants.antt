@@ -1,6 +1,6 @@
 use Rattle.std.proofs.Common.{◌≡◌, ◌≢◌, ◌+◌, ◌≤◌, length, None}
-use Rattle.computation.specs.Computations.{plain_of, IsReady}
-use Rattle.computation.specs.Sinks.{sunk}
+use Rattle.scheduler.specs.HandedOn.{plain_of, IsReady}
+use Rattle.edge_io.specs.Sunk.{sunk}
 use Rattle.scheduler.specs.Scheduling.{IsToldOf}
 use Rattle.checkpointer.specs.Keeping.{IsKept}
 use Rattle.run_loop.specs.Going.{IsGoing}

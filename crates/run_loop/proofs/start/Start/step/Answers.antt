@@ -1,7 +1,7 @@
 use Rattle.std.proofs.Common.{◌≡◌, ◌+◌, length, refl, ap, ◌∙◌, arith}
 use Rattle.std.specs.Prelude.{Err}
-use Rattle.computation.specs.Computations.{plain_of}
-use Rattle.computation.specs.Sinks.{sunk}
+use Rattle.scheduler.specs.HandedOn.{plain_of}
+use Rattle.edge_io.specs.Sunk.{sunk}
 use Rattle.scheduler.specs.Scheduling.{is_made_work}
 use Rattle.checkpointer.specs.declared.checkpointer.Checkpointer.{Checkpointer}
 use Rattle.checkpointer.proofs.Results.{OnOk-map}

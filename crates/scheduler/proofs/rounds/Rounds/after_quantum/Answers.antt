@@ -1,7 +1,7 @@
 use Rattle.std.proofs.Common.{◌≡◌, true, false, sym, ap, ◌∙◌, refl}
 use Rattle.computation.specs.Computations.{plain_of}
 use Rattle.plain_process.specs.Steps.{user_step}
-use Rattle.computation.specs.Turns.{stands_in}
+use Rattle.trace_log.specs.Turns.{stands_in}
 use Rattle.scheduler.specs.Scheduling.{place_in}
 use Rattle.scheduler.proofs.NextTurns.{ran, stays}
 use Rattle.scheduler.proofs.rounds.Rounds.after_quantum.Goals as goal

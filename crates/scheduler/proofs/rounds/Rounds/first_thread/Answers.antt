@@ -3,7 +3,7 @@ use Rattle.std.proofs.Common.{map as each}
 use Rattle.std.specs.Prelude.{option_map}
 use Rattle.plain_tables.specs.Tables.{pid}
 use Rattle.computation.specs.Computations.{plain_of}
-use Rattle.computation.specs.Turns.{first_thread}
+use Rattle.trace_log.specs.Turns.{first_thread}
 use Rattle.scheduler.specs.Scheduling.{place_of}
 use Rattle.scheduler.proofs.FirstTurns.{no_thread, thread_found, thread_passed}
 use Rattle.scheduler.proofs.rounds.Rounds.first_thread.Goals as goal

@@ -2,7 +2,7 @@ use Rattle.std.proofs.Common.{◌≡◌, length}
 use Rattle.std.proofs.Common.{map as each}
 use Rattle.plain_tables.specs.Tables.{pid}
 use Rattle.computation.specs.Computations.{plain_of}
-use Rattle.computation.specs.Turns.{first_thread}
+use Rattle.trace_log.specs.Turns.{first_thread}
 use Rattle.scheduler.proofs.rounds.Rounds.first_thread.Given as goal
 
 abbrev pub invariant-loop-number : goal.invariant-loop-number

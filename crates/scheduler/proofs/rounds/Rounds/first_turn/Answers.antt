@@ -3,7 +3,7 @@ use Rattle.std.proofs.Common.{map as each}
 use Rattle.std.specs.Prelude.{option_map}
 use Rattle.plain_tables.specs.Tables.{pid}
 use Rattle.computation.specs.Computations.{plain_of}
-use Rattle.computation.specs.Turns.{first_thread, first_turn}
+use Rattle.trace_log.specs.Turns.{first_thread, first_turn}
 use Rattle.scheduler.specs.Scheduling.{place_in}
 use Rattle.scheduler.proofs.FirstTurns.{no_process, process_found, process_passed}
 use Rattle.scheduler.proofs.rounds.Rounds.first_turn.Goals as goal

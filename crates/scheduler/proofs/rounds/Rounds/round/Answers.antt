@@ -2,7 +2,7 @@ use Rattle.std.proofs.Common.{◌≡◌, [], sym, ap, ◌∙◌}
 use Rattle.std.specs.Prelude.{option_map}
 use Rattle.views.proofs.MapLaws.{true_false}
 use Rattle.computation.specs.Computations.{plain_of}
-use Rattle.computation.specs.Turns.{InTurn}
+use Rattle.trace_log.specs.Turns.{InTurn}
 use Rattle.scheduler.specs.Scheduling.{place_in}
 use Rattle.scheduler.proofs.NextTurns.{nobody, arrival, turn}
 use Rattle.scheduler.proofs.rounds.Rounds.round.Goals as goal

@@ -3,7 +3,7 @@ use Rattle.std.specs.Prelude.{Some, Result, Err}
 use Rattle.computation.specs.declared.computation.Did.{Did}
 use Rattle.computation.specs.declared.computation.Stop.{Stop}
 use Rattle.computation.specs.Computations.{plain_of}
-use Rattle.computation.specs.Sinks.{sunk}
+use Rattle.edge_io.specs.Sunk.{sunk}
 use Rattle.scheduler.specs.declared.rounds.Come.TheVariants as has_come
 use Rattle.scheduler.specs.declared.rounds.Made.{Made}
 use Rattle.scheduler.specs.declared.rounds.Made.TheVariants as made_was
