@@ -53,6 +53,6 @@ IsManifestOrOutside (Err fault) m = IsOutside fault
 abbrev pub TellsDamage : {A : Type 0} → Result A StoreFault → Option Damage → Type 0
 TellsDamage (Ok value) damage = damage ≡ None
 TellsDamage (Err DiskFault) damage = Unit {0}
-TellsDamage (Err NoSet) damage = Unit {0}
+TellsDamage (Err NoSet) damage = ⊥
 TellsDamage (Err (Damaged found)) damage = damage ≡ Some found
 TellsDamage (Err Memory) damage = Unit {0}

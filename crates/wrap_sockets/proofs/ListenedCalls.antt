@@ -174,6 +174,6 @@ module _ (s : System) (next_id : ℕ) (k : PlainKernel) (w : IsWrapped s next_id
     listen_done s'' (Done n) l =
         subst (λ m. StandsAfter s'' next_id k before before (Done n) m) (sym row_is)
         (subst (λ x. IsWrapped x next_id k') (sym l.after) (wrapped l.at l.next), (l.value, refl))
-    listen_done s'' (Error e) l = absurd (left l)
+    listen_done s'' (Error e) l = absurd (left l.all)
     listen_done s'' reply.NotReady l = absurd l
     listen_done s'' Memory l = (subst (λ x. IsWrapped x next_id k) (sym l) w, refl)

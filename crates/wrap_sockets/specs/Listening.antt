@@ -59,8 +59,13 @@ pub record ListensAt (s s' : System) (node : ℕ) (u : Unbound) (backlog n : ℕ
   pub next : IsNextPort s.kernel.net.listeners node s.kernel.net.port_base at
   pub after : s' ≡ listening_at s u at backlog
 
+pub record RanOut (s s' : System) (node : ℕ) (e : Errno) : Type 0 where
+  pub error : e ≡ record { 0 = EADDRINUSE }
+  pub same : s' ≡ s
+  pub all : AllPortsUsed s.kernel.net.listeners node s.kernel.net.port_base
+
 abbrev pub Listens : System → System → ℕ → Unbound → ℕ → KernelReply → Type 0
 Listens s s' node u backlog (Done n) = ListensAt s s' node u backlog n
-Listens s s' node u backlog (Error e) = AllPortsUsed s.kernel.net.listeners node s.kernel.net.port_base
+Listens s s' node u backlog (Error e) = RanOut s s' node e
 Listens s s' node u backlog reply.NotReady = ⊥
 Listens s s' node u backlog Memory = s' ≡ s

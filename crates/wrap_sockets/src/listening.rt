@@ -95,7 +95,8 @@ fn waiting_room(backlog: u32) -> u32
     backlog.min(128).max(1)
 }
 
-/// The socket listens at the next port of the node. After want of memory all is as before.
+/// The socket listens at the next port of the node; EADDRINUSE where each is used. After an error and after
+/// want of memory all is as before.
 fn listen_at(system: &mut System, node: u32, found: Unbound, backlog: u32) -> KernelReply
     ensures { Listens system.old system.new node found (max 1 (min backlog 128)) result }
 {
