@@ -4,7 +4,7 @@
 --     put_back owners s            it, with these owners
 --     DiffersInOwners a b          the books are alike but for the owners of descriptions
 --     IsCut s next_id k owners agents      the system was one that stood for the kernel part, with these
---                                          owners, and no end of a datagram pair;
+--                                          owners, and had no end of a datagram pair;
 --                                  it differs in owners and in where bytes stand, of which agents hold these
 use Rattle.std.specs.Prelude.{◌≡◌, ◌<◌, ℕ, None, option_map}
 use Rattle.std.specs.Option.{option_map_or}

@@ -1,7 +1,7 @@
 ghost use Rattle.std.specs.Prelude.{◌≡◌, ◌<◌, ◌≤◌, ◌^◌, ◌⊎◌, ◌++◌, OnOk, OnErr};
 ghost use Rattle.views.specs.Faults.{Rose, IsFaultOf};
 ghost use Rattle.endings.specs.Log.{bad_program_line, damaged_line};
-ghost use Rattle.computation.specs.Sinks.{sunk, Took, TookFront};
+ghost use Rattle.edge_io.specs.Sunk.{sunk, Took, TookFront};
 ghost use Rattle.endings.specs.Endings.{status_of, line_of, Concludes};
 
 use crate::status::Status;
@@ -70,8 +70,8 @@ impl Ending<'_> {
         }
     }
 
-    /// Puts the last line on the log. Where the log fails, the status is that of a sink's fault. Where the
-    /// console has failed, there is no line.
+    /// Puts the last line on the log. Where the log fails, the status is that of a sink's fault. Where a
+    /// sink failed before, there is no line.
     pub fn conclude<L: Sink>(self, log: &mut L) -> Status
         ensures concludes { Concludes self.entry result (sunk (L.seen log.old).taken (L.seen log.new).taken) }
         ensures cause { result ≡ Status.SinkFault →

@@ -34,7 +34,7 @@ fn is_first_in(kernel: &PlainKernel, id: ConnId, desc: DescId) -> bool
     }
 }
 
-/// The first process with a descriptor of side 0 of the channel, if one has it.
+/// A process with a descriptor of side 0 of the channel, if one has it.
 fn holder(kernel: &PlainKernel, id: ConnId) -> Option<VPid>
     ensures { words.FindsHolder kernel.now id result }
 {

@@ -1,6 +1,5 @@
 -- The listeners at the virtual addresses of descriptions, as a kernel part has them.
 -- Source: `man 2 listen`, `man 2 accept`.
---     waiting_at listeners at                  the connections that wait at a port, as many as may
 --     listening_at listeners addresses a       what listens at the port of a virtual address
 --     with_object, with_descriptions           and that of this object, if it is one that listens, or of these
 --                                              descriptions

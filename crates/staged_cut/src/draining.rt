@@ -46,8 +46,8 @@ pub fn drain(
     }
 }
 
-/// A barrier whose request is open, and whose members have reached `Suspended`: the one thread runs none of
-/// them.
+/// A barrier at which all that live are asked to suspend and are noted as suspended: the one thread runs none
+/// of them.
 fn ask_all(alloc: Global, live: &[VPid]) -> Result<Barrier, AllocError>
     requires { length live.now ≤ MEMBER_LIMIT }
 {
