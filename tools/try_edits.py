@@ -26,6 +26,7 @@ from pathlib import Path
 
 TOP = Path(__file__).resolve().parent.parent
 KEPT, DROPPED = ".edit", ".md"
+LIST = "tried.md"  # of many bugs, which try_together.py reads
 TOLD = re.compile(r"rt: must-fail (\w+)/(\S+)\.edit: (refused|NOT REFUSED|BAD EDIT|NOT TRIED)(.*)")
 ANSWERS = ["refused", "NOT REFUSED", "BAD EDIT", "NOT TRIED"]
 
@@ -41,7 +42,7 @@ def folder_of(crate, top=TOP):
 def edits_of(crate, endings):
     """The edits of a crate, as files with one of these endings, in the order of their names."""
     files = folder_of(crate).iterdir() if folder_of(crate).is_dir() else []
-    return sorted((file for file in files if file.suffix in endings), key=lambda file: file.stem)
+    return sorted((it for it in files if it.suffix in endings and it.name != LIST), key=lambda it: it.stem)
 
 
 def crates_with_edits():
