@@ -5,7 +5,7 @@
 # it stands on.
 set -eu -o pipefail
 . "$(dirname "$0")/programs.sh"
-build image_speed views sys_abi plain_machine image_format image_shared image_process image_codec
+build image_speed views sys_abi plain_machine image_format shared_items image_process image_codec
 
 bytes=8399396
 times=50

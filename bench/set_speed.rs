@@ -5,7 +5,7 @@
 
 use image_codec::write_shared;
 use image_format::ReadFault;
-use image_shared::Shared;
+use shared_items::Shared;
 use shared_reader::read_shared;
 use std::alloc::{AllocError, Global};
 use std::{env, io};
@@ -24,7 +24,7 @@ const PIECE: usize = 65_536;
 
 const TIMES: u32 = 10;
 
-#[tactic(auto, using(image_shared::proofs::SharedLaws::text_of))]
+#[tactic(auto, using(shared_items::proofs::SharedLaws::text_of))]
 fn main(rt: HostRuntime) -> io::Result<()> {
     let alloc = rt.alloc();
     let bytes = image_bytes(alloc)?;

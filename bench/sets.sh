@@ -5,7 +5,7 @@
 # bench/set_speed.rs, proved and built by LLVM in a copy of the crates that it stands on.
 set -eu -o pipefail
 . "$(dirname "$0")/programs.sh"
-build set_speed views image_format image_shared shared_reader image_codec
+build set_speed views image_format shared_items shared_reader image_codec
 
 times=10
 bytes=$("$program" write)

@@ -1,6 +1,5 @@
 use crate::fault::Fault;
-use conn_table::{Conn, ConnTable};
-use datagram_pairs::DatagramPairs;
+use conn_table::{Conn, ConnTable, DatagramPairs};
 use fd_book::{Book, Desc, Object};
 use host_tables::{HOST_COUNT, Hosts, Kernel, System};
 use plain_machine::PlainKernel;

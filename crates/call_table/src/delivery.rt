@@ -9,7 +9,7 @@ use sys_abi::{Signal, Tid};
 pub type Given = [u8; 16];
 
 /// Where a thread stands when a signal is to be delivered to it.
-#[derive(Clone, Copy, Debug, PartialEq, Eq)]
+#[derive(Clone, Copy)]
 pub enum At {
     /// Anywhere else: at an instruction that goes on, at a trap with another signal, at a call that its
     /// process answers alone or that faults, or waiting on a word.
@@ -32,7 +32,7 @@ pub enum Delivered {
 }
 
 /// The delivery of a signal to a thread.
-#[derive(Clone, Copy, Debug, PartialEq, Eq)]
+#[derive(Clone, Copy)]
 pub struct Delivering {
     pub t: Tid,
     pub s: Signal,
@@ -42,7 +42,7 @@ pub struct Delivering {
 
 /// A thread that can't go on by itself: its signal mask, and the call at which it stands, None for one that
 /// waits on a word.
-#[derive(Clone, Copy, Debug, PartialEq, Eq)]
+#[derive(Clone, Copy)]
 pub struct IdleThread {
     pub tid: Tid,
     pub mask: u32,

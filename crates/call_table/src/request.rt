@@ -5,7 +5,7 @@ use crate::calls;
 
 /// A call that a guest makes: one variant for each row of the table of calls, whose fields are the row's
 /// arguments, a0 first. `Unknown` has the number of a call that no row has.
-#[derive(Clone, Copy, Debug, PartialEq, Eq)]
+#[derive(Clone, Copy)]
 pub enum Request {
     Eventfd2 {
         value: u32,

@@ -19,9 +19,9 @@ use Rattle.image_process.specs.declared.process_image.ProcImage.{ProcImage}
 use Rattle.image_process.specs.ProcessImages.{pid_at, tids_at}
 use Rattle.image_process.proofs.ProcessFiles.{image_of}
 use Rattle.image_process.proofs.FittingParts.{image_numbers, image_few}
-use Rattle.image_shared.specs.declared.shared.Shared.{Shared}
-use Rattle.image_shared.specs.SharedFits.{IsShared}
-use Rattle.image_shared.proofs.SharedLaws.{text_of}
+use Rattle.shared_items.specs.declared.shared.Shared.{Shared}
+use Rattle.shared_items.specs.SharedFits.{IsShared}
+use Rattle.shared_items.proofs.SharedLaws.{text_of}
 use Rattle.image_codec.specs.Sets.{SpellsFiles, SpellsImages, user_entry}
 use Rattle.image_codec.proofs.MadeMaps.{each_made}
 use Rattle.checkpointer.specs.Images.{IsWithin, guest_entry}

@@ -13,14 +13,14 @@ use Rattle.plain_machine.specs.declared.kernel.PlainKernel.{PlainKernel}
 use Rattle.plain_machine.specs.Kernel.{is_live}
 use Rattle.plain_machine.specs.Tests.{full_arrive}
 use Rattle.sys_abi.specs.Lives.{lives}
-use Rattle.image_shared.specs.declared.shared.ProcessEntry.{ProcessEntry}
+use Rattle.shared_items.specs.declared.shared.ProcessEntry.{ProcessEntry}
 use Rattle.trace_log.specs.Requests.{CanBeHeld}
 use Rattle.guest_proc.specs.Guests.{GuestPart}
 use Rattle.image_process.specs.declared.process_image.ProcImage.{ProcImage}
 use Rattle.image_process.specs.ProcessImages.{SpellsProcess, pid_at, tids_at}
 use Rattle.image_process.specs.UserParts.{user_of}
-use Rattle.image_shared.specs.declared.shared.Shared.{Shared}
-use Rattle.image_shared.specs.SharedFormat.{SpellsShared}
+use Rattle.shared_items.specs.declared.shared.Shared.{Shared}
+use Rattle.shared_items.specs.SharedFormat.{SpellsShared}
 use Rattle.image_codec.specs.KernelImages.{IsImage, KernelHasImage, process_image, shared_of}
 use Rattle.image_codec.specs.Sets.{SpellsFiles, SpellsImages, live_count, user_entry}
 use Rattle.image_codec.specs.LiveImages.{HavePlaces, PartsHavePlaces}

@@ -36,10 +36,10 @@ use Rattle.wire_net.specs.Whereabouts.{stream_on, whereabouts}
 use Rattle.host_tables.specs.declared.system.System.{System}
 use Rattle.host_tables.specs.Network.{IsSilent}
 use Rattle.host_tables.specs.Systems.{given_of}
-use Rattle.stage_lists.specs.Agents.{names_end, IsAgent, IsActedFor, place_of}
-use Rattle.stage_lists.specs.Directions.{is_listed, standing_in, standing_of}
-use Rattle.stage_lists.specs.Owners.{Owners}
-use Rattle.stage_lists.specs.Voters.{Voters, all_voted}
+use Rattle.leader_vote.specs.Agents.{names_end, IsAgent, IsActedFor, place_of}
+use Rattle.leader_vote.specs.Directions.{is_listed, standing_in, standing_of}
+use Rattle.leader_vote.specs.Owners.{Owners}
+use Rattle.leader_vote.specs.Voters.{Voters, all_voted}
 use Rattle.cut_stages.specs.Drains.{IsDraining}
 use Rattle.cut_stages.specs.Rounds.{AreLed, IsAlive}
 use Rattle.ckpt_stages.specs.Suspensions.{IsSuspended}

@@ -48,8 +48,8 @@ use Rattle.host_tables.specs.Systems.{given_of}
 use Rattle.host_tables.proofs.LookUps.{some_value, at_slot}
 use Rattle.wrap_names.specs.Wrapping.{IsWrapped}
 use Rattle.wrap_names.proofs.Callers.{sound}
-use Rattle.stage_lists.specs.Voters.{Virts}
-use Rattle.stage_lists.proofs.Walks.{count_of, next_is, walked, none_left, fewer_left}
+use Rattle.leader_vote.specs.Voters.{Virts}
+use Rattle.leader_vote.proofs.Walks.{count_of, next_is, walked, none_left, fewer_left}
 use Rattle.ckpt_stages.specs.Faults.{Found, unsupported_at, FindsUnsupported}
 use Rattle.ckpt_stages.specs.Kinds.{unsupported_kind, kind_in, kind_at, IsFirstFd, IsFirstBy, IsFirstOf, lesser}
 

@@ -42,8 +42,8 @@ use Rattle.host_tables.specs.declared.system.System.{System}
 use Rattle.host_tables.specs.Systems.{given_of}
 use Rattle.host_tables.proofs.LookUps.{some_value, lives_of}
 use Rattle.wrap_names.proofs.Callers.{sound}
-use Rattle.stage_lists.specs.Owners.{Owners}
-use Rattle.stage_lists.specs.Voters.{Voters, voter, all_voted}
+use Rattle.leader_vote.specs.Owners.{Owners}
+use Rattle.leader_vote.specs.Voters.{Voters, voter, all_voted}
 use Rattle.ckpt_stages.specs.Suspensions.{IsSuspended}
 
 nobody_holds : (m : FinMap real_slot_cmp Descriptor) (id : DescId)

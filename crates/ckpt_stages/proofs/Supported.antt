@@ -21,9 +21,8 @@ use Rattle.plain_tables.specs.Tables.{refers_to, is_held}
 use Rattle.plain_machine.specs.declared.kernel.PlainKernel.{PlainKernel}
 use Rattle.plain_machine.specs.declared.plain.Plain.{Plain}
 use Rattle.plain_machine.specs.Kernels.{IsKernel}
-use Rattle.plain_machine.specs.Tests.{UnsupportedAt, first_of, unsupported, unsupported_entry, unsupported_by}
-use Rattle.plain_machine.specs.Tests.{unsupported_kind}
-use Rattle.seen_processes.specs.Descriptions.{HasNoDatagrams}
+use Rattle.plain_machine.specs.Tests.{UnsupportedAt, first_of, unsupported, unsupported_entry, unsupported_by, unsupported_kind}
+use Rattle.seen_kernel.specs.Descriptions.{HasNoDatagrams}
 use Rattle.ckpt_stages.specs.Faults.{FindsUnsupported}
 
 none_first : {A B : Type 0} (f : A → Option B) (x : A) (xs : List A)

@@ -22,9 +22,9 @@ use Rattle.host_tables.specs.Stands.{Stands}
 use Rattle.host_tables.specs.Systems.{given_of}
 use Rattle.host_tables.proofs.LookUps.{some_value, lives_of}
 use Rattle.wrap_names.specs.Wrapping.{IsWrapped}
-use Rattle.seen_processes.specs.Descriptions.{HasNoDatagrams}
-use Rattle.stage_lists.specs.Owners.{Owners, with_owners}
-use Rattle.stage_lists.specs.Voters.{Voters, HasVoters}
+use Rattle.seen_kernel.specs.Descriptions.{HasNoDatagrams}
+use Rattle.leader_vote.specs.Owners.{Owners, with_owners}
+use Rattle.leader_vote.specs.Voters.{Voters, HasVoters}
 use Rattle.cut_stages.specs.Cuts.{put_back}
 use Rattle.ckpt_stages.specs.Suspensions.{IsReserved, IsSuspended}
 use Rattle.cut_stages.proofs.OtherOwners.{owners_cleared, none_owned}

@@ -20,8 +20,8 @@ use Rattle.wire_net.specs.CutRooms.{RoomView}
 use Rattle.wire_net.specs.Reserves.{Reserve}
 use Rattle.host_tables.specs.declared.system.System.{System}
 use Rattle.host_tables.specs.Numbers.{Pids}
-use Rattle.stage_lists.specs.Owners.{Owners}
-use Rattle.stage_lists.specs.Voters.{Voters, Virts, voter, marked}
+use Rattle.leader_vote.specs.Owners.{Owners}
+use Rattle.leader_vote.specs.Voters.{Voters, Virts, voter, marked}
 use Rattle.cut_stages.specs.Cuts.{with_book, voted_by}
 use Rattle.ckpt_stages.specs.Suspensions.{IsVoting, AreVoters, IsSuspended}
 use Rattle.cut_stages.proofs.OtherOwners.{owners_voted}

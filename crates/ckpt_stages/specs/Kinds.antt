@@ -18,7 +18,7 @@ use Rattle.fd_tables.specs.declared.description.Object.{Object}
 use Rattle.fd_tables.specs.declared.description.Object.TheVariants.{Datagram, Counter}
 use Rattle.fd_tables.specs.Slots.{slot}
 use Rattle.fd_book.specs.Books.{Books}
-use Rattle.stage_lists.specs.Voters.{Virts}
+use Rattle.leader_vote.specs.Voters.{Virts}
 use Rattle.ckpt_stages.specs.Faults.{Found}
 
 abbrev pub unsupported_kind : Object → Option Kind

@@ -25,9 +25,9 @@ use Rattle.wire_net.specs.CutRooms.{RoomView}
 use Rattle.wire_net.specs.Reserves.{Reserve, reserve}
 use Rattle.host_tables.specs.declared.system.System.{System}
 use Rattle.wrap_names.specs.Codes.{kernel_code}
-use Rattle.stage_lists.specs.Owners.{Owners, KeepsOwners}
-use Rattle.stage_lists.specs.Voters.{Voters, Virts, voter, HasVoters}
-use Rattle.stage_lists.specs.Directions.{AreDirs, standing_of}
+use Rattle.leader_vote.specs.Owners.{Owners, KeepsOwners}
+use Rattle.leader_vote.specs.Voters.{Voters, Virts, voter, HasVoters}
+use Rattle.leader_vote.specs.Directions.{AreDirs, standing_of}
 use Rattle.cut_stages.specs.Cuts.{IsCut}
 use Rattle.ckpt_stages.specs.Elections.{Draining}
 

@@ -3,7 +3,7 @@ ghost use Rattle.std.specs.Prelude.{◌≡◌, ◌≢◌, ◌<◌, ◌⊎◌, �
 ghost use Rattle.drain_core.specs.Drains as drains;
 ghost use Rattle.drain_core.specs.Work.{work_left, GoesOn};
 ghost use Rattle.wire_net.specs.declared.agents.Stepped.TheVariants.{Moved};
-ghost use Rattle.stage_lists.specs.Voters as voting;
+ghost use Rattle.leader_vote.specs.Voters as voting;
 ghost use Rattle.drain_core.specs.Holding.{agents_of};
 ghost use Rattle.cut_stages.specs.Holdings.{IsHeldBy};
 ghost use Rattle.cut_stages.specs.Drains.{pumped};
@@ -16,7 +16,7 @@ use cut_stages::base::{Base, pump_on};
 use drain_core::{Drain, drain_laws};
 use host_tables::System;
 use id_maps::ByPid;
-use stage_lists::agents::name_agents;
+use leader_vote::agents::name_agents;
 use std::marker::Model;
 use sys_abi::{Dir, VPid};
 use wire_net::{AgentEnd, CutRoom, Room, Stepped};

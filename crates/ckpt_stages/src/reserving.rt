@@ -5,9 +5,9 @@ ghost use Rattle.ckpt_stages.specs.Suspensions as words;
 
 use host_tables::System;
 use id_maps::{ByDesc, ByPid};
-use stage_lists::directions::{list_dirs, list_standing};
-use stage_lists::owners::keep_owners;
-use stage_lists::voters::list_voters;
+use leader_vote::directions::{list_dirs, list_standing};
+use leader_vote::owners::keep_owners;
+use leader_vote::voters::list_voters;
 use std::alloc::{AllocError, Global};
 use sys_abi::{Dir, RealPid};
 use wire_net::{AgentEnd, CutRoom, Room};

@@ -1,8 +1,8 @@
 //! The suspension of all processes, and the election of leaders.
 ghost use Rattle.std.specs.Prelude.{◌≡◌, true, None, IfOk, IfErr};
-ghost use Rattle.stage_lists.specs.Voters as voting;
+ghost use Rattle.leader_vote.specs.Voters as voting;
 ghost use Rattle.wrap_names.specs.Wrapping.{IsWrapped};
-ghost use Rattle.seen_processes.specs.Descriptions.{HasNoDatagrams};
+ghost use Rattle.seen_kernel.specs.Descriptions.{HasNoDatagrams};
 ghost use Rattle.ckpt_stages.specs.Suspensions as words;
 ghost use Rattle.ckpt_stages.specs.Faults as faults;
 
@@ -14,7 +14,7 @@ use barrier_core::Barrier;
 use cut_stages::base::{Base, put_back, vote_by};
 use host_tables::System;
 use id_maps::{ByDesc, ByPid};
-use stage_lists::voters::{all_voted, has_voted, mark_voter};
+use leader_vote::voters::{all_voted, has_voted, mark_voter};
 use std::alloc::Global;
 use std::marker::Model;
 use sys_abi::{Dir, VPid};

@@ -39,7 +39,7 @@ impl From<AllocError> for Stop {
 }
 
 /// What comes next in a thread's turn.
-#[derive(Clone, Copy, Debug, PartialEq, Eq)]
+#[derive(Clone, Copy)]
 pub enum Next {
     /// The signal is delivered with which the turn begins.
     Deliver(Signal),
@@ -48,7 +48,7 @@ pub enum Next {
 }
 
 /// What a record of a thread's turn was.
-#[derive(Clone, Copy, Debug, PartialEq, Eq)]
+#[derive(Clone, Copy)]
 pub enum Did {
     /// A signal was delivered.
     Delivered,

@@ -1,2 +1,5 @@
 pub mod Conns
 pub mod Unsupported
+pub mod Pairs
+pub mod Openings
+pub mod Messages

@@ -12,13 +12,27 @@
 //! a process is only changed. Not proved: how long a call takes. Nothing here restates a standard; the
 //! addresses are those of `man 7 ip`, and a channel goes when its last open end is closed, as after the last
 //! `close` of `man 2 close`.
+//!
+//! # Datagram pairs
+//!
+//! Those of all nodes stand by the numbers that open descriptions name them with: for each end its
+//! description, whether it is open, and the messages that wait to be read there. To a caller
+//! [`DatagramPairs`] is a finite map from numbers to pairs. A pair is there while an end of it is open, and
+//! keeps the description of an end that has closed: the other end is still known by it.
 #![tactic(auto)]
 
+mod closing;
 mod conn;
 mod conn_fault;
+mod inbox;
+mod messages;
+mod opening;
+mod pairs;
 mod table;
 mod unsupported;
 
 pub use conn::Conn;
 pub use conn_fault::ConnFault;
+pub use inbox::Inbox;
+pub use pairs::{DatagramEnd, DatagramPair, DatagramPairs};
 pub use table::ConnTable;

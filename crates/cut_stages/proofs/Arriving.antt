@@ -29,7 +29,7 @@ use Rattle.host_tables.specs.Network.{SameDirection, SameDirections}
 use Rattle.host_tables.proofs.DirectionChanges.{SameChannels-open}
 use Rattle.wrap_names.specs.Wrapping.{IsWrapped}
 use Rattle.wrap_names.proofs.Callers.{mapped_some}
-use Rattle.stage_lists.specs.Owners.{Owners, with_owners}
+use Rattle.leader_vote.specs.Owners.{Owners, with_owners}
 use Rattle.cut_stages.specs.Cuts.{with_book, put_back, changed_in}
 use Rattle.seen_kernel.specs.Seen.{all_in}
 use Rattle.cut_stages.specs.Resumptions.{IsFilled}

@@ -23,7 +23,7 @@ use Rattle.wire_net.proofs.FramedEnds.{for_framed}
 use Rattle.wire_net.proofs.NotedAgents.{noted_named}
 use Rattle.wire_net.proofs.Streams.{whereabouts-move}
 use Rattle.host_tables.specs.declared.system.System.{System}
-use Rattle.stage_lists.specs.Owners.{Owners}
+use Rattle.leader_vote.specs.Owners.{Owners}
 use Rattle.cut_stages.specs.Cuts.{IsCut}
 use Rattle.cut_stages.specs.Drains.{IsDraining, pumped}
 use Rattle.cut_stages.specs.Rounds.{IsLed}

@@ -41,7 +41,7 @@ use Rattle.wire_net.proofs.NotedAgents.{noted_named}
 use Rattle.wire_net.proofs.Streams.{whereabouts-move, whereabouts-none}
 use Rattle.host_tables.specs.declared.system.System.{System}
 use Rattle.host_tables.specs.Network.{SameDirection}
-use Rattle.stage_lists.specs.Owners.{Owners}
+use Rattle.leader_vote.specs.Owners.{Owners}
 use Rattle.cut_stages.specs.Drains.{IsDraining, pumped}
 use Rattle.cut_stages.specs.Resumptions.{left_of, AreShort, count_on, IsDrainedSet, IsFilling, IsFilled}
 use Rattle.cut_stages.proofs.Cutting.{with_net, on_channels, there_before, cut_on}

@@ -6,7 +6,7 @@ use Rattle.plain_machine.specs.declared.kernel.PlainKernel.{PlainKernel}
 use Rattle.wire_net.specs.Whereabouts.{Agents}
 use Rattle.host_tables.specs.declared.system.System.{System}
 use Rattle.wrap_names.specs.Wrapping.{IsWrapped}
-use Rattle.stage_lists.specs.Owners.{Owners, with_owners}
+use Rattle.leader_vote.specs.Owners.{Owners, with_owners}
 use Rattle.cut_stages.specs.Cuts.{with_book, put_back, changed_in, IsCut}
 use Rattle.cut_stages.proofs.OtherOwners.{owners_back}
 

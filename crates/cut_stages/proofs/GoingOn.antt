@@ -8,7 +8,7 @@ use Rattle.plain_machine.specs.declared.kernel.PlainKernel.{PlainKernel}
 use Rattle.wire_net.specs.declared.agents.AgentEnd.{AgentEnd}
 use Rattle.wire_net.specs.Networks.{Network}
 use Rattle.host_tables.specs.declared.system.System.{System}
-use Rattle.stage_lists.specs.Owners.{Owners}
+use Rattle.leader_vote.specs.Owners.{Owners}
 use Rattle.cut_stages.specs.Resumptions.{Filling, IsRefilling, refill_task}
 use Rattle.cut_stages.specs.Rounds.{under_way, IsFurther}
 use Rattle.cut_stages.proofs.Cutting.{with_net}

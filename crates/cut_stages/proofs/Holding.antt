@@ -29,7 +29,7 @@ use Rattle.host_tables.specs.Processes.{SameDescriptors}
 use Rattle.host_tables.specs.Stands.{Given}
 use Rattle.host_tables.specs.Systems.{given_of, StandsFor}
 use Rattle.host_tables.proofs.DirectionChanges.{SameChannels-open}
-use Rattle.stage_lists.specs.Owners.{Owners, kept_owner}
+use Rattle.leader_vote.specs.Owners.{Owners, kept_owner}
 use Rattle.cut_stages.specs.Cuts.{changed_in, IsCut}
 use Rattle.cut_stages.specs.Holdings.{IsHeldBy}
 use Rattle.cut_stages.proofs.Arriving.{it_was, side_flags, flags_on, ends_on}

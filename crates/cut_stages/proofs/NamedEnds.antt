@@ -14,8 +14,8 @@ use Rattle.sys_abi.specs.Orders.{dir_cmp}
 use Rattle.sys_abi.proofs.OrderLaws.{dir_total, dir_exact}
 use Rattle.wire_net.specs.declared.agents.AgentEnd.{AgentEnd}
 use Rattle.wire_net.specs.Ends.{is_end_at, end_of}
-use Rattle.stage_lists.specs.Agents.{place_of}
-use Rattle.stage_lists.specs.Directions.{is_listed}
+use Rattle.leader_vote.specs.Agents.{place_of}
+use Rattle.leader_vote.specs.Directions.{is_listed}
 
 abbrev pub side_of : ConnId → ℕ → Dir
 side_of id side = record { conn = id; side = side }

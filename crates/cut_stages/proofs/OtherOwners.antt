@@ -13,8 +13,8 @@ use Rattle.fd_tables.specs.Parts.{with_owner}
 use Rattle.fd_book.specs.Books.{Books}
 use Rattle.leader_vote.specs.Elections.{after_vote, NoneOwned}
 use Rattle.leader_vote.proofs.Elections.{owners_alone}
-use Rattle.stage_lists.specs.Owners.{Owners, kept_owner, owned_as_kept, KeepsOwners, with_owners}
-use Rattle.stage_lists.proofs.KeptOwners.{get-with_owners, with_owners-descriptors, same_books}
+use Rattle.leader_vote.specs.Owners.{Owners, kept_owner, owned_as_kept, KeepsOwners, with_owners}
+use Rattle.leader_vote.proofs.KeptOwners.{get-with_owners, with_owners-descriptors, same_books}
 use Rattle.cut_stages.specs.Cuts.{DiffersInOwners}
 
 abbrev no_owners : Owners

@@ -31,7 +31,7 @@ use Rattle.wire_net.specs.Runs.{UnderWay}
 use Rattle.wire_net.proofs.FramedEnds.{for_framed}
 use Rattle.wire_net.proofs.NotedAgents.{noted_named}
 use Rattle.host_tables.specs.Numbers.{Pids}
-use Rattle.stage_lists.specs.Agents.{place_of}
+use Rattle.leader_vote.specs.Agents.{place_of}
 use Rattle.cut_stages.specs.Rounds.{acts_among, IsAlive, IsLed, Task, IsGoing, AreActing, IsFurther, IsQuiet, IsStill, IsIdleAfter, IsStillAfter, Passed, SomeGoesOn}
 use Rattle.cut_stages.proofs.Cutting.{on_channels, there_before}
 use Rattle.cut_stages.proofs.NamedEnds.{its_agent}

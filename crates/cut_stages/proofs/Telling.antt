@@ -8,7 +8,7 @@ use Rattle.wire_net.specs.CutRooms.{RoomView}
 use Rattle.wire_net.specs.DrainedNets.{agents_of_lists}
 use Rattle.host_tables.specs.declared.system.System.{System}
 use Rattle.host_tables.specs.Descriptions.{Stage}
-use Rattle.stage_lists.specs.Owners.{Owners}
+use Rattle.leader_vote.specs.Owners.{Owners}
 use Rattle.seen_kernel.specs.Seen.{IsToldBy}
 use Rattle.cut_stages.specs.Resumptions.{IsDrainedSet}
 use Rattle.cut_stages.proofs.Holding.{stands_held}

@@ -22,8 +22,8 @@ use Rattle.wire_channels.specs.Frames.{SameFrames}
 use Rattle.wire_net.specs.Whereabouts.{Agents, stream_on, whereabouts}
 use Rattle.host_tables.specs.declared.system.System.{System}
 use Rattle.wrap_names.specs.Wrapping.{IsWrapped}
-use Rattle.seen_processes.specs.Descriptions.{HasNoDatagrams}
-use Rattle.stage_lists.specs.Owners.{Owners, KeepsOwners, with_owners}
+use Rattle.seen_kernel.specs.Descriptions.{HasNoDatagrams}
+use Rattle.leader_vote.specs.Owners.{Owners, KeepsOwners, with_owners}
 
 abbrev pub with_book : System → Books → System
 with_book s book = record s { kernel = record s.kernel { book = book } }

@@ -17,7 +17,7 @@ use Rattle.wire_net.specs.declared.agents.AgentEnd.{AgentEnd}
 use Rattle.wire_net.specs.Ends.{IsFor}
 use Rattle.wire_net.specs.Networks.{Network}
 use Rattle.host_tables.specs.declared.system.System.{System}
-use Rattle.stage_lists.specs.Owners.{Owners}
+use Rattle.leader_vote.specs.Owners.{Owners}
 use Rattle.cut_stages.specs.Cuts.{IsCut}
 use Rattle.cut_stages.specs.Rounds.{Task, AreLed, IsAlive}
 

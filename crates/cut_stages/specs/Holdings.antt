@@ -7,7 +7,7 @@ use Rattle.plain_machine.specs.declared.kernel.PlainKernel.{PlainKernel}
 use Rattle.wire_net.specs.Whereabouts.{Agents}
 use Rattle.host_tables.specs.declared.system.System.{System}
 use Rattle.host_tables.specs.Systems.{StandsFor}
-use Rattle.stage_lists.specs.Owners.{Owners}
+use Rattle.leader_vote.specs.Owners.{Owners}
 
 pub record IsHeldBy (s : System) (k : PlainKernel) (agents : Agents) : Type 0 where
   pub owners : Owners

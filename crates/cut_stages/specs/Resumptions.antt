@@ -43,7 +43,7 @@ use Rattle.wire_net.specs.Whereabouts.{stream_on, whereabouts}
 use Rattle.host_tables.specs.declared.system.System.{System}
 use Rattle.host_tables.specs.Numbers.{Pids}
 use Rattle.wrap_names.specs.Codes.{kernel_code}
-use Rattle.stage_lists.specs.Owners.{Owners}
+use Rattle.leader_vote.specs.Owners.{Owners}
 use Rattle.cut_stages.specs.declared.outcome.PutOutcome.{PutOutcome}
 use Rattle.cut_stages.specs.contracts.outcome.PutOutcome as outcome
 use Rattle.cut_stages.specs.Cuts.{IsCut}

@@ -34,7 +34,7 @@ use Rattle.wire_net.specs.Noted.{Notes, NamedAgents, CanMove, is_agent, has_note
 use Rattle.wire_net.specs.Runs.{UnderWay}
 use Rattle.wire_net.specs.Whereabouts.{Agents, whereabouts}
 use Rattle.host_tables.specs.Numbers.{Pids}
-use Rattle.stage_lists.specs.Agents.{place_of}
+use Rattle.leader_vote.specs.Agents.{place_of}
 
 abbrev pub acts_among : RealPid → List AgentEnd → Bool
 acts_among p ends = list_any (λ (e : AgentEnd). is_agent p e.agent) ends

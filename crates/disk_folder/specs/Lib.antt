@@ -3,3 +3,8 @@ pub mod SeenFolder
 pub mod Crash
 pub mod Moments
 pub mod Faults
+pub mod FilesCode
+pub mod FileTable
+pub mod History
+pub mod HistoryCode
+pub mod InMemory

@@ -21,7 +21,8 @@ use Rattle.plain_machine.specs.Records.{Outcome, QUANTUM, outcome, outcome_of_us
 use Rattle.plain_machine.specs.Tests.{ended, full_arrive, is_work, IsStuck}
 use Rattle.plain_machine.specs.Valid.{IsValid}
 use Rattle.dmtcp_top.specs.OneOrder.{ComesToRest}
-use Rattle.drive.proofs.HandedOn.{somebody_lives, users_arrived, pending_arrived}
+use Rattle.drive.proofs.Lives.{somebody_lives}
+use Rattle.drive.proofs.Standstill.{users_arrived, pending_arrived}
 use Rattle.dmtcp_top.proofs.ArrivedCalls.{arrived_goes}
 use Rattle.dmtcp_top.proofs.Determined.{HasAsked, has_asked}
 

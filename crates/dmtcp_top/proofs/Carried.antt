@@ -28,8 +28,10 @@ use Rattle.job_words.specs.declared.job.Job.{Job}
 use Rattle.job_words.specs.declared.job.LaunchJob.{LaunchJob}
 use Rattle.job_words.specs.declared.job.Job.TheVariants.{Launch, Restart, Ring, Help}
 use Rattle.job_words.proofs.JobFacts.{launch_every, restart_every}
-use Rattle.drive.specs.HandedOn.{GoesInRounds, RunEnd, EndsRun, KernelAtEnd}
-use Rattle.drive.specs.RunEndVariants.{Done as RunDone, Budget as RunBudget, Stuck as RunStuck, SinkFault as RunSinkFault, Memory as RunMemory}
+use Rattle.drive.specs.HandedOn.{GoesInRounds}
+use Rattle.drive.specs.declared.run_end.RunEnd.{RunEnd}
+use Rattle.drive.specs.RunEnds.{EndsRun, KernelAtEnd}
+use Rattle.drive.specs.declared.run_end.RunEnd.TheVariants.{Done as RunDone, Budget as RunBudget, Stuck as RunStuck, SinkFault as RunSinkFault, Memory as RunMemory}
 use Rattle.drive.specs.declared.run_status.RunStatus.{RunStatus}
 use Rattle.drive.specs.declared.run_status.RunStatus.TheVariants.{Ended, SinkFault}
 use Rattle.drive.specs.declared.run_status.RunEnd.TheVariants.{Done, Stuck, Budget, Memory}

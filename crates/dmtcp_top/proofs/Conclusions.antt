@@ -12,7 +12,8 @@ use Rattle.endings.specs.declared.ending.Ending.{Ending}
 use Rattle.endings.specs.declared.ending.Ending.TheVariants.{Done, Usage, InputFault, Missing, BadElf, TooBig, SinkFault, DiskFault, NoSet, Damaged, Budget, Stuck, Memory}
 use Rattle.endings.specs.Log.{memory_line}
 use Rattle.dmtcp_top.specs.Sessions.{Session}
-use Rattle.drive.specs.HandedOn.{StopsAtRecord, LinesOf, CutLines}
+use Rattle.drive.specs.Pace.{StopsAtRecord, LinesOf}
+use Rattle.drive.specs.HandedOn.{CutLines}
 use Rattle.dmtcp_top.specs.Ends.{Ends, Reaches, SinkFailed, LogFailed, Stopped, CallKeepsPace}
 use Rattle.endings.specs.Endings.{status_of, line_of, Concludes}
 use Rattle.dmtcp_top.specs.Endings.{IsAtEnding, KeepsPaceAt}

@@ -11,7 +11,7 @@ use Rattle.host_tables.specs.declared.system.System.{System}
 use Rattle.host_tables.specs.Stands.{SameFiles}
 use Rattle.wrap_names.specs.Wrapping.{IsWrapped}
 use Rattle.option_words.specs.Options.{Text}
-use Rattle.ring_demo.specs.Values.{content_named}
+use Rattle.launch_start.specs.Values.{content_named}
 
 module _ (s : System) (k : PlainKernel) (is : IsWrapped s k.next_id k) where
   abbrev table : FileTable

@@ -26,8 +26,10 @@ use Rattle.trace_log.specs.declared.requests.Tally.{Tally}
 use Rattle.trace_log.specs.Requests.{Requests, Phase, NoRequest, Requested, AfterCut, asks, is_mark, is_multiple_of, next_requests, phase_after, tally_after}
 use Rattle.trace_log.proofs.RequestMarks.{has_no_marks, is_each_without_marks}
 use Rattle.trace_log.specs.Turns.{Place, Arrival, InTurn, Upcoming, due_signal, turn_of, turn_with, NewRound, After, threads_in, first_thread, first_turn, coming, round_of, round_from, new_round, next_turn, same_turn, stands_in, goes_on, due_at, is_due_at}
-use Rattle.drive.specs.HandedOn.{Standing, GoesInRounds, is_due, is_first_arrival, is_due_for_cut, request_waits, moved, moved_by, standing_after, each_is_due, first_standing, RunEnd, IsRun, RanOut, EndsRun}
-use Rattle.drive.specs.RunEndVariants.{Done as RunDone, Budget as RunBudget, Stuck as RunStuck, SinkFault as RunSinkFault, Memory as RunMemory}
+use Rattle.drive.specs.HandedOn.{Standing, GoesInRounds, is_due, is_first_arrival, is_due_for_cut, request_waits, moved, moved_by, standing_after, each_is_due, first_standing}
+use Rattle.drive.specs.declared.run_end.RunEnd.{RunEnd}
+use Rattle.drive.specs.RunEnds.{IsRun, RanOut, EndsRun}
+use Rattle.drive.specs.declared.run_end.RunEnd.TheVariants.{Done as RunDone, Budget as RunBudget, Stuck as RunStuck, SinkFault as RunSinkFault, Memory as RunMemory}
 use Rattle.job_words.specs.declared.job.Job.TheVariants.{Launch, Restart}
 use Rattle.dmtcp_top.specs.Jobs.{NameNoEvery}
 use Rattle.dmtcp_top.specs.Launches.{Begun, origin, schedule_in, beginning}

@@ -8,8 +8,9 @@ use Rattle.plain_machine.specs.Valid.{IsValid}
 use Rattle.disk_folder.specs.Files.{FolderFiles as Folder}
 use Rattle.trace_log.specs.declared.requests.Schedule.{Schedule}
 use Rattle.job_words.specs.declared.job.Job.TheVariants.{Restart}
-use Rattle.drive.specs.HandedOn.{RunEnd, SpellsSet}
-use Rattle.drive.specs.RunEndVariants.{Done as RunDone, Budget as RunBudget, Stuck as RunStuck, Memory as RunMemory}
+use Rattle.drive.specs.declared.run_end.RunEnd.{RunEnd}
+use Rattle.drive.specs.HandedOn.{SpellsSet}
+use Rattle.drive.specs.declared.run_end.RunEnd.TheVariants.{Done as RunDone, Budget as RunBudget, Stuck as RunStuck, Memory as RunMemory}
 use Rattle.dmtcp_top.specs.declared.settings.Settings.{Settings}
 use Rattle.endings.specs.declared.status.Status.{Status}
 use Rattle.endings.specs.declared.status.Status.TheVariants.{Done, Budget, Stuck, Memory}

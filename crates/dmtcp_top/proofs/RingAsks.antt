@@ -18,9 +18,9 @@ use Rattle.endings.specs.declared.status.Status.TheVariants.{Memory as IsMemory}
 use Rattle.endings.specs.declared.ending.Ending.TheVariants.{Memory}
 use Rattle.endings.specs.Log.{memory_line}
 use Rattle.drive.proofs.HandedOn.{took_nothing}
-use Rattle.ring_demo.specs.RingJobs.{launch_of, launch_settings, members, restart_of, restart_settings}
-use Rattle.ring_demo.proofs.RingBounds.{ring_bounds}
-use Rattle.ring_demo.proofs.RingWords.{launch_asked, restart_asked, launch_there}
+use Rattle.launch_start.specs.RingJobs.{launch_of, launch_settings, members, restart_of, restart_settings}
+use Rattle.launch_start.proofs.RingBounds.{ring_bounds}
+use Rattle.launch_start.proofs.RingWords.{launch_asked, restart_asked, launch_there}
 use Rattle.dmtcp_top.specs.Jobs.{Asks, AskSomething}
 use Rattle.dmtcp_top.specs.Ends.{Reaches}
 use Rattle.dmtcp_top.specs.Ring.{RingHalves, launch_half}

@@ -26,9 +26,9 @@ use Rattle.endings.specs.Endings.{status_of, line_of}
 use Rattle.endings.specs.Log.{done_line, missing_line, bad_program_line, too_big_line, memory_line}
 use Rattle.launch_start.specs.JobInputs.{missing, bad, too_big, first_refusal, inputs_in}
 use Rattle.drive.proofs.HandedOn.{took_both, took_front}
-use Rattle.drive.specs.HandedOn.{IsRun, RanOut, ShownInPart}
-use Rattle.ring_demo.specs.RingJobs.{launch_of, restart_of, ring_files}
-use Rattle.ring_demo.specs.Values.{content_named, summary}
+use Rattle.drive.specs.RunEnds.{IsRun, RanOut, ShownInPart}
+use Rattle.launch_start.specs.RingJobs.{launch_of, restart_of, ring_files}
+use Rattle.launch_start.specs.Values.{content_named, summary}
 use Rattle.dmtcp_top.specs.declared.ring.Values.{Values}
 use Rattle.dmtcp_top.specs.Sessions.{Session, Beginning, given}
 use Rattle.dmtcp_top.specs.Launches.{LaunchAsked, Begun, origin, schedule_in}

@@ -12,8 +12,8 @@ use Rattle.job_words.specs.declared.job.NamedProgram.{NamedProgram}
 use Rattle.job_words.specs.Jobs.{IsLaunchOf, start_of}
 use Rattle.launch_start.specs.JobInputs.{bad, Content, found, ProgramInput, JobInputs, program_refusal, first_refusal, content_of, content_in, file_in, program_in, inputs_in}
 use Rattle.launch_start.proofs.Refusals.{first, first_refusal_is, none_refused}
-use Rattle.ring_demo.specs.RingJobs.{RING, member, members, launch_settings, ring_files}
-use Rattle.ring_demo.proofs.RingFiles.{files_hold}
+use Rattle.launch_start.specs.RingJobs.{RING, member, members, launch_settings, ring_files}
+use Rattle.launch_start.proofs.RingFiles.{files_hold}
 
 -- the program of a member is held, and good
 held : content_in ring_files RING ≡ found ring_file

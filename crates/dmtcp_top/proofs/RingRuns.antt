@@ -29,9 +29,10 @@ use Rattle.trace_log.proofs.RequestMarks.{has_no_marks}
 use Rattle.endings.specs.declared.status.Status.TheVariants.{Memory as IsMemory}
 use Rattle.endings.specs.declared.ending.Ending.TheVariants.{Memory}
 use Rattle.endings.specs.Log.{memory_line}
-use Rattle.drive.specs.HandedOn.{IsOpening, CountsFaults, IsRun, KernelAtEnd, RanOut}
+use Rattle.drive.specs.HandedOn.{IsOpening, CountsFaults}
+use Rattle.drive.specs.RunEnds.{IsRun, KernelAtEnd, RanOut}
 use Rattle.drive.proofs.HandedOn.{took_front}
-use Rattle.ring_demo.specs.Values.{content_named}
+use Rattle.launch_start.specs.Values.{content_named}
 use Rattle.dmtcp_top.specs.Sessions.{Session, Beginning, Outside, session_in, log_in}
 use Rattle.dmtcp_top.specs.Launches.{beginning, origin}
 use Rattle.dmtcp_top.specs.Ends.{CameTo, Reaches}

@@ -5,7 +5,7 @@ use Rattle.disk_folder.specs.Files.{FolderFiles}
 use Rattle.plain_machine.specs.declared.plain.Plain.{Plain}
 use Rattle.image_format.specs.declared.damage.Damage.{Damage}
 use Rattle.image_process.specs.declared.process_image.ProcImage.{ProcImage}
-use Rattle.image_shared.specs.declared.shared.Shared.{Shared}
+use Rattle.shared_items.specs.declared.shared.Shared.{Shared}
 use Rattle.image_codec.specs.Sets.{SpellsFiles, DamagedFiles}
 use Rattle.image_codec.proofs.SetDamages.{files_apart, one_damage_of_files}
 use Rattle.image_store.specs.Slots.{last}

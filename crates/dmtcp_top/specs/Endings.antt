@@ -16,8 +16,10 @@ use Rattle.endings.specs.declared.ending.Ending.TheVariants.{Done, SinkFault, Bu
 use Rattle.endings.specs.Log.{memory_line}
 use Rattle.endings.specs.Endings.{status_of, line_of}
 use Rattle.edge_io.specs.Sunk.{Sunk, Took, TookFront}
-use Rattle.drive.specs.HandedOn.{RunEnd, KernelAtEnd, LinesOf}
-use Rattle.drive.specs.RunEndVariants as run_ended
+use Rattle.drive.specs.declared.run_end.RunEnd.{RunEnd}
+use Rattle.drive.specs.RunEnds.{KernelAtEnd}
+use Rattle.drive.specs.Pace.{LinesOf}
+use Rattle.drive.specs.declared.run_end.RunEnd.TheVariants as run_ended
 use Rattle.dmtcp_top.specs.Sessions.{Session, Beginning, Outside, session_in, log_in}
 use Rattle.dmtcp_top.specs.Ends.{Reaches, SinkFailed, Stopped, CallGoesInRounds}
 use Rattle.dmtcp_top.specs.Promise.{StaysWhole}

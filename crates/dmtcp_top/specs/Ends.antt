@@ -26,7 +26,9 @@ use Rattle.dmtcp_top.specs.Jobs.{AskNothing, AskSomething}
 use Rattle.launch_start.specs.JobInputs.{Refusal, unread, missing, bad, too_big, JobInputs, IsMissing, IsBad, IsTooBig, IsFirstRefusal, AreLoaded, first_refusal, inputs_in}
 use Rattle.endings.specs.Log.{done_line, usage_line, input_fault_line, missing_line, bad_program_line, too_big_line, disk_fault_line, no_set_line, damaged_line, budget_line, stuck_line, memory_line}
 use Rattle.dmtcp_top.specs.Sessions.{Given, Beginning, Session}
-use Rattle.drive.specs.HandedOn.{TookThen, SpellsSet, SpoilsSet, GoesInRounds, RanOut, FilledUp, GotStuck, Shown, ShownInPart, CutLines, StopsAtRecord}
+use Rattle.drive.specs.HandedOn.{TookThen, SpellsSet, SpoilsSet, GoesInRounds, CutLines}
+use Rattle.drive.specs.RunEnds.{RanOut, FilledUp, GotStuck, Shown, ShownInPart}
+use Rattle.drive.specs.Pace.{StopsAtRecord}
 use Rattle.dmtcp_top.specs.Launches.{LaunchAsked, RestartAsked, Begun, origin, settings_in, schedule_in, beginning}
 
 -- a run was begun, and it came to this

@@ -33,8 +33,10 @@ use Rattle.endings.specs.declared.status.Status.{Status}
 use Rattle.endings.specs.declared.status.Status.TheVariants.{Done, Budget, Stuck, Memory as WantsMemory}
 use Rattle.dmtcp_top.specs.Jobs.{NameNoEvery}
 use Rattle.dmtcp_top.specs.Launches.{RestartAsked}
-use Rattle.drive.specs.HandedOn.{SpellsState, SpellsSet, GoesInRounds, RunEnd, IsRun, RanOut, EndsRun}
-use Rattle.drive.specs.RunEndVariants.{Done as Ended, SinkFault, Memory}
+use Rattle.drive.specs.HandedOn.{SpellsState, SpellsSet, GoesInRounds}
+use Rattle.drive.specs.declared.run_end.RunEnd.{RunEnd}
+use Rattle.drive.specs.RunEnds.{IsRun, RanOut, EndsRun}
+use Rattle.drive.specs.declared.run_end.RunEnd.TheVariants.{Done as Ended, SinkFault, Memory}
 use Rattle.edge_io.specs.Sunk.{Sunk, Took}
 use Rattle.dmtcp_top.specs.Sessions.{Beginning, Session}
 use Rattle.dmtcp_top.specs.Ends.{Ends, IsDecided, CallGoesInRounds}

@@ -16,9 +16,10 @@ use Rattle.endings.specs.Log.{done_line}
 use Rattle.job_words.specs.declared.job.RingJob.{RingJob}
 use Rattle.job_words.specs.Commands.{words_of_command}
 use Rattle.edge_io.specs.Sunk.{Sunk, sunk, Took, TookFront}
-use Rattle.drive.specs.HandedOn.{TookThen, RanOut, ShownInPart}
-use Rattle.ring_demo.specs.RingJobs.{launch_of, restart_of, ring_files}
-use Rattle.ring_demo.specs.Values.{content_named, summary}
+use Rattle.drive.specs.HandedOn.{TookThen}
+use Rattle.drive.specs.RunEnds.{RanOut, ShownInPart}
+use Rattle.launch_start.specs.RingJobs.{launch_of, restart_of, ring_files}
+use Rattle.launch_start.specs.Values.{content_named, summary}
 use Rattle.dmtcp_top.specs.Sessions.{Session, Beginning, Outside, StreamsFailed, FolderFailed, given, session, log_in}
 use Rattle.dmtcp_top.specs.Ends.{CameTo, Reaches, IsFrontOfLines, CallGoesInRounds}
 use Rattle.dmtcp_top.specs.Promise.{StaysWhole}

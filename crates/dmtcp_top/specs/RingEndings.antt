@@ -26,9 +26,9 @@ use Rattle.endings.specs.declared.ending.Ending.{Ending}
 use Rattle.endings.specs.declared.ending.Ending.TheVariants.{Done, SinkFault, Memory}
 use Rattle.endings.specs.Endings.{status_of, line_of}
 use Rattle.endings.specs.Log.{done_line}
-use Rattle.drive.specs.HandedOn.{RanOut}
-use Rattle.ring_demo.specs.RingJobs.{launch_of, launch_settings, members, restart_of, ring_files}
-use Rattle.ring_demo.specs.Values.{content_named}
+use Rattle.drive.specs.RunEnds.{RanOut}
+use Rattle.launch_start.specs.RingJobs.{launch_of, launch_settings, members, restart_of, ring_files}
+use Rattle.launch_start.specs.Values.{content_named}
 use Rattle.dmtcp_top.specs.declared.ring.Values.{Values}
 use Rattle.dmtcp_top.specs.Jobs.{Asks}
 use Rattle.dmtcp_top.specs.Sessions.{Outside, outside}

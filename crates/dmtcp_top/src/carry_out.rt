@@ -2,7 +2,7 @@ ghost use Rattle.std.specs.Prelude.{◌≡◌, ◌≢◌, ◌≤◌, ◌⊎◌, 
 ghost use Rattle.views.specs.Faults.{Rose};
 ghost use Rattle.option_words.specs.Options.{Text};
 ghost use Rattle.endings.specs.Endings.{status_of};
-ghost use Rattle.drive.specs.RunEndVariants as run_ended;
+ghost use Rattle.drive.specs.declared.run_end.RunEnd.TheVariants as run_ended;
 ghost use Rattle.drive.specs.Driving.{end_told};
 ghost use Rattle.dmtcp_top.specs.Endings.{IsCarriedOut, IsLeft, ending_by, ending_in};
 ghost use Rattle.dmtcp_top.specs.Jobs.{Asks, IsOneRun, IsQuiet, settings_of};

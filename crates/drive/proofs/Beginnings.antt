@@ -29,13 +29,13 @@ use Rattle.trace_log.specs.declared.requests.Schedule.{Schedule}
 use Rattle.trace_log.specs.LogText.{at_start}
 use Rattle.trace_log.specs.Requests.{first_tally}
 use Rattle.trace_log.specs.Trace.{TraceState}
-use Rattle.run_loop.specs.HandedOn.{plain_of, IsReady, sunk, NewRound, Checkpointer, IsKept}
-use Rattle.run_loop.specs.declared.run_end.RunEnd.{RunEnd as LoopEnd}
-use Rattle.run_loop.specs.declared.run_end.RunEnd.TheVariants as run_ended
-use Rattle.run_loop.specs.Going.{HasEnded}
-use Rattle.run_loop.specs.RunEnds.{EndsAt, KernelAtEnd}
-use Rattle.run_loop.proofs.Ended.{at_memory, kernel_left}
-use Rattle.run_loop.proofs.Starting.{starting}
+use Rattle.drive.specs.HandedOn.{sunk, NewRound, Checkpointer, IsKept, plain_of, IsReady}
+use Rattle.drive.specs.declared.run_end.RunEnd.{RunEnd as LoopEnd}
+use Rattle.drive.specs.declared.run_end.RunEnd.TheVariants as run_ended
+use Rattle.drive.specs.Going.{HasEnded}
+use Rattle.drive.specs.RunEnds.{EndsAt, KernelAtEnd}
+use Rattle.drive.proofs.Ended.{at_memory, kernel_left}
+use Rattle.drive.proofs.Starting.{starting}
 use Rattle.drive.specs.Driving.{Guests, CanDrive, state_of}
 
 each_numbered : (guests : Guests) → All (λ entry. entry.1.pid ≡ entry.0) guests → EachEntry (λ p guest. guest.pid ≡ p) guests

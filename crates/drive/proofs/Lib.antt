@@ -1,2 +1,17 @@
 pub mod Beginnings
+pub mod Lives
+pub mod Standstill
+pub mod Starting
+pub mod Records
+pub mod Ended
+pub mod Turning
+pub mod Stepping
+pub mod Choosing
 pub mod HandedOn
+pub mod Queueing
+pub mod Threads
+pub mod FirstTurns
+pub mod FewProcesses
+pub mod Taking
+pub mod NextTurns
+pub mod Queued

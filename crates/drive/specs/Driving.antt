@@ -16,9 +16,9 @@ use Rattle.plain_machine.specs.Valid.{IsValid}
 use Rattle.guest_proc.specs.Guests.{GuestPart}
 use Rattle.image_store.specs.StoreStates.{Known, FitsFolder, next_generation}
 use Rattle.trace_log.specs.declared.requests.Schedule.{Schedule}
-use Rattle.run_loop.specs.declared.run_end.RunEnd.{RunEnd as LoopEnd}
-use Rattle.run_loop.specs.declared.run_end.RunEnd.TheVariants as run_ended
-use Rattle.run_loop.specs.RunEnds.{KernelAtEnd}
+use Rattle.drive.specs.declared.run_end.RunEnd.{RunEnd as LoopEnd}
+use Rattle.drive.specs.declared.run_end.RunEnd.TheVariants as run_ended
+use Rattle.drive.specs.RunEnds.{KernelAtEnd}
 use Rattle.drive.specs.declared.run_status.RunStatus.{RunStatus}
 use Rattle.drive.specs.declared.run_status.RunStatus.TheVariants.{Ended, SinkFault}
 use Rattle.drive.specs.declared.run_status.RunEnd.TheVariants.{Done, Stuck, Budget, Memory}

@@ -1,6 +1,13 @@
 -- What is handed on of the libraries below, so that who uses this one need not name them.
-pub use Rattle.run_loop.specs.HandedOn.{IsReady, IsSafe, Counts, IsOpening, SpellsCut, KeepsComplete, CountsFaults, GoesInRounds, Standing, is_due, is_first_arrival, is_due_for_cut, request_waits, moved, moved_by, standing_after, first_standing, TookThen, CutLines, SpellsSet, SpoilsSet, SpellsState, opening_of}
-unfoldable pub use Rattle.run_loop.specs.HandedOn.{each_is_due}
-pub use Rattle.run_loop.specs.declared.run_end.RunEnd.{RunEnd}
-pub use Rattle.run_loop.specs.RunEnds.{KernelAtEnd, RanOut, FilledUp, GotStuck, Shown, ShownInPart, IsRun, EndsRun}
-pub use Rattle.run_loop.specs.Pace.{LinesOf, StopsAtRecord, KeepsPace}
+pub use Rattle.checkpointer.specs.Keeping.{IsSafe, Counts, IsOpening, SpellsCut, KeepsComplete, CountsFaults, IsKept}
+pub use Rattle.checkpointer.specs.Rounds.{GoesInRounds, Standing, is_due, is_first_arrival, is_due_for_cut, request_waits, moved, moved_by, standing_after, first_standing}
+unfoldable pub use Rattle.checkpointer.specs.Rounds.{each_is_due}
+pub use Rattle.checkpointer.specs.Pace.{TookThen, CutLines}
+pub use Rattle.checkpointer.specs.Sets.{SpellsSet, SpoilsSet, SpellsState, opening_of}
+pub use Rattle.checkpointer.specs.declared.checkpointer.Checkpointer.{Checkpointer}
+pub use Rattle.edge_io.specs.Sunk.{sunk}
+pub use Rattle.trace_log.specs.Turns.{NewRound}
+pub use Rattle.computation.specs.declared.computation.Computation.{Computation}
+pub use Rattle.computation.specs.declared.computation.Stop.{Stop}
+pub use Rattle.computation.specs.declared.computation.Did.{Did}
+pub use Rattle.computation.specs.Computations.{plain_of, IsDid, IsReady}

@@ -1,18 +1,18 @@
 ghost use Rattle.std.specs.Prelude.{◌≡◌, ◌≤◌, ◌⊎◌, [], None, IfOk, IsSome};
 ghost use Rattle.std.specs.FinMap as map;
 ghost use Rattle.views.specs.Faults.{Rose};
-ghost use Rattle.run_loop.specs.HandedOn.{sunk, IsSafe, GoesInRounds};
-ghost use Rattle.run_loop.specs.RunEnds.{EndsRun};
-ghost use Rattle.run_loop.specs.Pace.{KeepsPace};
+ghost use Rattle.drive.specs.HandedOn.{sunk, IsSafe, GoesInRounds};
+ghost use Rattle.drive.specs.RunEnds.{EndsRun};
+ghost use Rattle.drive.specs.Pace.{KeepsPace};
 ghost use Rattle.drive.specs.Driving.{schedule_of, state_of, end_told, CanDrive, StandsAtEnd};
 
 use crate::run_status::{RunEnd, RunStatus, status_of};
+use crate::{Checkpointer, Computation, Start, Wrapped};
 use disk_folder::Folder;
 use edge_io::Sink;
 use guest_proc::Guest;
 use id_maps::ByPid;
 use image_store::Store;
-use run_loop::{Checkpointer, Computation, Start, Wrapped};
 use std::alloc::{AllocError, Global};
 use sys_abi::{Transfer, VPid};
 use trace_log::{Schedule, Trace};

@@ -13,12 +13,12 @@ use Rattle.plain_process.specs.declared.user_part.ThreadPart.{ThreadPart}
 use Rattle.plain_process.specs.Memory.{Memory}
 use Rattle.plain_process.specs.Instructions.{Effect}
 use Rattle.plain_process.specs.Steps.{Running, effect_at, Waits, waits, with_regs, step_by, step_of, user_step, user_steps}
-use Rattle.guest_run.specs.declared.run.Stop.{Stop}
-use Rattle.guest_run.specs.declared.run.Stop.TheVariants.{Quantum, Call, Trap}
+use Rattle.guest_start.specs.declared.run.Stop.{Stop}
+use Rattle.guest_start.specs.declared.run.Stop.TheVariants.{Quantum, Call, Trap}
 use Rattle.guest_proc.specs.declared.ran.Ran.{Ran}
 use Rattle.guest_proc.specs.Guests.{Tells, with_parts}
 use Rattle.guest_proc.specs.Running.{ran_told}
-use Rattle.guest_run.specs.Running.{running, HasRun, IsStop}
+use Rattle.guest_start.specs.Running.{running, HasRun, IsStop}
 use Rattle.guest_threads.specs.Threads.{changed_by}
 use Rattle.guest_proc.proofs.Lift.{lift, run_to, step_at}
 

@@ -12,7 +12,7 @@ use Rattle.guest_proc.specs.declared.ran.Ran.{Ran}
 use Rattle.guest_proc.specs.declared.ran.Ran.TheVariants.{Whole}
 use Rattle.guest_proc.specs.Guests.{ran_at}
 use Rattle.guest_proc.specs.Looking.{ran_by}
-use Rattle.guest_run.specs.Peeking.{IsOutcomeOf}
+use Rattle.guest_start.specs.Peeking.{IsOutcomeOf}
 
 pub goes : (effect : Effect) (regs : Regs) → IsOutcomeOf Next effect → Whole ≡ ran_by effect regs
 goes (ToNext regs' memory) regs is = refl

@@ -4,7 +4,7 @@ ghost use Rattle.guest_proc.specs.Looking.{ran_by};
 
 use crate::ran::Ran;
 use call_table::request_of;
-use guest_run::{Ram, SIGNAL_FAULT, SIGNAL_ILLEGAL, outcome_of};
+use guest_start::{Ram, SIGNAL_FAULT, SIGNAL_ILLEGAL, outcome_of};
 use plain_process::Regs;
 use rv_isa::{Outcome, decode};
 use sys_abi::Signal;

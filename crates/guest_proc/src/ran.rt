@@ -2,12 +2,12 @@ ghost use Rattle.std.specs.Prelude.{◌≡◌};
 ghost use Rattle.guest_proc.specs.Running.{ran_told};
 
 use call_table::{Request, request_of};
-use guest_run::Stop;
+use guest_start::Stop;
 use plain_process::Regs;
 use sys_abi::Signal;
 
 /// Where a thread stands after it ran.
-#[derive(Clone, Copy, Debug, PartialEq, Eq)]
+#[derive(Clone, Copy)]
 pub enum Ran {
     /// It ran as many instructions as it was given.
     Whole,

@@ -1,3 +1,4 @@
 pub mod Breaks
 pub mod Loading
 pub mod StackLemmas
+pub mod Runs

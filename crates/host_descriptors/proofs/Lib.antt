@@ -4,4 +4,11 @@ pub mod Closes
 pub mod HeldChanges
 pub mod Owners
 pub mod FcntlRows
-pub mod HandedOn
+pub mod MarkedEnds
+pub mod ClosedEnds
+pub mod FileCloses
+pub mod DatagramCloses
+pub mod CloseCall
+pub mod ObjectsAt
+pub mod FinishedCloses
+pub mod LetGoes

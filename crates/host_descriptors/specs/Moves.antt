@@ -4,8 +4,8 @@ use Rattle.fd_tables.specs.declared.real_slot.RealSlot.{RealSlot}
 use Rattle.fd_book.specs.Books.{Books}
 use Rattle.host_tables.specs.declared.attempt.Attempt.{Attempt}
 use Rattle.host_tables.specs.declared.attempt.Attempt.TheVariants.{Gives}
-use Rattle.host_closes.specs.declared.close.Closed.{Closed}
-use Rattle.host_closes.specs.LetGo.{IsToldClose}
+use Rattle.host_descriptors.specs.declared.closing.Closed.{Closed}
+use Rattle.host_descriptors.specs.LetGo.{IsToldClose}
 
 -- where the call was refused nothing is closed
 abbrev pub IsTold : Books → RealSlot → Attempt → Option Closed → Type 0

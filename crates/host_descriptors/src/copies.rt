@@ -7,10 +7,10 @@ ghost use Rattle.plain_process.specs.Attempts.{and_then};
 ghost use Rattle.plain_machine.specs.Kernel.{held};
 ghost use Rattle.plain_machine.specs.Rows.Descriptors as rows;
 ghost use Rattle.host_tables.specs.Serves.{Through, Serves, ByNumber, same};
-ghost use Rattle.host_closes.specs.LetGo.{IsToldClose};
+ghost use Rattle.host_descriptors.specs.LetGo.{IsToldClose};
 
+use crate::{Closed, close_one};
 use fd_book::BookFault;
-use host_closes::{Closed, close_one};
 use host_tables::{Attempt, Kernel, RowResult};
 use std::alloc::AllocError;
 use sys_abi::errors::{EBADF, EMFILE};

@@ -11,8 +11,8 @@ ghost use Rattle.host_tables.specs.declared.attempt.Attempt.TheVariants.{Fails};
 ghost use Rattle.host_tables.specs.Serves.{Through, Serves, ByNumber, same};
 ghost use Rattle.host_descriptors.specs.Moves.{IsTold};
 
+use crate::{Closed, finish, object_at};
 use fd_book::BookFault;
-use host_closes::{Closed, finish, object_at};
 use host_tables::{Attempt, Kernel};
 use plain_machine::end::DESCRIPTOR_LIMIT;
 use std::alloc::AllocError;

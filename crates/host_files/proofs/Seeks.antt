@@ -9,7 +9,7 @@ use Rattle.sys_abi.specs.declared.identity.RealPid.{RealPid}
 use Rattle.fd_tables.specs.declared.description.Object as real_object
 use Rattle.fd_tables.specs.declared.description.Object.TheVariants as object
 use Rattle.fd_tables.specs.Slots as slots
-use Rattle.datagram_pairs.specs.Pairs.{Pairs}
+use Rattle.conn_table.specs.Pairs.{Pairs}
 use Rattle.sys_abi.specs.declared.identity.DescId.{DescId}
 use Rattle.plain_tables.specs.declared.description.Object.TheVariants.{File}
 use Rattle.plain_process.specs.Attempts.{Try, Fails, and_then, found}

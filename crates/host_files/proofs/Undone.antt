@@ -15,7 +15,7 @@ use Rattle.fd_tables.specs.declared.real_slot.RealSlot.{RealSlot}
 use Rattle.fd_tables.specs.Slots.{refers_to}
 use Rattle.fd_tables.proofs.OrderLaws.{real_slot_total, real_slot_exact}
 use Rattle.fd_book.specs.Books.{Books, IsWhole, is_held, with_descriptor, after_close, with_changed, changed_or_same}
-use Rattle.host_closes.proofs.CloseCall.{after_is}
+use Rattle.host_descriptors.proofs.CloseCall.{after_is}
 use Rattle.host_files.specs.Opening.{file_at_start}
 
 module _ (b : Books) (whole : IsWhole b) (at : RealSlot) (id : DescId) (d : Desc) (cloexec : Bool)

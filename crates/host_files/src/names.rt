@@ -9,7 +9,7 @@ ghost use Rattle.host_tables.specs.Stands.{Given, Stands};
 
 use crate::paths::unlink_end;
 use fd_book::Object;
-use host_closes::let_go;
+use host_descriptors::let_go;
 use host_tables::{Attempt, Kernel};
 use sys_abi::errors::ENOENT;
 use sys_abi::{Errno, Transfer};

@@ -3,16 +3,14 @@ ghost use Rattle.std.specs.Prelude.{◌≡◌, IfOk, OnErr};
 ghost use Rattle.host_tables.specs.Conditions.{IsSound, IsAsking, IsFresh};
 ghost use Rattle.host_tables.specs.Serves.{ServesAttempt, ServesCall};
 
+use crate::{read, write};
 use host_descriptors::{close, dup, dup3, fcntl};
-use host_ends::{exit, exit_group};
 use host_files::{lseek, openat, unlinkat};
-use host_forks::clone;
 use host_makers::{eventfd2, pipe2, socket, socketpair};
-use host_processes::{getpid, getppid, kill, tgkill, wait4};
+use host_processes::{clone, exit, exit_group, getpid, getppid, kill, tgkill, wait4};
 use host_sockets::{accept, connect, listen};
 use host_streams::{setsockopt, shutdown};
 use host_tables::{Attempt, Kernel, KernelReply, RealRequest, RowResult};
-use host_transfers::{read, write};
 use sys_abi::errors::ENOSYS;
 use sys_abi::transfer::Transfer;
 use sys_abi::{Errno, RealPid};

@@ -9,8 +9,8 @@ use Rattle.views.specs.Numbers.{Byte, Flags}
 use Rattle.sys_abi.specs.declared.errors.TheConstants.{ENFILE, EMFILE}
 use Rattle.sys_abi.specs.declared.identity.RealPid.{RealPid}
 use Rattle.sys_abi.specs.declared.identity.VPid.{VPid}
-use Rattle.datagram_pairs.specs.Openings.{new_pair}
-use Rattle.datagram_pairs.specs.Pairs.{Pairs}
+use Rattle.conn_table.specs.Openings.{new_pair}
+use Rattle.conn_table.specs.Pairs.{Pairs}
 use Rattle.fd_book.specs.Books.{Books}
 use Rattle.plain_process.specs.Attempts.{Try}
 use Rattle.plain_process.specs.Memory.{low_bytes}

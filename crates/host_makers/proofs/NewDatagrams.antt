@@ -16,9 +16,9 @@ use Rattle.sys_abi.specs.declared.identity.DescId.{DescId}
 use Rattle.sys_abi.specs.declared.identity.RealPid.{RealPid}
 use Rattle.sys_abi.specs.declared.identity.VPid.{VPid}
 use Rattle.sys_abi.proofs.OrderLaws.{desc_total, desc_exact}
-use Rattle.datagram_pairs.specs.declared.pairs.DatagramPair.{DatagramPair}
-use Rattle.datagram_pairs.specs.Openings.{new_pair}
-use Rattle.datagram_pairs.specs.Pairs.{Pairs, end_of, is_open}
+use Rattle.conn_table.specs.declared.pairs.DatagramPair.{DatagramPair}
+use Rattle.conn_table.specs.Openings.{new_pair}
+use Rattle.conn_table.specs.Pairs.{Pairs, end_of, is_open}
 use Rattle.fd_tables.specs.declared.description.Desc.{Desc}
 use Rattle.fd_tables.specs.declared.description.Object as real_object
 use Rattle.fd_tables.specs.declared.description.Object.TheVariants as object

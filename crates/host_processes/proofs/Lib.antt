@@ -6,3 +6,17 @@ pub mod Waited
 pub mod WaitRow
 pub mod ThreadEnds
 pub mod ReadyWaits
+pub mod TakenBack
+pub mod SharedSlots
+pub mod MoreNumbers
+pub mod MoreProcesses
+pub mod NewNumbers
+pub mod Forked
+pub mod MoreThreads
+pub mod CloneRows
+pub mod CloneForms
+pub mod LowestCloses
+pub mod Disowned
+pub mod FewerProcesses
+pub mod Left
+pub mod ExitRows

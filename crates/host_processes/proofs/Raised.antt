@@ -17,7 +17,7 @@ use Rattle.sys_abi.specs.declared.identity.VPid.{VPid}
 use Rattle.sys_abi.specs.declared.identity.RealPid.{RealPid}
 use Rattle.sys_abi.specs.declared.errors.TheConstants.{ESRCH}
 use Rattle.sys_abi.specs.Signals.{with_signal}
-use Rattle.real_maps.specs.Changes.{at_key}
+use Rattle.virt_ids.specs.Changes.{at_key}
 use Rattle.proc_book.specs.declared.process.Process as real_process
 use Rattle.proc_book.specs.Processes as procs
 use Rattle.proc_book.specs.Procs.{can_raise}

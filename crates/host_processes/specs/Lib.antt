@@ -1,3 +1,5 @@
 pub mod Parents
 pub mod Raises
 pub mod Waits
+pub mod Forks
+pub mod Leaves

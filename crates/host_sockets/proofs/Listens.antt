@@ -13,7 +13,7 @@ use Rattle.sys_abi.specs.declared.identity.DescId.{DescId}
 use Rattle.sys_abi.specs.declared.identity.RealAddr.{RealAddr}
 use Rattle.sys_abi.specs.declared.identity.VirtAddr.{VirtAddr}
 use Rattle.sys_abi.proofs.OrderLaws.{desc_total, desc_exact, address_total, address_exact, real_address_total, real_address_exact}
-use Rattle.datagram_pairs.specs.Pairs.{Pairs}
+use Rattle.conn_table.specs.Pairs.{Pairs}
 use Rattle.fd_book.specs.Books.{Books, with_changed, changed_or_same}
 use Rattle.fd_tables.specs.declared.description.Desc.{Desc}
 use Rattle.fd_tables.specs.declared.description.Object.{Object}

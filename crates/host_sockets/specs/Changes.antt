@@ -14,7 +14,7 @@ use Rattle.fd_tables.specs.Numbers.{AllUsed, IsLowestFree}
 use Rattle.fd_tables.specs.Parts.{with_object}
 use Rattle.fd_tables.specs.Slots as slots
 use Rattle.fd_book.specs.Books.{with_changed, with_descriptor}
-use Rattle.real_maps.specs.Changes.{at_key}
+use Rattle.virt_ids.specs.Changes.{at_key}
 use Rattle.wire_channels.specs.Channels as channels
 use Rattle.wire_channels.specs.Listeners as listeners
 use Rattle.host_descriptors.specs.declared.held.Held.{Held}

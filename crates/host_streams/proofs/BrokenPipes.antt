@@ -11,7 +11,7 @@ use Rattle.sys_abi.specs.declared.errors.TheConstants.{EPIPE}
 use Rattle.sys_abi.specs.declared.identity.RealPid.{RealPid}
 use Rattle.sys_abi.specs.declared.identity.VPid.{VPid}
 use Rattle.sys_abi.specs.declared.signals.TheConstants.{SIGPIPE}
-use Rattle.real_maps.specs.Changes.{at_key}
+use Rattle.virt_ids.specs.Changes.{at_key}
 use Rattle.proc_book.specs.declared.process.Process.{Process}
 use Rattle.proc_book.specs.Processes as procs
 use Rattle.proc_book.specs.Procs.{ProcTable, can_raise, after_raise}

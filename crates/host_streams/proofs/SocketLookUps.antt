@@ -12,7 +12,7 @@ use Rattle.fd_book.specs.Books.{IsWhole}
 use Rattle.fd_tables.specs.declared.description.Object.{Object}
 use Rattle.fd_tables.specs.declared.description.Object.TheVariants as object
 use Rattle.fd_tables.specs.Slots as slots
-use Rattle.datagram_pairs.specs.Pairs.{Pairs}
+use Rattle.conn_table.specs.Pairs.{Pairs}
 use Rattle.plain_process.specs.Attempts.{Try, Fails, Gives, and_then, need}
 use Rattle.plain_machine.specs.declared.kernel.PlainKernel.{PlainKernel}
 use Rattle.plain_machine.specs.Kernel as plain

@@ -9,7 +9,7 @@ use Rattle.sys_abi.specs.declared.errors.TheConstants.{EINVAL, ENOTCONN}
 use Rattle.sys_abi.specs.declared.identity.ConnId.{ConnId}
 use Rattle.sys_abi.specs.declared.identity.DescId.{DescId}
 use Rattle.sys_abi.specs.declared.identity.VPid.{VPid}
-use Rattle.datagram_pairs.specs.Pairs.{Pairs}
+use Rattle.conn_table.specs.Pairs.{Pairs}
 use Rattle.fd_tables.specs.declared.description.Object as real_object
 use Rattle.fd_tables.specs.declared.description.Object.TheVariants as real
 use Rattle.plain_process.specs.Attempts.{Try, Fails, Gives, and_then, need}

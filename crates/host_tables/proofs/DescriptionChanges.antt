@@ -14,7 +14,7 @@ use Rattle.views.proofs.Seen.{any_seen}
 use Rattle.sys_abi.specs.declared.identity.DescId.{DescId}
 use Rattle.sys_abi.specs.Orders.{desc_cmp}
 use Rattle.sys_abi.proofs.OrderLaws.{desc_total, desc_exact}
-use Rattle.datagram_pairs.specs.Pairs.{Pairs, end_of}
+use Rattle.conn_table.specs.Pairs.{Pairs, end_of}
 use Rattle.fd_tables.specs.declared.description.Desc.{Desc}
 use Rattle.fd_tables.specs.declared.description.Object as real_object
 use Rattle.fd_tables.specs.declared.description.Object.TheVariants as object

@@ -10,8 +10,8 @@ use Rattle.std.specs.FinMap.{FinMap}
 use Rattle.views.specs.Numbers.{Byte}
 use Rattle.sys_abi.specs.declared.identity.DescId.{DescId}
 use Rattle.sys_abi.specs.Orders.{desc_cmp}
-use Rattle.datagram_pairs.specs.declared.pairs.DatagramPair.{DatagramPair}
-use Rattle.datagram_pairs.specs.Pairs.{Pairs, end_of, is_open}
+use Rattle.conn_table.specs.declared.pairs.DatagramPair.{DatagramPair}
+use Rattle.conn_table.specs.Pairs.{Pairs, end_of, is_open}
 use Rattle.fd_tables.specs.declared.description.Desc.{Desc}
 use Rattle.fd_tables.specs.declared.description.Object.{Object}
 use Rattle.fd_tables.specs.declared.description.Object.TheVariants as real_object

@@ -19,7 +19,7 @@ use Rattle.plain_tables.specs.declared.description.Object as plain
 use Rattle.plain_tables.specs.declared.description.Object.TheVariants.{Console, File, Stream, Socket, Listener, Datagram, Counter}
 use Rattle.plain_tables.specs.Tables.{Descriptions}
 use Rattle.wire_net.specs.Whereabouts.{Agents}
-use Rattle.datagram_pairs.specs.Pairs.{Pairs}
+use Rattle.conn_table.specs.Pairs.{Pairs}
 use Rattle.host_tables.specs.Numbers.{Virts, number_of, IsKnown}
 use Rattle.host_tables.specs.Datagrams.{RealDescriptions, peer_of, IsOpenEnd}
 

@@ -1,4 +1,4 @@
-use datagram_pairs::DatagramPairs;
+use conn_table::DatagramPairs;
 use fd_book::Book;
 use proc_book::Procs;
 use vfs_files::Files;

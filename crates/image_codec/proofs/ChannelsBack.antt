@@ -24,9 +24,9 @@ use Rattle.plain_tables.specs.declared.channel.Listening.{Listening}
 use Rattle.plain_tables.specs.Objects as tables
 use Rattle.plain_tables.specs.Objects.{dir, is_end, is_queued, is_pending, has_stream}
 use Rattle.plain_tables.proofs.Entries.{found_at}
-use Rattle.image_shared.specs.declared.shared.ObjectImage.{ObjectImage}
-use Rattle.image_shared.specs.declared.shared.DescriptionImage.{DescriptionImage}
-use Rattle.image_shared.specs.Sides.{names_side, is_side_named}
+use Rattle.shared_items.specs.declared.shared.ObjectImage.{ObjectImage}
+use Rattle.shared_items.specs.declared.shared.DescriptionImage.{DescriptionImage}
+use Rattle.shared_items.specs.Sides.{names_side, is_side_named}
 use Rattle.image_codec.specs.KernelParts.{channel_entry, direction_entries}
 use Rattle.image_codec.specs.KernelImages.{channel_image, description_image, object_image, listener_image, silence, HasArrived}
 use Rattle.image_codec.proofs.MadeMaps.{each_back, flat_back, later, there_at, which_value}

@@ -19,7 +19,7 @@ use Rattle.plain_tables.specs.declared.channel.Listening.{Listening}
 use Rattle.plain_tables.specs.Tables.{Listeners}
 use Rattle.plain_tables.specs.Objects.{is_listener_at}
 use Rattle.plain_tables.proofs.Entries.{found_at}
-use Rattle.image_shared.specs.declared.shared.DescriptionImage.{DescriptionImage}
+use Rattle.shared_items.specs.declared.shared.DescriptionImage.{DescriptionImage}
 use Rattle.image_codec.specs.KernelParts.{description_entry, object_of, listening_of}
 use Rattle.image_codec.specs.KernelImages.{description_image, object_image, listener_image, IsSupported}
 use Rattle.image_codec.proofs.MadeMaps.{each_back, filtered_back, there_at, which_value}

@@ -16,9 +16,9 @@ use Rattle.plain_tables.specs.declared.channel.ChannelKind.TheVariants.{Pair, In
 use Rattle.plain_tables.specs.declared.channel.Direction.{Direction}
 use Rattle.plain_tables.specs.Objects.{dir}
 use Rattle.plain_tables.specs.Valid.Channels.{IsDirection, HasAddress}
-use Rattle.image_shared.specs.declared.shared.ChannelImage.{ChannelImage}
-use Rattle.image_shared.specs.SharedTests as field
-use Rattle.image_shared.specs.SharedFits.{FitsNumber, SideFits, ChannelFits, flag, number_of_kind, host_number, port_number}
+use Rattle.shared_items.specs.declared.shared.ChannelImage.{ChannelImage}
+use Rattle.shared_items.specs.SharedTests as field
+use Rattle.shared_items.specs.SharedFits.{FitsNumber, SideFits, ChannelFits, flag, number_of_kind, host_number, port_number}
 use Rattle.image_format.specs.Fields.{last_item}
 use Rattle.image_codec.specs.KernelImages.{channel_image, side_image}
 use Rattle.image_codec.proofs.ChannelsBack.{has_side}

@@ -14,10 +14,10 @@ use Rattle.plain_tables.specs.declared.description.Object.TheVariants as object
 use Rattle.plain_tables.specs.declared.channel.Listening.{Listening}
 use Rattle.plain_tables.specs.Tables.{pid}
 use Rattle.plain_tables.specs.Valid.Descriptions.{AreFlags}
-use Rattle.image_shared.specs.declared.shared.DescriptionImage.{DescriptionImage}
-use Rattle.image_shared.specs.SharedTests as field
-use Rattle.image_shared.specs.SharedFormat.{VERSION}
-use Rattle.image_shared.specs.SharedFits.{FitsNumber, DescriptionFits, kind_of}
+use Rattle.shared_items.specs.declared.shared.DescriptionImage.{DescriptionImage}
+use Rattle.shared_items.specs.SharedTests as field
+use Rattle.shared_items.specs.SharedFormat.{VERSION}
+use Rattle.shared_items.specs.SharedFits.{FitsNumber, DescriptionFits, kind_of}
 use Rattle.image_format.specs.Format.{n8}
 use Rattle.image_format.specs.Fields.{last_item}
 use Rattle.image_format.specs.Texts.{FitsField}

@@ -16,9 +16,9 @@ use Rattle.views.specs.NumberMap.{is_above}
 use Rattle.plain_process.specs.Valid.{IsByte}
 use Rattle.plain_machine.specs.declared.kernel.PlainKernel.{PlainKernel}
 use Rattle.plain_machine.specs.Kernels.{IsKernel}
-use Rattle.image_shared.specs.declared.shared.FileImage.{FileImage}
-use Rattle.image_shared.specs.SharedTests as field
-use Rattle.image_shared.specs.SharedFits.{FitsNumber, FileFits}
+use Rattle.shared_items.specs.declared.shared.FileImage.{FileImage}
+use Rattle.shared_items.specs.SharedTests as field
+use Rattle.shared_items.specs.SharedFits.{FitsNumber, FileFits}
 use Rattle.image_format.specs.Format.{n16}
 use Rattle.image_format.specs.Texts.{FitsField}
 use Rattle.image_format.specs.Fields.{last_item, is_bytes, is_within}

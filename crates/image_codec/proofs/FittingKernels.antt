@@ -18,13 +18,13 @@ use Rattle.plain_machine.specs.declared.kernel.PlainKernel.{PlainKernel}
 use Rattle.plain_machine.specs.Kernels.{IsKernel}
 use Rattle.sys_abi.specs.declared.descriptor.Descriptor.{Descriptor}
 use Rattle.plain_tables.specs.declared.description.Description.{Description}
-use Rattle.image_shared.specs.declared.shared.FileImage.{FileImage}
-use Rattle.image_shared.specs.declared.shared.ChannelImage.{ChannelImage}
-use Rattle.image_shared.specs.declared.shared.DescriptionImage.{DescriptionImage}
-use Rattle.image_shared.specs.declared.shared.ProcessEntry.{ProcessEntry}
-use Rattle.image_shared.specs.SharedFormat.{VERSION}
-use Rattle.image_shared.specs.SharedFits.{IsShared, FileFits, ChannelFits, DescriptionFits, ProcessFits}
-use Rattle.image_shared.specs.WholeShared.{is_whole_shared}
+use Rattle.shared_items.specs.declared.shared.FileImage.{FileImage}
+use Rattle.shared_items.specs.declared.shared.ChannelImage.{ChannelImage}
+use Rattle.shared_items.specs.declared.shared.DescriptionImage.{DescriptionImage}
+use Rattle.shared_items.specs.declared.shared.ProcessEntry.{ProcessEntry}
+use Rattle.shared_items.specs.SharedFormat.{VERSION}
+use Rattle.shared_items.specs.SharedFits.{IsShared, FileFits, ChannelFits, DescriptionFits, ProcessFits}
+use Rattle.shared_items.specs.WholeShared.{is_whole_shared}
 use Rattle.image_format.specs.Texts.{EachFrom}
 use Rattle.image_format.proofs.Rising.{all_from}
 use Rattle.image_codec.specs.KernelParts.{descriptor_entries, descriptor_entry}

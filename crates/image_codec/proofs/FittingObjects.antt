@@ -27,14 +27,14 @@ use Rattle.plain_tables.specs.Valid.Files.{IsOpenFile}
 use Rattle.plain_tables.specs.Valid.Sockets.{IsAddressed, IsConnection}
 use Rattle.plain_tables.proofs.ClosedListeners.{distinct_head, distinct_tail}
 use Rattle.plain_tables.proofs.Entries.{found_at}
-use Rattle.image_shared.specs.declared.shared.FileImage.{FileImage}
-use Rattle.image_shared.specs.declared.shared.ChannelImage.{ChannelImage}
-use Rattle.image_shared.specs.declared.shared.DescriptionImage.{DescriptionImage}
-use Rattle.image_shared.specs.declared.shared.ObjectImage.{ObjectImage}
-use Rattle.image_shared.specs.declared.shared.ObjectImage.TheVariants as image
-use Rattle.image_shared.specs.Sides.{same_channel, names_side, is_side_named}
-use Rattle.image_shared.specs.SharedTests as field
-use Rattle.image_shared.specs.SharedFits.{ConnectionFits, ObjectFits}
+use Rattle.shared_items.specs.declared.shared.FileImage.{FileImage}
+use Rattle.shared_items.specs.declared.shared.ChannelImage.{ChannelImage}
+use Rattle.shared_items.specs.declared.shared.DescriptionImage.{DescriptionImage}
+use Rattle.shared_items.specs.declared.shared.ObjectImage.{ObjectImage}
+use Rattle.shared_items.specs.declared.shared.ObjectImage.TheVariants as image
+use Rattle.shared_items.specs.Sides.{same_channel, names_side, is_side_named}
+use Rattle.shared_items.specs.SharedTests as field
+use Rattle.shared_items.specs.SharedFits.{ConnectionFits, ObjectFits}
 use Rattle.image_format.specs.Fields.{is_within}
 use Rattle.image_format.specs.Texts.{EachFrom}
 use Rattle.image_codec.specs.KernelImages.{file_image, names_by_number, channel_image, description_image, object_image, listener_image}

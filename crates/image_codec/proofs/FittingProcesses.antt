@@ -28,13 +28,13 @@ use Rattle.plain_tables.specs.Tables.{is_live_process, lives_in, has_thread_in, 
 use Rattle.plain_tables.specs.Valid.Processes.{FitsLife, HasParent, IsGivenOut, IsParent, IsProcess}
 use Rattle.plain_tables.specs.Valid.Descriptions.{IsMade}
 use Rattle.plain_tables.proofs.Entries.{found_at}
-use Rattle.image_shared.specs.declared.shared.ChannelImage.{ChannelImage}
-use Rattle.image_shared.specs.declared.shared.DescriptionImage.{DescriptionImage}
-use Rattle.image_shared.specs.declared.shared.ThreadEntry.{ThreadEntry}
-use Rattle.image_shared.specs.declared.shared.DescriptorEntry.{DescriptorEntry}
-use Rattle.image_shared.specs.declared.shared.ProcessEntry.{ProcessEntry}
-use Rattle.image_shared.specs.SharedTests as field
-use Rattle.image_shared.specs.SharedFits.{FitsNumber, ThreadFits, DescriptorFits, LifeFits, ProcessFits}
+use Rattle.shared_items.specs.declared.shared.ChannelImage.{ChannelImage}
+use Rattle.shared_items.specs.declared.shared.DescriptionImage.{DescriptionImage}
+use Rattle.shared_items.specs.declared.shared.ThreadEntry.{ThreadEntry}
+use Rattle.shared_items.specs.declared.shared.DescriptorEntry.{DescriptorEntry}
+use Rattle.shared_items.specs.declared.shared.ProcessEntry.{ProcessEntry}
+use Rattle.shared_items.specs.SharedTests as field
+use Rattle.shared_items.specs.SharedFits.{FitsNumber, ThreadFits, DescriptorFits, LifeFits, ProcessFits}
 use Rattle.image_format.specs.Fields.{last_item, is_within}
 use Rattle.image_format.specs.Texts.{EachFrom}
 use Rattle.image_format.proofs.Rising.{RisesFrom, IsAfter, each_rising, all_from}

@@ -17,9 +17,9 @@ use Rattle.plain_tables.specs.declared.channel.Channel.{Channel}
 use Rattle.plain_tables.specs.declared.channel.Listening.{Listening}
 use Rattle.plain_tables.specs.Objects.{end_of, host_of_end, host_of_object}
 use Rattle.plain_tables.specs.Valid.Sockets.{has_host}
-use Rattle.image_shared.specs.declared.shared.ChannelImage.{ChannelImage}
-use Rattle.image_shared.specs.Sides.{same_channel}
-use Rattle.image_shared.specs.WholeShared.{is_of_host, is_end_of_host, is_side_of_host, is_object_of_host}
+use Rattle.shared_items.specs.declared.shared.ChannelImage.{ChannelImage}
+use Rattle.shared_items.specs.Sides.{same_channel}
+use Rattle.shared_items.specs.WholeShared.{is_of_host, is_end_of_host, is_side_of_host, is_object_of_host}
 use Rattle.image_codec.specs.KernelImages.{channel_image, object_image, listener_image, maker_or}
 use Rattle.image_codec.proofs.Listings.{all_images}
 use Rattle.image_codec.proofs.TestFacts.{implied, or_later, same_number, equal_numbers}

@@ -25,10 +25,10 @@ use Rattle.plain_tables.specs.Valid.Processes.{HasParent, IsParent}
 use Rattle.plain_tables.specs.Valid.Descriptions.{IsOwner}
 use Rattle.plain_tables.specs.Valid.Sockets.{has_host}
 use Rattle.plain_tables.specs.Objects.{host_of_object}
-use Rattle.image_shared.specs.declared.shared.ChannelImage.{ChannelImage}
-use Rattle.image_shared.specs.declared.shared.ProcessEntry.{ProcessEntry}
-use Rattle.image_shared.specs.SharedTests as field
-use Rattle.image_shared.specs.WholeShared as whole
+use Rattle.shared_items.specs.declared.shared.ChannelImage.{ChannelImage}
+use Rattle.shared_items.specs.declared.shared.ProcessEntry.{ProcessEntry}
+use Rattle.shared_items.specs.SharedTests as field
+use Rattle.shared_items.specs.WholeShared as whole
 use Rattle.image_codec.specs.KernelImages.{process_image, maker_or, channel_image, description_image, descriptor_image, is_of}
 use Rattle.image_codec.proofs.HeldHosts.{maker_has, object_of_host}
 use Rattle.image_codec.proofs.MadeMaps.{which_value}

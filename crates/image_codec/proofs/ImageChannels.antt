@@ -15,12 +15,12 @@ use Rattle.plain_tables.specs.declared.channel.Direction.{Direction}
 use Rattle.plain_tables.specs.Objects.{dir, end_of}
 use Rattle.plain_tables.specs.Valid.Channels.{AreChannels, IsDirection, IsClosed, HasAddress}
 use Rattle.plain_tables.proofs.Entries.{found_at}
-use Rattle.image_shared.specs.declared.shared.ChannelImage.{ChannelImage}
-use Rattle.image_shared.specs.declared.shared.Shared.{Shared}
+use Rattle.shared_items.specs.declared.shared.ChannelImage.{ChannelImage}
+use Rattle.shared_items.specs.declared.shared.Shared.{Shared}
 use Rattle.image_codec.specs.KernelParts.{kernel_of, channel_entry, channel_end, direction_entry}
-use Rattle.image_shared.specs.SharedFits.{IsShared}
-use Rattle.image_shared.specs.Sides.{is_side_named}
-use Rattle.image_shared.specs.WholeShared as whole
+use Rattle.shared_items.specs.SharedFits.{IsShared}
+use Rattle.shared_items.specs.Sides.{is_side_named}
+use Rattle.shared_items.specs.WholeShared as whole
 use Rattle.image_codec.proofs.Listings.{len_made}
 use Rattle.image_codec.proofs.Items.{IsItem, first_or_later, nothing_in}
 use Rattle.image_codec.proofs.KernelItems.{IsInOrder, channel_item, item_channel, direction_item, first_direction, second_direction}

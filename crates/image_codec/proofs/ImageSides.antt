@@ -9,13 +9,13 @@ use Rattle.plain_process.specs.Valid.{IsByte}
 use Rattle.plain_tables.specs.declared.channel.ChannelKind.{ChannelKind}
 use Rattle.plain_tables.specs.declared.channel.ChannelKind.TheVariants.{Pair, Internet, Pipe}
 use Rattle.plain_tables.specs.Valid.Channels.{HasAddress}
-use Rattle.image_shared.specs.declared.shared.SideImage.{SideImage}
-use Rattle.image_shared.specs.declared.shared.ChannelImage.{ChannelImage}
-use Rattle.image_shared.specs.declared.shared.Shared.{Shared}
-use Rattle.image_shared.specs.SharedFits.{IsShared, ChannelFits, SideFits, flag, side_flags, number_of_kind, host_number, port_number}
-use Rattle.image_shared.specs.SharedTests as field
-use Rattle.image_shared.specs.Sides.{is_side_named}
-use Rattle.image_shared.specs.WholeShared as whole
+use Rattle.shared_items.specs.declared.shared.SideImage.{SideImage}
+use Rattle.shared_items.specs.declared.shared.ChannelImage.{ChannelImage}
+use Rattle.shared_items.specs.declared.shared.Shared.{Shared}
+use Rattle.shared_items.specs.SharedFits.{IsShared, ChannelFits, SideFits, flag, side_flags, number_of_kind, host_number, port_number}
+use Rattle.shared_items.specs.SharedTests as field
+use Rattle.shared_items.specs.Sides.{is_side_named}
+use Rattle.shared_items.specs.WholeShared as whole
 use Rattle.image_codec.proofs.Items.{IsItem, item_fits, item_passes}
 use Rattle.image_codec.proofs.ItemFacts.{all_items}
 use Rattle.image_codec.proofs.ListedProcesses.{ends_of}

@@ -17,14 +17,14 @@ use Rattle.plain_tables.specs.declared.channel.ChannelKind.TheVariants.{Pipe}
 use Rattle.plain_tables.specs.declared.channel.Listening.{Listening}
 use Rattle.plain_tables.specs.Objects.{is_end, is_queued, is_pending, has_stream, is_named, end_of}
 use Rattle.plain_tables.specs.Valid.Channels.{AreStreams, IsStream}
-use Rattle.image_shared.specs.declared.shared.ObjectImage.{ObjectImage}
-use Rattle.image_shared.specs.declared.shared.ObjectImage.TheVariants.{Console, File, Stream, Socket, Listener}
-use Rattle.image_shared.specs.declared.shared.DescriptionImage.{DescriptionImage}
-use Rattle.image_shared.specs.declared.shared.Shared.{Shared}
-use Rattle.image_shared.specs.SharedFormat.{VERSION}
-use Rattle.image_shared.specs.SharedFits.{IsShared, DescriptionFits, ObjectFits}
-use Rattle.image_shared.specs.SharedTests as field
-use Rattle.image_shared.specs.Sides.{names_side, is_side_named, same_channel}
+use Rattle.shared_items.specs.declared.shared.ObjectImage.{ObjectImage}
+use Rattle.shared_items.specs.declared.shared.ObjectImage.TheVariants.{Console, File, Stream, Socket, Listener}
+use Rattle.shared_items.specs.declared.shared.DescriptionImage.{DescriptionImage}
+use Rattle.shared_items.specs.declared.shared.Shared.{Shared}
+use Rattle.shared_items.specs.SharedFormat.{VERSION}
+use Rattle.shared_items.specs.SharedFits.{IsShared, DescriptionFits, ObjectFits}
+use Rattle.shared_items.specs.SharedTests as field
+use Rattle.shared_items.specs.Sides.{names_side, is_side_named, same_channel}
 use Rattle.image_codec.specs.KernelParts.{kernel_of, channel_entry, object_of, listening_of}
 use Rattle.image_codec.proofs.Items.{IsItem, item_fits, which_item, two_items}
 use Rattle.image_codec.proofs.KernelItems.{IsInOrder, channel_item, item_channel, description_item}

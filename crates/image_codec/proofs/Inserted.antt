@@ -5,7 +5,7 @@ use Rattle.std.specs.Prelude.{Vec, Option, Some}
 use Rattle.std.specs.Ordering.{nat_cmp}
 use Rattle.std.specs.FinMap as map
 use Rattle.sys_abi.specs.Names.{by_name, name_cmp}
-use Rattle.image_shared.specs.declared.shared.FileImage.{FileImage}
+use Rattle.shared_items.specs.declared.shared.FileImage.{FileImage}
 use Rattle.image_codec.specs.KernelParts.{inserted, name_entry, named_entry}
 use Rattle.image_codec.specs.KernelImages.{name_under}
 use Rattle.image_codec.proofs.MadeMaps.{joined_option}

@@ -19,9 +19,9 @@ use Rattle.plain_tables.specs.declared.description.Description.{Description}
 use Rattle.plain_tables.specs.declared.channel.Channel.{Channel}
 use Rattle.plain_tables.specs.declared.channel.Direction.{Direction}
 use Rattle.plain_tables.specs.Objects.{dir, end_of, is_file, has_name, has_open}
-use Rattle.image_shared.specs.declared.shared.DescriptionImage.{DescriptionImage}
-use Rattle.image_shared.specs.Sides.{is_side_named}
-use Rattle.image_shared.specs.WholeShared.{opens, is_opened, is_kept_file, is_named_or_closed, is_rightly_named}
+use Rattle.shared_items.specs.declared.shared.DescriptionImage.{DescriptionImage}
+use Rattle.shared_items.specs.Sides.{is_side_named}
+use Rattle.shared_items.specs.WholeShared.{opens, is_opened, is_kept_file, is_named_or_closed, is_rightly_named}
 use Rattle.image_codec.specs.KernelImages.{file_image, names_by_number, channel_image, side_image, description_image, object_image}
 use Rattle.image_codec.proofs.ChannelsBack.{has_side, named_image}
 use Rattle.image_codec.proofs.FilesBack.{name_back}

@@ -18,14 +18,14 @@ use Rattle.sys_abi.specs.declared.identity.Slot.{Slot}
 use Rattle.sys_abi.specs.Orders.{vpid_cmp, slot_cmp}
 use Rattle.sys_abi.proofs.OrderLaws.{vpid_total, slot_total}
 use Rattle.plain_machine.specs.declared.kernel.PlainKernel.{PlainKernel}
-use Rattle.image_shared.specs.declared.shared.ChannelImage.{ChannelImage}
-use Rattle.image_shared.specs.declared.shared.DescriptionImage.{DescriptionImage}
-use Rattle.image_shared.specs.declared.shared.ThreadEntry.{ThreadEntry}
-use Rattle.image_shared.specs.declared.shared.DescriptorEntry.{DescriptorEntry}
-use Rattle.image_shared.specs.declared.shared.ProcessEntry.{ProcessEntry}
-use Rattle.image_shared.specs.declared.shared.Shared.{Shared}
+use Rattle.shared_items.specs.declared.shared.ChannelImage.{ChannelImage}
+use Rattle.shared_items.specs.declared.shared.DescriptionImage.{DescriptionImage}
+use Rattle.shared_items.specs.declared.shared.ThreadEntry.{ThreadEntry}
+use Rattle.shared_items.specs.declared.shared.DescriptorEntry.{DescriptorEntry}
+use Rattle.shared_items.specs.declared.shared.ProcessEntry.{ProcessEntry}
+use Rattle.shared_items.specs.declared.shared.Shared.{Shared}
 use Rattle.image_format.specs.Texts.{EachFrom}
-use Rattle.image_shared.specs.SharedFits.{SharedFits, ProcessFits, ThreadFits}
+use Rattle.shared_items.specs.SharedFits.{SharedFits, ProcessFits, ThreadFits}
 use Rattle.image_codec.specs.KernelParts.{kernel_of, process_entry, maker_entry, descriptor_entries, descriptor_entry, description_entry, signals_entry, listening_of, name_entry, file_entry, channel_entry, direction_entries}
 use Rattle.image_codec.specs.KernelImages.{shared_of, IsImage, names_by_number, file_image, channel_image, description_image, thread_image, descriptor_image, process_image, is_of, maker_or}
 use Rattle.image_codec.proofs.OrderedItems.{in_order, numbers_rise, conns_rise, ids_rise, pids_rise, tids_rise, fds_rise}

@@ -17,14 +17,14 @@ use Rattle.plain_machine.specs.declared.kernel.PlainKernel.{PlainKernel}
 use Rattle.plain_tables.specs.declared.description.Description.{Description}
 use Rattle.plain_tables.specs.Objects.{is_file, is_kept, has_name, has_open}
 use Rattle.plain_tables.specs.Valid.Files.{AreFiles, AreOpenFiles, IsName, IsOpenFile}
-use Rattle.image_shared.specs.declared.shared.FileImage.{FileImage}
-use Rattle.image_shared.specs.declared.shared.ObjectImage.{ObjectImage}
-use Rattle.image_shared.specs.declared.shared.ObjectImage.TheVariants.{Console, File, Stream, Socket, Listener}
-use Rattle.image_shared.specs.declared.shared.DescriptionImage.{DescriptionImage}
-use Rattle.image_shared.specs.declared.shared.Shared.{Shared}
-use Rattle.image_shared.specs.SharedTests as field
-use Rattle.image_shared.specs.WholeShared as whole
-use Rattle.image_shared.specs.SharedFits.{IsShared, FileFits, ObjectFits}
+use Rattle.shared_items.specs.declared.shared.FileImage.{FileImage}
+use Rattle.shared_items.specs.declared.shared.ObjectImage.{ObjectImage}
+use Rattle.shared_items.specs.declared.shared.ObjectImage.TheVariants.{Console, File, Stream, Socket, Listener}
+use Rattle.shared_items.specs.declared.shared.DescriptionImage.{DescriptionImage}
+use Rattle.shared_items.specs.declared.shared.Shared.{Shared}
+use Rattle.shared_items.specs.SharedTests as field
+use Rattle.shared_items.specs.WholeShared as whole
+use Rattle.shared_items.specs.SharedFits.{IsShared, FileFits, ObjectFits}
 use Rattle.image_format.specs.Texts.{EachFrom}
 use Rattle.image_format.specs.Fields.{is_within}
 use Rattle.views.specs.NumberMap.{is_above}

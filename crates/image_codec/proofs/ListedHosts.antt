@@ -19,16 +19,16 @@ use Rattle.plain_tables.specs.declared.channel.Channel.{Channel}
 use Rattle.plain_tables.specs.declared.channel.Listening.{Listening}
 use Rattle.plain_tables.specs.Objects.{bound_at, end_of, host_of_end, host_of_object, is_queued}
 use Rattle.plain_tables.specs.Valid.Sockets.{IsAddressed, AreAddresses, AreHosts, has_host}
-use Rattle.image_shared.specs.declared.shared.ChannelImage.{ChannelImage}
-use Rattle.image_shared.specs.declared.shared.ObjectImage.{ObjectImage}
-use Rattle.image_shared.specs.declared.shared.ObjectImage.TheVariants.{Console, File, Stream, Socket, Listener}
-use Rattle.image_shared.specs.declared.shared.DescriptionImage.{DescriptionImage}
-use Rattle.image_shared.specs.declared.shared.ProcessEntry.{ProcessEntry}
-use Rattle.image_shared.specs.declared.shared.Shared.{Shared}
-use Rattle.image_shared.specs.SharedTests as field
-use Rattle.image_shared.specs.Sides.{same_channel}
-use Rattle.image_shared.specs.WholeShared as whole
-use Rattle.image_shared.specs.SharedFits.{IsShared, ObjectFits}
+use Rattle.shared_items.specs.declared.shared.ChannelImage.{ChannelImage}
+use Rattle.shared_items.specs.declared.shared.ObjectImage.{ObjectImage}
+use Rattle.shared_items.specs.declared.shared.ObjectImage.TheVariants.{Console, File, Stream, Socket, Listener}
+use Rattle.shared_items.specs.declared.shared.DescriptionImage.{DescriptionImage}
+use Rattle.shared_items.specs.declared.shared.ProcessEntry.{ProcessEntry}
+use Rattle.shared_items.specs.declared.shared.Shared.{Shared}
+use Rattle.shared_items.specs.SharedTests as field
+use Rattle.shared_items.specs.Sides.{same_channel}
+use Rattle.shared_items.specs.WholeShared as whole
+use Rattle.shared_items.specs.SharedFits.{IsShared, ObjectFits}
 use Rattle.image_format.specs.Fields.{is_within}
 use Rattle.image_codec.specs.KernelParts.{kernel_of, maker_entry, channel_entry, object_of}
 use Rattle.image_codec.proofs.HeldImages.{same_pair}

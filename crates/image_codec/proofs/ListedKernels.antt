@@ -28,14 +28,14 @@ use Rattle.plain_tables.specs.declared.description.Description.{Description}
 use Rattle.plain_tables.specs.Tables.{lives_in, same_host, pid, is_held, refers_to}
 use Rattle.plain_tables.specs.Valid.Descriptions.{AreDescriptors, AreDescriptions, AreFlags, AreHolders, IsMade, IsOwner}
 use Rattle.plain_tables.proofs.Entries.{found_at}
-use Rattle.image_shared.specs.declared.shared.DescriptionImage.{DescriptionImage}
-use Rattle.image_shared.specs.declared.shared.DescriptorEntry.{DescriptorEntry}
-use Rattle.image_shared.specs.declared.shared.ProcessEntry.{ProcessEntry}
-use Rattle.image_shared.specs.declared.shared.Shared.{Shared}
-use Rattle.image_shared.specs.SharedTests as field
-use Rattle.image_shared.specs.WholeShared as whole
-use Rattle.image_shared.specs.SharedFormat.{VERSION}
-use Rattle.image_shared.specs.SharedFits.{IsShared, DescriptionFits, DescriptorFits, state_of}
+use Rattle.shared_items.specs.declared.shared.DescriptionImage.{DescriptionImage}
+use Rattle.shared_items.specs.declared.shared.DescriptorEntry.{DescriptorEntry}
+use Rattle.shared_items.specs.declared.shared.ProcessEntry.{ProcessEntry}
+use Rattle.shared_items.specs.declared.shared.Shared.{Shared}
+use Rattle.shared_items.specs.SharedTests as field
+use Rattle.shared_items.specs.WholeShared as whole
+use Rattle.shared_items.specs.SharedFormat.{VERSION}
+use Rattle.shared_items.specs.SharedFits.{IsShared, DescriptionFits, DescriptorFits, state_of}
 use Rattle.image_format.specs.Texts.{EachFrom}
 use Rattle.image_codec.specs.KernelParts.{kernel_of, process_entry, descriptor_entries, descriptor_entry}
 use Rattle.image_codec.specs.KernelImages.{process_image, maker_or, object_image, description_image, descriptor_image, is_of}

@@ -19,13 +19,13 @@ use Rattle.plain_tables.specs.declared.channel.ChannelKind.TheVariants.{Pair, In
 use Rattle.plain_tables.specs.declared.channel.Listening.{Listening}
 use Rattle.plain_tables.specs.Objects.{is_listener_at, is_queued}
 use Rattle.plain_tables.specs.Valid.Sockets.{IsConnection, IsListening, AreListeners}
-use Rattle.image_shared.specs.declared.shared.ObjectImage.{ObjectImage}
-use Rattle.image_shared.specs.declared.shared.ObjectImage.TheVariants.{Console, File, Stream, Socket, Listener}
-use Rattle.image_shared.specs.declared.shared.DescriptionImage.{DescriptionImage}
-use Rattle.image_shared.specs.declared.shared.Shared.{Shared}
-use Rattle.image_shared.specs.SharedTests as field
-use Rattle.image_shared.specs.Sides.{same_channel}
-use Rattle.image_shared.specs.SharedFits.{IsShared, ObjectFits, ListenerFits, ConnectionFits}
+use Rattle.shared_items.specs.declared.shared.ObjectImage.{ObjectImage}
+use Rattle.shared_items.specs.declared.shared.ObjectImage.TheVariants.{Console, File, Stream, Socket, Listener}
+use Rattle.shared_items.specs.declared.shared.DescriptionImage.{DescriptionImage}
+use Rattle.shared_items.specs.declared.shared.Shared.{Shared}
+use Rattle.shared_items.specs.SharedTests as field
+use Rattle.shared_items.specs.Sides.{same_channel}
+use Rattle.shared_items.specs.SharedFits.{IsShared, ObjectFits, ListenerFits, ConnectionFits}
 use Rattle.image_codec.specs.KernelParts.{kernel_of, channel_entry, object_of, description_entry, listening_of}
 use Rattle.image_codec.proofs.ImageStreams.{object_fits, queue_before}
 use Rattle.image_codec.proofs.ItemFacts.{all_items, item_pairs}

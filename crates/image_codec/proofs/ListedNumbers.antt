@@ -25,13 +25,13 @@ use Rattle.plain_tables.specs.Valid.Processes.{AreNumbers}
 use Rattle.plain_tables.specs.Valid.Descriptions.{IsMade, HasMadePeer, AreMade}
 use Rattle.plain_tables.specs.Valid.Datagrams.{is_datagram_in, AreInboxes, IsCounter, AreCounters}
 use Rattle.plain_tables.proofs.Entries.{no_entry}
-use Rattle.image_shared.specs.declared.shared.ChannelImage.{ChannelImage}
-use Rattle.image_shared.specs.declared.shared.ObjectImage.{ObjectImage}
-use Rattle.image_shared.specs.declared.shared.ObjectImage.TheVariants.{Console, File, Stream, Socket, Listener}
-use Rattle.image_shared.specs.declared.shared.ProcessEntry.{ProcessEntry}
-use Rattle.image_shared.specs.declared.shared.Shared.{Shared}
-use Rattle.image_shared.specs.SharedTests as field
-use Rattle.image_shared.specs.SharedFits.{IsShared, ChannelFits, ProcessFits, state_of}
+use Rattle.shared_items.specs.declared.shared.ChannelImage.{ChannelImage}
+use Rattle.shared_items.specs.declared.shared.ObjectImage.{ObjectImage}
+use Rattle.shared_items.specs.declared.shared.ObjectImage.TheVariants.{Console, File, Stream, Socket, Listener}
+use Rattle.shared_items.specs.declared.shared.ProcessEntry.{ProcessEntry}
+use Rattle.shared_items.specs.declared.shared.Shared.{Shared}
+use Rattle.shared_items.specs.SharedTests as field
+use Rattle.shared_items.specs.SharedFits.{IsShared, ChannelFits, ProcessFits, state_of}
 use Rattle.image_codec.specs.KernelParts.{kernel_of, object_of}
 use Rattle.image_codec.proofs.Items.{IsItem, item_fits, item_passes}
 use Rattle.image_codec.proofs.KernelItems.{IsInOrder, channel_item, description_item, maker_item, item_process}

@@ -25,13 +25,13 @@ use Rattle.sys_abi.specs.declared.maker.Maker.{Maker}
 use Rattle.plain_tables.specs.Tables.{is_live_process, lives_in, has_thread_in, same_host, pid}
 use Rattle.plain_tables.specs.Valid.Processes.{AreProcesses, AreMakers, AreParents, FitsLife, HasParent, IsGivenOut, IsParent, IsProcess}
 use Rattle.plain_tables.proofs.Entries.{found_at}
-use Rattle.image_shared.specs.declared.shared.DescriptionImage.{DescriptionImage}
-use Rattle.image_shared.specs.declared.shared.ThreadEntry.{ThreadEntry}
-use Rattle.image_shared.specs.declared.shared.ProcessEntry.{ProcessEntry}
-use Rattle.image_shared.specs.declared.shared.Shared.{Shared}
-use Rattle.image_shared.specs.SharedTests as field
-use Rattle.image_shared.specs.WholeShared as whole
-use Rattle.image_shared.specs.SharedFits.{IsShared, ThreadFits, ProcessFits, state_of, status_of}
+use Rattle.shared_items.specs.declared.shared.DescriptionImage.{DescriptionImage}
+use Rattle.shared_items.specs.declared.shared.ThreadEntry.{ThreadEntry}
+use Rattle.shared_items.specs.declared.shared.ProcessEntry.{ProcessEntry}
+use Rattle.shared_items.specs.declared.shared.Shared.{Shared}
+use Rattle.shared_items.specs.SharedTests as field
+use Rattle.shared_items.specs.WholeShared as whole
+use Rattle.shared_items.specs.SharedFits.{IsShared, ThreadFits, ProcessFits, state_of, status_of}
 use Rattle.image_format.specs.Texts.{EachFrom}
 use Rattle.image_codec.specs.KernelParts.{kernel_of, process_entry, maker_entry}
 use Rattle.image_codec.specs.KernelImages.{shared_of, process_image, maker_or, thread_image, description_image}

@@ -27,10 +27,10 @@ use Rattle.plain_tables.specs.declared.process.Process.{Process}
 use Rattle.plain_tables.specs.Tables.{is_live_process}
 use Rattle.plain_machine.specs.Kernel.{is_live}
 use Rattle.plain_machine.proofs.ThreadKeys.{key_only}
-use Rattle.image_shared.specs.declared.shared.ProcessEntry.{ProcessEntry}
-use Rattle.image_shared.specs.declared.shared.ThreadEntry.{ThreadEntry}
-use Rattle.image_shared.specs.declared.shared.Shared.{Shared}
-use Rattle.image_shared.specs.SharedFits.{IsShared, SharedFits, ProcessFits}
+use Rattle.shared_items.specs.declared.shared.ProcessEntry.{ProcessEntry}
+use Rattle.shared_items.specs.declared.shared.ThreadEntry.{ThreadEntry}
+use Rattle.shared_items.specs.declared.shared.Shared.{Shared}
+use Rattle.shared_items.specs.SharedFits.{IsShared, SharedFits, ProcessFits}
 use Rattle.image_format.proofs.Rising.{keys-mapped}
 use Rattle.image_process.specs.declared.process_image.ProcImage.{ProcImage}
 use Rattle.image_process.specs.ProcessTests.{is_listed}

@@ -10,14 +10,14 @@ use Rattle.sys_abi.specs.declared.identity.VirtAddr.{VirtAddr}
 use Rattle.sys_abi.proofs.OrderLaws.{conn_total, conn_exact}
 use Rattle.plain_tables.specs.declared.channel.Listening.{Listening}
 use Rattle.plain_tables.specs.Objects.{is_end, is_queued}
-use Rattle.image_shared.specs.declared.shared.FileImage.{FileImage}
-use Rattle.image_shared.specs.declared.shared.ChannelImage.{ChannelImage}
-use Rattle.image_shared.specs.declared.shared.ObjectImage.{ObjectImage}
-use Rattle.image_shared.specs.declared.shared.ObjectImage.TheVariants.{Console, File, Stream, Socket, Listener}
-use Rattle.image_shared.specs.declared.shared.DescriptionImage.{DescriptionImage}
-use Rattle.image_shared.specs.SharedFits.{ObjectFits, ConnectionFits}
-use Rattle.image_shared.specs.SharedTests as field
-use Rattle.image_shared.specs.Sides.{names_side, is_side_named, same_channel}
+use Rattle.shared_items.specs.declared.shared.FileImage.{FileImage}
+use Rattle.shared_items.specs.declared.shared.ChannelImage.{ChannelImage}
+use Rattle.shared_items.specs.declared.shared.ObjectImage.{ObjectImage}
+use Rattle.shared_items.specs.declared.shared.ObjectImage.TheVariants.{Console, File, Stream, Socket, Listener}
+use Rattle.shared_items.specs.declared.shared.DescriptionImage.{DescriptionImage}
+use Rattle.shared_items.specs.SharedFits.{ObjectFits, ConnectionFits}
+use Rattle.shared_items.specs.SharedTests as field
+use Rattle.shared_items.specs.Sides.{names_side, is_side_named, same_channel}
 use Rattle.image_codec.specs.KernelParts.{object_of, listening_of}
 use Rattle.image_codec.proofs.Items.{IsItem, item_fits, some_item, which_item}
 use Rattle.image_codec.proofs.TestFacts.{and_true, refused, not_true, equal_numbers}

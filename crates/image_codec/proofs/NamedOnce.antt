@@ -20,8 +20,8 @@ use Rattle.plain_tables.specs.declared.description.Object.TheVariants as object
 use Rattle.plain_tables.specs.declared.description.Description.{Description}
 use Rattle.plain_tables.specs.declared.channel.Listening.{Listening}
 use Rattle.plain_tables.specs.Objects.{is_end, is_queued, is_pending, has_stream, bound_at}
-use Rattle.image_shared.specs.declared.shared.DescriptionImage.{DescriptionImage}
-use Rattle.image_shared.specs.Sides.{names_side}
+use Rattle.shared_items.specs.declared.shared.DescriptionImage.{DescriptionImage}
+use Rattle.shared_items.specs.Sides.{names_side}
 use Rattle.image_codec.specs.KernelImages.{description_image, object_image, listener_image}
 use Rattle.image_codec.proofs.Listings.{IsSplit, IsBefore, not_below, none_before}
 use Rattle.image_codec.proofs.TestFacts.{and_true, not_true, equal_numbers}

@@ -13,18 +13,18 @@ use Rattle.sys_abi.specs.declared.identity.VirtAddr.{VirtAddr}
 use Rattle.sys_abi.specs.Orders.{vpid_cmp, desc_cmp, conn_cmp}
 use Rattle.sys_abi.proofs.OrderLaws.{vpid_total, desc_total, conn_total}
 use Rattle.plain_tables.specs.declared.channel.Listening.{Listening}
-use Rattle.image_shared.specs.declared.shared.FileImage.{FileImage}
-use Rattle.image_shared.specs.declared.shared.ChannelImage.{ChannelImage}
-use Rattle.image_shared.specs.declared.shared.ObjectImage.{ObjectImage}
-use Rattle.image_shared.specs.declared.shared.ObjectImage.TheVariants.{Console, File, Stream, Socket, Listener}
-use Rattle.image_shared.specs.declared.shared.DescriptionImage.{DescriptionImage}
-use Rattle.image_shared.specs.declared.shared.ThreadEntry.{ThreadEntry}
-use Rattle.image_shared.specs.declared.shared.DescriptorEntry.{DescriptorEntry}
-use Rattle.image_shared.specs.declared.shared.ProcessEntry.{ProcessEntry}
-use Rattle.image_shared.specs.declared.shared.Shared.{Shared}
-use Rattle.image_shared.specs.SharedTests as field
-use Rattle.image_shared.specs.SharedFormat.{VERSION}
-use Rattle.image_shared.specs.SharedFits.{SharedFits, FileFits, ChannelFits, DescriptionFits, ObjectFits, ListenerFits, ProcessFits, ThreadFits, DescriptorFits}
+use Rattle.shared_items.specs.declared.shared.FileImage.{FileImage}
+use Rattle.shared_items.specs.declared.shared.ChannelImage.{ChannelImage}
+use Rattle.shared_items.specs.declared.shared.ObjectImage.{ObjectImage}
+use Rattle.shared_items.specs.declared.shared.ObjectImage.TheVariants.{Console, File, Stream, Socket, Listener}
+use Rattle.shared_items.specs.declared.shared.DescriptionImage.{DescriptionImage}
+use Rattle.shared_items.specs.declared.shared.ThreadEntry.{ThreadEntry}
+use Rattle.shared_items.specs.declared.shared.DescriptorEntry.{DescriptorEntry}
+use Rattle.shared_items.specs.declared.shared.ProcessEntry.{ProcessEntry}
+use Rattle.shared_items.specs.declared.shared.Shared.{Shared}
+use Rattle.shared_items.specs.SharedTests as field
+use Rattle.shared_items.specs.SharedFormat.{VERSION}
+use Rattle.shared_items.specs.SharedFits.{SharedFits, FileFits, ChannelFits, DescriptionFits, ObjectFits, ListenerFits, ProcessFits, ThreadFits, DescriptorFits}
 use Rattle.image_format.specs.Texts.{EachFrom}
 use Rattle.image_format.specs.Fields.{is_within, last_item}
 use Rattle.image_format.proofs.Rising.{RisesFrom, IsAfter, each_rising}

@@ -2,7 +2,7 @@
 use Rattle.std.proofs.Common.{◌≡◌, ap, ◌∙◌}
 use Rattle.plain_machine.specs.declared.kernel.PlainKernel.{PlainKernel}
 use Rattle.plain_machine.specs.Start.{empty_kernel}
-use Rattle.image_shared.specs.declared.shared.Shared.{Shared}
+use Rattle.shared_items.specs.declared.shared.Shared.{Shared}
 use Rattle.image_codec.specs.KernelParts.{kernel_of}
 
 pub filled : (s : Shared) (empty new : PlainKernel) → empty ≡ empty_kernel → new ≡ record (kernel_of s) { inboxes = empty.inboxes } → new ≡ kernel_of s

@@ -6,11 +6,11 @@ use Rattle.std.specs.FinMap.{nat_cmp-IsAntisymmetric}
 use Rattle.std.proofs.lemmas.List.Elements.{All-head, All-tail}
 use Rattle.views.proofs.MapLaws.{same_or_other}
 use Rattle.image_process.specs.declared.process_image.ProcImage.{ProcImage}
-use Rattle.image_shared.specs.declared.shared.Shared.{Shared}
+use Rattle.shared_items.specs.declared.shared.Shared.{Shared}
 use Rattle.image_process.specs.ProcessImages.{pid_at, tids_at, SpellsProcess, DamagedProcess}
-use Rattle.image_shared.specs.SharedFormat.{SpellsShared, DamagedShared}
+use Rattle.shared_items.specs.SharedFormat.{SpellsShared, DamagedShared}
 use Rattle.image_codec.specs.Sets.{SpellsImages, DamagedImages, SpellsFiles, DamagedFiles, live_count, FilesApart, FilesEither, OneDamageOfFiles}
-use Rattle.image_shared.proofs.SharedLaws as shared_image
+use Rattle.shared_items.proofs.SharedLaws as shared_image
 use Rattle.image_process.proofs.ProcessFiles as process_image
 
 -- never both

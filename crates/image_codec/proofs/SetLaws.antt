@@ -5,14 +5,14 @@ use Rattle.sys_abi.specs.Orders.{vpid_cmp}
 use Rattle.plain_machine.specs.declared.plain.Plain.{Plain}
 use Rattle.image_format.specs.declared.manifest.Manifest.{Manifest}
 use Rattle.image_process.specs.declared.process_image.ProcImage.{ProcImage}
-use Rattle.image_shared.specs.declared.shared.Shared.{Shared}
+use Rattle.shared_items.specs.declared.shared.Shared.{Shared}
 use Rattle.image_process.specs.ProcessImages.{pid_at, tids_at}
 use Rattle.image_format.specs.Manifests.{SpellsManifest}
-use Rattle.image_shared.specs.SharedFits.{IsShared}
+use Rattle.shared_items.specs.SharedFits.{IsShared}
 use Rattle.image_codec.specs.Sets.{SpellsImages, SpellsFiles, IsStateOf, user_entry, OneStateOfSet, OneSetOfState}
 use Rattle.image_codec.proofs.KernelLaws.{only_image}
 use Rattle.image_format.proofs.ManifestLaws as manifest
-use Rattle.image_shared.proofs.SharedLaws as shared_image
+use Rattle.shared_items.proofs.SharedLaws as shared_image
 use Rattle.image_process.proofs.ProcessFiles as process_image
 use Rattle.image_codec.proofs.UserImages.{image_of, only_images}
 

@@ -16,19 +16,19 @@ use Rattle.image_format.specs.Fields.{is_within}
 use Rattle.image_format.specs.Format.{n8, n16, n32, number_text, byte_count}
 use Rattle.image_format.proofs.Numerals.{length-number_text}
 use Rattle.image_format.proofs.Rising.{all_from, entries_made}
-use Rattle.image_shared.specs.declared.shared.FileImage.{FileImage}
-use Rattle.image_shared.specs.declared.shared.SideImage.{SideImage}
-use Rattle.image_shared.specs.declared.shared.ChannelImage.{ChannelImage}
-use Rattle.image_shared.specs.declared.shared.ObjectImage.{ObjectImage}
-use Rattle.image_shared.specs.declared.shared.ObjectImage.TheVariants.{Console, File, Stream, Socket, Listener}
-use Rattle.image_shared.specs.declared.shared.DescriptionImage.{DescriptionImage}
-use Rattle.image_shared.specs.declared.shared.ThreadEntry.{ThreadEntry}
-use Rattle.image_shared.specs.declared.shared.DescriptorEntry.{DescriptorEntry}
-use Rattle.image_shared.specs.declared.shared.ProcessEntry.{ProcessEntry}
-use Rattle.image_shared.specs.declared.shared.Shared.{Shared}
-use Rattle.image_shared.specs.SharedFits.{IsShared, FileFits, SideFits, ChannelFits, ObjectFits, DescriptionFits, ProcessFits, kind_of, state_of, status_of, flag, side_flags, number_of_kind, host_number, port_number}
-use Rattle.image_shared.specs.SharedTexts as shared
-use Rattle.image_shared.specs.SharedFormat.{SHARED_MAGIC, VERSION}
+use Rattle.shared_items.specs.declared.shared.FileImage.{FileImage}
+use Rattle.shared_items.specs.declared.shared.SideImage.{SideImage}
+use Rattle.shared_items.specs.declared.shared.ChannelImage.{ChannelImage}
+use Rattle.shared_items.specs.declared.shared.ObjectImage.{ObjectImage}
+use Rattle.shared_items.specs.declared.shared.ObjectImage.TheVariants.{Console, File, Stream, Socket, Listener}
+use Rattle.shared_items.specs.declared.shared.DescriptionImage.{DescriptionImage}
+use Rattle.shared_items.specs.declared.shared.ThreadEntry.{ThreadEntry}
+use Rattle.shared_items.specs.declared.shared.DescriptorEntry.{DescriptorEntry}
+use Rattle.shared_items.specs.declared.shared.ProcessEntry.{ProcessEntry}
+use Rattle.shared_items.specs.declared.shared.Shared.{Shared}
+use Rattle.shared_items.specs.SharedFits.{IsShared, FileFits, SideFits, ChannelFits, ObjectFits, DescriptionFits, ProcessFits, kind_of, state_of, status_of, flag, side_flags, number_of_kind, host_number, port_number}
+use Rattle.shared_items.specs.SharedTexts as shared
+use Rattle.shared_items.specs.SharedFormat.{SHARED_MAGIC, VERSION}
 use Rattle.image_process.specs.declared.process_image.ProcImage.{ProcImage}
 use Rattle.image_process.specs.declared.page_image.PageImage.{PageImage}
 use Rattle.image_process.specs.declared.thread_image.ThreadImage.{ThreadImage}

@@ -11,8 +11,8 @@ use Rattle.sys_abi.specs.declared.descriptor.Descriptor.{Descriptor}
 use Rattle.plain_tables.specs.Tables.{pid, slot}
 use Rattle.plain_process.specs.Start.{Launched}
 use Rattle.plain_machine.specs.Start.{FIRST_PID, console_descriptor, start_kernel, with_processes, with_process, with_files, empty_kernel}
-use Rattle.image_shared.specs.SharedFits.{IsShared}
-use Rattle.image_shared.specs.WholeShared.{is_whole_shared}
+use Rattle.shared_items.specs.SharedFits.{IsShared}
+use Rattle.shared_items.specs.WholeShared.{is_whole_shared}
 use Rattle.image_format.specs.Texts.{EachFrom}
 use Rattle.image_codec.specs.KernelParts.{kernel_of}
 use Rattle.image_codec.specs.StartImages.{start_image, StartHasImage}

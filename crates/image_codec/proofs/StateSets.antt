@@ -20,11 +20,11 @@ use Rattle.plain_machine.specs.declared.plain.Plain.{Plain}
 use Rattle.plain_machine.specs.Kernel.{is_live}
 use Rattle.plain_machine.specs.Valid.{FitsLife}
 use Rattle.plain_machine.proofs.ThreadKeys.{same_len}
-use Rattle.image_shared.specs.declared.shared.ProcessEntry.{ProcessEntry}
-use Rattle.image_shared.specs.declared.shared.Shared.{Shared}
-use Rattle.image_shared.specs.SharedFormat.{SpellsShared}
-use Rattle.image_shared.specs.SharedTexts.{shared_text}
-use Rattle.image_shared.proofs.SharedLaws as shared
+use Rattle.shared_items.specs.declared.shared.ProcessEntry.{ProcessEntry}
+use Rattle.shared_items.specs.declared.shared.Shared.{Shared}
+use Rattle.shared_items.specs.SharedFormat.{SpellsShared}
+use Rattle.shared_items.specs.SharedTexts.{shared_text}
+use Rattle.shared_items.proofs.SharedLaws as shared
 use Rattle.image_format.specs.declared.manifest.Manifest.{Manifest}
 use Rattle.image_format.specs.Fields.{is_within}
 use Rattle.image_format.specs.ManifestTexts.{manifest_text}

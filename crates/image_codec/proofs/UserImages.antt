@@ -21,11 +21,11 @@ use Rattle.plain_process.specs.declared.user_part.UserPart.{UserPart}
 use Rattle.image_process.specs.declared.page_image.PageImage.{PageImage}
 use Rattle.image_process.specs.declared.thread_image.ThreadImage.{ThreadImage}
 use Rattle.image_process.specs.declared.process_image.ProcImage.{ProcImage}
-use Rattle.image_shared.specs.declared.shared.ProcessEntry.{ProcessEntry}
-use Rattle.image_shared.specs.declared.shared.Shared.{Shared}
+use Rattle.shared_items.specs.declared.shared.ProcessEntry.{ProcessEntry}
+use Rattle.shared_items.specs.declared.shared.Shared.{Shared}
 use Rattle.image_format.specs.Texts.{EachFrom}
 use Rattle.image_format.specs.Fields.{last_item}
-use Rattle.image_shared.specs.SharedFits.{SharedFits, ProcessFits}
+use Rattle.shared_items.specs.SharedFits.{SharedFits, ProcessFits}
 use Rattle.image_process.specs.ProcessTests.{is_above_page, is_page_number}
 use Rattle.image_process.specs.ProcessImages.{process_at, pid_at, tids_at, tids_of, SpellsProcess}
 use Rattle.sys_abi.specs.Lives.{lives}

@@ -15,11 +15,11 @@ use Rattle.plain_tables.specs.declared.description.Description.{Description}
 use Rattle.plain_tables.specs.declared.channel.Direction.{Direction}
 use Rattle.plain_machine.specs.declared.plain.Plain.{Plain}
 use Rattle.plain_machine.specs.Tests.{unsupported_kind}
-use Rattle.image_shared.specs.declared.shared.ObjectImage.{ObjectImage}
-use Rattle.image_shared.specs.declared.shared.ObjectImage.TheVariants.{Console, File, Stream, Socket, Listener}
-use Rattle.image_shared.specs.declared.shared.Shared.{Shared}
-use Rattle.image_shared.specs.SharedFits.{IsShared}
-use Rattle.image_shared.proofs.SharedLaws.{text_of}
+use Rattle.shared_items.specs.declared.shared.ObjectImage.{ObjectImage}
+use Rattle.shared_items.specs.declared.shared.ObjectImage.TheVariants.{Console, File, Stream, Socket, Listener}
+use Rattle.shared_items.specs.declared.shared.Shared.{Shared}
+use Rattle.shared_items.specs.SharedFits.{IsShared}
+use Rattle.shared_items.proofs.SharedLaws.{text_of}
 use Rattle.image_process.specs.declared.process_image.ProcImage.{ProcImage}
 use Rattle.image_process.specs.ProcessImages.{pid_at, tids_at}
 use Rattle.image_process.proofs.RebuiltUsers.{rebuilt_user}

@@ -11,8 +11,8 @@ use Rattle.plain_process.specs.declared.user_part.UserPart.{UserPart}
 use Rattle.plain_tables.specs.declared.process.Process.{Process}
 use Rattle.plain_machine.specs.Kernel.{is_live}
 use Rattle.plain_machine.specs.Valid.{SameThreads}
-use Rattle.image_shared.specs.declared.shared.Shared.{Shared}
-use Rattle.image_shared.specs.SharedFits.{IsShared}
+use Rattle.shared_items.specs.declared.shared.Shared.{Shared}
+use Rattle.shared_items.specs.SharedFits.{IsShared}
 use Rattle.image_process.specs.declared.process_image.ProcImage.{ProcImage}
 use Rattle.image_process.specs.ProcessImages.{pid_at, tids_at}
 use Rattle.image_codec.specs.KernelParts.{kernel_of}

@@ -10,8 +10,7 @@
 --     FilesApart, FilesEither      no files spell values and are damaged, and all files of bytes do one of both
 --     OneDamageOfFiles      files have one first damage at most
 -- Source: docs/FORMATS.md, "Whole sets".
-use Rattle.std.specs.Prelude.{◌≡◌, ◌≢◌, ℕ, ◌+◌, ◌^◌, ◌<◌, ◌⊎◌, List, [], ◌∷◌, length, slice_index, count_by, All}
-use Rattle.std.specs.Prelude.{map as each}
+use Rattle.std.specs.Prelude.{◌≡◌, ◌≢◌, ℕ, ◌+◌, ◌^◌, ◌<◌, ◌⊎◌, List, [], ◌∷◌, length, slice_index, count_by, All, map as each}
 use Rattle.std.specs.FinMap as map
 use Rattle.views.specs.Numbers.{Byte}
 use Rattle.sys_abi.specs.declared.identity.VPid.{VPid}
@@ -19,9 +18,9 @@ use Rattle.plain_process.specs.declared.user_part.UserPart.{UserPart}
 use Rattle.plain_process.specs.Valid.{IsByte}
 use Rattle.plain_machine.specs.declared.plain.Plain.{Plain}
 use Rattle.image_process.specs.declared.process_image.ProcImage.{ProcImage}
-use Rattle.image_shared.specs.declared.shared.Shared.{Shared}
+use Rattle.shared_items.specs.declared.shared.Shared.{Shared}
 use Rattle.image_format.specs.Manifests.{SpellsManifest}
-use Rattle.image_shared.specs.SharedFormat.{SpellsShared, DamagedShared}
+use Rattle.shared_items.specs.SharedFormat.{SpellsShared, DamagedShared}
 use Rattle.image_process.specs.ProcessImages.{SpellsFileAt, DamagedFileAt}
 use Rattle.plain_machine.specs.Valid.{IsValid}
 use Rattle.image_codec.specs.KernelParts.{kernel_of}

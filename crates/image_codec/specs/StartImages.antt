@@ -9,9 +9,9 @@ use Rattle.sys_abi.specs.declared.life.Life.TheVariants.{Live}
 use Rattle.plain_tables.specs.Tables.{pid}
 use Rattle.plain_process.specs.Start.{Launched}
 use Rattle.plain_machine.specs.Start.{FIRST_PID, NOBODY, console_of, start_kernel}
-use Rattle.image_shared.specs.declared.shared.ObjectImage.TheVariants.{Console}
-use Rattle.image_shared.specs.declared.shared.DescriptorEntry.{DescriptorEntry}
-use Rattle.image_shared.specs.declared.shared.Shared.{Shared}
+use Rattle.shared_items.specs.declared.shared.ObjectImage.TheVariants.{Console}
+use Rattle.shared_items.specs.declared.shared.DescriptorEntry.{DescriptorEntry}
+use Rattle.shared_items.specs.declared.shared.Shared.{Shared}
 use Rattle.image_codec.specs.KernelImages.{IsImage}
 
 abbrev pub console_on : ℕ → DescriptorEntry

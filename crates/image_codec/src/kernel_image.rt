@@ -2,17 +2,15 @@
 
 ghost use Rattle.std.specs.Prelude.{◌≡◌, IfOk, filter, map as each};
 ghost use Rattle.std.specs.FinMap as map;
-ghost use Rattle.image_codec.specs.KernelImages.{IsImage, shared_of, description_image, descriptor_image};
-ghost use Rattle.image_codec.specs.KernelImages.{is_of, listener_image, maker_or, object_image};
-ghost use Rattle.image_codec.specs.KernelImages.{process_image, thread_image};
+ghost use Rattle.image_codec.specs.KernelImages.{IsImage, shared_of, description_image, descriptor_image, is_of, listener_image, maker_or, object_image, process_image, thread_image};
 
 use crate::stored_images::{channel_images, file_images};
 use id_maps::{ByAddress, ByDesc, BySlot};
-use image_shared::{
-    DescriptionImage, DescriptorEntry, ObjectImage, ProcessEntry, Shared, ThreadEntry,
-};
 use plain_machine::PlainKernel;
 use plain_tables::{Description, Listening, Object, Process};
+use shared_items::{
+    DescriptionImage, DescriptorEntry, ObjectImage, ProcessEntry, Shared, ThreadEntry,
+};
 use std::alloc::{AllocError, Global};
 use sys_abi::{Descriptor, Maker, VPid, VirtAddr};
 use views::duplicate::Duplicate;

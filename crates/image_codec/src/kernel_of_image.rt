@@ -3,20 +3,17 @@
 ghost use Rattle.std.specs.Prelude.{◌≡◌, IfOk, OnOk, map as each};
 ghost use Rattle.std.specs.FinMap as map;
 ghost use Rattle.std.specs.List.{filter_map, flat_map};
-ghost use Rattle.image_shared.specs.SharedFits.{IsShared};
+ghost use Rattle.shared_items.specs.SharedFits.{IsShared};
 ghost use Rattle.plain_machine.specs.Kernels.{IsKernel};
-ghost use Rattle.image_codec.specs.KernelParts.{kernel_of, inserted, channel_entry, description_entry};
-ghost use Rattle.image_codec.specs.KernelParts.{descriptor_entries, descriptor_entry, direction_entries};
-ghost use Rattle.image_codec.specs.KernelParts.{file_entry, listening_of, maker_entry, name_entry};
-ghost use Rattle.image_codec.specs.KernelParts.{process_entry, signals_entry};
+ghost use Rattle.image_codec.specs.KernelParts.{kernel_of, inserted, channel_entry, description_entry, descriptor_entries, descriptor_entry, direction_entries, file_entry, listening_of, maker_entry, name_entry, process_entry, signals_entry};
 
 use crate::restored_objects::{
     channels_of, descriptions_of, directions_of, files_of, listeners_of, names_of,
 };
 use id_maps::{ByPid, BySlot};
-use image_shared::{DescriptorEntry, ProcessEntry, Shared, ThreadEntry};
 use plain_machine::PlainKernel;
 use plain_tables::Process;
+use shared_items::{DescriptorEntry, ProcessEntry, Shared, ThreadEntry};
 use std::alloc::{AllocError, Global};
 use sys_abi::{Descriptor, Maker, Slot, VPid};
 use views::list_of::ListOf;

@@ -2,11 +2,10 @@ ghost use Rattle.std.specs.Prelude.{ℕ, List, Option};
 ghost use Rattle.image_format.specs.Files.{FileLaws};
 ghost use Rattle.image_format.specs.Manifests.{SpellsManifest, DamagedManifest};
 ghost use Rattle.image_process.specs.ProcessImages.{SpellsProcess, DamagedProcess};
-ghost use Rattle.image_shared.specs.SharedFormat.{SpellsShared, DamagedShared};
+ghost use Rattle.shared_items.specs.SharedFormat.{SpellsShared, DamagedShared};
 ghost use Rattle.image_codec.specs.KernelImages.{ImageIsKernel, KernelComesBack, KernelHasImage};
 ghost use Rattle.image_codec.specs.LiveImages.{PartsHavePlaces, ImagesAreParts};
-ghost use Rattle.image_codec.specs.Sets.{OneStateOfSet, OneSetOfState, StateHasSet, SetIsValid};
-ghost use Rattle.image_codec.specs.Sets.{FilesApart, FilesEither, OneDamageOfFiles};
+ghost use Rattle.image_codec.specs.Sets.{OneStateOfSet, OneSetOfState, StateHasSet, SetIsValid, FilesApart, FilesEither, OneDamageOfFiles};
 ghost use Rattle.image_codec.specs.StartImages.{StartHasImage};
 
 /// The laws of a set's files. It does nothing. A file spells at most one value, and a value has at most one

@@ -3,7 +3,7 @@
 //!
 //! The shared image stands for a kernel part: [`shared_image`] makes the one of a kernel part, and
 //! [`restored_kernel`] the kernel part of one. `specs/Sets.antt` says which plain state a whole set spells.
-//! The values of files, with their writers, are those of `image_format` (the manifest), `image_shared`,
+//! The values of files, with their writers, are those of `image_format` (the manifest), `shared_items`,
 //! `shared_writer` and `image_process`, handed on from here; the reader of the shared image stands in
 //! `shared_reader`.
 //!
@@ -21,11 +21,11 @@ mod stored_images;
 
 pub use image_format::{Damage, Manifest, ReadFault, SetBytes, read_manifest, write_manifest};
 pub use image_process::{PageImage, ProcImage, ThreadImage, read_process, write_process};
-pub use image_shared::{
-    ChannelImage, DescriptionImage, DescriptorEntry, FileImage, ObjectImage, ProcessEntry, Shared,
-    SideImage, ThreadEntry,
-};
 pub use kernel_image::shared_image;
 pub use kernel_of_image::restored_kernel;
 pub use laws::{file_laws, image_laws, set_laws};
+pub use shared_items::{
+    ChannelImage, DescriptionImage, DescriptorEntry, FileImage, ObjectImage, ProcessEntry, Shared,
+    SideImage, ThreadEntry,
+};
 pub use shared_writer::write_shared;

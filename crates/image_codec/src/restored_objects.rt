@@ -3,16 +3,13 @@
 ghost use Rattle.std.specs.Prelude.{◌≡◌, [], length, IfOk, OnOk, map as each};
 ghost use Rattle.std.specs.FinMap as map;
 ghost use Rattle.std.specs.List.{cons_option, filter_map, flat_map};
-ghost use Rattle.image_codec.specs.KernelParts.{inserted, channel_entry, description_entry};
-ghost use Rattle.image_codec.specs.KernelParts.{direction_entries, file_entry, listening_of, name_entry};
-ghost use Rattle.image_codec.specs.KernelParts.{direction_of, object_of};
-ghost use Rattle.image_codec.specs.NamedSides.{channel_by, has_side, named_sides, pending_side};
-ghost use Rattle.image_codec.specs.NamedSides.{sides_of};
+ghost use Rattle.image_codec.specs.KernelParts.{inserted, channel_entry, description_entry, direction_entries, file_entry, listening_of, name_entry, direction_of, object_of};
+ghost use Rattle.image_codec.specs.NamedSides.{channel_by, has_side, named_sides, pending_side, sides_of};
 ghost use Rattle.plain_tables.specs.Objects.{dir};
 
 use id_maps::{ByAddress, ByConn, ByDesc, ByDir, ByName};
-use image_shared::{ChannelImage, DescriptionImage, FileImage, ObjectImage, SideImage};
 use plain_tables::{Channel, ChannelEnd, Description, Direction, Listening, Object};
+use shared_items::{ChannelImage, DescriptionImage, FileImage, ObjectImage, SideImage};
 use std::alloc::{AllocError, Global};
 use sys_abi::{ConnId, Dir, VirtAddr};
 use views::duplicate::Duplicate;

@@ -6,9 +6,9 @@ ghost use Rattle.plain_tables.specs.Objects.{dir};
 ghost use Rattle.image_codec.specs.KernelImages.{channel_image, file_image, names_by_number, side_image};
 
 use id_maps::{ByDir, ByName};
-use image_shared::{ChannelImage, FileImage, SideImage};
 use plain_machine::PlainKernel;
 use plain_tables::Direction;
+use shared_items::{ChannelImage, FileImage, SideImage};
 use std::alloc::{AllocError, Global};
 use sys_abi::{ConnId, Dir, VirtAddr};
 use views::duplicate::{Duplicate, duplicate_items};

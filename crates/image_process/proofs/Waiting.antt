@@ -2,7 +2,7 @@
 use Rattle.std.proofs.Common.{◌≡◌, ℕ, ◌==◌, ◌&&◌, ◌||◌, not, Bool, true, false, List, [], ◌∷◌, map, refl, sym, ap, ◌∙◌}
 use Rattle.std.specs.List.{list_any}
 use Rattle.plain_process.specs.declared.user_part.Waiter.{Waiter}
-use Rattle.image_shared.specs.declared.shared.ThreadEntry.{ThreadEntry}
+use Rattle.shared_items.specs.declared.shared.ThreadEntry.{ThreadEntry}
 use Rattle.image_process.specs.ProcessImages.{tids_of}
 use Rattle.image_process.specs.ProcessTests.{is_listed, is_waiting}
 

@@ -6,8 +6,7 @@
 --     DamagedProcess pid tids text n      the bytes are no image of it, and n is where they break the format
 --     pid_at, tids_at shared file      the process whose image is this file: the live ones in order from file 2 on
 -- Source: docs/FORMATS.md, "Process image".
-use Rattle.std.specs.Prelude.{ℕ, ◌-◌, ◌&&◌, nat_lt, Bool, List, [], ◌∷◌, length, map as each_of}
-use Rattle.std.specs.Prelude.{filter, slice_get, codes, Option, Some, None, if◌then◌else◌}
+use Rattle.std.specs.Prelude.{ℕ, ◌-◌, ◌&&◌, nat_lt, Bool, List, [], ◌∷◌, length, map as each_of, filter, slice_get, codes, Option, Some, None, if◌then◌else◌}
 use Rattle.std.specs.Option.{option_map, option_map_or}
 use Rattle.views.specs.Numbers.{Address, ThreadNumber, Byte}
 use Rattle.sys_abi.specs.Lives.{lives}
@@ -17,16 +16,12 @@ use Rattle.plain_process.specs.declared.user_part.Waiter.{Waiter}
 use Rattle.image_process.specs.declared.page_image.PageImage.{PageImage}
 use Rattle.image_process.specs.declared.thread_image.ThreadImage.{ThreadImage}
 use Rattle.image_process.specs.declared.process_image.ProcImage.{ProcImage}
-use Rattle.image_shared.specs.declared.shared.ThreadEntry.{ThreadEntry}
-use Rattle.image_shared.specs.declared.shared.ProcessEntry.{ProcessEntry}
-use Rattle.image_shared.specs.declared.shared.Shared.{Shared}
+use Rattle.shared_items.specs.declared.shared.ThreadEntry.{ThreadEntry}
+use Rattle.shared_items.specs.declared.shared.ProcessEntry.{ProcessEntry}
+use Rattle.shared_items.specs.declared.shared.Shared.{Shared}
 use Rattle.image_format.specs.Fields.{is_bytes}
-use Rattle.image_format.specs.Format.{FormatOf, unsigned, raw, give, ◌>>=◌, each, counted, any, n8, n32}
-use Rattle.image_format.specs.Format.{SpellsFile, Damaged}
-use Rattle.image_process.specs.ProcessTests.{is_number, is_break_start, is_break_end, is_page_count}
-use Rattle.image_process.specs.ProcessTests.{is_page_number, is_page_rights, is_page_content, is_waiting}
-use Rattle.image_process.specs.ProcessTests.{is_context_count, is_count_of_threads, is_thread_at}
-use Rattle.image_process.specs.ProcessTests.{has_heap, has_return_page}
+use Rattle.image_format.specs.Format.{FormatOf, unsigned, raw, give, ◌>>=◌, each, counted, any, n8, n32, SpellsFile, Damaged}
+use Rattle.image_process.specs.ProcessTests.{is_number, is_break_start, is_break_end, is_page_count, is_page_number, is_page_rights, is_page_content, is_waiting, is_context_count, is_count_of_threads, is_thread_at, has_heap, has_return_page}
 
 abbrev pub PROCESS_MAGIC : List Byte
 PROCESS_MAGIC = codes "DMTPRC01"

@@ -1,8 +1,7 @@
 ghost use Rattle.std.specs.Prelude.{◌≡◌, ◌<◌, ◌^◌, ◌++◌, [], length, All, OnOk};
 ghost use Rattle.std.specs.List.{flat_map};
 ghost use Rattle.image_format.specs.Format.{number_text, counted, each, n32};
-ghost use Rattle.image_process.specs.ProcessImages.{tids_of, word_format, registers_format, context_format};
-ghost use Rattle.image_process.specs.ProcessImages.{thread_format};
+ghost use Rattle.image_process.specs.ProcessImages.{tids_of, word_format, registers_format, context_format, thread_format};
 ghost use Rattle.image_process.specs.ProcessFits.{ContextWords, ThreadWords};
 ghost use Rattle.image_process.specs.ProcessTexts.{registers_text, context_text, thread_text, list_text};
 ghost use Rattle.image_process.specs.ProcessTests.{is_context_count, is_count_of_threads, is_thread_at};
@@ -10,8 +9,8 @@ ghost use Rattle.image_format.specs.Reading.{Gives, read};
 ghost use Rattle.plain_process.specs.Valid.{IsWord};
 
 use image_format::fields::{Fault, put_u32, u32_at};
-use image_shared::ThreadEntry;
 use plain_process::{Context, Regs, ThreadPart};
+use shared_items::ThreadEntry;
 use std::alloc::{AllocError, Global};
 use views::list_of::ListOf;
 

@@ -10,8 +10,8 @@ ghost use Rattle.image_format.specs.Reading.{Gives, read};
 
 use crate::thread_image::word_at;
 use image_format::fields::{Fault, put_u32, u32_at};
-use image_shared::ThreadEntry;
 use plain_process::Waiter;
+use shared_items::ThreadEntry;
 use std::alloc::{AllocError, Global};
 use views::list_of::ListOf;
 

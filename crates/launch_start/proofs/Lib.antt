@@ -4,3 +4,6 @@ pub mod JobInputs
 pub mod JobStarts
 pub mod JobNames
 pub mod HandedOn
+pub mod RingBounds
+pub mod RingWords
+pub mod RingFiles

@@ -1,183 +1,119 @@
--- A vote, descriptor by descriptor: as far as it has come, each description is owned by the voter or as before.
---     IsVoting b now p n        the book after the descriptors below n have voted
---     voting_begun, voting_goes_on, voting_done
-use Rattle.std.proofs.Common.{◌≡◌, ℕ, ◌+◌, ◌<◌, Bool, true, false, cond, ◌||◌, refl, sym, ap, subst, ◌∙◌, arith, inl, inr}
-use Rattle.std.specs.Prelude.{Option, Some, None, is_some, IsSome, IfSome}
-use Rattle.std.specs.Option.{option_map, option_and_then, unwrap_or}
-use Rattle.std.specs.Ordering.{eq_by_cmp}
+-- The voters, listed one after the other.
+--     AreListed processes virts voters above      the live processes that do not come after the last one
+--                                                 are listed
+--     listed_begun, listed_on, listed_fewer, listed_done
+use Rattle.std.proofs.Common.{◌≡◌, ◌<◌, ℕ, Bool, true, false, inl, inr, refl, sym, ap, ◌∙◌}
+use Rattle.std.specs.Prelude.{Option, Some, None, find}
+use Rattle.std.specs.Option.{option_map_or}
 use Rattle.std.specs.FinMap as map
-use Rattle.std.proofs.lemmas.Bool.{cases_lt}
-use Rattle.views.proofs.MapLaws.{true_false, same_key}
-use Rattle.sys_abi.specs.declared.identity.DescId.{DescId}
+use Rattle.std.proofs.lemmas.Option.{same_Some, none-some}
+use Rattle.views.proofs.MapLaws.{true_false, same_or_other, get_insert_same, get_insert_other}
+use Rattle.sys_abi.specs.declared.identity.VPid.{VPid}
 use Rattle.sys_abi.specs.declared.identity.RealPid.{RealPid}
-use Rattle.sys_abi.specs.Orders.{desc_cmp}
-use Rattle.sys_abi.proofs.OrderLaws.{desc_total, desc_exact}
-use Rattle.fd_tables.specs.declared.description.Desc.{Desc}
-use Rattle.sys_abi.specs.declared.descriptor.Descriptor.{Descriptor}
-use Rattle.fd_book.specs.Books.{Books, changed_or_same, with_changed}
-use Rattle.fd_tables.specs.Slots.{slot, refers_to, IsHolder}
-use Rattle.fd_tables.specs.Parts.{with_owner}
-use Rattle.fd_tables.specs.Numbers.{NoneOpen, IsLowestOpen}
-use Rattle.leader_vote.specs.Elections.{leader_of, is_holder, after_vote_of, after_vote, after_vote_by}
-use Rattle.leader_vote.proofs.Entries.{get-map_entries}
-use Rattle.leader_vote.proofs.Holders.{refers-same, same-refers, is_holder-from_IsHolder, IsHolder-from_is_holder}
+use Rattle.sys_abi.proofs.OrderLaws.{vpid_total, vpid_exact, real_pid_total, real_pid_exact}
+use Rattle.sys_abi.specs.Orders.{vpid_cmp}
+use Rattle.proc_book.specs.declared.process.Process.{Process}
+use Rattle.proc_book.specs.Ends.{Processes, is_live_at}
+use Rattle.proc_book.specs.Processes.{is_live}
+use Rattle.proc_book.specs.Procs.{is_above}
+use Rattle.leader_vote.specs.Voters.{Voters, Virts, voter, voter_by, with_voter, HasVoters}
+use Rattle.leader_vote.proofs.Walks.{count_of, next_is, walked, none_left, fewer_left}
 
--- the description, owned by the voter where this is true
-abbrev pub owned_if : Bool → RealPid → Desc → Desc
-owned_if b p d = cond b (with_owner (Some p) d) d
+abbrev pub IsLiveOne : Processes → Virts → VPid → Type 0
+IsLiveOne processes virts p =
+    (r : RealPid) × ((is_live_at processes r ≡ true) × (map.get virts r ≡ Some p.0))
 
-pub record IsDecided (b now : Books) (p : RealPid) (n : ℕ) (id : DescId) : Type 0 where
-  pub voted : Bool
-  pub is : map.get now.descriptions id ≡ option_map (owned_if voted p) (map.get b.descriptions id)
-  pub holds : voted ≡ true → IsHolder b.descriptors id p
-  pub there : voted ≡ true → IsSome (map.get b.descriptions id)
-  pub so_far : (fd : ℕ) (d : Descriptor) → fd < n → map.get b.descriptors (slot p fd) ≡ Some d → d.desc ≡ id → voted ≡ true
+pub record AreListed (processes : Processes) (virts : Virts) (voters : Voters) (above : Option RealPid) :
+    Type 0 where
+  pub right : (p : VPid) (voted : Bool) → map.get voters p ≡ Some voted
+      → (voted ≡ false) × IsLiveOne processes virts p
+  pub passed : (r : RealPid) (v : ℕ) → is_live_at processes r ≡ true → map.get virts r ≡ Some v
+      → is_above above r ≡ false → map.get voters (voter v) ≡ Some false
 
-pub record IsVoting (b now : Books) (p : RealPid) (n : ℕ) : Type 0 where
-  pub same : now.descriptors ≡ b.descriptors
-  pub each : (id : DescId) → IsDecided b now p n id
-
-unowned : (p : RealPid) (found : Option Desc) → found ≡ option_map (owned_if false p) found
-unowned p None = refl
-unowned p (Some d) = refl
-
-owned_twice : (first second : Bool) (p : RealPid) (found : Option Desc) → option_map (owned_if second p) (option_map (owned_if first p) found) ≡ option_map (owned_if (first || second) p) found
-owned_twice first second p None = refl
-owned_twice true true p (Some d) = refl
-owned_twice true false p (Some d) = refl
-owned_twice false second p (Some d) = refl
-
-pub voting_begun : (b : Books) (p : RealPid) → IsVoting b b p 0
-voting_begun b p = record {
-  same = refl;
-  each = λ id. record {
-    voted = false;
-    is = unowned p (map.get b.descriptions id);
-    holds = λ is. true_false (sym is);
-    there = λ is. true_false (sym is);
-    so_far = λ fd d below at same. absurd (omega arith);
-  };
+pub listed_begun : (processes : Processes) (virts : Virts) → AreListed processes virts map.empty None
+listed_begun processes virts = record {
+  right = λ p voted is. absurd (none-some voted (sym (map.get-empty vpid_cmp p) ∙ is));
+  passed = λ r v live paired behind. true_false behind;
 }
 
--- one description changed
-same_descriptors : (f : Desc → Desc) (b : Books) (j : DescId) (found : Option Desc) → (changed_or_same f b j found).descriptors ≡ b.descriptors
-same_descriptors f b j None = refl
-same_descriptors f b j (Some d) = refl
-
-get_changed : (f : Desc → Desc) (b : Books) (j id : DescId) (found : Option Desc) (same : Bool) → map.get b.descriptions j ≡ found → eq_by_cmp desc_cmp id j ≡ same
-    → map.get (changed_or_same f b j found).descriptions id ≡ option_map (λ d. cond same (f d) d) (map.get b.descriptions id)
-get_changed f b j id None true is tied =
-    let none : map.get b.descriptions id ≡ None = ap (map.get b.descriptions) (same_key desc_total desc_exact id j tied) ∙ is in
-    none ∙ ap (option_map f) (sym none)
-get_changed f b j id None false is apart = unchanged (map.get b.descriptions id)
+-- a live process is there
+live_there : (processes : Processes) (r : RealPid) → is_live_at processes r ≡ true
+    → (x : Process) × (map.get processes r ≡ Some x)
+live_there processes r live = by_found (map.get processes r) live
   where
-    unchanged : (found : Option Desc) → found ≡ option_map (λ d. d) found
-    unchanged None = refl
-    unchanged (Some d) = refl
-get_changed f b j id (Some d) true is tied =
-    map.get-insert desc_total b.descriptions j (f d) id ∙ ap (λ t. cond t (Some (f d)) (map.get b.descriptions id)) tied
-    ∙ ap (option_map f) (sym (ap (map.get b.descriptions) (same_key desc_total desc_exact id j tied) ∙ is))
-get_changed f b j id (Some d) false is apart =
-    map.get-insert desc_total b.descriptions j (f d) id ∙ ap (λ t. cond t (Some (f d)) (map.get b.descriptions id)) apart
-    ∙ unchanged (map.get b.descriptions id)
-  where
-    unchanged : (found : Option Desc) → found ≡ option_map (λ d. d) found
-    unchanged None = refl
-    unchanged (Some d) = refl
+    by_found : (found : Option Process) → option_map_or is_live found false ≡ true
+        → (x : Process) × (found ≡ Some x)
+    by_found None is = true_false (sym is)
+    by_found (Some x) is = (x, refl)
 
-either_true : {P : Type 0} (a b : Bool) → (a || b) ≡ true → (a ≡ true → P) → (b ≡ true → P) → P
-either_true true b is in_first in_second = in_first refl
-either_true false b is in_first in_second = in_second is
+module _ (processes : Processes) (virts : Virts) (voters : Voters) (above : Option RealPid) (id : RealPid)
+    (next : find (is_above above) (map.keys processes) ≡ Some id)
+    (listed : AreListed processes virts voters above) where
+  passed_by : (voters' : Voters)
+      → ((v : ℕ) → is_live_at processes id ≡ true → map.get virts id ≡ Some v
+      → map.get voters' (voter v) ≡ Some false)
+      → ((p : VPid) → map.get voters p ≡ Some false → map.get voters' p ≡ Some false)
+      → (r : RealPid) (v : ℕ) → is_live_at processes r ≡ true → map.get virts r ≡ Some v
+      → is_above (Some id) r ≡ false → map.get voters' (voter v) ≡ Some false
+  passed_by voters' this keeps r v live paired behind =
+      let x = live_there processes r live in
+      elim (walked real_pid_total real_pid_exact processes is_above (λ k. refl) (λ a k. refl) above id r
+      x.0 next x.1 behind) [
+        | inl same ↦ this v (ap (is_live_at processes) (sym same) ∙ live)
+            (ap (map.get virts) (sym same) ∙ paired)
+        | inr before ↦ keeps (voter v) (listed.passed r v live paired before)
+      ]
 
-left_true : (a b : Bool) → a ≡ true → (a || b) ≡ true
-left_true true b is = refl
-left_true false b is = true_false (sym is)
-
-right_true : (a b : Bool) → b ≡ true → (a || b) ≡ true
-right_true true b is = refl
-right_true false b is = is
-
-there_before : (f : Desc → Desc) (found : Option Desc) → IsSome (option_map f found) → IsSome found
-there_before f None is = is
-there_before f (Some d) is = refl
-
-the_descriptor : (d e : Descriptor) → Some d ≡ Some e → d ≡ e
-the_descriptor d e same = ap (λ x. unwrap_or x d) same
-
-module _ (b now next : Books) (p : RealPid) (n fd : ℕ) (so_far : IsVoting b now p n) (lowest : IsLowestOpen now.descriptors p n fd) where
-  at_before : (q : ℕ) → map.get now.descriptors (slot p q) ≡ map.get b.descriptors (slot p q)
-  at_before q = ap (λ m. map.get m (slot p q)) so_far.same
-
-  decided : (d : Descriptor) → map.get now.descriptors (slot p fd) ≡ Some d → IsSome (map.get now.descriptions d.desc)
-      → next ≡ after_vote_by now p (Some d) → (id : DescId) → IsDecided b next p (fd + 1) id
-  unfolding with_changed
-  decided d at there changed id =
-      let before : IsDecided b now p n id = so_far.each id in
-      record {
-        voted = before.voted || refers_to id d;
-        is = ap (λ (x : Books). map.get x.descriptions id) changed
-            ∙ get_changed (with_owner (Some p)) now d.desc id (map.get now.descriptions d.desc) (refers_to id d) refl refl
-            ∙ ap (option_map (owned_if (refers_to id d) p)) before.is ∙ owned_twice before.voted (refers_to id d) p (map.get b.descriptions id);
-        holds = λ is. either_true before.voted (refers_to id d) is before.holds (λ refers. (fd, d, sym (at_before fd) ∙ at, same-refers id d refers));
-        there = λ is. either_true before.voted (refers_to id d) is before.there (λ refers.
-            there_before (owned_if before.voted p) (map.get b.descriptions id)
-            (subst IsSome before.is (subst (λ j. IsSome (map.get now.descriptions j)) (same-refers id d refers) there)));
-        so_far = λ q e below is same. elim (cases_lt q n) [
-          | inl earlier ↦ left_true before.voted (refers_to id d) (before.so_far q e earlier is same)
-          | inr from_on ↦ elim (cases_lt q fd) [
-            | inl between ↦ true_false (ap is_some (sym is ∙ sym (at_before q) ∙ lowest.lowest q from_on between))
-            | inr past ↦
-                let at_fd : q ≡ fd = omega arith in
-                let same_one : e ≡ d = the_descriptor e d (sym is ∙ sym (at_before q) ∙ ap (λ x. map.get now.descriptors (slot p x)) at_fd ∙ at) in
-                right_true before.voted (refers_to id d) (refers-same id d (ap (λ x. x.desc) (sym same_one) ∙ same))
-          ]
-        ];
-      }
-
-  one_more : (found : Option Descriptor) → map.get now.descriptors (slot p fd) ≡ found → IfSome found (λ d. IsSome (map.get now.descriptions d.desc))
-      → next ≡ after_vote_by now p found → IsVoting b next p (fd + 1)
-  unfolding with_changed
-  one_more None at there changed = true_false (sym lowest.open_there ∙ ap is_some at)
-  one_more (Some d) at there changed = record {
-    same = ap (λ (x : Books). x.descriptors) changed ∙ same_descriptors (with_owner (Some p)) now d.desc (map.get now.descriptions d.desc) ∙ so_far.same;
-    each = decided d at there changed;
+  same_as : (found : Option ℕ) (live : Bool) → is_live_at processes id ≡ live → map.get virts id ≡ found
+      → AreListed processes virts (voter_by live found voters) (Some id)
+  same_as (Some v) true lives paired = record {
+    right = λ p voted is. elim (same_or_other vpid_total vpid_exact p (voter v)) [
+      | inl same ↦ (
+        sym (same_Some false voted (sym (get_insert_same vpid_total vpid_exact voters (voter v) false)
+            ∙ ap (map.get (map.insert voters (voter v) false)) (sym same) ∙ is)),
+        (id, (lives, paired ∙ ap (λ (x : VPid). Some x.0) (sym same))),
+      )
+      | inr differ ↦
+          listed.right p voted
+          (sym (get_insert_other vpid_total vpid_exact voters (voter v) false p differ) ∙ is)
+    ];
+    passed = passed_by (map.insert voters (voter v) false)
+        (λ w live is. ap (λ n. map.get (map.insert voters (voter v) false) (voter n))
+        (same_Some w v (sym is ∙ paired))
+        ∙ get_insert_same vpid_total vpid_exact voters (voter v) false)
+        (λ p is. elim (same_or_other vpid_total vpid_exact p (voter v)) [
+          | inl same ↦ ap (map.get (map.insert voters (voter v) false)) same
+              ∙ get_insert_same vpid_total vpid_exact voters (voter v) false
+          | inr differ ↦ get_insert_other vpid_total vpid_exact voters (voter v) false p differ ∙ is
+        ]);
+  }
+  same_as None true lives paired = record {
+    right = listed.right;
+    passed = passed_by voters (λ v live is. absurd (none-some v (sym paired ∙ is))) (λ p is. is);
+  }
+  same_as found false lives paired = record {
+    right = listed.right;
+    passed = passed_by voters (λ v live is. true_false (sym live ∙ lives)) (λ p is. is);
   }
 
-  pub voting_goes_on : IfSome (map.get now.descriptors (slot p fd)) (λ d. IsSome (map.get now.descriptions d.desc))
-      → next ≡ after_vote_by now p (map.get now.descriptors (slot p fd)) → IsVoting b next p (fd + 1)
-  voting_goes_on there changed = one_more (map.get now.descriptors (slot p fd)) refl there changed
+  pub listed_on : AreListed processes virts (with_voter processes virts voters id) (Some id)
+  listed_on = same_as (map.get virts id) (is_live_at processes id) refl refl
 
-module _ (b now : Books) (p : RealPid) (n : ℕ) (so_far : IsVoting b now p n) (none : NoneOpen now.descriptors p n) where
-  voted-from_holder : (id : DescId) → IsHolder b.descriptors id p → (so_far.each id).voted ≡ true
-  voted-from_holder id holds = elim (cases_lt holds.0 n) [
-    | inl below ↦ (so_far.each id).so_far holds.0 holds.1 below holds.2 holds.3
-    | inr past ↦ true_false (ap is_some (sym holds.2 ∙ sym (ap (λ m. map.get m (slot p holds.0)) so_far.same) ∙ none holds.0 past))
-  ]
+  pub listed_fewer : count_of (is_above (Some id)) (map.keys processes)
+      < count_of (is_above above) (map.keys processes)
+  listed_fewer =
+      let is = next_is real_pid_total real_pid_exact processes is_above (λ k. refl) (λ a k. refl) above id
+      next in
+      fewer_left real_pid_total real_pid_exact processes is_above (λ k. refl) (λ a k. refl) above id is.0 is.1
 
-  voted-holder : (id : DescId) → (so_far.each id).voted ≡ is_holder b.descriptors id p
-  voted-holder id = by_tests (so_far.each id).voted (is_holder b.descriptors id p)
-      (λ voted. is_holder-from_IsHolder b.descriptors id p ((so_far.each id).holds voted))
-      (λ holds. voted-from_holder id (IsHolder-from_is_holder b.descriptors id p holds))
-    where
-      by_tests : (x y : Bool) → (x ≡ true → y ≡ true) → (y ≡ true → x ≡ true) → x ≡ y
-      by_tests true y there back = sym (there refl)
-      by_tests false true there back = back refl
-      by_tests false false there back = refl
-
-  pub voting_done : now ≡ after_vote b p
-  unfolding after_vote
-  voting_done =
-      let descriptions = map.same_map desc_total desc_exact now.descriptions (after_vote b p).descriptions (λ id.
-      (so_far.each id).is ∙ ap (λ t. option_map (owned_if t p) (map.get b.descriptions id)) (voted-holder id)
-      ∙ sym (get-map_entries desc_total desc_exact (after_vote_of b.descriptors p) b.descriptions id)) in
-      λ i. record { descriptions = descriptions i; descriptors = so_far.same i }
-
-  led : (id : DescId) (found : Option Desc) (voted : Bool) → IsSome found → voted ≡ true → option_and_then (λ d. d.owner) (option_map (owned_if voted p) found) ≡ Some p
-  led id None voted there is = true_false (sym there)
-  led id (Some d) true there is = refl
-  led id (Some d) false there is = true_false (sym is)
-
-  pub voter_leads : (id : DescId) → IsHolder b.descriptors id p → leader_of now id ≡ Some p
-  voter_leads id holds =
-      let voted = voted-from_holder id holds in
-      ap (option_and_then (λ (d : Desc). d.owner)) (so_far.each id).is ∙ led id (map.get b.descriptions id) (so_far.each id).voted ((so_far.each id).there voted) voted
+pub listed_done : (processes : Processes) (virts : Virts) (voters : Voters) (above : Option RealPid)
+    → find (is_above above) (map.keys processes) ≡ None → AreListed processes virts voters above
+    → HasVoters processes virts voters
+listed_done processes virts voters above none listed = record {
+  live = λ r v lives paired.
+      let x = live_there processes r lives in
+      listed.passed r v lives paired
+      (none_left real_pid_total real_pid_exact processes is_above (λ k. refl) (λ a k. refl) above r x.0
+      none x.1);
+  only = λ p voted is. (listed.right p voted is).1;
+}

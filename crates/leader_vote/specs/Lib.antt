@@ -1,1 +1,5 @@
+pub mod Owners
+pub mod Voters
+pub mod Directions
+pub mod Agents
 pub mod Elections

@@ -1,5 +1,19 @@
-//! Which process handles a description that several processes share, while a checkpoint is taken.
+//! What a checkpoint writes down of the tables of a system before it changes them, and what it finds there by
+//! their owners once leaders are elected.
 //!
+//! The owners of all descriptions are kept and put back, since processes elect leaders by them; a list of
+//! voters tells which live processes have voted; all directions of channels are listed with the bytes that
+//! stand in them, so that room can be taken for these; and for each end of a channel the agent is named that
+//! acts for it: the leader of the description that refers to the end, or of the listener at which its
+//! connection waits.
+//!
+//! Proved: each list has exactly what it is to have, of every book, network and table of processes. Only the
+//! calls that make a list take memory. The source is Ansel, Arya, Cooperman, "DMTCP: Transparent
+//! Checkpointing for Cluster Computations and the Desktop", 2009 (elect shared file descriptor leaders).
+//!
+//! # The election
+//!
+//! It says which process handles a description that several processes share, while a checkpoint is taken.
 //! Each process votes by setting itself as the owner of every description that it holds, and the last setter
 //! leads, as DMTCP elects by F_SETOWN (`man 2 fcntl`). The owners that guests set are kept elsewhere before
 //! an election and put back after it, so that at its start no description has an owner.
@@ -16,8 +30,12 @@
 //! Cluster Computations and the Desktop", 2009 (elect shared file descriptor leaders).
 #![tactic(auto)]
 
+pub mod agents;
+pub mod directions;
 mod election;
 mod laws;
+pub mod owners;
+pub mod voters;
 
 pub use election::{leader, vote};
 pub use laws::leader_laws;

@@ -6,11 +6,11 @@ ghost use Rattle.plain_machine.specs.Answers.{answer_told, attempt_told, KeepsUn
 use crate::numbers::{getpid, getppid};
 use crate::send::{kill, tgkill};
 use call_table::{Given, Request};
+use plain_files::clone::clone;
 use plain_files::descriptors::{close, dup, dup3, fcntl};
+use plain_files::end::{exit, exit_group};
 use plain_files::files::{lseek, openat, unlinkat};
-use plain_forks::clone::clone;
-use plain_forks::end::{exit, exit_group};
-use plain_forks::wait::{is_wait4_ready, wait4};
+use plain_files::wait::{is_wait4_ready, wait4};
 use plain_machine::PlainKernel;
 use plain_sockets::connections::{accept, connect, is_accept_ready, is_connect_ready};
 use plain_sockets::sockets::{

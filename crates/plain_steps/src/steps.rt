@@ -18,7 +18,7 @@ use views::number_map::NumberMap;
 pub const ILLEGAL: Signal = Signal(4);
 
 /// Where a thread of a process stands.
-#[derive(Clone, Copy, Debug, PartialEq, Eq)]
+#[derive(Clone, Copy)]
 pub enum UserStep {
     /// Its instruction went on.
     Stepped,

@@ -16,7 +16,7 @@ use Rattle.sys_abi.specs.declared.identity.RealPid.{RealPid}
 use Rattle.proc_book.specs.declared.process.Process.{Process}
 use Rattle.sys_abi.specs.declared.signals.TheConstants.{SIGCHLD}
 use Rattle.sys_abi.specs.Orders.{real_pid_cmp}
-use Rattle.real_maps.specs.Changes.{at_key}
+use Rattle.virt_ids.specs.Changes.{at_key}
 use Rattle.sys_abi.specs.Signals.{has_signal}
 use Rattle.proc_book.specs.Processes.{newborn, is_live, is_child_of, signals_of, raised, after_take, zombie}
 use Rattle.proc_book.specs.Ends.{Processes, orphan, is_zombie_child, orphaned, is_live_at, left_by, ended_by, after_end}

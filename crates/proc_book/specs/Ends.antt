@@ -11,7 +11,7 @@ use Rattle.sys_abi.specs.declared.identity.RealPid.{RealPid}
 use Rattle.sys_abi.specs.declared.signals.TheConstants.{SIGCHLD}
 use Rattle.sys_abi.specs.Orders.{real_pid_cmp}
 use Rattle.proc_book.specs.declared.process.Process.{Process}
-use Rattle.real_maps.specs.Changes.{at_key}
+use Rattle.virt_ids.specs.Changes.{at_key}
 use Rattle.proc_book.specs.Processes.{is_live, is_child_of, raised, zombie}
 
 abbrev pub Processes : Type 0

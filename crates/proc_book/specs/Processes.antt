@@ -12,7 +12,7 @@ use Rattle.std.specs.FinMap as map
 use Rattle.sys_abi.specs.declared.identity.RealPid.{RealPid}
 use Rattle.proc_book.specs.declared.process.Process.{Process}
 use Rattle.sys_abi.specs.declared.life.Life.TheVariants.{Live, Zombie}
-use Rattle.real_maps.specs.Changes.{at_key}
+use Rattle.virt_ids.specs.Changes.{at_key}
 use Rattle.sys_abi.specs.Orders.{real_pid_cmp}
 use Rattle.sys_abi.specs.Signals.{has_signal, with_signal, without_signal}
 use Rattle.sys_abi.specs.Lives.{lives}

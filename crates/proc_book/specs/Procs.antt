@@ -31,7 +31,7 @@ use Rattle.proc_book.specs.declared.waiting.Waiting.{Waiting}
 use Rattle.proc_book.specs.declared.waiting.Waiting.TheVariants.{NoChild, NotReady, Ended}
 use Rattle.proc_book.specs.declared.proc_fault.ProcFault.{ProcFault}
 use Rattle.proc_book.specs.declared.proc_fault.ProcFault.TheVariants as fault
-use Rattle.real_maps.specs.Changes.{at_key}
+use Rattle.virt_ids.specs.Changes.{at_key}
 use Rattle.proc_book.specs.Processes.{newborn, is_child_of, lives_with, signals_of, raised, has_either, after_take as without_signal_of}
 use Rattle.proc_book.specs.Ends.{Processes}
 

@@ -1,15 +1,15 @@
 //! The end of a process.
 ghost use Rattle.std.specs.Prelude.{◌≡◌, not};
 ghost use Rattle.views.specs.Maps.{map_values, retain};
-ghost use Rattle.real_maps.specs.Changes.{at_key};
+ghost use Rattle.virt_ids.specs.Changes.{at_key};
 ghost use Rattle.proc_book.specs.Processes as process;
 ghost use Rattle.proc_book.specs.Ends as words;
 
 use crate::process::Process;
-use real_maps::ByRealPid;
 use std::alloc::Global;
 use sys_abi::signals::SIGCHLD;
 use sys_abi::{RealPid, Signal};
+use virt_ids::ByRealPid;
 
 pub(crate) fn is_live_at(processes: &ByRealPid<Process>, p: RealPid) -> bool
     ensures { result ≡ words.is_live_at processes.now p }

@@ -1,6 +1,6 @@
 ghost use Rattle.std.specs.Prelude.{◌≡◌, ◌≤◌, ◌<◌, Err, IfOk, OnOk, OnErr, IsOkUnless, true};
 ghost use Rattle.std.specs.FinMap as map;
-ghost use Rattle.real_maps.specs.Changes.{at_key};
+ghost use Rattle.virt_ids.specs.Changes.{at_key};
 ghost use Rattle.sys_abi.specs.Signals as signals;
 ghost use Rattle.proc_book.specs.Processes as words;
 ghost use Rattle.proc_book.specs.Ends as ends;

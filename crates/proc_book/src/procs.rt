@@ -1,7 +1,7 @@
 ghost use Rattle.std.specs.Prelude.{◌≡◌, ◌+◌, ◌≤◌, ◌<◌, ◌^◌, true, false, None, Ok, Err, find, length, replicate, IfOk, OnOk, OnErr, IsOkUnless, option_and_then, is_some, if◌then◌else◌};
 ghost use Rattle.std.specs.FinMap as map;
 ghost use Rattle.proc_book.specs.declared.limits.TheConstants.{PROCESS_LIMIT, THREAD_LIMIT};
-ghost use Rattle.real_maps.specs.Changes.{at_key};
+ghost use Rattle.virt_ids.specs.Changes.{at_key};
 ghost use Rattle.proc_book.specs.Ends.{is_live_at, after_end};
 ghost use Rattle.proc_book.specs.Procs as words;
 ghost use Rattle.proc_book.specs.Waits.{Finds};
@@ -11,10 +11,10 @@ use crate::limits::{PROCESS_LIMIT, THREAD_LIMIT};
 use crate::proc_fault::ProcFault;
 use crate::process::Process;
 use crate::waiting::{Waiting, wait_for};
-use real_maps::ByRealPid;
 use std::alloc::{AllocError, Global};
 use std::marker::Model;
 use sys_abi::{Life, RealPid, Signal};
+use virt_ids::ByRealPid;
 
 /// The processes of all nodes, and for each node the number that it hands out next.
 #[derive(Drop)]

@@ -5,12 +5,11 @@ ghost use Rattle.elf32.specs.Programs.{IsWellPlaced};
 ghost use Rattle.plain_process.specs.Start as start;
 ghost use Rattle.plain_process.specs.Steps.{effect_at};
 ghost use Rattle.image_process.specs.UserParts.{page_entry};
-ghost use Rattle.guest_run.specs.Running.{HasRun, IsStop};
+ghost use Rattle.guest_start.specs.Running.{HasRun, IsStop};
 
 use crate::images::{page_images, space_of};
 use elf32::Program;
-use guest_run::{Ram, Stop, run_instructions};
-use guest_start::{break_of, start_space};
+use guest_start::{Ram, Stop, break_of, run_instructions, start_space};
 use image_process::PageImage;
 use plain_process::Regs;
 use std::alloc::{AllocError, Global};

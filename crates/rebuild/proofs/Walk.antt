@@ -5,15 +5,15 @@ use Rattle.std.specs.Prelude.{◌≢◌, nat_le, IsTrue}
 use Rattle.std.proofs.lemmas.Bool.Decides.{nat_tests}
 use Rattle.std.proofs.lemmas.List.{drop_all}
 use Rattle.std.proofs.lemmas.List.Sums.{count_by-le-length}
-use Rattle.image_shared.specs.declared.shared.ProcessEntry.{ProcessEntry}
+use Rattle.shared_items.specs.declared.shared.ProcessEntry.{ProcessEntry}
 use Rattle.image_process.specs.declared.process_image.ProcImage.{ProcImage}
-use Rattle.image_shared.specs.declared.shared.Shared.{Shared}
+use Rattle.shared_items.specs.declared.shared.Shared.{Shared}
 use Rattle.image_process.specs.ProcessImages.{SpellsProcess, DamagedProcess, pid_at, tids_at}
 use Rattle.image_format.specs.declared.damage.ReadFault.{ReadFault}
 use Rattle.image_format.specs.declared.damage.ReadFault.TheVariants.{Damaged, Memory}
 use Rattle.image_format.specs.Files.{IsRead, IsDamagedAt}
-use Rattle.image_shared.specs.SharedFormat.{SpellsShared, DamagedShared}
-use Rattle.image_shared.proofs.SharedLaws.{text_of}
+use Rattle.shared_items.specs.SharedFormat.{SpellsShared, DamagedShared}
+use Rattle.shared_items.proofs.SharedLaws.{text_of}
 use Rattle.image_codec.specs.Sets.{SpellsImages, DamagedImages, SpellsFiles, DamagedFiles, live_count}
 use Rattle.rebuild.specs.declared.decode.Decoded.{Decoded}
 use Rattle.rebuild.specs.Places.{IsDamageOf}

@@ -25,7 +25,7 @@ use Rattle.host_tables.specs.Processes.{IsSame, SameProcess, SameProcesses}
 use Rattle.host_tables.proofs.GrownTopics.{SameProcesses-grows}
 use Rattle.host_tables.proofs.MorePairs.{more_pairs, real_here, real_kept, real_was, virt_kept}
 use Rattle.host_tables.proofs.Ways.{lead_process, lead_thread}
-use Rattle.host_forks.proofs.MoreNumbers.{AreNumbered-grows, AreNumbered-child}
+use Rattle.host_processes.proofs.MoreNumbers.{AreNumbered-grows, AreNumbered-child}
 use Rattle.rebuild_processes.specs.declared.numbered.Numbered.{Numbered}
 use Rattle.rebuild_processes.specs.Making.{IsOwn, IsTold}
 use Rattle.rebuild_processes.specs.Steps.{with_pair}

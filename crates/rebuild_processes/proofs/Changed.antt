@@ -20,8 +20,8 @@ use Rattle.host_tables.specs.Processes.{SameProcess, SameProcesses}
 use Rattle.host_tables.proofs.MorePairs.{real_here, real_kept, real_was}
 use Rattle.host_tables.proofs.ProcessChanges.{HasNoMore, AreNumbered-changed}
 use Rattle.host_tables.proofs.Ways.{lead_process}
-use Rattle.host_forks.proofs.MoreNumbers.{AreNumbered-grows, AreNumbered-thread}
-use Rattle.host_forks.proofs.MoreProcesses.{SameProcesses-thread}
+use Rattle.host_processes.proofs.MoreNumbers.{AreNumbered-grows, AreNumbered-thread}
+use Rattle.host_processes.proofs.MoreProcesses.{SameProcesses-thread}
 use Rattle.rebuild_processes.specs.declared.numbered.Numbered.{Numbered}
 use Rattle.rebuild_processes.specs.Making.{IsOwn, IsTold}
 use Rattle.rebuild_processes.specs.Steps.{with_pair}

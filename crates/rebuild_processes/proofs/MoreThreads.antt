@@ -21,7 +21,7 @@ use Rattle.sys_abi.proofs.OrderLaws.{vpid_total, vpid_exact}
 use Rattle.proc_book.specs.Ends.{is_live_at}
 use Rattle.proc_book.specs.Processes.{is_live}
 use Rattle.proc_book.specs.Procs.{ProcTable, can_raise, pending_of, next_of, after_add_thread}
-use Rattle.real_maps.specs.Changes.{at_key}
+use Rattle.virt_ids.specs.Changes.{at_key}
 use Rattle.virt_ids.specs.Pairs.{Pairs}
 use Rattle.plain_tables.specs.declared.process.Process.{Process}
 use Rattle.plain_tables.specs.Tables.{FIRST_PID, Processes, with_signals, with_thread_entry}

@@ -15,7 +15,7 @@ use Rattle.sys_abi.specs.declared.identity.RealPid.{RealPid}
 use Rattle.sys_abi.specs.declared.life.Life.TheVariants.{Live}
 use Rattle.sys_abi.proofs.OrderLaws.{vpid_total, vpid_exact}
 use Rattle.proc_book.specs.Procs.{can_raise, pending_of, without_thread}
-use Rattle.real_maps.specs.Changes.{at_key}
+use Rattle.virt_ids.specs.Changes.{at_key}
 use Rattle.plain_tables.specs.declared.process.Process.{Process}
 use Rattle.plain_tables.specs.Ends.{child_process}
 use Rattle.plain_tables.specs.Tables.{Processes, with_signals}

@@ -12,7 +12,7 @@ use Rattle.views.proofs.MapValues.{get-map_values, get-retained}
 use Rattle.sys_abi.specs.declared.identity.RealPid.{RealPid}
 use Rattle.sys_abi.specs.Signals.{has_signal, without_signal}
 use Rattle.sys_abi.proofs.OrderLaws.{real_pid_total, real_pid_exact}
-use Rattle.real_maps.specs.Changes.{at_key}
+use Rattle.virt_ids.specs.Changes.{at_key}
 use Rattle.proc_book.specs.declared.process.Process.{Process}
 use Rattle.proc_book.specs.Processes.{is_live, is_child_of, raised, signals_of, zombie}
 use Rattle.proc_book.specs.Processes as words

@@ -5,7 +5,7 @@ ghost use Rattle.proc_book.specs.Processes.{zombie};
 ghost use Rattle.proc_book.specs.Ends.{is_live_at};
 ghost use Rattle.proc_book.specs.Procs.{pending_of};
 ghost use Rattle.proc_book.specs.Waits.{IsChildless};
-ghost use Rattle.real_maps.specs.Changes.{at_key};
+ghost use Rattle.virt_ids.specs.Changes.{at_key};
 ghost use Rattle.rebuild_processes.specs.Making.{IsLiveChild};
 
 use proc_book::Procs;

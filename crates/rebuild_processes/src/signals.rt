@@ -1,7 +1,7 @@
 //! Sets of pending signals made again (`man 7 signal`).
 ghost use Rattle.std.specs.Prelude.{◌≡◌, ◌<◌, ◌^◌, true};
 ghost use Rattle.std.specs.FinMap as map;
-ghost use Rattle.real_maps.specs.Changes.{at_key};
+ghost use Rattle.virt_ids.specs.Changes.{at_key};
 ghost use Rattle.proc_book.specs.Procs.{can_raise, pending_of};
 ghost use Rattle.rebuild_processes.specs.Making.{with_set};
 

@@ -1,3 +1,13 @@
 pub mod Listed
 pub mod Numbered
 pub mod Whole
+pub mod Walks
+pub mod Holding
+pub mod FoundEnds
+pub mod Queues
+pub mod Reached
+pub mod Waiting
+pub mod Listened
+pub mod Done
+pub mod WholeNet
+pub mod Made

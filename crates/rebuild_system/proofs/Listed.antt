@@ -21,7 +21,7 @@ use Rattle.plain_machine.specs.declared.kernel.PlainKernel.{PlainKernel}
 use Rattle.host_tables.specs.Network.{kind_of}
 use Rattle.host_tables.specs.Systems.{has_own_name, is_named_in, IsEntry}
 use Rattle.rebuild_tables.specs.ConnTables.{IsTableOf, kind_number, conn_of, own_address, address_in}
-use Rattle.rebuild_streams.proofs.SeenChannels.{IsConnOf}
+use Rattle.rebuild_tables.proofs.SeenChannels.{IsConnOf}
 
 kind_back : (kind : ChannelKind) → kind_of (kind_number kind) ≡ kind
 kind_back Pair = refl

@@ -5,7 +5,7 @@ use Rattle.std.proofs.Common.{◌≡◌, ℕ, ◌+◌, ◌-◌, ◌^◌, ◌<◌
 use Rattle.std.specs.Prelude.{None, IsSome, is_some, slice_index}
 use Rattle.std.specs.FinMap as map
 use Rattle.sys_abi.specs.declared.identity.VirtAddr.{VirtAddr}
-use Rattle.datagram_pairs.specs.Pairs as datagrams
+use Rattle.conn_table.specs.Pairs as datagrams
 use Rattle.plain_machine.specs.declared.kernel.PlainKernel.{PlainKernel}
 use Rattle.plain_machine.specs.Kernels.{IsKernel}
 use Rattle.host_tables.specs.declared.kernel.Hosts.{Hosts}
@@ -19,11 +19,11 @@ use Rattle.rebuild_tables.specs.ConnTables.{IsTableOf, conn_of, own_address}
 use Rattle.rebuild_processes.specs.declared.numbered.Numbered.{Numbered}
 use Rattle.plain_machine.specs.Rows.Clone.{LAST_ID}
 use Rattle.rebuild_processes.specs.Making.{IsMade, SPARE}
-use Rattle.rebuild_streams.proofs.SeenChannels.{SameChannels-filled, open_ends-filled}
-use Rattle.rebuild_streams.proofs.SeenDirections.{SameDirections-filled}
-use Rattle.rebuild_channels.specs.Nets.{IsNet}
-use Rattle.rebuild_book.specs.Rebuilt.{HasNoDatagrams, IsBook}
-use Rattle.rebuild_book.proofs.Standing.{rebuilt_descriptions, rebuilt_inboxes}
+use Rattle.rebuild_tables.proofs.SeenChannels.{SameChannels-filled, open_ends-filled}
+use Rattle.rebuild_tables.proofs.SeenDirections.{SameDirections-filled}
+use Rattle.rebuild_system.specs.Nets.{IsNet}
+use Rattle.rebuild_tables.specs.Rebuilt.{HasNoDatagrams, IsBook}
+use Rattle.rebuild_tables.proofs.Standing.{rebuilt_descriptions, rebuilt_inboxes}
 use Rattle.rebuild_system.specs.Restarts.{AllArrived, HandedOut}
 use Rattle.rebuild_system.proofs.Listed.{only_named, are_entries, is_conn_of}
 use Rattle.rebuild_system.proofs.Numbered.{AreLiving, living}

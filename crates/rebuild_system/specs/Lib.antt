@@ -1,1 +1,5 @@
 pub mod Restarts
+pub mod Nets
+pub mod Holders
+pub mod Making
+pub mod Steps

@@ -13,8 +13,26 @@
 //! at the node of its accepting end, and looked up there. The source is Ansel, Arya, Cooperman, "DMTCP:
 //! Transparent Checkpointing for Cluster Computations and the Desktop", 2009. Not claimed: that a real
 //! kernel restarts so, or that it succeeds wherever there is memory enough.
+//!
+//! # The network
+//!
+//! [`rebuild_channels`] makes the listeners, the connections that wait at them, and all other channels, with
+//! the pairs of virtual and real addresses. Each listener gets a port that its host's node hands out. Where
+//! both sides of a channel are open, the end that accepts is published under the channel's name and the other
+//! end looks it up there and connects to it; a channel with one open side is made as a pair.
+//!
+//! Proved: where it answers a network, exactly the kernel part's listeners and channels are there, each
+//! listener at a port of its host's node with its backlog and its queue in order, each channel with its
+//! bytes, flags and open ends; exactly the listeners' addresses are paired, each way leads back, and no pair
+//! of numbers changes. Not proved: that memory is all that can be wanted.
 #![tactic(auto)]
 
+mod accepting;
+pub mod channels;
+mod joining;
+mod listeners;
 pub mod rebuilding;
+mod streams;
 
+pub use channels::rebuild_channels;
 pub use rebuilding::rebuild;

@@ -2,3 +2,12 @@ pub mod Copies
 pub mod WholeCopies
 pub mod FileNames
 pub mod RestoredFiles
+pub mod FilledDirections
+pub mod FilledChannels
+pub mod SeenDirections
+pub mod SeenChannels
+pub mod Paired
+pub mod Placing
+pub mod Left
+pub mod Whole
+pub mod Standing

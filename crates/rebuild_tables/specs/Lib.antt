@@ -1,2 +1,5 @@
 pub mod Hosts
 pub mod ConnTables
+pub mod Filled
+pub mod Steps
+pub mod Rebuilt

@@ -26,7 +26,7 @@ use Rattle.plain_machine.specs.declared.kernel.PlainKernel.{PlainKernel}
 use Rattle.plain_machine.specs.declared.plain.Plain.{Plain}
 use Rattle.plain_machine.specs.Records.{Users}
 use Rattle.plain_machine.specs.Start.{NamedFile, FIRST_PID, start, start_kernel, with_file, with_files, with_process, with_processes, with_users, empty_kernel, console_description, console_of}
-use Rattle.rebuild_book.specs.Rebuilt.{HasNoDatagrams}
+use Rattle.rebuild_tables.specs.Rebuilt.{HasNoDatagrams}
 use Rattle.rebuild_system.specs.Restarts.{AllArrived}
 use Rattle.guest_proc.specs.Guests.{GuestPart}
 use Rattle.computation.specs.declared.computation.Computation.{Computation}

@@ -2,8 +2,7 @@
 --     whole_already      its kernel part with all bytes arrived is as it is
 --     told_unheld        its owners are those of its book, and what can be read of each direction is all of
 --                        it
-use Rattle.std.proofs.Common.{◌≡◌, ◌<◌, ℕ, true, false, ◌||◌, cond, List, [], ◌∷◌, ◌++◌, length, map as each}
-use Rattle.std.proofs.Common.{append_assoc, refl, sym, ap, ◌∙◌, arith}
+use Rattle.std.proofs.Common.{◌≡◌, ◌<◌, ℕ, true, false, ◌||◌, cond, List, [], ◌∷◌, ◌++◌, length, map as each, append_assoc, refl, sym, ap, ◌∙◌, arith}
 use Rattle.std.specs.Prelude.{Option, Some, None, is_some, IsSome, option_map, option_and_then, All}
 use Rattle.std.specs.Ordering.{eq_by_cmp}
 use Rattle.std.specs.FinMap as map
@@ -33,9 +32,9 @@ use Rattle.wire_net.proofs.Streams.{whereabouts-none}
 use Rattle.host_tables.specs.declared.system.System.{System}
 use Rattle.host_tables.specs.Network.{SameDirection, SameDirections}
 use Rattle.host_tables.specs.Systems.{StandsFor}
-use Rattle.stage_lists.specs.Directions.{AreDirs, is_listed}
-use Rattle.stage_lists.specs.Owners.{KeepsOwners}
-use Rattle.seen_processes.specs.Descriptions.{HasNoDatagrams}
+use Rattle.leader_vote.specs.Directions.{AreDirs, is_listed}
+use Rattle.leader_vote.specs.Owners.{KeepsOwners}
+use Rattle.seen_kernel.specs.Descriptions.{HasNoDatagrams}
 use Rattle.seen_kernel.specs.Seen.{Owners, IsToldBy, all_in}
 use Rattle.seen_kernel.specs.Unheld.{AllArrived, arrived_in}
 

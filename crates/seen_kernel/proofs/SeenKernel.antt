@@ -4,8 +4,7 @@
 --     listeners_valid, none_unnamed, no_inbox      of listeners;  no file has the empty name;  nobody has an
 --                                            inbox
 --     kernel_is                              parts that are those of a kernel part make it up
-use Rattle.std.proofs.Common.{◌≡◌, ◌≤◌, ℕ, true, false, [], Option, Some, None, length, refl, sym, ap, subst}
-use Rattle.std.proofs.Common.{◌∙◌, arith}
+use Rattle.std.proofs.Common.{◌≡◌, ◌≤◌, ℕ, true, false, [], Option, Some, None, length, refl, sym, ap, subst, ◌∙◌, arith}
 use Rattle.std.specs.Prelude.{is_some, option_map}
 use Rattle.std.specs.Option.{option_map_or}
 use Rattle.std.specs.FinMap as map
@@ -28,8 +27,7 @@ use Rattle.proc_book.specs.declared.process.Process as real_process
 use Rattle.proc_book.specs.Ends.{is_live_at}
 use Rattle.plain_tables.specs.declared.description.Description.{Description}
 use Rattle.plain_tables.specs.declared.process.Process.{Process}
-use Rattle.plain_tables.specs.Tables.{Processes, Makers, Descriptors, Descriptions, Names, Files, Channels}
-use Rattle.plain_tables.specs.Tables.{Directions, Listeners, Inboxes, is_live_process}
+use Rattle.plain_tables.specs.Tables.{Processes, Makers, Descriptors, Descriptions, Names, Files, Channels, Directions, Listeners, Inboxes, is_live_process}
 use Rattle.plain_tables.specs.Valid.Sockets.{AreListeners}
 use Rattle.plain_tables.specs.Valid.Datagrams.{is_datagram_in}
 use Rattle.plain_machine.specs.declared.kernel.PlainKernel.{PlainKernel}
@@ -39,13 +37,11 @@ use Rattle.host_tables.specs.Processes.{IsSame, SameProcess, to_slot, from_slot}
 use Rattle.host_tables.specs.Stands.{Stands}
 use Rattle.host_tables.specs.Systems.{given_of, StandsFor}
 use Rattle.host_tables.proofs.Ways.{lead_slot}
-use Rattle.seen_processes.specs.Processes.{StandForProcesses}
-use Rattle.seen_processes.specs.Descriptors.{StandForDescriptors}
-use Rattle.seen_processes.specs.Descriptions.{StandForDescriptions}
+use Rattle.seen_kernel.specs.Processes.{StandForProcesses}
+use Rattle.seen_kernel.specs.Descriptors.{StandForDescriptors}
+use Rattle.seen_kernel.specs.Descriptions.{StandForDescriptions, HasNoDatagrams}
 use Rattle.seen_kernel.specs.Makers.{SameKeys}
-use Rattle.seen_processes.specs.Descriptions.{HasNoDatagrams}
-use Rattle.seen_kernel.specs.Seen.{Owners, Lists, IsToldBy, all_in, holders_of, stored_of}
-use Rattle.seen_kernel.specs.Seen.{connected_of}
+use Rattle.seen_kernel.specs.Seen.{Owners, Lists, IsToldBy, all_in, holders_of, stored_of, connected_of}
 
 module _ (s : System) (held : Option Stage) (k : PlainKernel) (is : StandsFor s held k) where
   st : Stands (given_of s) held s.kernel k

@@ -11,8 +11,8 @@ use Rattle.sys_abi.specs.declared.identity.VPid.{VPid}
 use Rattle.sys_abi.specs.Orders.{vpid_cmp}
 use Rattle.sys_abi.proofs.OrderLaws.{vpid_total, vpid_exact}
 use Rattle.plain_tables.specs.Tables.{Makers, Processes}
-use Rattle.seen_channels.specs.Parts.{IsPart}
-use Rattle.seen_channels.proofs.Parts.{nothing_yet, all_of_it, entry_part, entry_kept, entry_there}
+use Rattle.seen_kernel.specs.Parts.{IsPart}
+use Rattle.seen_kernel.proofs.Parts.{nothing_yet, all_of_it, entry_part, entry_kept, entry_there}
 use Rattle.seen_kernel.specs.Makers.{SameKeys, with_maker, with_makers}
 
 module _ (all : Makers) where

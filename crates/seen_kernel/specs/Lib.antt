@@ -1,3 +1,12 @@
 pub mod Makers
 pub mod Seen
 pub mod Unheld
+pub mod Parts
+pub mod Channels
+pub mod Directions
+pub mod Listeners
+pub mod Files
+pub mod Filling
+pub mod Processes
+pub mod Descriptors
+pub mod Descriptions

@@ -11,16 +11,15 @@ use Rattle.std.specs.FinMap as map
 use Rattle.views.specs.Maps.{map_values}
 use Rattle.sys_abi.specs.declared.identity.DescId.{DescId}
 use Rattle.fd_tables.specs.declared.description.Desc.{Desc}
-use Rattle.plain_tables.specs.Tables.{Processes, Makers, Descriptors, Descriptions, Names, Files, Channels}
-use Rattle.plain_tables.specs.Tables.{Directions, Listeners}
+use Rattle.plain_tables.specs.Tables.{Processes, Makers, Descriptors, Descriptions, Names, Files, Channels, Directions, Listeners}
 use Rattle.plain_machine.specs.declared.kernel.PlainKernel.{PlainKernel}
 use Rattle.plain_machine.specs.Tests.{all_arrived}
 use Rattle.wire_net.specs.declared.cut_room.DirBytes.{DirBytes}
 use Rattle.host_tables.specs.declared.system.System.{System}
 use Rattle.host_tables.specs.Descriptions.{Stage, owner_of}
 use Rattle.host_tables.specs.Systems as systems
-use Rattle.seen_processes.specs.Descriptions as descriptions
-use Rattle.seen_channels.specs.Directions.{HaveBytes}
+use Rattle.seen_kernel.specs.Descriptions as descriptions
+use Rattle.seen_kernel.specs.Directions.{HaveBytes}
 
 abbrev pub Lists : Type 0
 Lists = List DirBytes

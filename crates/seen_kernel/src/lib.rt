@@ -7,11 +7,42 @@
 //! Proved: whichever kernel part the system stands for, what is made is that one, with all its bytes arrived,
 //! so there is no other; none is made only for want of memory. An end of a datagram pair has no image, and a
 //! kernel part is told that has none. Nothing of the system is changed. Not proved: how long a call takes.
+//!
+//! # Between processes
+//!
+//! What the tables of a system stand for of a kernel part between processes is its channels with their
+//! directions, its listeners, and its files.
+//!
+//! Proved: what is made is the map of each kernel part for which the tables stand, whichever it is. The
+//! directions are made from the lists of a drain, with all their bytes arrived. Each call takes memory for
+//! what it makes alone, and changes nothing.
+//!
+//! # Processes, descriptors and open descriptions
+//!
+//! A system holds tables over the numbers that its nodes handed out, and an image tells by virtual ones. Each
+//! call here makes one map of that kernel part of them: it
+//! walks over the real table, and puts what it finds at the virtual number that is paired with the real one.
+//! Owners of descriptions come from a map beside the book, where a checkpoint notes them before processes
+//! elect leaders by them.
+//!
+//! Proved: whichever map the tables stand for, that is the one that a call makes, so there is no other; it
+//! makes none only for want of memory. An end of a datagram pair has no image, and descriptions are told
+//! where none is one. Not proved: how long a call takes; for each entry it goes down a tree or two.
 #![tactic(auto)]
 
+pub mod channels;
+pub mod descriptions;
+pub mod descriptors;
+pub mod directions;
+pub mod files;
 pub mod kernel;
+pub mod listeners;
 pub mod makers;
+pub mod processes;
 pub mod unheld;
 
+pub use descriptions::seen_descriptions;
+pub use descriptors::seen_descriptors;
 pub use kernel::kernel_of;
+pub use processes::seen_processes;
 pub use unheld::kernel_at;

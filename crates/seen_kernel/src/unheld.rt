@@ -3,13 +3,13 @@ ghost use Rattle.std.specs.Prelude.{◌≡◌, ◌<◌, map as each, None, All, 
 ghost use Rattle.plain_machine.specs.declared.kernel.PlainKernel as plain;
 ghost use Rattle.host_tables.specs.Systems.{StandsFor};
 ghost use Rattle.seen_kernel.specs.Unheld as words;
-ghost use Rattle.seen_processes.specs.Descriptions.{HasNoDatagrams};
+ghost use Rattle.seen_kernel.specs.Descriptions.{HasNoDatagrams};
 
 use crate::kernel::kernel_of;
 use host_tables::System;
+use leader_vote::directions::list_dirs;
+use leader_vote::owners::keep_owners;
 use plain_machine::PlainKernel;
-use stage_lists::directions::list_dirs;
-use stage_lists::owners::keep_owners;
 use std::alloc::{AllocError, Global};
 use sys_abi::{Dir, Transfer};
 use views::list_of::ListOf;

@@ -1,7 +1,7 @@
 //! Folders of files on a disk that may crash at any moment: [`Folder`] says what they do, [`MemFolder`] is
 //! one in memory, and [`HostFolder`] one of the host.
 //!
-//! The trait stands in `disk_folder` and the folder in memory in `mem_folder`; here is that of the host.
+//! The trait stands in `disk_folder`, with the folder in memory; here is that of the host.
 //!
 //! Proved: it keeps the promises of `Folder`, which path of the host a file's name has, and what its next
 //! sync owes. Not proved: that the host's disk keeps the model. `HostFolder` tells no content, so no clause
@@ -16,6 +16,5 @@ mod host_names;
 mod host_syncs;
 mod owed;
 
-pub use disk_folder::{DiskFault, FileName, Folder};
+pub use disk_folder::{DiskFault, FileName, Folder, MemFolder};
 pub use host_folder::HostFolder;
-pub use mem_folder::MemFolder;

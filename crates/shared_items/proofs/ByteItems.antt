@@ -5,7 +5,7 @@ use Rattle.std.proofs.lemmas.Bool.Decides.{nat_tests}
 use Rattle.image_format.specs.Format.{raw, any}
 use Rattle.image_format.specs.Reading.{read, read_if}
 use Rattle.image_format.proofs.Numerals.{AllBytes}
-use Rattle.image_shared.specs.SharedTests.{are_bytes}
+use Rattle.shared_items.specs.SharedTests.{are_bytes}
 
 is_byte : (n : ℕ) → n < 256 → nat_lt n (2 ^ 8) ≡ true
 is_byte n h = grind (arith, nat_tests)

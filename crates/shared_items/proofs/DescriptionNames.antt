@@ -4,7 +4,7 @@ use Rattle.std.proofs.Common.{◌≡◌, ◌==◌, ◌&&◌, ℕ, sym, ◌∙◌
 use Rattle.std.specs.Ordering.{nat_cmp, is_eq}
 use Rattle.sys_abi.specs.declared.identity.DescId.{DescId}
 use Rattle.sys_abi.specs.Orders.{desc_cmp}
-use Rattle.image_shared.specs.SharedTests.{is_pair}
+use Rattle.shared_items.specs.SharedTests.{is_pair}
 use Rattle.shared_items.proofs.Keys.{both_equal, same_number, turned}
 
 pub desc_same : (a b : DescId) → is_eq (desc_cmp a b) ≡ is_pair b.pid.0 b.num a

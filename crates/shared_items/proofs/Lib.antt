@@ -4,3 +4,8 @@ pub mod Keys
 mod MadeNumbers
 mod Names
 pub mod Searched
+pub mod FieldLaws
+pub mod ItemLaws
+pub mod ObjectLaws
+pub mod RisingItems
+pub mod SharedLaws

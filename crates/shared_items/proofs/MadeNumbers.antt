@@ -9,7 +9,7 @@ use Rattle.std.specs.Ordering.{nat_cmp, ordering_then}
 use Rattle.std.proofs.lemmas.Bool.{cases_lt}
 use Rattle.std.proofs.lemmas.List.{get_or_default}
 use Rattle.std.proofs.lemmas.Bool.Decides.{nat_tests}
-use Rattle.image_shared.specs.SharedTests.{is_number_below}
+use Rattle.shared_items.specs.SharedTests.{is_number_below}
 use Rattle.shared_items.proofs.Searched.{below}
 
 all_true : {X : Type 0} (test : X → Bool) (xs : List X) → ((j : ℕ) (d : X) → j < length xs → test (get_or xs j d) ≡ true) → list_all test xs ≡ true

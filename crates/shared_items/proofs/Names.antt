@@ -9,8 +9,8 @@ use Rattle.std.specs.FinMap as map
 use Rattle.std.specs.FinMap.{get-empty}
 use Rattle.sys_abi.specs.Names.{name_cmp}
 use Rattle.sys_abi.proofs.OrderLaws.{name_total}
-use Rattle.image_shared.specs.declared.shared.FileImage.{FileImage}
-use Rattle.image_shared.specs.SharedTests.{file_has_name}
+use Rattle.shared_items.specs.declared.shared.FileImage.{FileImage}
+use Rattle.shared_items.specs.SharedTests.{file_has_name}
 use Rattle.shared_items.specs.KnownNames.{KnowsNames}
 use Rattle.shared_items.proofs.Keys.{inserted, pushed}
 

@@ -1,3 +1,10 @@
 pub mod Found
 pub mod Keys
 pub mod KnownNames
+pub mod RisingLists
+pub mod SharedFits
+pub mod SharedFormat
+pub mod SharedTests
+pub mod SharedTexts
+pub mod Sides
+pub mod WholeShared

@@ -3,16 +3,16 @@
 ghost use Rattle.std.specs.Prelude.{◌≡◌};
 ghost use Rattle.image_format.specs.Format.{counted};
 ghost use Rattle.image_format.specs.Reading.{Gives, read};
-ghost use Rattle.image_shared.specs.SharedFormat as format;
-ghost use Rattle.image_shared.specs.SharedTests as field;
+ghost use Rattle.shared_items.specs.SharedFormat as format;
+ghost use Rattle.shared_items.specs.SharedTests as field;
 
 use crate::contents::{content_at, list_of};
 use crate::item_tests::{
     INTERNET, PIPE, is_channel_count, is_channel_maker, is_channel_number, is_left_count,
     is_side_host, is_side_port,
 };
+use crate::{ChannelImage, SideImage};
 use image_format::fields::{Fault, u8_at, u32_at};
-use image_shared::{ChannelImage, SideImage};
 use plain_tables::ChannelKind;
 use std::alloc::Global;
 use sys_abi::{ConnId, VPid, VirtAddr};
@@ -39,7 +39,7 @@ fn address_of(kind: u8, host: u32, port: u32) -> Option<VirtAddr>
 }
 
 /// A side of a channel of this kind.
-#[tactic(auto, unfolding(image_shared::specs::SharedFormat::side, image_format::specs::Reading::read, image_format::specs::Reading::read_next, image_format::specs::Reading::read_if))]
+#[tactic(auto, unfolding(crate::specs::SharedFormat::side, image_format::specs::Reading::read, image_format::specs::Reading::read_next, image_format::specs::Reading::read_if))]
 fn side_at(alloc: Global, kind: u8, side: u8, text: &[u8]) -> Result<(SideImage, &[u8]), Fault>
     ensures { Gives (λ x. (x.0, x.1.now)) result (read (format.side kind side) text.now) }
 {
@@ -69,7 +69,7 @@ fn side_at(alloc: Global, kind: u8, side: u8, text: &[u8]) -> Result<(SideImage,
     Ok((image, rest))
 }
 
-#[tactic(auto, unfolding(image_shared::specs::SharedFormat::channel, image_format::specs::Reading::read, image_format::specs::Reading::read_next, image_format::specs::Reading::read_if))]
+#[tactic(auto, unfolding(crate::specs::SharedFormat::channel, image_format::specs::Reading::read, image_format::specs::Reading::read_next, image_format::specs::Reading::read_if))]
 fn channel_at<'a>(
     alloc: Global,
     next_id: u32,

@@ -1,7 +1,7 @@
 ghost use Rattle.std.specs.Prelude.{◌≡◌, IfOk, length};
 ghost use Rattle.image_format.specs.Format.{raw};
 ghost use Rattle.image_format.specs.Reading.{Gives, read};
-ghost use Rattle.image_shared.specs.SharedTests as field;
+ghost use Rattle.shared_items.specs.SharedTests as field;
 
 use image_format::fields::{Fault, bytes_at};
 use std::alloc::{AllocError, Global};

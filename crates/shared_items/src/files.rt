@@ -3,22 +3,22 @@
 ghost use Rattle.std.specs.Prelude.{◌≡◌, ◌≤◌, ◌+◌, length, sum_by, IfOk};
 ghost use Rattle.image_format.specs.Format.{counted};
 ghost use Rattle.image_format.specs.Reading.{Gives, read};
-ghost use Rattle.image_shared.specs.SharedFormat as format;
-ghost use Rattle.image_shared.specs.SharedTests as field;
+ghost use Rattle.shared_items.specs.SharedFormat as format;
+ghost use Rattle.shared_items.specs.SharedTests as field;
 ghost use Rattle.shared_items.specs.KnownNames.{KnowsNames};
 
+use crate::FileImage;
 use crate::contents::{content_at, list_of};
 use crate::item_tests::{is_file_count, is_file_name, is_file_number, is_file_size};
 use id_maps::ByName;
 use image_format::fields::{Fault, bytes_at, u16_at, u32_at};
-use image_shared::FileImage;
 use std::alloc::Global;
 use views::list_of::ListOf;
 
 const NAME_LIMIT: u16 = 255;
 
 /// A file, after files of so many bytes together.
-#[tactic(auto, unfolding(image_shared::specs::SharedFormat::file, image_format::specs::Reading::read, image_format::specs::Reading::read_next, image_format::specs::Reading::read_if))]
+#[tactic(auto, unfolding(crate::specs::SharedFormat::file, image_format::specs::Reading::read, image_format::specs::Reading::read_next, image_format::specs::Reading::read_if))]
 fn file_at<'a>(
     alloc: Global,
     next_file: u32,

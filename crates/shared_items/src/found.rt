@@ -2,12 +2,12 @@
 
 ghost use Rattle.std.specs.Prelude.{◌≡◌, ◌==◌};
 ghost use Rattle.std.specs.Option.{option_copied};
-ghost use Rattle.image_shared.specs.RisingLists.{FilesRise, ChannelsRise, DescriptionsRise, ProcessesRise};
-ghost use Rattle.image_shared.specs.SharedTests as field;
-ghost use Rattle.image_shared.specs.Sides.{same_channel};
+ghost use Rattle.shared_items.specs.RisingLists.{FilesRise, ChannelsRise, DescriptionsRise, ProcessesRise};
+ghost use Rattle.shared_items.specs.SharedTests as field;
+ghost use Rattle.shared_items.specs.Sides.{same_channel};
 ghost use Rattle.shared_items.specs.Found.{Finds};
 
-use image_shared::{ChannelImage, DescriptionImage, FileImage, ProcessEntry};
+use crate::{ChannelImage, DescriptionImage, FileImage, ProcessEntry};
 use sys_abi::{ConnId, DescId, VPid};
 
 /// Whether a file of this number is listed.

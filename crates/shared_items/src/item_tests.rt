@@ -2,11 +2,11 @@
 ghost use Rattle.std.specs.Prelude.{◌≡◌, ◌≤◌, ◌+◌, nat_le};
 ghost use Rattle.std.specs.List.{list_all};
 ghost use Rattle.image_format.specs.Fields.{is_within};
-ghost use Rattle.image_shared.specs.SharedTests as field;
+ghost use Rattle.shared_items.specs.SharedTests as field;
 ghost use Rattle.shared_items.specs.KnownNames.{KnowsNames};
 
+use crate::{ChannelImage, FileImage};
 use id_maps::ByName;
-use image_shared::{ChannelImage, FileImage};
 
 const FILE_LIMIT: u32 = 1024;
 

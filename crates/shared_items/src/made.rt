@@ -3,10 +3,10 @@
 //! behind it.
 
 ghost use Rattle.std.specs.Prelude.{◌≡◌};
-ghost use Rattle.image_shared.specs.RisingLists.{ChannelsRise, DescriptionsRise};
-ghost use Rattle.image_shared.specs.SharedTests as field;
+ghost use Rattle.shared_items.specs.RisingLists.{ChannelsRise, DescriptionsRise};
+ghost use Rattle.shared_items.specs.SharedTests as field;
 
-use image_shared::{ChannelImage, DescriptionImage};
+use crate::{ChannelImage, DescriptionImage};
 use sys_abi::{ConnId, DescId, VPid};
 
 fn is_above_channels(channels: &[ChannelImage], pid: u32, made: u32) -> bool

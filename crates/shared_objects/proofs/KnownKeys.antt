@@ -12,11 +12,11 @@ use Rattle.sys_abi.specs.declared.identity.Dir.{Dir}
 use Rattle.sys_abi.specs.declared.identity.VirtAddr.{VirtAddr}
 use Rattle.sys_abi.specs.Orders.{conn_cmp, dir_cmp, address_cmp}
 use Rattle.sys_abi.proofs.OrderLaws.{conn_total, dir_total, address_total}
-use Rattle.image_shared.specs.declared.shared.ObjectImage.TheVariants.{Stream}
-use Rattle.image_shared.specs.declared.shared.DescriptionImage.{DescriptionImage}
-use Rattle.image_shared.specs.Sides.{same_channel, names_side, is_side_named}
-use Rattle.image_shared.specs.WholeShared.{opens}
-use Rattle.image_shared.specs.SharedTests.{has_port}
+use Rattle.shared_items.specs.declared.shared.ObjectImage.TheVariants.{Stream}
+use Rattle.shared_items.specs.declared.shared.DescriptionImage.{DescriptionImage}
+use Rattle.shared_items.specs.Sides.{same_channel, names_side, is_side_named}
+use Rattle.shared_items.specs.WholeShared.{opens}
+use Rattle.shared_items.specs.SharedTests.{has_port}
 use Rattle.shared_items.specs.Keys.{HasKeys}
 use Rattle.shared_items.proofs.Keys.{both_equal, same_number, turned, inserted, any_pushed, pushed}
 use Rattle.shared_objects.specs.Known.{KnowsSides, KnowsPorts, KnowsOpened, KnowsQueue}

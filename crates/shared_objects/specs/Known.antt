@@ -8,10 +8,10 @@ use Rattle.std.specs.Ordering.{nat_cmp}
 use Rattle.std.specs.FinMap as map
 use Rattle.sys_abi.specs.declared.identity.ConnId.{ConnId}
 use Rattle.sys_abi.specs.Orders.{conn_cmp, dir_cmp, address_cmp}
-use Rattle.image_shared.specs.declared.shared.DescriptionImage.{DescriptionImage}
-use Rattle.image_shared.specs.Sides.{same_channel, is_side_named}
-use Rattle.image_shared.specs.SharedTests.{is_listed_port}
-use Rattle.image_shared.specs.WholeShared.{is_opened}
+use Rattle.shared_items.specs.declared.shared.DescriptionImage.{DescriptionImage}
+use Rattle.shared_items.specs.Sides.{same_channel, is_side_named}
+use Rattle.shared_items.specs.SharedTests.{is_listed_port}
+use Rattle.shared_items.specs.WholeShared.{is_opened}
 use Rattle.shared_items.specs.Keys.{HasKeys}
 
 abbrev pub KnowsSides : {X : Type 0} → map.FinMap dir_cmp X → List DescriptionImage → Type 0

@@ -3,9 +3,9 @@
 ghost use Rattle.std.specs.Prelude.{◌≡◌, IsTrue};
 ghost use Rattle.image_format.specs.Format.{any, counted};
 ghost use Rattle.image_format.specs.Reading.{Gives, read};
-ghost use Rattle.image_shared.specs.SharedFormat as format;
-ghost use Rattle.image_shared.specs.SharedTests as field;
-ghost use Rattle.image_shared.specs.RisingLists.{FilesRise, ChannelsRise};
+ghost use Rattle.shared_items.specs.SharedFormat as format;
+ghost use Rattle.shared_items.specs.SharedTests as field;
+ghost use Rattle.shared_items.specs.RisingLists.{FilesRise, ChannelsRise};
 ghost use Rattle.shared_objects.specs.Known.{KnowsSides, KnowsPorts};
 
 use crate::known::{note_port, note_sides};
@@ -13,7 +13,7 @@ use crate::object_tests::{is_description_maker, is_description_number, is_status
 use crate::objects::{file_object_at, listener_at, socket_at, stream_at};
 use id_maps::{ByAddress, ByDir};
 use image_format::fields::{Fault, u8_at, u32_at};
-use image_shared::{ChannelImage, DescriptionImage, FileImage, ObjectImage};
+use shared_items::{ChannelImage, DescriptionImage, FileImage, ObjectImage};
 use std::alloc::Global;
 use sys_abi::{DescId, VPid};
 use views::list_of::ListOf;
@@ -31,7 +31,7 @@ struct Known<'a> {
 }
 
 /// What follows in a description of this kind.
-#[tactic(auto, unfolding(image_shared::specs::SharedFormat::object, image_shared::specs::SharedFormat::choice, image_format::specs::Reading::read))]
+#[tactic(auto, unfolding(shared_items::specs::SharedFormat::object, shared_items::specs::SharedFormat::choice, image_format::specs::Reading::read))]
 fn object_at<'a>(
     alloc: Global,
     version: u32,
@@ -59,7 +59,7 @@ fn object_at<'a>(
     }
 }
 
-#[tactic(auto, unfolding(image_shared::specs::SharedFormat::description, image_format::specs::Reading::read, image_format::specs::Reading::read_next, image_format::specs::Reading::read_if))]
+#[tactic(auto, unfolding(shared_items::specs::SharedFormat::description, image_format::specs::Reading::read, image_format::specs::Reading::read_next, image_format::specs::Reading::read_if))]
 fn description_at<'a>(
     alloc: Global,
     version: u32,

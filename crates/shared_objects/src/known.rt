@@ -3,14 +3,14 @@
 ghost use Rattle.std.specs.Prelude.{◌≡◌, ◌==◌, ◌&&◌, ◌||◌, IfOk, OnOk, is_some};
 ghost use Rattle.std.specs.List.{list_any};
 ghost use Rattle.std.specs.FinMap as map;
-ghost use Rattle.image_shared.specs.SharedTests as field;
-ghost use Rattle.image_shared.specs.WholeShared.{opens};
-ghost use Rattle.image_shared.specs.Sides.{names_side, same_channel};
+ghost use Rattle.shared_items.specs.SharedTests as field;
+ghost use Rattle.shared_items.specs.WholeShared.{opens};
+ghost use Rattle.shared_items.specs.Sides.{names_side, same_channel};
 ghost use Rattle.shared_objects.specs.Known.{KnowsOpened, KnowsSides};
 ghost use Rattle.shared_items.specs.Keys.{HasKeys};
 
 use id_maps::{ByAddress, ByDir};
-use image_shared::{DescriptionImage, ObjectImage};
+use shared_items::{DescriptionImage, ObjectImage};
 use std::alloc::{AllocError, Global};
 use sys_abi::{ConnId, Dir};
 use views::number_map::NumberMap;

@@ -1,7 +1,7 @@
 //! The open descriptions of the shared image, read. What a field names is found by a search of the files and
 //! channels, which rise, or looked up in maps of what the descriptions before it name.
 //!
-//! Proved: each reader gives what the format says of the bytes (`image_shared/specs/SharedFormat.antt`), for
+//! Proved: each reader gives what the format says of the bytes (`shared_items/specs/SharedFormat.antt`), for
 //! all bytes. Not proved, but so written: a reader takes no more memory than the bytes that are there account
 //! for.
 #![tactic(auto)]

@@ -1,16 +1,16 @@
 // The tests of fields of open descriptions, each after the fields before it.
 ghost use Rattle.std.specs.Prelude.{◌≡◌};
 ghost use Rattle.std.specs.List.{list_any};
-ghost use Rattle.image_shared.specs.Sides.{same_channel};
-ghost use Rattle.image_shared.specs.SharedTests as field;
-ghost use Rattle.image_shared.specs.RisingLists.{ChannelsRise};
+ghost use Rattle.shared_items.specs.Sides.{same_channel};
+ghost use Rattle.shared_items.specs.SharedTests as field;
+ghost use Rattle.shared_items.specs.RisingLists.{ChannelsRise};
 ghost use Rattle.shared_objects.specs.Known.{KnowsSides, KnowsPorts, KnowsQueue};
 
 use id_maps::{ByAddress, ByConn, ByDir};
-use image_shared::{ChannelImage, DescriptionImage};
 use plain_tables::ChannelKind;
 use shared_items::found::channel_of;
 use shared_items::item_tests::is_port;
+use shared_items::{ChannelImage, DescriptionImage};
 use sys_abi::flags::{O_APPEND, O_NONBLOCK};
 use sys_abi::{ConnId, Dir, VirtAddr};
 

@@ -3,9 +3,9 @@
 ghost use Rattle.std.specs.Prelude.{◌≡◌};
 ghost use Rattle.image_format.specs.Format.{counted};
 ghost use Rattle.image_format.specs.Reading.{Gives, read};
-ghost use Rattle.image_shared.specs.SharedFormat as format;
-ghost use Rattle.image_shared.specs.SharedTests as field;
-ghost use Rattle.image_shared.specs.RisingLists.{FilesRise, ChannelsRise};
+ghost use Rattle.shared_items.specs.SharedFormat as format;
+ghost use Rattle.shared_items.specs.SharedTests as field;
+ghost use Rattle.shared_items.specs.RisingLists.{FilesRise, ChannelsRise};
 ghost use Rattle.shared_objects.specs.Known.{KnowsSides, KnowsPorts, KnowsQueue};
 
 use crate::object_tests::{
@@ -13,14 +13,14 @@ use crate::object_tests::{
 };
 use id_maps::{ByAddress, ByConn, ByDir};
 use image_format::fields::{Fault, u8_at, u32_at};
-use image_shared::{ChannelImage, DescriptionImage, FileImage, ObjectImage};
 use shared_items::found::has_file;
 use shared_items::item_tests::is_host;
+use shared_items::{ChannelImage, DescriptionImage, FileImage, ObjectImage};
 use std::alloc::Global;
 use sys_abi::{ConnId, VPid, VirtAddr};
 use views::list_of::ListOf;
 
-#[tactic(auto, unfolding(image_shared::specs::SharedFormat::open_file, image_format::specs::Reading::read, image_format::specs::Reading::read_next, image_format::specs::Reading::read_if))]
+#[tactic(auto, unfolding(shared_items::specs::SharedFormat::open_file, image_format::specs::Reading::read, image_format::specs::Reading::read_next, image_format::specs::Reading::read_if))]
 pub fn file_object_at<'a>(
     files: &[FileImage],
     text: &'a [u8],
@@ -36,7 +36,7 @@ pub fn file_object_at<'a>(
     Ok((ObjectImage::File { number, offset }, rest))
 }
 
-#[tactic(auto, unfolding(image_shared::specs::SharedFormat::stream, image_format::specs::Reading::read, image_format::specs::Reading::read_next, image_format::specs::Reading::read_if))]
+#[tactic(auto, unfolding(shared_items::specs::SharedFormat::stream, image_format::specs::Reading::read, image_format::specs::Reading::read_next, image_format::specs::Reading::read_if))]
 pub fn stream_at<'a>(
     channels: &[ChannelImage],
     front: &[DescriptionImage],
@@ -65,7 +65,7 @@ pub fn stream_at<'a>(
     Ok((ObjectImage::Stream { conn, side }, rest))
 }
 
-#[tactic(auto, unfolding(image_shared::specs::SharedFormat::socket, image_format::specs::Reading::read, image_format::specs::Reading::read_next, image_format::specs::Reading::read_if))]
+#[tactic(auto, unfolding(shared_items::specs::SharedFormat::socket, image_format::specs::Reading::read, image_format::specs::Reading::read_next, image_format::specs::Reading::read_if))]
 pub fn socket_at<'a>(
     front: &[DescriptionImage],
     ports: &ByAddress<()>,
@@ -87,7 +87,7 @@ pub fn socket_at<'a>(
 }
 
 /// A connection that waits to be accepted.
-#[tactic(auto, unfolding(image_shared::specs::SharedFormat::connection, image_format::specs::Reading::read, image_format::specs::Reading::read_next, image_format::specs::Reading::read_if))]
+#[tactic(auto, unfolding(shared_items::specs::SharedFormat::connection, image_format::specs::Reading::read, image_format::specs::Reading::read_next, image_format::specs::Reading::read_if))]
 fn connection_at<'a>(
     channels: &[ChannelImage],
     front: &[DescriptionImage],
@@ -146,7 +146,7 @@ fn queue_at<'a>(
     Ok((pending, rest))
 }
 
-#[tactic(auto, unfolding(image_shared::specs::SharedFormat::listener, image_format::specs::Reading::read, image_format::specs::Reading::read_next, image_format::specs::Reading::read_if))]
+#[tactic(auto, unfolding(shared_items::specs::SharedFormat::listener, image_format::specs::Reading::read, image_format::specs::Reading::read_next, image_format::specs::Reading::read_if))]
 pub fn listener_at<'a>(
     alloc: Global,
     channels: &[ChannelImage],

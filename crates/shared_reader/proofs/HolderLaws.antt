@@ -5,11 +5,11 @@ use Rattle.std.specs.List.{list_any, list_all}
 use Rattle.std.proofs.lemmas.Bool.Decides.{nat_tests}
 use Rattle.views.proofs.MapLaws.{true_false}
 use Rattle.sys_abi.specs.declared.identity.DescId.{DescId}
-use Rattle.image_shared.specs.declared.shared.ChannelImage.{ChannelImage}
-use Rattle.image_shared.specs.declared.shared.DescriptorEntry.{DescriptorEntry}
-use Rattle.image_shared.specs.declared.shared.DescriptionImage.{DescriptionImage}
-use Rattle.image_shared.specs.declared.shared.ProcessEntry.{ProcessEntry}
-use Rattle.image_shared.specs.WholeShared.{names_description, holds, may_hold, is_rightly_held_by, is_rightly_held, is_owner, is_object_of_host}
+use Rattle.shared_items.specs.declared.shared.ChannelImage.{ChannelImage}
+use Rattle.shared_items.specs.declared.shared.DescriptorEntry.{DescriptorEntry}
+use Rattle.shared_items.specs.declared.shared.DescriptionImage.{DescriptionImage}
+use Rattle.shared_items.specs.declared.shared.ProcessEntry.{ProcessEntry}
+use Rattle.shared_items.specs.WholeShared.{names_description, holds, may_hold, is_rightly_held_by, is_rightly_held, is_owner, is_object_of_host}
 use Rattle.shared_items.proofs.Keys.{turned}
 use Rattle.shared_reader.specs.declared.holders.Holders.{Holders}
 use Rattle.shared_reader.specs.declared.holders.Holders.TheVariants.{OfHost, Apart}

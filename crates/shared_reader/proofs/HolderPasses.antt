@@ -9,8 +9,8 @@ use Rattle.views.proofs.MapLaws.{same_key}
 use Rattle.sys_abi.specs.declared.identity.DescId.{DescId}
 use Rattle.sys_abi.specs.Orders.{desc_cmp}
 use Rattle.sys_abi.proofs.OrderLaws.{desc_total, desc_exact}
-use Rattle.image_shared.specs.declared.shared.DescriptorEntry.{DescriptorEntry}
-use Rattle.image_shared.specs.declared.shared.ProcessEntry.{ProcessEntry}
+use Rattle.shared_items.specs.declared.shared.DescriptorEntry.{DescriptorEntry}
+use Rattle.shared_items.specs.declared.shared.ProcessEntry.{ProcessEntry}
 use Rattle.shared_items.proofs.DescriptionNames.{key_desc}
 use Rattle.shared_reader.specs.declared.holders.Holders.{Holders}
 use Rattle.shared_reader.specs.HoldersOf.{with_holder, after_descriptor, after_process, KnowsHolders}

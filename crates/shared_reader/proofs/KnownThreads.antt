@@ -7,9 +7,9 @@ use Rattle.std.proofs.lemmas.Cmp.{nat_cmp_total}
 use Rattle.std.proofs.lemmas.List.{take_more}
 use Rattle.std.specs.FinMap as map
 use Rattle.std.specs.FinMap.{get-empty}
-use Rattle.image_shared.specs.declared.shared.ThreadEntry.{ThreadEntry}
-use Rattle.image_shared.specs.declared.shared.ProcessEntry.{ProcessEntry}
-use Rattle.image_shared.specs.SharedTests.{lists_thread, is_number_of}
+use Rattle.shared_items.specs.declared.shared.ThreadEntry.{ThreadEntry}
+use Rattle.shared_items.specs.declared.shared.ProcessEntry.{ProcessEntry}
+use Rattle.shared_items.specs.SharedTests.{lists_thread, is_number_of}
 use Rattle.shared_items.specs.Keys.{HasKeys}
 use Rattle.shared_items.proofs.Keys.{inserted, pushed, any_pushed, same_number, turned}
 use Rattle.shared_reader.specs.KnownThreads.{KnowsThreads}

@@ -5,14 +5,14 @@ use Rattle.image_format.specs.Fields.{is_bytes}
 use Rattle.image_format.specs.Format.{raw, unsigned, n32, any, counted}
 use Rattle.image_format.specs.Reading.{read}
 use Rattle.image_format.proofs.Numerals.{AllBytes}
-use Rattle.image_shared.specs.declared.shared.FileImage.{FileImage}
-use Rattle.image_shared.specs.declared.shared.ChannelImage.{ChannelImage}
-use Rattle.image_shared.specs.declared.shared.DescriptionImage.{DescriptionImage}
-use Rattle.image_shared.specs.SharedFormat as format
-use Rattle.image_shared.specs.SharedFormat.{SHARED_MAGIC, VERSION}
-use Rattle.image_shared.specs.SharedTests as field
-use Rattle.image_shared.specs.RisingLists.{FilesRise, ChannelsRise, DescriptionsRise}
-use Rattle.image_shared.proofs.RisingItems.{bytes_behind, files_rise, channels_rise, descriptions_rise}
+use Rattle.shared_items.specs.declared.shared.FileImage.{FileImage}
+use Rattle.shared_items.specs.declared.shared.ChannelImage.{ChannelImage}
+use Rattle.shared_items.specs.declared.shared.DescriptionImage.{DescriptionImage}
+use Rattle.shared_items.specs.SharedFormat as format
+use Rattle.shared_items.specs.SharedFormat.{SHARED_MAGIC, VERSION}
+use Rattle.shared_items.specs.SharedTests as field
+use Rattle.shared_items.specs.RisingLists.{FilesRise, ChannelsRise, DescriptionsRise}
+use Rattle.shared_items.proofs.RisingItems.{bytes_behind, files_rise, channels_rise, descriptions_rise}
 
 module _ (text at_id at_file at_files : List ℕ) (next_id next_file : ℕ) (bytes : AllBytes text)
     (magic : read (raw 8 (is_bytes SHARED_MAGIC)) text ≡ Ok (SHARED_MAGIC, at_id))

@@ -5,11 +5,11 @@ use Rattle.std.specs.Prelude.{◌≡◌, ◌==◌, ◌&&◌, ℕ, Bool, false, L
 use Rattle.std.specs.FinMap as map
 use Rattle.sys_abi.specs.declared.identity.DescId.{DescId}
 use Rattle.sys_abi.specs.Orders.{desc_cmp}
-use Rattle.image_shared.specs.declared.shared.ChannelImage.{ChannelImage}
-use Rattle.image_shared.specs.declared.shared.DescriptionImage.{DescriptionImage}
-use Rattle.image_shared.specs.declared.shared.DescriptorEntry.{DescriptorEntry}
-use Rattle.image_shared.specs.declared.shared.ProcessEntry.{ProcessEntry}
-use Rattle.image_shared.specs.WholeShared.{names_description, is_owner, is_object_of_host}
+use Rattle.shared_items.specs.declared.shared.ChannelImage.{ChannelImage}
+use Rattle.shared_items.specs.declared.shared.DescriptionImage.{DescriptionImage}
+use Rattle.shared_items.specs.declared.shared.DescriptorEntry.{DescriptorEntry}
+use Rattle.shared_items.specs.declared.shared.ProcessEntry.{ProcessEntry}
+use Rattle.shared_items.specs.WholeShared.{names_description, is_owner, is_object_of_host}
 use Rattle.shared_reader.specs.declared.holders.Holders.{Holders}
 use Rattle.shared_reader.specs.declared.holders.Holders.TheVariants.{OfHost, Apart}
 

@@ -4,8 +4,8 @@ use Rattle.std.specs.Prelude.{List}
 use Rattle.std.specs.List.{list_any}
 use Rattle.std.specs.Ordering.{nat_cmp}
 use Rattle.std.specs.FinMap as map
-use Rattle.image_shared.specs.declared.shared.ProcessEntry.{ProcessEntry}
-use Rattle.image_shared.specs.SharedTests.{lists_thread}
+use Rattle.shared_items.specs.declared.shared.ProcessEntry.{ProcessEntry}
+use Rattle.shared_items.specs.SharedTests.{lists_thread}
 use Rattle.shared_items.specs.Keys.{HasKeys}
 
 abbrev pub KnowsThreads : {X : Type 0} → map.FinMap nat_cmp X → List ProcessEntry → Type 0

@@ -8,7 +8,7 @@ ghost use Rattle.sys_abi.specs.Orders.{desc_cmp};
 ghost use Rattle.shared_reader.specs.HoldersOf.{with_holder, after_process, KnowsHolders};
 
 use id_maps::ByDesc;
-use image_shared::ProcessEntry;
+use shared_items::ProcessEntry;
 use std::alloc::{AllocError, Global};
 use sys_abi::DescId;
 

@@ -2,14 +2,14 @@
 ghost use Rattle.std.specs.Prelude.{◌≡◌, ◌==◌, ◌||◌, OnOk, is_some};
 ghost use Rattle.std.specs.FinMap as map;
 ghost use Rattle.std.specs.List.{list_any};
-ghost use Rattle.image_shared.specs.SharedTests as field;
-ghost use Rattle.image_shared.specs.RisingLists.{ChannelsRise, DescriptionsRise, ProcessesRise};
+ghost use Rattle.shared_items.specs.SharedTests as field;
+ghost use Rattle.shared_items.specs.RisingLists.{ChannelsRise, DescriptionsRise, ProcessesRise};
 ghost use Rattle.shared_items.specs.Keys.{HasKeys};
 ghost use Rattle.shared_reader.specs.KnownThreads.{KnowsThreads};
 
-use image_shared::{ChannelImage, DescriptionImage, DescriptorEntry, ProcessEntry, ThreadEntry};
 use shared_items::found::process_of;
 use shared_items::made::is_made;
+use shared_items::{ChannelImage, DescriptionImage, DescriptorEntry, ProcessEntry, ThreadEntry};
 use std::alloc::AllocError;
 use sys_abi::Life;
 use views::number_map::NumberMap;

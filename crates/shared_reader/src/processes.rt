@@ -3,9 +3,9 @@
 ghost use Rattle.std.specs.Prelude.{◌≡◌};
 ghost use Rattle.image_format.specs.Format.{counted};
 ghost use Rattle.image_format.specs.Reading.{Gives, read};
-ghost use Rattle.image_shared.specs.SharedFormat as format;
-ghost use Rattle.image_shared.specs.SharedTests as field;
-ghost use Rattle.image_shared.specs.RisingLists.{ChannelsRise, DescriptionsRise, ProcessesRise};
+ghost use Rattle.shared_items.specs.SharedFormat as format;
+ghost use Rattle.shared_items.specs.SharedTests as field;
+ghost use Rattle.shared_items.specs.RisingLists.{ChannelsRise, DescriptionsRise, ProcessesRise};
 ghost use Rattle.shared_reader.specs.KnownThreads.{KnowsThreads};
 
 use crate::process_tests::{
@@ -13,14 +13,14 @@ use crate::process_tests::{
     is_process_number, is_state, is_thread_count, is_thread_number, note_threads,
 };
 use image_format::fields::{Fault, u8_at, u32_at};
-use image_shared::{ChannelImage, DescriptionImage, DescriptorEntry, ProcessEntry, ThreadEntry};
 use shared_items::found::has_description;
+use shared_items::{ChannelImage, DescriptionImage, DescriptorEntry, ProcessEntry, ThreadEntry};
 use std::alloc::Global;
 use sys_abi::{DescId, Life, VPid};
 use views::list_of::ListOf;
 use views::number_map::NumberMap;
 
-#[tactic(auto, unfolding(image_shared::specs::SharedFormat::thread, image_format::specs::Reading::read, image_format::specs::Reading::read_next, image_format::specs::Reading::read_if))]
+#[tactic(auto, unfolding(shared_items::specs::SharedFormat::thread, image_format::specs::Reading::read, image_format::specs::Reading::read_next, image_format::specs::Reading::read_if))]
 fn thread_at<'a>(
     next_id: u32,
     earlier: &[ProcessEntry],
@@ -72,7 +72,7 @@ fn threads_at<'a>(
     Ok((threads, rest))
 }
 
-#[tactic(auto, unfolding(image_shared::specs::SharedFormat::descriptor, image_format::specs::Reading::read, image_format::specs::Reading::read_next, image_format::specs::Reading::read_if))]
+#[tactic(auto, unfolding(shared_items::specs::SharedFormat::descriptor, image_format::specs::Reading::read, image_format::specs::Reading::read_next, image_format::specs::Reading::read_if))]
 fn descriptor_at<'a>(
     descriptions: &[DescriptionImage],
     front: &[DescriptorEntry],
@@ -133,7 +133,7 @@ fn descriptors_at<'a>(
 }
 
 /// Whether the process lives, or has ended with which status.
-#[tactic(auto, unfolding(image_shared::specs::SharedFormat::life, image_format::specs::Reading::read, image_format::specs::Reading::read_next, image_format::specs::Reading::read_if))]
+#[tactic(auto, unfolding(shared_items::specs::SharedFormat::life, image_format::specs::Reading::read, image_format::specs::Reading::read_next, image_format::specs::Reading::read_if))]
 fn life_at<'a>(
     channels: &[ChannelImage],
     descriptions: &[DescriptionImage],
@@ -161,7 +161,7 @@ fn life_at<'a>(
     Ok((Life::Live, rest))
 }
 
-#[tactic(auto, unfolding(image_shared::specs::SharedFormat::process, image_format::specs::Reading::read, image_format::specs::Reading::read_next, image_format::specs::Reading::read_if))]
+#[tactic(auto, unfolding(shared_items::specs::SharedFormat::process, image_format::specs::Reading::read, image_format::specs::Reading::read_next, image_format::specs::Reading::read_if))]
 fn process_at<'a>(
     alloc: Global,
     next_id: u32,

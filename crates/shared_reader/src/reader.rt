@@ -1,8 +1,8 @@
 ghost use Rattle.std.specs.Prelude.{◌≡◌, IfOk};
 ghost use Rattle.image_format.specs.Files.{IsRead, IsDamagedAt};
 ghost use Rattle.image_format.specs.Reading.{Gives, read};
-ghost use Rattle.image_shared.specs.SharedFormat as format;
-ghost use Rattle.image_shared.specs.SharedFormat.{SpellsShared, DamagedShared};
+ghost use Rattle.shared_items.specs.SharedFormat as format;
+ghost use Rattle.shared_items.specs.SharedFormat.{SpellsShared, DamagedShared};
 
 use crate::process_tests::is_next_id;
 use crate::processes::processes_at;
@@ -10,15 +10,14 @@ use crate::whole::is_whole_shared;
 use image_format::ReadFault;
 use image_format::damage::damaged;
 use image_format::fields::{Fault, after_magic, u32_at};
-use image_shared::Shared;
-use shared_items::{channels_at, files_at};
+use shared_items::{Shared, channels_at, files_at};
 use shared_objects::descriptions_at;
 use std::alloc::Global;
 
 /// The version of the file that begins with `DMTSHR01`.
 const VERSION: u32 = 1;
 
-#[tactic(auto, unfolding(image_shared::specs::SharedFormat::shared, image_format::specs::Reading::read, image_format::specs::Reading::read_next, image_format::specs::Reading::read_if))]
+#[tactic(auto, unfolding(shared_items::specs::SharedFormat::shared, image_format::specs::Reading::read, image_format::specs::Reading::read_next, image_format::specs::Reading::read_if))]
 fn shared_at(alloc: Global, text: &[u8]) -> Result<(Shared, &[u8]), Fault>
     ensures { Gives (λ x. (x.0, x.1.now)) result (read format.shared text.now) }
 {

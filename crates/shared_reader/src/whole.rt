@@ -2,17 +2,17 @@
 ghost use Rattle.std.specs.Prelude.{◌≡◌, IfOk, is_some};
 ghost use Rattle.std.specs.List.{list_all, list_any};
 ghost use Rattle.std.specs.FinMap as map;
-ghost use Rattle.image_shared.specs.RisingLists.{ChannelsRise, ProcessesRise};
-ghost use Rattle.image_shared.specs.WholeShared as whole;
+ghost use Rattle.shared_items.specs.RisingLists.{ChannelsRise, ProcessesRise};
+ghost use Rattle.shared_items.specs.WholeShared as whole;
 ghost use Rattle.shared_objects.specs.Known.{KnowsOpened, KnowsSides};
 ghost use Rattle.shared_reader.specs.HoldersOf.{KnowsHolders, verdict};
 
 use crate::holders::{Holders, holders_of};
 use id_maps::{ByDesc, ByDir};
-use image_shared::{
+use shared_items::found::{channel_of, process_of};
+use shared_items::{
     ChannelImage, DescriptionImage, FileImage, ObjectImage, ProcessEntry, Shared, SideImage,
 };
-use shared_items::found::{channel_of, process_of};
 use shared_objects::{opened_of, sides_of};
 use std::alloc::{AllocError, Global};
 use sys_abi::{ConnId, Dir, VirtAddr};
@@ -222,7 +222,7 @@ fn are_kept(descriptions: &[DescriptionImage], opened: &NumberMap<()>, files: &[
 }
 
 /// What is tested at the end of the file, over the whole value.
-#[tactic(auto, unfolding(image_shared::specs::WholeShared::is_whole_shared))]
+#[tactic(auto, unfolding(shared_items::specs::WholeShared::is_whole_shared))]
 pub fn is_whole_shared(alloc: Global, s: &Shared) -> Result<bool, AllocError>
     requires channels { ChannelsRise s.now.channels }
     requires processes { ProcessesRise s.now.processes }

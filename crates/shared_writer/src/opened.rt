@@ -2,12 +2,11 @@
 
 ghost use Rattle.std.specs.Prelude.{◌≡◌, ◌^◌, ◌<◌, ◌++◌, length, All, OnOk};
 ghost use Rattle.image_format.specs.Format.{n8, n32, number_text};
-ghost use Rattle.image_shared.specs.SharedFits.{kind_of};
-ghost use Rattle.image_shared.specs.SharedTexts.{HasQueueCount, connection_text, description_text};
-ghost use Rattle.image_shared.specs.SharedTexts.{list_text, object_text};
+ghost use Rattle.shared_items.specs.SharedFits.{kind_of};
+ghost use Rattle.shared_items.specs.SharedTexts.{HasQueueCount, connection_text, description_text, list_text, object_text};
 
 use image_format::fields::{put_u8, put_u32};
-use image_shared::{DescriptionImage, ObjectImage};
+use shared_items::{DescriptionImage, ObjectImage};
 use std::alloc::AllocError;
 use sys_abi::{ConnId, VirtAddr};
 
@@ -23,7 +22,7 @@ fn kind_of(object: &ObjectImage) -> u8
     }
 }
 
-#[tactic(auto, unfolding(image_shared::specs::SharedTexts::connection_text))]
+#[tactic(auto, unfolding(shared_items::specs::SharedTexts::connection_text))]
 fn put_connection(bytes: &mut Vec<u8>, conn: ConnId) -> Result<(), AllocError>
     ensures { OnOk result (bytes.new.items ≡ bytes.old.items ++ connection_text conn) }
 {
@@ -52,7 +51,7 @@ fn put_pair(bytes: &mut Vec<u8>, first: u32, second: u32) -> Result<(), AllocErr
 }
 
 /// What follows in a description after its owner.
-#[tactic(auto, unfolding(image_shared::specs::SharedTexts::object_text))]
+#[tactic(auto, unfolding(shared_items::specs::SharedTexts::object_text))]
 fn put_object(bytes: &mut Vec<u8>, object: &ObjectImage) -> Result<(), AllocError>
     requires { HasQueueCount object.now }
     ensures { OnOk result (bytes.new.items ≡ bytes.old.items ++ object_text object.now) }
@@ -94,7 +93,7 @@ fn put_listener(
     put_queue(bytes, pending)
 }
 
-#[tactic(auto, unfolding(image_shared::specs::SharedTexts::description_text))]
+#[tactic(auto, unfolding(shared_items::specs::SharedTexts::description_text))]
 fn put_description(bytes: &mut Vec<u8>, description: &DescriptionImage) -> Result<(), AllocError>
     requires { HasQueueCount description.now.object }
     ensures { OnOk result (bytes.new.items ≡ bytes.old.items ++ description_text description.now) }

@@ -1,16 +1,15 @@
 //! The processes of a shared image, as bytes of its file.
 
 ghost use Rattle.std.specs.Prelude.{◌≡◌, ◌^◌, ◌<◌, ◌++◌, length, All, OnOk};
-ghost use Rattle.image_shared.specs.SharedFits.{state_of, status_of};
-ghost use Rattle.image_shared.specs.SharedTexts.{HasCounts, list_text, thread_text, descriptor_text};
-ghost use Rattle.image_shared.specs.SharedTexts.{life_text, process_text};
+ghost use Rattle.shared_items.specs.SharedFits.{state_of, status_of};
+ghost use Rattle.shared_items.specs.SharedTexts.{HasCounts, list_text, thread_text, descriptor_text, life_text, process_text};
 
 use image_format::fields::{put_u8, put_u32};
-use image_shared::{DescriptorEntry, ProcessEntry, ThreadEntry};
+use shared_items::{DescriptorEntry, ProcessEntry, ThreadEntry};
 use std::alloc::AllocError;
 use sys_abi::Life;
 
-#[tactic(auto, unfolding(image_shared::specs::SharedTexts::thread_text))]
+#[tactic(auto, unfolding(shared_items::specs::SharedTexts::thread_text))]
 fn put_thread(bytes: &mut Vec<u8>, thread: &ThreadEntry) -> Result<(), AllocError>
     ensures { OnOk result (bytes.new.items ≡ bytes.old.items ++ thread_text thread.now) }
 {
@@ -30,7 +29,7 @@ fn put_threads(bytes: &mut Vec<u8>, items: &[ThreadEntry]) -> Result<(), AllocEr
     Ok(())
 }
 
-#[tactic(auto, unfolding(image_shared::specs::SharedTexts::descriptor_text))]
+#[tactic(auto, unfolding(shared_items::specs::SharedTexts::descriptor_text))]
 fn put_descriptor(bytes: &mut Vec<u8>, descriptor: &DescriptorEntry) -> Result<(), AllocError>
     ensures { OnOk result (bytes.new.items ≡ bytes.old.items ++ descriptor_text descriptor.now) }
 {
@@ -52,7 +51,7 @@ fn put_descriptors(bytes: &mut Vec<u8>, items: &[DescriptorEntry]) -> Result<(),
     Ok(())
 }
 
-#[tactic(auto, unfolding(image_shared::specs::SharedTexts::life_text))]
+#[tactic(auto, unfolding(shared_items::specs::SharedTexts::life_text))]
 fn put_life(bytes: &mut Vec<u8>, life: Life) -> Result<(), AllocError>
     ensures { OnOk result (bytes.new.items ≡ bytes.old.items ++ life_text life) }
 {
@@ -64,7 +63,7 @@ fn put_life(bytes: &mut Vec<u8>, life: Life) -> Result<(), AllocError>
     put_u32(bytes, status)
 }
 
-#[tactic(auto, unfolding(image_shared::specs::SharedTexts::process_text))]
+#[tactic(auto, unfolding(shared_items::specs::SharedTexts::process_text))]
 fn put_process(bytes: &mut Vec<u8>, process: &ProcessEntry) -> Result<(), AllocError>
     requires { HasCounts process.now }
     ensures { OnOk result (bytes.new.items ≡ bytes.old.items ++ process_text process.now) }

@@ -1,18 +1,16 @@
 //! The files and channels of a shared image, as bytes of its file.
 
 ghost use Rattle.std.specs.Prelude.{◌≡◌, ◌^◌, ◌<◌, ◌++◌, length, All, OnOk};
-ghost use Rattle.image_shared.specs.SharedFits.{host_number, number_of_kind, port_number, side_flags};
-ghost use Rattle.image_shared.specs.SharedTexts.{HasFileCounts, HasSideCounts};
-ghost use Rattle.image_shared.specs.SharedTexts.{address_text, channel_text, file_text, list_text};
-ghost use Rattle.image_shared.specs.SharedTexts.{side_text};
+ghost use Rattle.shared_items.specs.SharedFits.{host_number, number_of_kind, port_number, side_flags};
+ghost use Rattle.shared_items.specs.SharedTexts.{HasFileCounts, HasSideCounts, address_text, channel_text, file_text, list_text, side_text};
 
 use image_format::fields::{put_bytes, put_u8, put_u16, put_u32};
-use image_shared::{ChannelImage, FileImage, SideImage};
 use plain_tables::ChannelKind;
+use shared_items::{ChannelImage, FileImage, SideImage};
 use std::alloc::AllocError;
 use sys_abi::VirtAddr;
 
-#[tactic(auto, unfolding(image_shared::specs::SharedTexts::file_text))]
+#[tactic(auto, unfolding(shared_items::specs::SharedTexts::file_text))]
 fn put_file(bytes: &mut Vec<u8>, file: &FileImage) -> Result<(), AllocError>
     requires { HasFileCounts file.now }
     ensures { OnOk result (bytes.new.items ≡ bytes.old.items ++ file_text file.now) }
@@ -67,7 +65,7 @@ fn put_address(bytes: &mut Vec<u8>, address: Option<VirtAddr>) -> Result<(), All
     put_u32(bytes, port)
 }
 
-#[tactic(auto, unfolding(image_shared::specs::SharedTexts::side_text))]
+#[tactic(auto, unfolding(shared_items::specs::SharedTexts::side_text))]
 fn put_side(bytes: &mut Vec<u8>, side: &SideImage) -> Result<(), AllocError>
     requires { length side.now.left < 2 ^ 32 }
     ensures { OnOk result (bytes.new.items ≡ bytes.old.items ++ side_text side.now) }
@@ -78,7 +76,7 @@ fn put_side(bytes: &mut Vec<u8>, side: &SideImage) -> Result<(), AllocError>
     put_address(bytes, side.address)
 }
 
-#[tactic(auto, unfolding(image_shared::specs::SharedTexts::channel_text))]
+#[tactic(auto, unfolding(shared_items::specs::SharedTexts::channel_text))]
 fn put_channel(bytes: &mut Vec<u8>, channel: &ChannelImage) -> Result<(), AllocError>
     requires { HasSideCounts channel.now }
     ensures { OnOk result (bytes.new.items ≡ bytes.old.items ++ channel_text channel.now) }

@@ -1,18 +1,17 @@
 ghost use Rattle.std.specs.Prelude.{◌≡◌, ◌++◌, IfOk, OnOk};
 ghost use Rattle.image_format.specs.Format.{n32, number_text};
-ghost use Rattle.image_shared.specs.SharedFits.{IsShared};
-ghost use Rattle.image_shared.specs.SharedFormat.{SpellsShared};
-ghost use Rattle.image_shared.specs.SharedTexts.{list_text, channel_text, description_text, file_text};
-ghost use Rattle.image_shared.specs.SharedTexts.{process_text, IsSharedText};
+ghost use Rattle.shared_items.specs.SharedFits.{IsShared};
+ghost use Rattle.shared_items.specs.SharedFormat.{SpellsShared};
+ghost use Rattle.shared_items.specs.SharedTexts.{list_text, channel_text, description_text, file_text, process_text, IsSharedText};
 
 use crate::opened::put_descriptions;
 use crate::processes::put_processes;
 use crate::stored::{put_channels, put_files};
 use image_format::fields::{put_bytes, put_u32};
-use image_shared::Shared;
+use shared_items::Shared;
 use std::alloc::{AllocError, Global};
 
-#[tactic(auto, unfolding(image_shared::specs::SharedTexts::shared_text))]
+#[tactic(auto, unfolding(shared_items::specs::SharedTexts::shared_text))]
 fn shared_text(alloc: Global, s: &Shared) -> Result<Vec<u8>, AllocError>
     requires { IsShared s.now }
     ensures { IfOk result (λ bytes. IsSharedText bytes.items s.now) }

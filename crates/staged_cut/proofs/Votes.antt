@@ -18,7 +18,7 @@ use Rattle.sys_abi.proofs.OrderLaws.{vpid_total, vpid_exact}
 use Rattle.barrier_core.specs.Barriers.{BarrierState}
 use Rattle.plain_machine.specs.declared.kernel.PlainKernel.{PlainKernel}
 use Rattle.plain_machine.specs.Kernel.{is_live}
-use Rattle.stage_lists.specs.Voters.{Voters, marked, all_voted}
+use Rattle.leader_vote.specs.Voters.{Voters, marked, all_voted}
 use Rattle.ckpt_stages.specs.Suspensions.{Suspension, IsEntered}
 
 abbrev pub IsLeft : List VPid → ℕ → Voters → Type 0

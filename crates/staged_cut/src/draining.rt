@@ -5,7 +5,7 @@ ghost use Rattle.sys_abi.specs.declared.identity.VPid.{VPid};
 ghost use Rattle.plain_machine.specs.declared.kernel.PlainKernel.{PlainKernel};
 ghost use Rattle.plain_machine.specs.Kernel.{is_live};
 ghost use Rattle.barrier_core.specs.declared.members.TheConstants.{MEMBER_LIMIT};
-ghost use Rattle.stage_lists.specs.Voters as voting;
+ghost use Rattle.leader_vote.specs.Voters as voting;
 ghost use Rattle.wrap_names.specs.Wrapping.{IsWrapped};
 ghost use Rattle.ckpt_stages.specs.Faults as faults;
 ghost use Rattle.ckpt_stages.specs.Suspensions as words;

@@ -4,8 +4,8 @@ ghost use Rattle.std.specs.FinMap as map;
 ghost use Rattle.virt_ids.specs.Pairs.{IsTaken, AreWhole, without_back};
 
 use crate::id_fault::IdFault;
+use crate::{ByRealAddress, ByRealPid};
 use id_maps::ByAddress;
-use real_maps::{ByRealAddress, ByRealPid};
 use std::alloc::Global;
 use std::marker::Model;
 use sys_abi::{RealAddr, RealPid, VirtAddr};

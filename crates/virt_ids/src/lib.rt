@@ -10,10 +10,21 @@
 //! Proved: all of that, that each way leads back (`whole` tells it), and that after any refusal all is as
 //! before. To take a pair out needs no memory, and neither does a look-up: neither has an answer for want of
 //! it. Not proved: how long a call takes; a look-up goes down a tree. Nothing here restates a standard.
+//!
+//! # Maps by real numbers
+//!
+//! These ordered maps have keys that nodes hand out: numbers of processes, and ports. Proved: a map is, to
+//! a contract, the finite map in the order of its keys, and each call does to it what the word of its name
+//! says; after an insert that wanted memory it is as before. One struct a key, since a contract's view
+//! can't be of the order of a parameter.
 #![tactic(auto)]
 
+pub mod by_real_address;
+pub mod by_real_pid;
 pub mod id_fault;
 pub mod ids;
 
+pub use by_real_address::ByRealAddress;
+pub use by_real_pid::ByRealPid;
 pub use id_fault::IdFault;
 pub use ids::Ids;

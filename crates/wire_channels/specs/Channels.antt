@@ -15,7 +15,7 @@ use Rattle.sys_abi.specs.declared.identity.ConnId.{ConnId}
 use Rattle.sys_abi.specs.declared.identity.Dir.{Dir}
 use Rattle.sys_abi.specs.Orders.{conn_cmp}
 use Rattle.wire_channels.specs.declared.channel.Channel.{Channel}
-use Rattle.real_maps.specs.Changes.{at_key}
+use Rattle.virt_ids.specs.Changes.{at_key}
 use Rattle.wire_channels.specs.Directions.{Direction, unused, is_flowing, after_end, after_stop_reading}
 
 abbrev pub Channels : Type 0

@@ -4,11 +4,10 @@ ghost use Rattle.image_store.specs.StoreStates.{FitsFolder, next_generation};
 ghost use Rattle.drive.specs.HandedOn.{IsReady};
 
 use crate::guests::guests_of;
-use disk_folder::Folder;
+use disk_folder::{Folder, MemFolder};
 use drive::{Computation, RunStatus, Wrapped, drive};
 use edge_io::{MemSink, Sink};
 use image_store::Store;
-use mem_folder::MemFolder;
 use std::alloc::{AllocError, Global};
 use std::test::Fail;
 use trace_log::Trace;

@@ -1,6 +1,6 @@
 use crate::asserting::{counts, same, says};
 use crate::kernels::{FIRST, THREAD, cloned, exit, fork, kernel, parent, status};
-use plain_forks::end::exit as exit_thread;
+use plain_files::end::exit as exit_thread;
 use plain_machine::{FIRST_PID, NOBODY, PlainKernel};
 use std::alloc::Global;
 use std::process::Abort;

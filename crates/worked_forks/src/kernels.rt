@@ -1,6 +1,6 @@
-use plain_forks::clone::clone;
-use plain_forks::end::exit_group;
-use plain_forks::wait::wait4;
+use plain_files::clone::clone;
+use plain_files::end::exit_group;
+use plain_files::wait::wait4;
 use plain_machine::{Attempt, FIRST_PID, Life, PlainKernel};
 use std::alloc::{AllocError, Global};
 use std::test::Fail;

@@ -1,6 +1,6 @@
 use crate::asserting::{counts, same, says, told};
 use crate::kernels::{ANY, Came, FIRST, asked, exit, fork, kernel, waited};
-use plain_forks::wait::is_wait4_ready;
+use plain_files::wait::is_wait4_ready;
 use plain_machine::{FIRST_PID, PlainKernel};
 use std::alloc::{AllocError, Global};
 use std::process::Abort;

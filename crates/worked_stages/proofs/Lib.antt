@@ -1,1 +1,3 @@
 mod FirstMembers
+mod OneChannel
+mod Rounds

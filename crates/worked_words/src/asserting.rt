@@ -1,3 +1,5 @@
+ghost use Rattle.std.specs.Prelude.{◌≡◌, true};
+
 use std::alloc::AllocError;
 use std::fmt::Debug;
 use std::process::Abort;
@@ -21,4 +23,11 @@ pub fn is_copied<T: Duplicate + PartialEq + Debug>(
     let copy = value.duplicate(rt.alloc())?;
     assert_eq!(rt; copy, value);
     Ok(())
+}
+
+/// Asserts it, so that what follows may stand on it.
+pub fn holds(rt: &impl Abort, is_so: bool)
+    ensures { is_so ≡ true }
+{
+    assert!(rt; is_so);
 }

@@ -1,2 +1,13 @@
 pub mod Answered
 pub mod Unknown
+pub mod PairLooks
+pub mod FirstKeys
+pub mod DirectionKeys
+pub mod MissingBytes
+pub mod ArrivedBytes
+pub mod SomeLife
+pub mod ConsoleTold
+pub mod QuietConsole
+pub mod ReadyStrangers
+pub mod Orphans
+pub mod ConnectNames

@@ -1,7 +1,7 @@
 -- What is handed on of the libraries below, so that who uses this one need not name them.
-pub use Rattle.wrap_looks.specs.Console.{console_write, takes_writes, writes_console}
-unfoldable pub use Rattle.wrap_looks.specs.Console.{written}
-pub use Rattle.wrap_looks.specs.Directions.{is_above}
+pub use Rattle.wrap_calls.specs.Console.{console_write, takes_writes, writes_console}
+unfoldable pub use Rattle.wrap_calls.specs.Console.{written}
+pub use Rattle.wrap_calls.specs.Directions.{is_above}
 pub use Rattle.wrap_names.specs.Wrapping.{Answers}
 pub use Rattle.wrap_names.specs.Changes.{arrived_in}
 unfoldable pub use Rattle.wrap_names.specs.Changes.{after_arrival}

@@ -1,1 +1,4 @@
 pub mod HandedOn
+pub mod Directions
+pub mod Console
+pub mod Naming

@@ -3,9 +3,9 @@ ghost use Rattle.std.specs.Prelude.{◌≡◌, ◌<◌, min};
 ghost use Rattle.std.specs.FinMap as map;
 ghost use Rattle.wrap_names.specs.Changes.{missing_in, after_arrival};
 
+use crate::direction_arriving::arrive;
 use crate::wrapped::Wrapped;
 use sys_abi::Dir;
-use wrap_looks::arriving::arrive;
 use wrap_names::stood::Change;
 
 impl Wrapped {

@@ -11,13 +11,13 @@ ghost use Rattle.plain_machine.specs.Serve as calls;
 ghost use Rattle.plain_machine.specs.Serve.{row};
 ghost use Rattle.plain_machine.specs.Tests as tests;
 ghost use Rattle.wrap_names.specs.Changes.{missing_in};
-ghost use Rattle.wrap_looks.specs.Console as consoles;
-ghost use Rattle.wrap_looks.specs.Directions as directions;
+ghost use Rattle.wrap_calls.specs.Console as consoles;
+ghost use Rattle.wrap_calls.specs.Directions as directions;
 
 use crate::wrapped::Wrapped;
+use crate::{console, directions, living, ready};
 use call_table::Request;
 use sys_abi::{Dir, Tid, VPid};
-use wrap_looks::{console, directions, living, ready};
 use wrap_passing::looks::{lives, signals};
 
 impl Wrapped {

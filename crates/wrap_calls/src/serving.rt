@@ -4,15 +4,15 @@ ghost use Rattle.call_table.specs.Requests.{is_local};
 ghost use Rattle.plain_machine.specs.RowLaws.{IsAsked};
 ghost use Rattle.plain_machine.specs.Serve.{row};
 ghost use Rattle.wrap_names.specs.Wrapping.{IsWrapped, StandsAfter};
-ghost use Rattle.wrap_forks.specs.Cloning.{is_clone};
+ghost use Rattle.wrap_makers.specs.Cloning.{is_clone};
 
 use call_table::Request;
 use host_tables::{KernelReply, System};
 use sys_abi::errors::ENOSYS;
 use sys_abi::transfer::Transfer;
 use sys_abi::{Errno, Tid, VPid};
-use wrap_addresses::serving as naming;
 use wrap_makers::serving as making;
+use wrap_names::serving as naming;
 use wrap_names::stood::Stood;
 use wrap_passing::serving as passing;
 use wrap_sockets::serving as meeting;
@@ -33,8 +33,8 @@ pub(crate) fn serve_call(
     ensures { StandsAfter system.new next_id.new stood.now.kernel transfer.old transfer.new result
         (row stood.now.kernel p t.0 request.now transfer.old) }
 {
-    if wrap_forks::serves(request) {
-        return wrap_forks::clone(system, stood, next_id, p, t, request, transfer);
+    if wrap_makers::serves(request) {
+        return wrap_makers::clone(system, stood, next_id, p, t, request, transfer);
     }
     serve_other(system, stood, *next_id, p, t, request, transfer)
 }
@@ -63,8 +63,8 @@ fn serve_other(
     if making::serves(request) {
         return making::serve_making_ends(system, stood, next_id, p, t, request, transfer);
     }
-    if wrap_closes::serves(request) {
-        return wrap_closes::serve_closing(system, stood, next_id, p, t, request, transfer);
+    if wrap_ends::serves_closing(request) {
+        return wrap_ends::serve_closing(system, stood, next_id, p, t, request, transfer);
     }
     if naming::serves(request) {
         return naming::serve_addresses(system, stood, next_id, p, t, request, transfer);

@@ -8,3 +8,11 @@ pub mod Leaving
 pub mod Steps
 pub mod ThreadCounts
 pub mod ExitCalls
+pub mod ConnEnds
+pub mod FewerConns
+pub mod FewerPlaces
+pub mod Lost
+pub mod Cleaned
+pub mod Forgotten
+pub mod Rows
+pub mod Waiting

@@ -1,2 +1,4 @@
 pub mod Ending
 pub mod Exits
+pub mod Forgetting
+pub mod Serving

@@ -8,11 +8,11 @@ ghost use Rattle.plain_machine.specs.declared.kernel.PlainKernel.{PlainKernel};
 ghost use Rattle.plain_machine.specs.Ends.{closed_below};
 ghost use Rattle.wrap_names.specs.Wrapping.{IsWrapped};
 
+use crate::close_at;
 use fd_book::Book;
 use host_tables::System;
 use plain_machine::end::DESCRIPTOR_LIMIT;
 use sys_abi::RealPid;
-use wrap_closes::close_at;
 
 /// Closes all descriptors of the process.
 pub(crate) fn close_all(system: &mut System, who: RealPid)

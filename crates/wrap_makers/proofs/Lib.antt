@@ -5,3 +5,11 @@ pub mod NewNumbers
 pub mod Fits
 pub mod Made
 pub mod Answered
+pub mod CloneRow
+pub mod NewNumber
+pub mod TakenOut
+pub mod Grown
+pub mod Started
+pub mod Owed
+pub mod CloneAnswered
+pub mod Told

@@ -24,7 +24,7 @@ use Rattle.proc_book.specs.declared.process.Process as real_process
 use Rattle.proc_book.specs.Ends as procs
 use Rattle.virt_ids.specs.Pairs.{AreInverse}
 use Rattle.virt_ids.proofs.PairLaws.{AreInverse-remove}
-use Rattle.datagram_pairs.specs.Pairs.{Pairs}
+use Rattle.conn_table.specs.Pairs.{Pairs}
 use Rattle.plain_tables.specs.declared.description.Description.{Description}
 use Rattle.plain_tables.specs.declared.process.Process.{Process}
 use Rattle.plain_tables.specs.Tables.{NOBODY, Processes, Makers, Descriptors, Descriptions, pid, slot}

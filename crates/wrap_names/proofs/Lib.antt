@@ -5,3 +5,16 @@ pub mod Keeps
 pub mod Kept
 pub mod FewerPairs
 pub mod Reaping
+pub mod Alike
+pub mod Ends
+pub mod PortsUsed
+pub mod Searches
+pub mod Sockets
+pub mod OwnNames
+pub mod HandedOn
+pub mod HostsFor
+pub mod BindRow
+pub mod Bound
+pub mod BoundRow
+pub mod Unchanged
+pub mod Rows

@@ -4,3 +4,6 @@ pub mod Changes
 pub mod Naming
 pub mod Passing
 pub mod Asks
+pub mod Ends
+pub mod Binding
+pub mod Calls

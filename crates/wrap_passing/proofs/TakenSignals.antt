@@ -18,7 +18,7 @@ use Rattle.views.proofs.Seen.{agree_same, SeenBy-insert}
 use Rattle.sys_abi.specs.declared.identity.VPid.{VPid}
 use Rattle.sys_abi.specs.declared.identity.RealPid.{RealPid}
 use Rattle.sys_abi.specs.Signals.{bit_of, has_signal, without_signal}
-use Rattle.real_maps.specs.Changes.{at_key}
+use Rattle.virt_ids.specs.Changes.{at_key}
 use Rattle.proc_book.specs.declared.process.Process as real_process
 use Rattle.proc_book.specs.Processes as procs
 use Rattle.proc_book.specs.Procs.{after_take as real_take}

@@ -10,7 +10,7 @@ use Rattle.views.specs.Numbers.{Byte}
 use Rattle.sys_abi.specs.declared.errors.TheConstants.{EBADF}
 use Rattle.sys_abi.specs.declared.identity.DescId.{DescId}
 use Rattle.sys_abi.specs.declared.identity.ConnId.{ConnId}
-use Rattle.datagram_pairs.specs.Pairs.{Pairs}
+use Rattle.conn_table.specs.Pairs.{Pairs}
 use Rattle.fd_tables.specs.declared.description.Object.{Object}
 use Rattle.fd_tables.specs.declared.description.Object.TheVariants.{Console, File, Stream, Socket, Listener, Datagram, Counter}
 use Rattle.plain_tables.specs.declared.description.Object.TheVariants as plain_object

@@ -14,8 +14,8 @@ use host_tables::{Attempt, KernelReply, System};
 use plain_ports::addresses::PAIR_BYTES;
 use sys_abi::transfer::Transfer;
 use sys_abi::{RealPid, Tid, VPid};
-use wrap_addresses::names::{end_address, put_name};
 use wrap_names::counting::count_made;
+use wrap_names::names::{end_address, put_name};
 use wrap_names::naming::{leads_to_pipe, next_desc};
 use wrap_names::stood::Stood;
 

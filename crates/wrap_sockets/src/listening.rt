@@ -20,8 +20,8 @@ use sys_abi::transfer::Transfer;
 use sys_abi::{Errno, RealAddr, RealPid, Tid, VPid, VirtAddr};
 use virt_ids::Ids;
 use wire_net::NetFault;
-use wrap_addresses::look_ups::{address_of, socket_at};
-use wrap_addresses::ports::bound_or;
+use wrap_names::look_ups::{address_of, socket_at};
+use wrap_names::ports::bound_or;
 use wrap_names::stood::Stood;
 
 /// A socket that isn't connected, with the address at which it listens then.

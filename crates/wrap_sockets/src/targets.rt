@@ -13,9 +13,9 @@ use plain_ports::addresses::{ADDRESS_SIZE, AF_INET, family_of, named_host, port_
 use sys_abi::errors::{EADDRNOTAVAIL, EAFNOSUPPORT, EINVAL};
 use sys_abi::{ConnId, DescId, Errno, RealAddr, RealPid, VPid, VirtAddr};
 use virt_ids::Ids;
-use wrap_addresses::look_ups::address_of;
-use wrap_addresses::ports::bound_or;
+use wrap_names::look_ups::address_of;
 use wrap_names::naming::{leads_to_pipe, next_desc};
+use wrap_names::ports::bound_or;
 
 /// The kind of a channel between internet sockets.
 const INTERNET: u8 = 1;

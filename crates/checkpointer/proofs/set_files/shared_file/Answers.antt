@@ -1,7 +1,7 @@
 use Rattle.std.proofs.Common.{◌≡◌, ℕ, List, sym, subst}
-use Rattle.image_shared.specs.declared.shared.Shared.{Shared}
-use Rattle.image_shared.specs.SharedFormat.{SpellsShared}
-use Rattle.image_shared.specs.SharedFits.{IsShared}
+use Rattle.shared_items.specs.declared.shared.Shared.{Shared}
+use Rattle.shared_items.specs.SharedFormat.{SpellsShared}
+use Rattle.shared_items.specs.SharedFits.{IsShared}
 use Rattle.image_codec.specs.KernelImages.{shared_of}
 use Rattle.checkpointer.proofs.set_files.shared_file.Goals as goal
 

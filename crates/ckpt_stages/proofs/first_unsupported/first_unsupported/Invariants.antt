@@ -1,6 +1,6 @@
 use Rattle.std.specs.FinMap as map
 use Rattle.proc_book.specs.Procs.{is_above}
-use Rattle.stage_lists.proofs.Walks.{count_of}
+use Rattle.leader_vote.proofs.Walks.{count_of}
 use Rattle.ckpt_stages.proofs.FirstOnes.{AreLeast}
 use Rattle.ckpt_stages.proofs.first_unsupported.first_unsupported.Given as goal
 

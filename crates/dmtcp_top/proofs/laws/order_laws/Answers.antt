@@ -1,7 +1,7 @@
 use Rattle.dmtcp_top.proofs.OneOrder.{one_order, one_trace, ends_there, one_end, one_ending, ends_so, one_answer}
 use Rattle.dmtcp_top.proofs.OneRestart.{one_restart}
 use Rattle.dmtcp_top.proofs.MissedRequests.{lacks_no_request}
-use Rattle.drive.proofs.HandedOn.{stands_still}
+use Rattle.drive.proofs.Standstill.{stands_still}
 use Rattle.dmtcp_top.proofs.RoundTrips.{set_valid}
 use Rattle.dmtcp_top.proofs.laws.order_laws.Goals as goal
 

@@ -8,7 +8,7 @@ use Rattle.endings.specs.declared.status.Status.TheVariants.{DiskFault}
 use Rattle.endings.specs.declared.ending.Ending.{Ending}
 use Rattle.endings.specs.Endings.{status_of}
 use Rattle.edge_io.specs.Sunk.{sunk}
-use Rattle.ring_demo.specs.RingJobs.{launch_of, restart_of}
+use Rattle.launch_start.specs.RingJobs.{launch_of, restart_of}
 use Rattle.dmtcp_top.specs.declared.ring.Values.{Values}
 use Rattle.dmtcp_top.specs.Jobs.{Asks, settings_of}
 use Rattle.dmtcp_top.specs.RingEndings.{AreHalves, HalvesEnd}

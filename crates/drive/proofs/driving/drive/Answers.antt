@@ -1,7 +1,7 @@
 use Rattle.std.proofs.Common.{refl, sym, ap, subst, ◌∙◌}
 use Rattle.trace_log.specs.declared.requests.Schedule.{Schedule}
-use Rattle.run_loop.specs.HandedOn.{plain_of}
-use Rattle.run_loop.specs.RunEnds.{KernelAtEnd}
+use Rattle.drive.specs.HandedOn.{plain_of}
+use Rattle.drive.specs.RunEnds.{KernelAtEnd}
 use Rattle.drive.specs.Driving.{schedule_of, state_of}
 use Rattle.drive.proofs.Beginnings.{at_end, kept, ready, same_state, unbegun}
 use Rattle.drive.proofs.driving.drive.Goals as goal

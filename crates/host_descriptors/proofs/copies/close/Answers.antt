@@ -1,7 +1,7 @@
 use Rattle.std.proofs.Common.{refl, sym, ◌∙◌}
 use Rattle.std.specs.FinMap as map
 use Rattle.fd_tables.specs.Slots.{slot}
-use Rattle.host_closes.proofs.CloseCall.{lost_none}
+use Rattle.host_descriptors.proofs.CloseCall.{lost_none}
 use Rattle.host_descriptors.proofs.HeldTold.{no_slot, some_slot, there_by}
 use Rattle.host_descriptors.proofs.Closes.{close_bad, close_done}
 use Rattle.host_descriptors.proofs.copies.close.Goals as goal

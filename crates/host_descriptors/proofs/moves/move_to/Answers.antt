@@ -3,7 +3,7 @@ use Rattle.sys_abi.specs.declared.errors.TheConstants.{EBADF}
 use Rattle.fd_book.specs.Books.{Books}
 use Rattle.fd_tables.specs.Slots.{slot}
 use Rattle.host_tables.specs.declared.attempt.Attempt.TheVariants.{Fails}
-use Rattle.host_closes.proofs.FinishedCloses.{finished, told_close}
+use Rattle.host_descriptors.proofs.FinishedCloses.{finished, told_close}
 use Rattle.host_descriptors.specs.Moves.{IsTold}
 use Rattle.host_descriptors.specs.declared.moves.Moved.{Moved}
 use Rattle.host_descriptors.proofs.HeldTold.{there_by}

@@ -31,7 +31,7 @@ returns-clause-ok c g k p whole st paired named =
     let real = c.args.kernel.now in
     datagrams_made g real k st p c.args.who paired c.args.cloexec c.args.transfer.now c.args.flags
     c.args.ids named
-    c.place_two.new.book c.in-Some.queue c.in-Some.ensures.free c.requires c.insert.new.self
+    c.place_two.new.book c.in-Some.queue c.in-Some.ensures.found.free c.requires c.insert.new.self
     c.in-Some-2.fds.0.0 c.in-Some-2.fds.1.0 c.put_numbers.new.transfer
     (subst (λ (ends : TwoEnds). ArePlaced real.book c.place_two.new.book c.args.who ends
     (Some c.in-Some-2.fds))

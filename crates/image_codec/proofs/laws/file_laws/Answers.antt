@@ -1,6 +1,6 @@
 use Rattle.image_format.proofs.ManifestLaws as manifest
 use Rattle.image_process.proofs.ProcessFiles as process
-use Rattle.image_shared.proofs.SharedLaws as shared
+use Rattle.shared_items.proofs.SharedLaws as shared
 use Rattle.image_codec.proofs.SetDamages.{files_apart, files_either, one_damage_of_files}
 use Rattle.image_codec.proofs.laws.file_laws.Goals as goal
 

@@ -1,6 +1,6 @@
 use Rattle.std.proofs.Common.{◌≡◌}
 use Rattle.std.specs.List.{filter_map}
-use Rattle.image_shared.specs.declared.shared.DescriptionImage.{DescriptionImage}
+use Rattle.shared_items.specs.declared.shared.DescriptionImage.{DescriptionImage}
 use Rattle.std.specs.FinMap as map
 use Rattle.std.specs.Slice.Iter.{iter_rest}
 use Rattle.image_codec.specs.KernelParts.{inserted, listening_of}

@@ -1,6 +1,6 @@
 use Rattle.std.proofs.Common.{◌<◌, ◌≤◌, arith}
 use Rattle.fd_tables.specs.Numbers.{first_above}
-use Rattle.leader_vote.proofs.Voting.{voting_begun, voting_goes_on, voting_done, voter_leads}
+use Rattle.leader_vote.proofs.VotesCast.{voting_begun, voting_goes_on, voting_done, voter_leads}
 use Rattle.leader_vote.proofs.election.vote.Goals as goal
 
 pub loop-fd-init : goal.loop-fd-init

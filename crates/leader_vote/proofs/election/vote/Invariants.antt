@@ -1,6 +1,6 @@
 use Rattle.std.proofs.Common.{◌-◌}
 use Rattle.fd_tables.specs.Numbers.{first_above}
-use Rattle.leader_vote.proofs.Voting.{IsVoting}
+use Rattle.leader_vote.proofs.VotesCast.{IsVoting}
 use Rattle.leader_vote.proofs.election.vote.Given as goal
 
 abbrev pub invariant-loop-fd : goal.invariant-loop-fd

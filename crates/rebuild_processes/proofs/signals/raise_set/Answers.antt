@@ -5,7 +5,7 @@ use Rattle.proc_book.specs.Procs.{ProcTable, after_raise}
 use Rattle.rebuild_processes.specs.Making.{with_set}
 use Rattle.rebuild_processes.proofs.SignalBits.{part_none, step_with, step_without, made_all}
 use Rattle.rebuild_processes.proofs.RaisedSets.{none_made, one_more}
-use Rattle.real_maps.specs.Changes.{at_key}
+use Rattle.virt_ids.specs.Changes.{at_key}
 use Rattle.rebuild_processes.proofs.signals.raise_set.Goals.{then-has_signal, else-has_signal}
 use Rattle.rebuild_processes.proofs.signals.raise_set.Goals as goal
 

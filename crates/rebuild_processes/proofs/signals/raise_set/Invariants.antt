@@ -1,5 +1,5 @@
 use Rattle.std.proofs.Common.{◌≡◌, ℕ, ◌-◌, ◌≤◌}
-use Rattle.real_maps.specs.Changes.{at_key}
+use Rattle.virt_ids.specs.Changes.{at_key}
 use Rattle.rebuild_processes.specs.Making.{with_set}
 use Rattle.rebuild_processes.proofs.SignalBits.{IsPart}
 use Rattle.rebuild_processes.proofs.signals.raise_set.Given as goal

@@ -1,8 +1,8 @@
 use Rattle.std.proofs.Common.{◌≡◌, ◌+◌, ◌-◌, List, length, refl, sym, ap, subst, ◌∙◌, arith}
 use Rattle.std.specs.Prelude.{sum_by}
 use Rattle.std.proofs.lemmas.List.Sums.{sum_by_push}
-use Rattle.image_shared.specs.declared.shared.FileImage.{FileImage}
-use Rattle.image_shared.specs.SharedFormat as format
+use Rattle.shared_items.specs.declared.shared.FileImage.{FileImage}
+use Rattle.shared_items.specs.SharedFormat as format
 use Rattle.image_format.proofs.Loop.{goes_on}
 use Rattle.shared_items.proofs.Names.{no_name, name_pushed}
 use Rattle.shared_items.proofs.files.files_at.Goals as goal

@@ -1,8 +1,8 @@
 use Rattle.std.proofs.Common.{◌≡◌, ◌-◌, ◌≤◌, [], length}
 use Rattle.std.specs.Prelude.{sum_by}
-use Rattle.image_shared.specs.declared.shared.FileImage.{FileImage}
+use Rattle.shared_items.specs.declared.shared.FileImage.{FileImage}
 use Rattle.image_format.specs.Format.{each}
-use Rattle.image_shared.specs.SharedFormat as format
+use Rattle.shared_items.specs.SharedFormat as format
 use Rattle.image_format.specs.Reading.{read}
 use Rattle.shared_items.specs.KnownNames.{KnowsNames}
 use Rattle.shared_items.proofs.files.files_at.Given as goal

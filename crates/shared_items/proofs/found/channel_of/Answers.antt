@@ -3,8 +3,8 @@ use Rattle.std.specs.Ordering.{is_eq}
 use Rattle.std.proofs.lemmas.List.Sorted.{answers_always}
 use Rattle.sys_abi.specs.Orders.{conn_cmp}
 use Rattle.sys_abi.proofs.OrderLaws.{conn_total}
-use Rattle.image_shared.specs.declared.shared.ChannelImage.{ChannelImage}
-use Rattle.image_shared.specs.Sides.{same_channel}
+use Rattle.shared_items.specs.declared.shared.ChannelImage.{ChannelImage}
+use Rattle.shared_items.specs.Sides.{same_channel}
 use Rattle.shared_items.proofs.Searched.{found_at, found_none, parted, turned_equal}
 use Rattle.shared_items.proofs.found.channel_of.Goals as goal
 

@@ -1,8 +1,8 @@
 use Rattle.std.proofs.Common.{sym, ◌∙◌, rules}
 use Rattle.std.proofs.lemmas.List.Sorted.{answers_always}
 use Rattle.sys_abi.proofs.OrderLaws.{desc_total}
-use Rattle.image_shared.specs.declared.shared.DescriptionImage.{DescriptionImage}
-use Rattle.image_shared.specs.SharedTests.{is_pair}
+use Rattle.shared_items.specs.declared.shared.DescriptionImage.{DescriptionImage}
+use Rattle.shared_items.specs.SharedTests.{is_pair}
 use Rattle.shared_items.proofs.Searched.{is_there, is_absent, parted}
 use Rattle.shared_items.proofs.DescriptionNames.{same_desc}
 use Rattle.shared_items.proofs.found.has_description.Goals as goal

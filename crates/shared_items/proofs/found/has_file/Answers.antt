@@ -1,7 +1,7 @@
 use Rattle.std.proofs.Common.{true, ap, sym, ◌∙◌, ◌==◌, rules}
 use Rattle.std.proofs.lemmas.List.Sorted.{answers_always}
 use Rattle.std.specs.Cmp.{nat_cmp_total}
-use Rattle.image_shared.specs.declared.shared.FileImage.{FileImage}
+use Rattle.shared_items.specs.declared.shared.FileImage.{FileImage}
 use Rattle.shared_items.proofs.Keys.{same_number}
 use Rattle.shared_items.proofs.Searched.{is_there, is_absent, parted}
 use Rattle.shared_items.proofs.found.has_file.Goals as goal

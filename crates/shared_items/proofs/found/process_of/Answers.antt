@@ -1,7 +1,7 @@
 use Rattle.std.proofs.Common.{◌==◌, sym, rules}
 use Rattle.std.proofs.lemmas.List.Sorted.{answers_always}
 use Rattle.sys_abi.proofs.OrderLaws.{vpid_total}
-use Rattle.image_shared.specs.declared.shared.ProcessEntry.{ProcessEntry}
+use Rattle.shared_items.specs.declared.shared.ProcessEntry.{ProcessEntry}
 use Rattle.shared_items.proofs.Keys.{same_number}
 use Rattle.shared_items.proofs.Searched.{found_at, found_none, parted}
 use Rattle.shared_items.proofs.found.process_of.Goals as goal

@@ -1,7 +1,7 @@
 use Rattle.std.proofs.Common.{refl, sym, rules}
 use Rattle.std.proofs.lemmas.List.Sorted.{answers_always}
 use Rattle.sys_abi.proofs.OrderLaws.{desc_total}
-use Rattle.image_shared.specs.declared.shared.DescriptionImage.{DescriptionImage}
+use Rattle.shared_items.specs.declared.shared.DescriptionImage.{DescriptionImage}
 use Rattle.shared_items.proofs.Searched.{parted}
 use Rattle.shared_items.proofs.MadeNumbers.{at_number, all_below, next_other}
 use Rattle.shared_items.proofs.made.is_above_descriptions.Goals as goal

@@ -1,5 +1,5 @@
 use Rattle.std.proofs.Common.{◌≡◌, ◌-◌, refl, sym, ◌∙◌, arith}
-use Rattle.image_shared.specs.SharedFormat as format
+use Rattle.shared_items.specs.SharedFormat as format
 use Rattle.image_format.proofs.Loop.{goes_on}
 use Rattle.shared_objects.proofs.KnownKeys.{no_side, no_port, sides_pushed, ports_pushed}
 use Rattle.shared_objects.proofs.descriptions.descriptions_at.Goals as goal

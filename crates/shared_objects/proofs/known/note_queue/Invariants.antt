@@ -2,7 +2,7 @@ use Rattle.std.proofs.Common.{◌==◌, ◌&&◌, ◌||◌, take}
 use Rattle.std.specs.Prelude.{is_some}
 use Rattle.std.specs.List.{list_any}
 use Rattle.std.specs.FinMap as map
-use Rattle.image_shared.specs.Sides.{same_channel}
+use Rattle.shared_items.specs.Sides.{same_channel}
 use Rattle.shared_items.specs.Keys.{HasKeys}
 use Rattle.shared_objects.proofs.known.note_queue.Given as goal
 

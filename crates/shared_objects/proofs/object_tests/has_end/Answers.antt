@@ -1,5 +1,5 @@
 use Rattle.std.proofs.Common.{sym, ◌∙◌}
-use Rattle.image_shared.specs.SharedTests.{fits_mode}
+use Rattle.shared_items.specs.SharedTests.{fits_mode}
 use Rattle.shared_objects.proofs.object_tests.has_end.Goals as goal
 
 pub returns-in-None : goal.returns-in-None

@@ -1,6 +1,6 @@
 use Rattle.std.proofs.Common.{sym, Some, None}
-use Rattle.image_shared.specs.declared.shared.ChannelImage.{ChannelImage}
-use Rattle.image_shared.specs.Sides.{same_channel}
+use Rattle.shared_items.specs.declared.shared.ChannelImage.{ChannelImage}
+use Rattle.shared_items.specs.Sides.{same_channel}
 use Rattle.shared_items.proofs.Searched.{some_here}
 use Rattle.shared_objects.proofs.object_tests.is_channel.Goals as goal
 

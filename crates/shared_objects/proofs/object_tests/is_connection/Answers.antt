@@ -1,5 +1,5 @@
 use Rattle.std.proofs.Common.{sym, ◌∙◌}
-use Rattle.image_shared.specs.SharedTests.{is_internet}
+use Rattle.shared_items.specs.SharedTests.{is_internet}
 use Rattle.shared_objects.proofs.object_tests.is_connection.Goals as goal
 
 pub returns-in-None : goal.returns-in-None

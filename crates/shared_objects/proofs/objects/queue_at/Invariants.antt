@@ -1,6 +1,6 @@
 use Rattle.std.proofs.Common.{◌≡◌, ◌-◌, []}
 use Rattle.image_format.specs.Format.{each}
-use Rattle.image_shared.specs.SharedFormat as format
+use Rattle.shared_items.specs.SharedFormat as format
 use Rattle.image_format.specs.Reading.{read}
 use Rattle.shared_objects.specs.Known.{KnowsQueue}
 use Rattle.shared_objects.proofs.objects.queue_at.Given as goal

@@ -1,5 +1,5 @@
 use Rattle.std.proofs.Common.{◌==◌, sym, Some, None}
-use Rattle.image_shared.specs.declared.shared.ProcessEntry.{ProcessEntry}
+use Rattle.shared_items.specs.declared.shared.ProcessEntry.{ProcessEntry}
 use Rattle.shared_items.proofs.Searched.{some_here}
 use Rattle.shared_reader.proofs.process_tests.has_process.Goals as goal
 

@@ -1,6 +1,6 @@
 use Rattle.std.proofs.Common.{◌||◌, sym, ap, ◌∙◌}
 use Rattle.std.specs.List.{list_any}
-use Rattle.image_shared.specs.SharedTests.{lists_thread}
+use Rattle.shared_items.specs.SharedTests.{lists_thread}
 use Rattle.shared_reader.proofs.KnownThreads.{number_of_some}
 use Rattle.shared_reader.proofs.process_tests.is_number_of_some.Goals as goal
 

@@ -2,7 +2,7 @@ use Rattle.std.proofs.Common.{◌==◌, ◌||◌, take}
 use Rattle.std.specs.Prelude.{is_some}
 use Rattle.std.specs.List.{list_any}
 use Rattle.std.specs.FinMap as map
-use Rattle.image_shared.specs.declared.shared.ThreadEntry.{ThreadEntry}
+use Rattle.shared_items.specs.declared.shared.ThreadEntry.{ThreadEntry}
 use Rattle.shared_items.specs.Keys.{HasKeys}
 use Rattle.shared_reader.proofs.process_tests.note_threads.Given as goal
 

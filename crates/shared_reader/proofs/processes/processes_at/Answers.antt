@@ -1,10 +1,10 @@
 use Rattle.std.proofs.Common.{◌≡◌, ◌-◌, refl, sym, ◌∙◌, arith}
 use Rattle.image_format.specs.Format.{unsigned, n32, any}
 use Rattle.image_format.specs.Texts.{EachFrom}
-use Rattle.image_shared.specs.SharedFormat as format
+use Rattle.shared_items.specs.SharedFormat as format
 use Rattle.image_format.proofs.Loop.{goes_on}
 use Rattle.image_format.proofs.Numerals.{fit_bytes}
-use Rattle.image_shared.proofs.RisingItems.{bytes_behind, process_read, processes_rise}
+use Rattle.shared_items.proofs.RisingItems.{bytes_behind, process_read, processes_rise}
 use Rattle.shared_reader.proofs.KnownThreads.{no_thread, process_pushed}
 use Rattle.shared_reader.proofs.processes.processes_at.Goals as goal
 

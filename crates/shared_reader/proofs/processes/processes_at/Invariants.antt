@@ -2,8 +2,8 @@ use Rattle.std.proofs.Common.{◌≡◌, ◌-◌, []}
 use Rattle.image_format.specs.Format.{each}
 use Rattle.image_format.specs.Reading.{read}
 use Rattle.image_format.specs.Texts.{EachFrom}
-use Rattle.image_shared.specs.SharedFits.{ProcessFits}
-use Rattle.image_shared.specs.SharedFormat as format
+use Rattle.shared_items.specs.SharedFits.{ProcessFits}
+use Rattle.shared_items.specs.SharedFormat as format
 use Rattle.image_format.proofs.Numerals.{AllBytes}
 use Rattle.shared_reader.specs.KnownThreads.{KnowsThreads}
 use Rattle.shared_reader.proofs.processes.processes_at.Given as goal

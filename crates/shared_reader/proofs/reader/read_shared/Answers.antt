@@ -1,9 +1,9 @@
 use Rattle.std.proofs.Common.{ℕ, List, ◌-◌, length, sym, ◌∙◌, refl, subst, inl, inr}
-use Rattle.image_shared.specs.SharedFormat.{shared, DamagedShared}
-use Rattle.image_shared.specs.WholeShared.{is_whole_shared}
+use Rattle.shared_items.specs.SharedFormat.{shared, DamagedShared}
+use Rattle.shared_items.specs.WholeShared.{is_whole_shared}
 use Rattle.image_format.proofs.Numerals.{fit_bytes}
-use Rattle.image_shared.proofs.RisingItems.{shared_rises}
-use Rattle.image_shared.proofs.SharedLaws as law
+use Rattle.shared_items.proofs.RisingItems.{shared_rises}
+use Rattle.shared_items.proofs.SharedLaws as law
 use Rattle.image_format.proofs.WholeFiles as whole
 use Rattle.shared_reader.proofs.reader.read_shared.Goals as goal
 

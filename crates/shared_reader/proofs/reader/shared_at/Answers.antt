@@ -1,6 +1,6 @@
 use Rattle.std.proofs.Common.{subst, sym}
 use Rattle.image_format.proofs.Numerals.{fit_bytes}
-use Rattle.image_shared.specs.RisingLists.{FilesRise, ChannelsRise, DescriptionsRise}
+use Rattle.shared_items.specs.RisingLists.{FilesRise, ChannelsRise, DescriptionsRise}
 use Rattle.shared_reader.proofs.ReadLists.{files_read, channels_read, descriptions_read}
 use Rattle.shared_reader.proofs.reader.shared_at.Goals as goal
 

@@ -1,6 +1,6 @@
 use Rattle.std.proofs.Common.{◌==◌, ◌||◌, not, sym, ap, ◌∙◌, Some, None}
-use Rattle.image_shared.specs.declared.shared.ProcessEntry.{ProcessEntry}
-use Rattle.image_shared.specs.WholeShared.{is_of_parents_host}
+use Rattle.shared_items.specs.declared.shared.ProcessEntry.{ProcessEntry}
+use Rattle.shared_items.specs.WholeShared.{is_of_parents_host}
 use Rattle.shared_items.proofs.Searched.{all_here}
 use Rattle.shared_items.proofs.Keys.{turned}
 use Rattle.shared_reader.proofs.whole.is_near_parent.Goals as goal

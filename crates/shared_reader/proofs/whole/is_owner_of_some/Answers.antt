@@ -1,7 +1,7 @@
 use Rattle.std.proofs.Common.{◌≡◌, ◌==◌, ◌&&◌, Some, None, sym, ap, ◌∙◌}
 use Rattle.sys_abi.specs.Lives.{lives}
-use Rattle.image_shared.specs.declared.shared.ProcessEntry.{ProcessEntry}
-use Rattle.image_shared.specs.WholeShared.{is_owner_of}
+use Rattle.shared_items.specs.declared.shared.ProcessEntry.{ProcessEntry}
+use Rattle.shared_items.specs.WholeShared.{is_owner_of}
 use Rattle.shared_items.proofs.Searched.{any_here}
 use Rattle.shared_reader.proofs.HolderLaws.{and_assoc}
 use Rattle.shared_reader.proofs.whole.is_owner_of_some.Goals as goal

@@ -1,7 +1,7 @@
 use Rattle.std.proofs.Common.{refl, sym, ap, ◌∙◌, not, Bool, true, false, ◌≡◌, Some, None}
-use Rattle.image_shared.specs.declared.shared.ChannelImage.{ChannelImage}
-use Rattle.image_shared.specs.Sides.{same_channel}
-use Rattle.image_shared.specs.WholeShared.{is_of_host, is_end_of_host, side_of}
+use Rattle.shared_items.specs.declared.shared.ChannelImage.{ChannelImage}
+use Rattle.shared_items.specs.Sides.{same_channel}
+use Rattle.shared_items.specs.WholeShared.{is_of_host, is_end_of_host, side_of}
 use Rattle.shared_items.proofs.Searched.{all_here}
 use Rattle.shared_reader.proofs.whole.is_side_of_host.Goals as goal
 

@@ -1,6 +1,6 @@
 use Rattle.std.proofs.Common.{◌≡◌, ◌++◌, take}
 use Rattle.std.specs.List.{flat_map}
-use Rattle.image_shared.specs.SharedTexts.{file_text}
+use Rattle.shared_items.specs.SharedTexts.{file_text}
 use Rattle.shared_writer.proofs.stored.put_files.Given as goal
 
 abbrev pub invariant-loop-item : goal.invariant-loop-item

@@ -1,8 +1,8 @@
 use Rattle.std.proofs.Common.{sym, subst}
 use Rattle.std.specs.Prelude.{All}
-use Rattle.image_shared.specs.declared.shared.DescriptionImage.{DescriptionImage}
-use Rattle.image_shared.specs.SharedTexts.{HasFileCounts, HasSideCounts, HasQueueCount, HasCounts}
-use Rattle.image_shared.proofs.SharedLaws.{file_counts, side_counts, queue_counts, counts}
+use Rattle.shared_items.specs.declared.shared.DescriptionImage.{DescriptionImage}
+use Rattle.shared_items.specs.SharedTexts.{HasFileCounts, HasSideCounts, HasQueueCount, HasCounts}
+use Rattle.shared_items.proofs.SharedLaws.{file_counts, side_counts, queue_counts, counts}
 use Rattle.shared_writer.proofs.whole.put_shared.Goals as goal
 
 pub put_files-requires-clause-counts : goal.put_files-requires-clause-counts

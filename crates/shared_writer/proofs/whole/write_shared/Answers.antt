@@ -1,5 +1,5 @@
 use Rattle.std.proofs.lemmas.Result.{IfOk-weaker}
-use Rattle.image_shared.proofs.SharedLaws.{of_text}
+use Rattle.shared_items.proofs.SharedLaws.{of_text}
 use Rattle.shared_writer.proofs.whole.write_shared.Goals as goal
 
 pub returns : goal.returns

@@ -2,7 +2,7 @@ use Rattle.std.proofs.Common.{ap, ◌∙◌}
 use Rattle.std.specs.FinMap as map
 use Rattle.views.proofs.Outcomes.{on_some}
 use Rattle.wire_channels.specs.Channels.{without_end, stays_open}
-use Rattle.real_maps.proofs.Lends.{changed-found}
+use Rattle.virt_ids.proofs.Lends.{changed-found}
 use Rattle.wire_channels.proofs.closing.close_end.Goals as goal
 
 pub returns-clause-open : goal.returns-clause-open

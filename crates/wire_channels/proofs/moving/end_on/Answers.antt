@@ -3,7 +3,7 @@ use Rattle.std.specs.FinMap as map
 use Rattle.views.proofs.Outcomes.{on_some}
 use Rattle.wire_channels.specs.Directions.{after_end}
 use Rattle.wire_channels.specs.Channels.{at_side}
-use Rattle.real_maps.proofs.Lends.{changed-found}
+use Rattle.virt_ids.proofs.Lends.{changed-found}
 use Rattle.wire_channels.proofs.moving.end_on.Goals as goal
 
 pub returns-in-Some : goal.returns-in-Some

@@ -7,7 +7,7 @@ use Rattle.wire_channels.specs.Directions.{after_move}
 use Rattle.wire_channels.specs.Channels.{direction_of, at_side}
 use Rattle.wire_channels.specs.Frames.{SameFrames}
 use Rattle.wire_channels.specs.Answers.{bytes_on}
-use Rattle.real_maps.proofs.Lends.{changed-found}
+use Rattle.virt_ids.proofs.Lends.{changed-found}
 use Rattle.wire_channels.proofs.KeptFrames.{frames_kept, moves_keep, none_moved}
 use Rattle.wire_channels.proofs.moving.move_on.Goals as goal
 

@@ -8,7 +8,7 @@ use Rattle.sys_abi.proofs.OrderLaws.{conn_total, conn_exact}
 use Rattle.wire_channels.specs.Directions.{after_receive}
 use Rattle.wire_channels.specs.Channels.{direction_of, at_side}
 use Rattle.wire_channels.specs.Answers.{receive_answer_on, received_on}
-use Rattle.real_maps.proofs.Lends.{changed-found}
+use Rattle.virt_ids.proofs.Lends.{changed-found}
 use Rattle.wire_channels.proofs.moving.receive_on.Goals as goal
 
 pub returns-clause-answer : goal.returns-clause-answer

@@ -8,7 +8,7 @@ use Rattle.sys_abi.proofs.OrderLaws.{conn_total, conn_exact}
 use Rattle.wire_channels.specs.Directions.{after_send}
 use Rattle.wire_channels.specs.Channels.{direction_of, at_side}
 use Rattle.wire_channels.specs.Answers.{send_answer_on}
-use Rattle.real_maps.proofs.Lends.{changed-found}
+use Rattle.virt_ids.proofs.Lends.{changed-found}
 use Rattle.wire_channels.proofs.moving.send_on.Goals as goal
 
 pub returns-clause-answer : goal.returns-clause-answer

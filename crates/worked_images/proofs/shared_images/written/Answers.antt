@@ -1,4 +1,4 @@
-use Rattle.image_shared.proofs.SharedLaws.{text_of}
+use Rattle.shared_items.proofs.SharedLaws.{text_of}
 use Rattle.worked_images.proofs.shared_images.written.Goals as goal
 
 pub write_shared-requires : goal.write_shared-requires

@@ -1,4 +1,4 @@
-use Rattle.image_shared.proofs.SharedLaws.{text_of}
+use Rattle.shared_items.proofs.SharedLaws.{text_of}
 use Rattle.worked_sets.proofs.kernels.kernel_of.Goals as goal
 
 pub restored_kernel-requires : goal.restored_kernel-requires

@@ -1,7 +1,7 @@
 use Rattle.std.proofs.Common.{sym, subst}
 use Rattle.image_codec.specs.KernelImages.{IsImage}
-use Rattle.image_shared.specs.SharedFits.{IsShared}
-use Rattle.image_shared.proofs.SharedLaws.{text_of}
+use Rattle.shared_items.specs.SharedFits.{IsShared}
+use Rattle.shared_items.proofs.SharedLaws.{text_of}
 use Rattle.worked_sets.proofs.verdicts.comes_back.Goals as goal
 
 pub restored_kernel-requires : goal.restored_kernel-requires

@@ -11,7 +11,7 @@ use Rattle.host_descriptors.specs.Held.{seen_held}
 use Rattle.host_tables.proofs.LookUps.{held_none}
 use Rattle.host_tables.specs.Serves.{bytes_or}
 use Rattle.host_tables.specs.Systems.{given_of}
-use Rattle.wrap_addresses.proofs.Ends.{end_name_is}
+use Rattle.wrap_names.proofs.Ends.{end_name_is}
 use Rattle.wrap_sockets.proofs.ClientTold.{never_held, same_held, stream_seen, stream_is, client_told}
 use Rattle.wrap_sockets.proofs.accepting.tell_client.Goals as goal
 

@@ -1,6 +1,6 @@
 use Rattle.std.proofs.Common.{sym, subst}
 use Rattle.host_tables.specs.declared.system.System.{System}
-use Rattle.stage_lists.specs.Voters.{Voters}
+use Rattle.leader_vote.specs.Voters.{Voters}
 use Rattle.cut_stages.specs.Cuts.{voted_by}
 use Rattle.ckpt_stages.specs.Suspensions.{IsSuspended}
 use Rattle.ckpt_stages.proofs.Voted.{voted_on}

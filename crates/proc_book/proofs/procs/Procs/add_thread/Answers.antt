@@ -1,7 +1,7 @@
 use Rattle.std.proofs.Common.{◌≡◌, ◌+◌, ◌<◌, length, rules, arith, sym, ap, subst, ◌∙◌}
 use Rattle.std.specs.Prelude.{slice_index, slice_set}
 use Rattle.std.proofs.lemmas.Grind.{common_steps}
-use Rattle.real_maps.specs.Changes.{at_key}
+use Rattle.virt_ids.specs.Changes.{at_key}
 use Rattle.proc_book.specs.Procs.{ProcTable, with_thread}
 use Rattle.proc_book.proofs.HandedOut.{handed_out-add_thread}
 use Rattle.proc_book.proofs.procs.Procs.add_thread.Goals as goal

@@ -1,3 +1,0 @@
-pub mod ClosedPairs
-pub mod FreeNumbers
-pub mod SentMessages

@@ -1,8 +1,0 @@
-pub mod MarkedEnds
-pub mod ClosedEnds
-pub mod FileCloses
-pub mod DatagramCloses
-pub mod CloseCall
-pub mod ObjectsAt
-pub mod FinishedCloses
-pub mod LetGoes

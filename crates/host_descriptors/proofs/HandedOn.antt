@@ -1,2 +1,0 @@
--- What is handed on of the libraries below, so that who uses this one need not name them.
-pub use Rattle.host_closes.proofs.ClosedEnds.{plain_of, ended_kept, unread_kept}

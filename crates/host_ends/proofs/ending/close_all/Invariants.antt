@@ -1,6 +1,0 @@
-use Rattle.host_tables.specs.Serves.{Through}
-use Rattle.host_ends.proofs.LowestCloses.{IsClosedBelow}
-use Rattle.host_ends.proofs.ending.close_all.Given as goal
-
-abbrev pub invariant-loop : goal.invariant-loop
-invariant-loop l = Through l.fn.kernel l.who (λ g k p. IsClosedBelow g l.kernel k p l.counter)

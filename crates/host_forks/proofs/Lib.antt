@@ -1,9 +1,0 @@
-pub mod TakenBack
-pub mod SharedSlots
-pub mod MoreNumbers
-pub mod MoreProcesses
-pub mod NewNumbers
-pub mod Forked
-pub mod MoreThreads
-pub mod CloneRows
-pub mod CloneForms

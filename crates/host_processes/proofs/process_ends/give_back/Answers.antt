@@ -1,0 +1,7 @@
+use Rattle.host_processes.proofs.LowestCloses.{nothing_closed}
+use Rattle.host_processes.proofs.process_ends.give_back.Goals as goal
+
+pub returns : goal.returns
+returns c =
+    nothing_closed c.args.book.now.descriptors c.args.who c.requires.none c.end_table.result
+    c.end_table.ensures.lowest c.end_table.ensures.none

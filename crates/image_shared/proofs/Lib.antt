@@ -1,5 +1,0 @@
-pub mod FieldLaws
-pub mod ItemLaws
-pub mod ObjectLaws
-pub mod RisingItems
-pub mod SharedLaws

@@ -1,9 +1,0 @@
-use Rattle.mem_folder.specs.declared.request.Request.TheVariants.{Look}
-use Rattle.mem_folder.proofs.MemoryFolders.{passes}
-use Rattle.mem_folder.proofs.mem_folder.MemFolderFolder.len.Goals as goal
-
-pub returns-in_err-make-clause-crash : goal.returns-in_err-make-clause-crash
-returns-in_err-make-clause-crash c = passes Look c.args.self.now c.make.new.self c.make.result c.make.ensures
-
-pub returns-clause-crash : goal.returns-clause-crash
-returns-clause-crash c = passes Look c.args.self.now c.make.new.self c.make.result c.make.ensures

@@ -1,5 +1,0 @@
-pub mod FilesCode
-pub mod FileTable
-pub mod History
-pub mod HistoryCode
-pub mod InMemory

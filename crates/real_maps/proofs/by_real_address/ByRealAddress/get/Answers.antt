@@ -1,6 +1,0 @@
-use Rattle.sys_abi.proofs.OrderLaws.{real_address_total}
-use Rattle.views.proofs.TreeMaps.{get-seen}
-use Rattle.real_maps.proofs.by_real_address.ByRealAddress.get.Goals as goal
-
-pub returns : goal.returns
-returns g c = get-seen real_address_total c.self.inside.entries c.args.self.now c.args.key _ c.get.ensures.value c.self.view_is

@@ -1,4 +1,0 @@
-pub mod Nets
-pub mod Holders
-pub mod Making
-pub mod Steps

@@ -1,4 +1,0 @@
-pub mod FilledDirections
-pub mod FilledChannels
-pub mod SeenDirections
-pub mod SeenChannels

@@ -1,3 +1,0 @@
-pub mod RingBounds
-pub mod RingWords
-pub mod RingFiles

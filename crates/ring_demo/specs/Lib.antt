@@ -1,2 +1,0 @@
-pub mod RingJobs
-pub mod Values

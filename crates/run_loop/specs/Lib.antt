@@ -1,4 +1,0 @@
-pub mod RunEnds
-pub mod Pace
-pub mod Going
-pub mod HandedOn

@@ -1,9 +1,0 @@
-use checkpointer::Checkpointer;
-use scheduler::Computation;
-
-/// A run at its start: the computation, and what makes its checkpoints.
-#[derive(Drop)]
-pub struct Start {
-    pub computation: Computation,
-    pub checkpointer: Checkpointer,
-}

@@ -1,4 +1,0 @@
-pub mod Scheduling
-pub mod HandedOn
-pub mod StopVariants
-pub mod DidVariants

@@ -1,6 +1,0 @@
-pub mod Filling
-mod Paired
-mod SeenThreads
-mod SeenProcesses
-mod SeenDescriptors
-mod SeenDescriptions

@@ -1,4 +1,0 @@
-pub mod Filling
-pub mod Processes
-pub mod Descriptors
-pub mod Descriptions

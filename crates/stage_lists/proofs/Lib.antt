@@ -1,5 +1,0 @@
-pub mod Walks
-pub mod KeptOwners
-mod Voting
-mod Listing
-mod Acting

@@ -1,4 +1,0 @@
-pub mod Owners
-pub mod Voters
-pub mod Directions
-pub mod Agents

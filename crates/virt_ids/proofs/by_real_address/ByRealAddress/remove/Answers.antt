@@ -1,0 +1,13 @@
+use Rattle.std.proofs.Common.{ap, ◌∙◌}
+use Rattle.sys_abi.proofs.OrderLaws.{real_address_total, real_address_exact}
+use Rattle.std.specs.FinMap as map
+use Rattle.views.proofs.TreeMaps.{get-seen, view-remove}
+use Rattle.virt_ids.proofs.by_real_address.ByRealAddress.remove.Goals as goal
+
+pub returns-clause-before : goal.returns-clause-before
+returns-clause-before g c = get-seen real_address_total c.self.inside.entries c.args.self.now c.args.key _ c.remove.ensures.value c.self.view_is
+
+pub returns-clause-removed : goal.returns-clause-removed
+returns-clause-removed g c =
+    view-remove real_address_total real_address_exact c.self.inside.entries c.remove.new.self c.args.key c.remove.ensures.updates.0
+    ∙ ap (λ m. map.remove m c.args.key) c.self.view_is

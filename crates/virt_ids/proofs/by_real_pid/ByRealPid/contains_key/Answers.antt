@@ -1,0 +1,9 @@
+use Rattle.std.proofs.Common.{sym, ap, ◌∙◌}
+use Rattle.sys_abi.proofs.OrderLaws.{real_pid_total}
+use Rattle.std.specs.FinMap as map
+use Rattle.std.specs.Prelude.{is_some}
+use Rattle.views.proofs.TreeMaps.{get-view}
+use Rattle.virt_ids.proofs.by_real_pid.ByRealPid.contains_key.Goals as goal
+
+pub returns : goal.returns
+returns g c = c.contains_key.ensures ∙ ap is_some (sym (get-view real_pid_total c.self.inside.entries c.args.key) ∙ ap (λ m. map.get m c.args.key) c.self.view_is)

@@ -1,0 +1,6 @@
+use Rattle.sys_abi.proofs.OrderLaws.{real_pid_total}
+use Rattle.views.proofs.TreeMaps.{get-seen}
+use Rattle.virt_ids.proofs.by_real_pid.ByRealPid.get.Goals as goal
+
+pub returns : goal.returns
+returns g c = get-seen real_pid_total c.self.inside.entries c.args.self.now c.args.key _ c.get.ensures.value c.self.view_is

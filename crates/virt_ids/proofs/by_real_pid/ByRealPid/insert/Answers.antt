@@ -1,0 +1,13 @@
+use Rattle.std.proofs.Common.{ap, ◌∙◌}
+use Rattle.sys_abi.proofs.OrderLaws.{real_pid_total, real_pid_exact}
+use Rattle.std.specs.FinMap as map
+use Rattle.views.proofs.TreeMaps.{get-seen, view-insert}
+use Rattle.virt_ids.proofs.by_real_pid.ByRealPid.insert.Goals as goal
+
+pub returns-clause-before : goal.returns-clause-before
+returns-clause-before g c = get-seen real_pid_total c.self.inside.entries c.args.self.now c.args.key _ c.in_ok-insert.ensures.old c.self.view_is
+
+pub returns-clause-ok : goal.returns-clause-ok
+returns-clause-ok g c =
+    view-insert real_pid_total real_pid_exact c.self.inside.entries c.insert.new.self c.args.key c.args.value c.in_ok-insert.ensures.updates.0
+    ∙ ap (λ m. map.insert m c.args.key c.args.value) c.self.view_is

@@ -1,0 +1,8 @@
+use Rattle.std.proofs.Common.{sym, ap, ◌∙◌}
+use Rattle.sys_abi.proofs.OrderLaws.{real_pid_total}
+use Rattle.std.specs.FinMap as map
+use Rattle.views.proofs.TreeMaps.{keys-view}
+use Rattle.virt_ids.proofs.by_real_pid.ByRealPid.keys.Goals as goal
+
+pub returns : goal.returns
+returns g c = c.keys.ensures.rest ∙ sym (keys-view real_pid_total c.self.inside.entries c.keys.ensures.ordered) ∙ ap map.keys c.self.view_is

@@ -1,0 +1,8 @@
+use Rattle.std.proofs.Common.{sym, ap, ◌∙◌}
+use Rattle.sys_abi.proofs.OrderLaws.{real_pid_total}
+use Rattle.std.specs.FinMap as map
+use Rattle.views.proofs.TreeMaps.{len-view}
+use Rattle.virt_ids.proofs.by_real_pid.ByRealPid.len.Goals as goal
+
+pub returns : goal.returns
+returns g c = c.len.ensures.len ∙ sym (len-view real_pid_total c.self.inside.entries c.len.ensures.ordered) ∙ ap map.len c.self.view_is

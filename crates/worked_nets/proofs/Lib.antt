@@ -1,2 +1,0 @@
-mod OneChannel
-mod Rounds

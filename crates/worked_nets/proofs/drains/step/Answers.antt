@@ -1,7 +1,0 @@
-use Rattle.worked_nets.specs.declared.channel.TheConstants.{ENDS}
-use Rattle.worked_nets.proofs.Rounds.{drain_step}
-use Rattle.worked_nets.proofs.drains.step.Goals as goal
-
-pub returns : goal.returns
-returns c =
-    drain_step ENDS c.args.net.now.channels c.step.new.net.channels c.args.drain.now c.step.new.self c.step.ensures.fits c.step.ensures.agents c.step.ensures.frame c.requires

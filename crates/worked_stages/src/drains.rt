@@ -1,0 +1,113 @@
+//! Drains of one channel between two processes.
+ghost use Rattle.std.specs.Prelude.{IfOk};
+ghost use Rattle.worked_stages.specs.Alone.{IsAlone};
+ghost use Rattle.worked_stages.specs.Handed.{IsDraining, IsHanded};
+
+use crate::channel::{
+    CLIENT, CONN, ENDS, FIRST, SECOND, SERVER, STRANGER, one_channel, say, shut, stands, tick,
+};
+use crate::checks::{bytes, holds, queues, same, stepped};
+use drain_core::{Drain, drain_laws};
+use std::alloc::{AllocError, Global};
+use std::process::Abort;
+use std::test::Fail;
+use sys_abi::RealPid;
+use wire_net::{CutRoom, DirBytes, DrainedNet, Net, Stepped};
+
+pub(crate) fn begin(alloc: Global, net: &Net) -> Result<Drain, AllocError>
+    requires { IsAlone CONN net.now.channels }
+    ensures { IfOk result (λ drain. IsDraining net.now.channels ENDS drain) }
+{
+    let lengths = [(FIRST, stands(net, FIRST)), (SECOND, stands(net, SECOND))];
+    let room = CutRoom::reserve(alloc, &lengths)?;
+    Ok(Drain::begin(room, net, &ENDS))
+}
+
+fn step(net: &mut Net, drain: &mut Drain, agent: RealPid) -> Stepped
+    requires { IsDraining net.old.channels ENDS drain.old }
+    ensures { IsDraining net.new.channels ENDS drain.new }
+{
+    drain.step(net, agent)
+}
+
+/// Both agents make a step, and the wire moves.
+fn round(net: &mut Net, drain: &mut Drain)
+    requires { IsDraining net.old.channels ENDS drain.old }
+    ensures { IsDraining net.new.channels ENDS drain.new }
+{
+    drain_laws();
+    step(net, drain, CLIENT);
+    step(net, drain, SERVER);
+    tick(net);
+}
+
+pub(crate) fn go_on(net: &mut Net, drain: &mut Drain)
+    requires { IsDraining net.old.channels ENDS drain.old }
+    ensures { IsDraining net.new.channels ENDS drain.new }
+{
+    for _round in 0..6 {
+        round(net, drain);
+    }
+}
+
+/// The drain is done. What it gives, and the room.
+pub(crate) fn finished(rt: &impl Abort, net: &Net, drain: Drain) -> (DrainedNet, CutRoom)
+    requires { IsDraining net.now.channels ENDS drain }
+    ensures { IsHanded net.now.channels ENDS result.0 result.1 }
+{
+    holds(rt, drain.is_done(net));
+    drain.finish(net)
+}
+
+/// The list of a direction, of which the bytes were left in place or not.
+fn list(rt: &impl Abort, given: &DirBytes, in_place: bool, text: &[u8]) {
+    assert_eq!(rt; given.in_place, in_place);
+    bytes(rt, given.bytes.as_slice(), text);
+}
+
+/// What was drained of both directions.
+pub(crate) fn lists(
+    rt: &impl Abort,
+    drained: &DrainedNet,
+    in_place: bool,
+    first: &[u8],
+    second: &[u8],
+) {
+    let lists = drained.lists.as_slice();
+    assert_eq!(rt; lists.len(), 2);
+    list(rt, &lists[0], in_place, first);
+    list(rt, &lists[1], in_place, second);
+}
+
+#[test]
+fn both_ways_are_emptied(rt: HostRuntime) -> Result<(), Fail> {
+    let mut net = one_channel(&rt, rt.alloc())?;
+    say(&rt, &mut net, FIRST, b"hello");
+    say(&rt, &mut net, SECOND, b"good morning");
+    let mut drain = begin(rt.alloc(), &net)?;
+    stepped(&rt, step(&mut net, &mut drain, STRANGER), Stepped::Finished);
+    stepped(&rt, step(&mut net, &mut drain, CLIENT), Stepped::Moved);
+    stepped(&rt, step(&mut net, &mut drain, CLIENT), Stepped::Again);
+    go_on(&mut net, &mut drain);
+    let (drained, _room) = finished(&rt, &net, drain);
+    lists(&rt, &drained, false, b"hello", b"good morning");
+    queues(&rt, &net, FIRST, [0, 0, 0]);
+    queues(&rt, &net, SECOND, [0, 0, 0]);
+    same(&rt, net.carried(FIRST), 21);
+    Ok(())
+}
+
+#[test]
+fn a_channel_that_has_ended_is_left_in_place(rt: HostRuntime) -> Result<(), Fail> {
+    let mut net = one_channel(&rt, rt.alloc())?;
+    say(&rt, &mut net, FIRST, b"the last words");
+    shut(&mut net, FIRST);
+    let mut drain = begin(rt.alloc(), &net)?;
+    holds(&rt, !drain.has_work(&net, SERVER));
+    holds(&rt, !drain.is_done(&net));
+    go_on(&mut net, &mut drain);
+    let (drained, _room) = finished(&rt, &net, drain);
+    lists(&rt, &drained, true, b"the last words", b"");
+    queues(&rt, &net, FIRST, [0, 0, 14]);
+    Ok(())
+}

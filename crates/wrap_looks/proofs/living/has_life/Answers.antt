@@ -1,8 +1,0 @@
-use Rattle.std.proofs.Common.{ap, ◌∙◌}
-use Rattle.std.specs.Prelude.{is_some}
-use Rattle.wrap_looks.proofs.SomeLife.{has_life_told}
-use Rattle.wrap_looks.proofs.living.has_life.Goals as goal
-
-pub returns : goal.returns
-returns c k next_id w =
-    c.is_some.ensures ∙ ap is_some c.next_process.ensures ∙ has_life_told c.args.system.now next_id k w

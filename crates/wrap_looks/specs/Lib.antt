@@ -1,3 +1,0 @@
-pub mod Directions
-pub mod Console
-pub mod Naming
