@@ -40,7 +40,7 @@ fn run(guest: &mut Guest, quanta: u32) -> u64 {
         }
         let (done, ran) = guest.run(Tid(NUMBER), QUANTUM);
         count = count.saturating_add(done as u64);
-        if ran != Ran::Whole {
+        if !matches!(ran, Ran::Whole) {
             return count;
         }
     }
