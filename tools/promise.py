@@ -23,6 +23,7 @@ COLUMNS = 110
 
 HEAD = re.compile(r"(?:abbrev|unfoldable)?\s*(?:pub )?(?:record |data )?(\S+)")
 DEFINES = re.compile(r"(?:abbrev |unfoldable )(?:pub )?\S|pub (?:record|data) \S|(?:record|data) \S")
+MODULE = re.compile(r"module _\b")
 IMPORT = re.compile(r"(?:unfoldable )?(?:pub |ghost )?use Rattle\.([\w.]+?)(?:\.\{(.*)\}| as (\w+));?$")
 NAME = re.compile(r"[A-Za-z_][\w'-]*(?:\.[A-Za-z_][\w'-]*)*")
 
@@ -68,10 +69,25 @@ def imports_of(lines):
     return found
 
 
+def without_modules(lines):
+    """Yields the lines of a file as they would stand without its modules that have no name, whose heads are left out."""
+    deep, in_head = 0, False
+    for line in lines:
+        while line.strip() and not in_head and not line.startswith("  " * deep):
+            deep -= 1
+        rest = line[2 * deep:]
+        if MODULE.match(rest):
+            in_head = True
+        if not in_head:
+            yield rest
+        elif line.split()[-1:] == ["where"]:
+            deep, in_head = deep + 1, False
+
+
 def definitions_in(module, lines):
     """Yields the definitions of a file, each with its lines that are neither empty nor a comment."""
     held = []
-    for line in [*lines, "abbrev "]:
+    for line in [*without_modules(lines), "abbrev "]:
         uses = IMPORT.match(line)
         starts = DEFINES.match(line) and not uses or line == "abbrev "
         if (starts or uses) and held:
@@ -106,9 +122,19 @@ def origin(place, name, known):
     return place, name
 
 
+def words_in(lines, names):
+    """Yields the words of some lines, and those of the names that are operators whose signs stand there, or a `do` for them."""
+    text = "\n".join(lines)
+    signs = set(text.split())
+    if "do" in signs:
+        signs |= {">>=", ">>"}
+    yield from NAME.findall(text)
+    yield from (name for name in names if "◌" in name and signs.issuperset(filter(None, name.split("◌"))))
+
+
 def cited(lines, imports, own, known):
     """Yields the definitions that some lines name."""
-    for word in NAME.findall("\n".join(lines)):
+    for word in words_in(lines, [*own, *imports]):
         first, *rest = word.split(".")
         if first in own:
             yield own[first]
@@ -156,7 +182,8 @@ def page(lines, files):
         f"{len(every)} definitions, {size(every)} lines without comments, in {len(files)} files of {len(crates)} crates "
         f"({', '.join(f'`{crate}` {count}' for crate, count in crates.most_common())}).",
         "Below each file stands the number of its definitions that the contract rests on, and of their lines. The order is that in which "
-        "a reader of the contract meets them. The types of the program's own values that they speak of stand in the crates' `src/`.", "",
+        "a reader of the contract meets them. Not counted is what stands in the crates' `src/`: the types and the constants of the "
+        "program that the definitions speak of, and what a contract sees of a value of such a type, as of a trace its records.", "",
         "| File | Definitions | Lines | What it says |", "|---|---|---|---|",
     ]
     for module, found in files.items():
