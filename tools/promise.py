@@ -175,13 +175,13 @@ def page(lines, files):
         crates[one.crate] += len(one.lines)
     said = [
         "# The promise", "",
-        "This page is made by `tools/promise.py` from the sources; the gate fails where it is stale.", "",
+        "This page is made by `tools/promise.py` from the sources; the gate, where it has Python 3, fails where it is stale.", "",
         "## The contract of the top call", "",
         f"As it stands in `{SOURCE}`:", "", "```text", *lines, "```", "",
         "## What it rests on", "",
         f"{len(every)} definitions, {size(every)} lines without comments, in {len(files)} files of {len(crates)} crates "
         f"({', '.join(f'`{crate}` {count}' for crate, count in crates.most_common())}).",
-        "Below each file stands the number of its definitions that the contract rests on, and of their lines. The order is that in which "
+        "Beside each file stands the number of its definitions that the contract rests on, and of their lines. The order is that in which "
         "a reader of the contract meets them. Not counted is what stands in the crates' `src/`: the types and the constants of the "
         "program that the definitions speak of, and what a contract sees of a value of such a type, as of a trace its records.", "",
         "| File | Definitions | Lines | What it says |", "|---|---|---|---|",
