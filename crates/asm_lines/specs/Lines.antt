@@ -1,6 +1,7 @@
--- What a line of a program's text says, in the words of the RISC-V assembly programmer's handbook. Spaces
--- stand at a line's start, behind its word and behind commas alone. A line is empty, a comment from `#` on, a
--- label with its colon, or a word, and behind a space its operands. `None` stands for a line that is none.
+-- What a line of a program's text says, in the words of the RISC-V assembly programmer's handbook. Outside
+-- comments and quotes spaces stand at a line's start, behind its word and behind commas alone. A line is
+-- empty, a comment from `#` on, a label with its colon, or a word, and behind a space its operands. `None`
+-- stands for a line that is none.
 --
 --     statement_of line            what a line says
 --     statements_of text           what each line of a text says

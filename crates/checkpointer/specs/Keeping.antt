@@ -1,6 +1,6 @@
 -- What the folder of sets has come to while a run goes on, where checkpoints are asked for.
---     IsSafe g records old new     a crash at any moment of the call so far leaves a set that was there
---                                  before or one of the run's
+--     IsSafe g records old new     a crash at any moment of the call so far leaves the set that counted in
+--                                  an image of its start, if one did, or one of the run's
 --     IsKept checkpointer folder   what the checkpointer knows of the folder
 --     IsPut state generation result old new     a set that was put, or tried
 use Rattle.std.specs.Prelude.{◌≡◌, ◌⊎◌, ℕ, suc, ◌+◌, ◌-◌, ◌^◌, ◌<◌, ◌≤◌, Bool, true, false, List, Some, None, is_some, IfSome, Result, OnOk, OnErr}

@@ -9,9 +9,9 @@
 //!
 //! Proved, for every computation of any number of processes, all sinks and folders, also where these fail:
 //! the trace goes on being a run of the plain machine in the order of the rounds, requests are answered as
-//! far as it has room, a crash at any moment leaves a set that was there before or one that spells the run's
-//! state at its cut, and the files of a set spell the plain state for which the computation stands. Not
-//! claimed: that an allocation succeeds.
+//! far as it has room, a crash at any moment leaves the set that counted before, if one did, or one that
+//! spells the run's state at its cut, and the files of a set spell the plain state for which the computation
+//! stands. Not claimed: that an allocation succeeds.
 #![tactic(auto)]
 
 pub mod checkpointer;

@@ -6,7 +6,7 @@
 //! moment inside a call (`LeavesOnly` in `specs/Moments.antt`). A count of faults tells a failure
 //! of the disk from an answer that the code made up.
 //!
-//! [`MemFolder`] is a `Folder` in memory that fails at calls which are named beforehand, and gives the images
+//! [`MemFolder`] is a `Folder` in memory that fails at calls which are named beforehand, and gives images
 //! that a crash after any of its calls may leave; `set_disk` has a folder of the host.
 //!
 //! Proved: laws of these definitions, of writes, cuts and stretches of calls, for the crates above; a

@@ -8,10 +8,11 @@
 --                          nobody lives or all bytes have arrived
 --     OneEnd               so two runs to such an end are one
 --     OneEnding            and two runs with as much room end alike, with one trace
---     EndsSo               so a run does what the rounds from its state do to their end, where there is room
---                          for that, or wants memory
+--     EndsSo               so a run does what the rounds from its state do to an end at which nobody lives,
+--                          where they come to one and there is room for that, or wants memory
 --     OneRestart           so restarts from one set answer one and leave one trace
---     RestartEndsSo        and a restart does what the rounds from its set's state do to their end
+--     RestartEndsSo        and a restart does what the rounds from its set's state do to an end at which
+--                          nobody lives
 --     SetIsValid           whose state is valid, as that of a launch is
 --     OneAnswer            and two calls that begin with one state, launch or restart, show the same where
 --                          both end as done

@@ -3,9 +3,9 @@ ghost use Rattle.dmtcp_top.specs.OneOrder.{OneOrder, OneTrace, StandsStill, Ends
 
 /// Laws of the sets that calls leave and restarts take. It does nothing. A folder's set spells one state at
 /// most, so where it is one of a run's cuts, a restart goes on from exactly the state there; and where the
-/// rounds from there come to an end within its room, a restart without checkpoints, in which nothing outside
-/// fails, answers Done with exactly their records, or wants memory. A set that counts never both spells a
-/// state and is damaged, and it has at most one first damage.
+/// rounds from there come within its room to an end at which nobody lives, a restart without checkpoints, in
+/// which nothing outside fails, answers Done with exactly their records, or wants memory. A set that counts
+/// never both spells a state and is damaged, and it has at most one first damage.
 pub fn restart_laws()
     ensures one { OneState }
     ensures round_trip { RoundTrip }

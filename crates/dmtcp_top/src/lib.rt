@@ -7,8 +7,8 @@
 //! read by `job_words`, and `IsBuilt` in `specs/Jobs.antt` says which of its jobs are built.
 //! `JobInputs.antt` of `launch_start` says what a launch reads and is refused for, `specs/Ends.antt` in one
 //! line for each status what holds of the trace, the console and the log, and `specs/Promise.antt` what a
-//! crash at any moment leaves of the folder. No clause speaks of the nodes on which the hosts are. The run
-//! itself is `drive`'s.
+//! crash at any moment leaves of the folder. No clause of [`dmtcp`] speaks of the nodes on which the hosts
+//! are. The run itself is `drive`'s.
 //!
 //! The contract of [`dmtcp`] says all of that for every word list, all inputs, sinks and folders, also where
 //! these fail; what it says of files, sets, the console and the log it says of those that tell their content.

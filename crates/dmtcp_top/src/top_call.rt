@@ -30,9 +30,9 @@ use trace_log::Trace;
 /// to `disk`. `ring` does both with a job of its own, and tells on `out` what it came to; `help` tells the
 /// forms of the command line there.
 ///
-/// The bytes that the programs write go to `out`. `log` gets a line for each checkpoint, and how the call
-/// ended in one last line. `trace` gets a record for each step of the run and a mark for each stage of a
-/// checkpoint.
+/// The bytes that the programs write go to `out`. `log` gets a line for each outcome of a request for a
+/// checkpoint, and how the call ended in one last line. `trace` gets a record for each step of the run, and
+/// the marks of each request.
 pub fn dmtcp<R: Wait + Threads + Sync, I: Inputs, O: Sink, L: Sink, F: Folder>(
     rt: &R,
     alloc: Global,

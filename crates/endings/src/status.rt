@@ -7,7 +7,7 @@ ghost use Rattle.endings.specs.Statuses.{number_of};
 pub enum Status {
     /// No process lives.
     Done = 0,
-    /// The words are none that the command line has.
+    /// The words ask for nothing that is built.
     Usage = 10,
     /// An input could not be read.
     InputFault = 11,

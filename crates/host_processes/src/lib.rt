@@ -1,8 +1,8 @@
 //! The calls on processes over real numbers, a function a row.
 //!
 //! Proved: by all pairs and every kernel part for which the kernel stood, a row's answer and the kernel after
-//! it are those of the plain row; after an error, and where a call waits, all is as before. No call takes
-//! memory.
+//! it are those of the plain row; after an error, and where a call waits, all is as before. No call but clone
+//! takes memory.
 //!
 //! # Clone
 //!

@@ -4,8 +4,9 @@ use std::alloc::AllocError;
 use thiserror::Error;
 
 /// Where a set is damaged: a file of the slot, by its index (0 the manifest, 1 the shared image, then the
-/// images of processes), and the offset in bytes of the first field whose value is not allowed after the
-/// fields before it.
+/// images of processes), and an offset in bytes: that of the first field whose value is not allowed after the
+/// fields before it, that of the first byte too many, or that of the end of a file that ends too early, lacks
+/// something as a whole or is missing (0).
 #[derive(Clone, Copy, Debug, PartialEq, Eq)]
 pub struct Damage {
     pub file: u32,

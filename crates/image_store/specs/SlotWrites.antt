@@ -4,7 +4,7 @@
 --     with_manifest slot bytes files    the manifest's bytes behind the gate, which stays
 --     closing_step slot gate            what a crash may make of an image while the gate is closed so
 --     OnlyFile name                     a step that may change one file
---     KeepsOthers, KeepsManifest slot   a step that may change the files of one slot, and that but its manifest
+--     KeepsManifest slot                a step that may change the files of one slot but its manifest
 --     KeepsGate slot                    a step that may change the files of one slot, but not the first byte of a manifest that has one
 use Rattle.std.specs.Prelude.{◌≡◌, ◌≢◌, ◌⊎◌, ℕ, suc, ◌<◌, if◌then◌else◌, ◌==◌, List, [], ◌∷◌, ◌++◌, length}
 use Rattle.std.specs.Prelude.{take, drop, Option, Some, None}

@@ -1,10 +1,12 @@
 //! The store of checkpoint sets: which set of a folder counts, writing a set so that a crash at any
 //! moment leaves the set before or the new one, and reading a set back.
 //!
-//! A set lies in slot 0 or 1 of a folder, its manifest as file 0 and its images behind it. It counts
-//! where the first byte of its manifest, its gate, is 1. A [`Store`] closes the gate of the slot that
-//! does not count, writes the images and the manifest, and opens the gate, with a sync after each of
-//! the three. What holds of a run of puts stands in `store_runs`.
+//! A set lies in slot 0 or 1 of a folder, its manifest as file 0 and its images behind it. It is
+//! complete where its manifest has at least 16 bytes and the first, its gate, is 1; of the complete
+//! sets the one with the greatest generation counts, on a tie that in slot 0. A [`Store`] closes
+//! the gate of the slot that does not count, unless it is shut, writes the images and the manifest,
+//! and opens the gate, with a sync after each step. What holds of a run of puts stands in
+//! `store_runs`.
 //!
 //! Proved: for every `Folder` that tells its content, a crash at any moment of `put_set` leaves the
 //! set that counted before or the new one, and after Ok the new one alone; `get_set` gives the very

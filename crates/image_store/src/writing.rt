@@ -117,8 +117,8 @@ fn fill_slot<F: Folder>(
     disk.sync()
 }
 
-/// Writes a set into a slot whose manifest has this gate, if it has one: closes the gate, fills the
-/// slot and opens it, with a sync after each.
+/// Writes a set into a slot whose manifest has this gate, if it has one: closes the gate unless it
+/// is shut, fills the slot and opens it, with a sync after each.
 pub fn write_set<F: Folder>(
     disk: &mut F,
     slot: u32,

@@ -14,7 +14,7 @@
 //!
 //! Proved: the job is that of a command which spells these words; the answer is [`WordFault::Usage`] exactly
 //! where no command spells them, so it never gives way to want of memory; and words are of one command, and
-//! ask for one job, at most. Not proved: that memory is wanted only where there is none (`worked_jobs` reads
+//! ask for one job, at most. Not proved: that memory is wanted only where there is none (`worked_lines` reads
 //! words with ample memory). The grammar is this project's own; a program's argument strings are those of the
 //! System V ABI.
 #![tactic(auto)]

@@ -7,9 +7,12 @@
 //! acts for it: the leader of the description that refers to the end, or of the listener at which its
 //! connection waits.
 //!
-//! Proved: each list has exactly what it is to have, of every book, network and table of processes. Only the
-//! calls that make a list take memory. The source is Ansel, Arya, Cooperman, "DMTCP: Transparent
-//! Checkpointing for Cluster Computations and the Desktop", 2009 (elect shared file descriptor leaders).
+//! Proved, of every book, network and table of processes: owners are kept for exactly the descriptions of the
+//! book, and voters listed for exactly the live processes that have a virtual number; both directions of each
+//! channel are listed, each once; the bytes and the agents are those of each direction that is handed in. Not
+//! proved: that no direction of a channel is listed that is not there. Only the calls that make a list take
+//! memory. The source is Ansel, Arya, Cooperman, "DMTCP: Transparent Checkpointing for Cluster Computations
+//! and the Desktop", 2009 (elect shared file descriptor leaders).
 //!
 //! # The election
 //!

@@ -7,7 +7,8 @@
 //!
 //! Proved: the options are those of settings that the words spell, each at most once but for `--file`, and as
 //! many as there are; a number is read exactly where the word is just as the number is written. No call but
-//! the copies of names takes memory. The grammar is this project's own. Tests stand in `worked_jobs`.
+//! the copies of names takes memory. The grammar is this project's own. Command lines are tried in
+//! `worked_lines`.
 #![tactic(auto)]
 
 mod file_name;

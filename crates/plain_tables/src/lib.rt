@@ -7,8 +7,8 @@
 //! kernel part, a topic a record over its own tables. Source: `man 2 open`, `man 2 credentials`,
 //! `man 2 wait4`, `man 7 signal`.
 //!
-//! Proved: each function is the word of its name, and what may want memory leaves its table as it was where
-//! there is none; `proofs/` has what each word keeps of each topic.
+//! Proved: each function is the word of its name, and what may want memory, but for the descriptors of a
+//! child, leaves its table as it was where there is none; `proofs/` has what each word keeps of each topic.
 #![tactic(auto)]
 
 pub mod answer;

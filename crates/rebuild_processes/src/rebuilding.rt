@@ -75,7 +75,7 @@ fn add_process(
 /// pairs their numbers and those of their threads.
 ///
 /// # Errors
-/// Memory was wanted.
+/// Memory was wanted. A table that is full, or a number that is paired already, would be told so too.
 pub fn rebuild_processes(
     alloc: Global,
     kernel: &PlainKernel,

@@ -2,8 +2,8 @@
 //! memory.
 //!
 //! [`step`] does at once what `decode` and `exec` of `rv_isa` do one after the other, where an instruction
-//! goes on, and leaves calls, traps and fences to the two. It works on any memory that keeps the contract of
-//! `GuestMemory`.
+//! goes on, and leaves calls, traps, fences and refused accesses to the two. It works on any memory that
+//! keeps the contract of `GuestMemory`.
 //!
 //! Proved: a step that is made is that of the instruction table and the effects that `plain_process` defines,
 //! and one that isn't has changed nothing. Not proved: how fast it is.

@@ -5,8 +5,9 @@
 //! the bytes that the stage keeps, and [`kernel_at`] where none does, and all bytes have arrived.
 //!
 //! Proved: whichever kernel part the system stands for, what is made is that one, with all its bytes arrived,
-//! so there is no other; none is made only for want of memory. An end of a datagram pair has no image, and a
-//! kernel part is told that has none. Nothing of the system is changed. Not proved: how long a call takes.
+//! so there is no other. An end of a datagram pair has no image, and a kernel part is told that has none.
+//! Nothing of the system is changed. Not proved: that none is made only where memory is wanted, and how long
+//! a call takes.
 //!
 //! # Between processes
 //!
@@ -25,9 +26,9 @@
 //! Owners of descriptions come from a map beside the book, where a checkpoint notes them before processes
 //! elect leaders by them.
 //!
-//! Proved: whichever map the tables stand for, that is the one that a call makes, so there is no other; it
-//! makes none only for want of memory. An end of a datagram pair has no image, and descriptions are told
-//! where none is one. Not proved: how long a call takes; for each entry it goes down a tree or two.
+//! Proved: whichever map the tables stand for, that is the one that a call makes, so there is no other. An
+//! end of a datagram pair has no image, and descriptions are told where none is one. Not proved: that it
+//! makes none only where memory is wanted, and how long it takes; for each entry it goes down a tree or two.
 #![tactic(auto)]
 
 pub mod channels;

@@ -8,7 +8,7 @@ use std::alloc::{AllocError, Global};
 /// What is not known to be durable.
 #[derive(Drop)]
 pub enum Owed {
-    /// All that the folder holds, as before the first sync and after one that failed.
+    /// All that the folder holds, as before the first sync, and after a write or a sync that failed.
     All,
     /// These files, and the folder, where it has a new entry (`man 2 fsync`).
     Changes {

@@ -3,7 +3,7 @@
 //!
 //! [`Shared`] is the value. `specs/SharedFormat.antt` says which bytes are its file, and where others break
 //! the format; `specs/SharedFits.antt` which values have a file, and `specs/SharedTexts.antt` its bytes. That
-//! the two are one is proved here, for the reader (`shared_reader`) and the writer (`image_codec`) to cite.
+//! the two are one is proved here, for the reader (`shared_reader`) and the writer (`shared_writer`) to cite.
 //! The format is this project's own (`docs/FORMATS.md`) and restates no standard.
 //!
 //! What the lists of an image name is found by numbers and names here: files, channels, descriptions and

@@ -3,10 +3,11 @@
 //!
 //! A [`Trace`] is a list of records with room for a number of further ones. The room is made
 //! beforehand, so that to append a record takes no memory and can't fail. `to_bytes` gives the bytes
-//! of the trace's file, 16 for each record, and `from_bytes` reads them: it is Ok exactly on such
-//! bytes, and else names the place of the first ones that spell no record. [`log_text`] gives the
-//! lines that a run writes on its log for the checkpoints in its trace. [`Schedule`] and [`Tally`] tell
-//! after which work record a request is made, and which generation its cut gets.
+//! of the trace's file, 16 for each record, and `from_bytes` reads them: but for want of memory it
+//! is Ok exactly on such bytes, and else names the place of the first ones that spell no record.
+//! [`log_text`] gives the lines that a run writes on its log for the checkpoints in its trace.
+//! [`Schedule`] and [`Tally`] tell after which work record a request is made, and which generation
+//! its cut gets.
 //!
 //! Proved: all of that, that a record has one spelling and different records differ in theirs, and the laws
 //! of [`request_laws`] on the definition of a trace with its requests (`specs/Requests.antt`). Not proved

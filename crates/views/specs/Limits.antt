@@ -1,4 +1,5 @@
--- How much there is at most: the table "Limits" of docs/MACHINE.md. The limits are this project's own.
+-- How much there is at most: most of the table "Limits" of docs/MACHINE.md, and a few limits more. The limits
+-- are this project's own.
 use Rattle.std.specs.Prelude.{ℕ}
 
 -- hosts; processes, those that have ended and are still there among them

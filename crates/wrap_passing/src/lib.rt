@@ -2,8 +2,9 @@
 //!
 //! Such a call names real numbers for what its guest names, has the kernel serve it, and tells the answer
 //! with the guest's numbers. One that makes a description is counted then, and the pair of a child that was
-//! waited for goes. Proved: the system then stands for the kernel part that the plain row leaves, and the
-//! answer and the bytes are the row's; after want of memory all is as before.
+//! waited for goes. getpid alone is answered without the kernel. Proved: the system then stands for the
+//! kernel part that the plain row leaves, and the answer and the bytes are the row's; after want of memory
+//! all is as before.
 #![tactic(auto)]
 
 pub mod asking;
