@@ -2,7 +2,7 @@
 //! their owners once leaders are elected.
 //!
 //! The owners of all descriptions are kept and put back, since processes elect leaders by them; a list of
-//! voters tells which live processes have voted; all directions of channels are listed with the bytes that
+//! voters tells which live processes have voted; all directions of channels are listed with how many bytes
 //! stand in them, so that room can be taken for these; and for each end of a channel the agent is named that
 //! acts for it: the leader of the description that refers to the end, or of the listener at which its
 //! connection waits.

@@ -13,8 +13,7 @@
 //! calls' answers, each call that a valid state serves leaves and answers what one law says, the first 16
 //! bytes that a call reads tell whether it waits, a record of one process leaves every other process's part,
 //! a process begins by a fork alone and ends by its own records alone, and a run and its console take one
-//! more record at a trace's end. A number that no row has answers ENOSYS.
-//! Not claimed: that any hardware or kernel behaves so.
+//! more record at a trace's end. Not claimed: that any hardware or kernel behaves so.
 #![tactic(auto)]
 
 pub mod closing;

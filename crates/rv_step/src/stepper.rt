@@ -270,10 +270,10 @@ fn step_in_registers(x: &mut [u32; 32], pc: u32, word: u32, key: u32) -> Option<
     }
 }
 
-/// Does the instruction of a word on registers and memory, where it goes on and its row is among those for
-/// speed, and tells the address of the next one: what `decode` and `exec` of `rv_isa` do, with one jump and
-/// no instruction between them. Calls, traps, fences, words without a row and accesses that fail are left to
-/// these: then nothing has changed.
+/// Does the instruction of a word on registers and memory, and tells the address of the next one, or leaves
+/// it: a step that is made is what `decode` and `exec` of `rv_isa` do, with one jump and no instruction
+/// between them. Calls, traps, fences, words without a row and accesses that fail are left to these: then
+/// nothing has changed.
 #[inline(always)]
 pub fn step<M: GuestMemory>(x: &mut [u32; 32], pc: u32, memory: &mut M, word: u32) -> Option<u32>
     requires { IsZeroHeld x.old }

@@ -9,9 +9,9 @@
 //! Guests' calls close descriptors, and with the last one of a description the pairs and the table of
 //! channels lose its name, its end of a channel, the address at which it listened and the ends of the
 //! connections that waited there. Proved: the system then stands for the kernel part that the plain row
-//! leaves, and the answer is the row's; after want of memory, which only a dup3 can have, all is as before.
-//! A close takes no memory. The close of one descriptor is told alone too ([`close_at`]), for those who
-//! close several.
+//! leaves, and the answer is the row's; after want of memory, which only a dup3 can have, it stands for the
+//! kernel part of before. A close takes no memory. The close of one descriptor is told alone too
+//! ([`close_at`]), for those who close several.
 #![tactic(auto)]
 
 mod close_calls;

@@ -5,7 +5,7 @@
 //! channel, is put into the table of channels before the kernel serves the call, and goes again where the call
 //! makes nothing: so nothing can want memory once the kernel has made it. Proved: the system then stands for
 //! the kernel part that the plain row leaves, and the answer and the bytes are the row's; after an error, and
-//! after want of memory, all is as before.
+//! after want of memory, it stands for the kernel part of before.
 //!
 //! # Clone
 //!
@@ -14,7 +14,7 @@
 //! kernel's call is the last one that takes memory; where it fails both are taken out again. Proved: the
 //! system then stands for the kernel part that the plain row leaves, with the next number one higher where
 //! there is a child or a thread more, and the answer and the bytes are the row's; after an error and after
-//! want of memory all is as before.
+//! want of memory it stands for the kernel part of before.
 #![tactic(auto)]
 
 mod cloning;

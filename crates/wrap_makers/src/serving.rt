@@ -26,7 +26,8 @@ pub fn serves(request: &Request) -> bool
 }
 
 /// Serves socket, pipe2 and socketpair (`man 2 socket`, `man 2 pipe`, `man 2 socketpair`). The descriptors of
-/// two ends stand in the transfer then. `next_id` is the next virtual number. After Memory all is as before.
+/// two ends stand in the transfer then. `next_id` is the next virtual number. After Memory the system stands
+/// for the kernel part of before.
 pub fn serve_making_ends(
     system: &mut System,
     stood: &Stood,

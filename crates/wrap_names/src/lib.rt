@@ -12,7 +12,7 @@
 //!
 //! Proved: each look-up is its word on every kernel part for which the system stands. After one of the calls
 //! the system stands for the kernel part that the plain row leaves, and the answer and the bytes are the
-//! row's; after want of memory all is as before.
+//! row's; after want of memory it stands for the kernel part of before.
 #![tactic(auto)]
 
 mod binding;

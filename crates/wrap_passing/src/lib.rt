@@ -4,7 +4,7 @@
 //! with the guest's numbers. One that makes a description is counted then, and the pair of a child that was
 //! waited for goes. getpid alone is answered without the kernel. Proved: the system then stands for the
 //! kernel part that the plain row leaves, and the answer and the bytes are the row's; after want of memory
-//! all is as before.
+//! it stands for the kernel part of before.
 #![tactic(auto)]
 
 pub mod asking;

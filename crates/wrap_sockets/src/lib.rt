@@ -4,7 +4,7 @@
 //! A socket that listens gets the pair of its address and of the real port, one that connects the entry of
 //! its channel with both addresses, and an accept tells the address of the client. Proved: the system then
 //! stands for the kernel part that the plain row leaves, and the answer and the bytes are the row's; where a
-//! call fails or waits, and after want of memory, all is as before.
+//! call fails or waits, and after want of memory, it stands for the kernel part of before.
 #![tactic(auto)]
 
 pub mod accepting;
