@@ -6,9 +6,10 @@
 
 A function is proved by the contracts of those that it calls. So a check takes one bug of each function,
 and what it says of that function alone is what it says of the bug; where a function falls only as one
-that it calls does, its bug is tried once more, without the other's. A bug that belongs to no function,
-as that of a constant, has a check of its own, in which any function may refuse it. `tools/try_edits.py`
-tries each edit by itself, as the gate does.
+that it calls does, its bug is tried once more, without the other's. A check goes over the modules alone
+in which its bugs stand, with what these call. A bug that belongs to no function, as that of a constant,
+has a check of its own, of the whole crate, in which any function may refuse it. `tools/try_edits.py` tries
+each edit by itself, as the gate does.
 
 A line is written for each bug, and at the end how many came to what. The status is 1 where one is not
 refused, can't be applied or was not tried, and 2 where there is no such crate or bug.
@@ -160,13 +161,21 @@ def blamed(bugs, places, said):
     return [it for it in bugs if any(map(near, places[it.name]))]
 
 
+def modules_of(bugs):
+    """The modules in which bugs stand, none where a check has to go over the whole crate."""
+    if any(None in (bug.functions or {None}) for bug in bugs):
+        return []
+    paths = {path.removeprefix("src/").removesuffix(".rt") for bug in bugs for path, *_ in bug.pairs}
+    return [] if paths & {"lib", "main"} else sorted(it.removesuffix("/mod").replace("/", "::") for it in paths)
+
+
 def try_batch(bugs, crate, crate_folder, check, whole):
     """Tries bugs in one check, and returns what is known of them. Those that don't compile are taken out."""
     told, left = {}, list(bugs)
     while left:
         put_back(whole)
         places = apply_all(left, crate_folder)
-        said = check(crate_folder)
+        said = check(crate_folder, modules_of(left))
         if JUDGED.search(said):
             answers = {it.name: judge(it, said, crate) for it in left}
             return told | {name: answer for name, answer in answers.items() if answer}
@@ -196,10 +205,11 @@ def try_all(crate, texts, crate_folder, check):
     return {name: told[name] for name in texts}
 
 
-def rt_check(crate_folder):
-    """Checks a crate as it stands, and returns all that was said."""
+def rt_check(crate_folder, modules):
+    """Checks modules of a crate, or all of it where none are named, and returns all that was said."""
     how = {"stdout": subprocess.PIPE, "stderr": subprocess.STDOUT, "text": True}
-    return subprocess.run(["rt", "check"], cwd=crate_folder, **how).stdout
+    only = [word for module in modules for word in ("--only", module)]
+    return subprocess.run(["rt", "check", *only], cwd=crate_folder, **how).stdout
 
 
 def asked_for(crate, names):
