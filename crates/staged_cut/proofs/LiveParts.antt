@@ -1,11 +1,12 @@
 -- The numbers of the parts of a computation's processes.
---     live_listed      each live process is one of them
+--     live_listed, listed_lives      each live process is one of them, and each of them lives
 --     few_listed       there are at most as many of them as of processes
 use Rattle.std.proofs.Common.{◌≡◌, ◌≤◌, true, length, refl, sym, ap, subst, ◌∙◌, arith}
 use Rattle.std.specs.Prelude.{Option, Some, None, is_some, IsSome, Contains}
+use Rattle.std.specs.Cmp.{eq_by_cmp_equiv}
 use Rattle.std.specs.FinMap as map
 use Rattle.std.proofs.lemmas.List.{length-map}
-use Rattle.std.proofs.lemmas.Map.Views.{Contains-from_any}
+use Rattle.std.proofs.lemmas.Map.Views.{Contains-from_any, list_any-from_Contains}
 use Rattle.views.proofs.Counting.{led_into}
 use Rattle.views.proofs.MapLaws.{true_false, same_key}
 use Rattle.views.proofs.MapValues.{keys-map_values}
@@ -27,6 +28,12 @@ module _ (c : Computation) (valid : IsValid (plain_of c)) where
       subst (λ live. Contains live p) (keys-map_values (λ guest. guest.user) c.guests)
       (Contains-from_any (same_key vpid_total vpid_exact) p (map.keys (plain_of c).users)
       (sym (map.contains_key-keys (plain_of c).users p) ∙ valid.alive p ∙ lives))
+
+  pub listed_lives : (p : VPid) → Contains (map.keys c.guests) p → is_live c.kernel p ≡ true
+  listed_lives p listed =
+      sym (valid.alive p) ∙ map.contains_key-keys (plain_of c).users p
+      ∙ list_any-from_Contains (eq_by_cmp_equiv vpid_total) p (map.keys (plain_of c).users)
+      (subst (λ live. Contains live p) (sym (keys-map_values (λ guest. guest.user) c.guests)) listed)
 
   few_parts : map.len (plain_of c).users ≤ map.len c.kernel.processes
   unfolding is_live

@@ -3,13 +3,11 @@
 --     left_begun, left_on, all_marked      before the first vote, after each, and after the last
 --     stays_on                  nothing but the votes changes
 --     entered_named             each one that may vote is named, where all live processes are
-use Rattle.std.proofs.Common.{◌≡◌, ◌≢◌, ◌+◌, ◌<◌, ◌≤◌, ℕ, Bool, true, false, cond, List, [], ◌∷◌, length, map as each, get_or, Option, Some, None, inl, inr, refl, sym, ap, subst, ◌∙◌, arith}
+use Rattle.std.proofs.Common.{◌≡◌, ◌≢◌, ◌+◌, ◌<◌, ◌≤◌, ℕ, Bool, true, false, cond, List, [], ◌∷◌, length, map as each, get_or, Option, Some, None, inl, inr, refl, sym, ap, subst, ◌∙◌}
 use Rattle.std.specs.Prelude.{IsSome, is_some, Contains, ◌&&◌}
 use Rattle.std.specs.Option.{option_map_or}
 use Rattle.std.specs.List.{list_all}
 use Rattle.std.specs.FinMap as map
-use Rattle.std.proofs.lemmas.Bool.{cases_lt}
-use Rattle.std.proofs.lemmas.List.{get_or_default}
 use Rattle.std.proofs.lemmas.Option.{same_Some, none-some}
 use Rattle.views.proofs.MapLaws.{true_false, same_or_other, get_insert_same, get_insert_other}
 use Rattle.views.proofs.MapValues.{EachEntry, each_entry}
@@ -20,17 +18,14 @@ use Rattle.plain_machine.specs.declared.kernel.PlainKernel.{PlainKernel}
 use Rattle.plain_machine.specs.Kernel.{is_live}
 use Rattle.leader_vote.specs.Voters.{Voters, marked, all_voted}
 use Rattle.ckpt_stages.specs.Suspensions.{Suspension, IsEntered}
+use Rattle.staged_cut.proofs.Places.{IsAhead, ahead_begun, ahead_on, none_ahead}
 
 abbrev pub IsLeft : List VPid → ℕ → Voters → Type 0
-IsLeft live n voters = (p : VPid) → map.get voters p ≡ Some false
-    → (i : ℕ) × ((n ≤ i) × ((i < length live) × (get_or live i p ≡ p)))
+IsLeft live n voters = (p : VPid) → map.get voters p ≡ Some false → IsAhead live n p
 
 pub left_begun : (live : List VPid) (voters : Voters)
     → ((p : VPid) → IsSome (map.get voters p) → Contains live p) → IsLeft live 0 voters
-left_begun live voters named p is =
-    let at = named p (ap is_some is) in
-    let from : 0 ≤ at.0 = omega arith in
-    (at.0, (from, (at.1, at.2)))
+left_begun live voters named p is = ahead_begun live p (named p (ap is_some is))
 
 -- one that has not voted after a vote is another, and had not voted before
 unvoted : (voters : Voters) (p q : VPid) → map.get (marked voters p) q ≡ Some false
@@ -50,27 +45,11 @@ unvoted voters p q = by_found (map.get voters p) refl
           (differ, sym (get_insert_other vpid_total vpid_exact voters p true q differ) ∙ is)
     ]
 
--- a place from n on that isn't n is past it
-past : (live : List VPid) (n i : ℕ) (z q : VPid) → n < length live → n ≤ i → get_or live i q ≡ q
-    → q ≢ get_or live n z → n + 1 ≤ i
-past live n i z q there from at differ = elim (cases_lt n i) [
-  | inl less ↦ omega (arith, less)
-  | inr most ↦
-      let same : i ≡ n = omega (arith, from, most) in
-      absurd (differ (sym at ∙ ap (λ (j : ℕ). get_or live j q) same ∙ get_or_default live n q z there))
-]
-
 pub left_on : (live : List VPid) (n : ℕ) (z p : VPid) (old new : Voters) → n < length live
     → p ≡ get_or live n z → new ≡ marked old p → IsLeft live n old → IsLeft live (n + 1) new
 left_on live n z p old new there at marks left q is =
     let was = unvoted old p q (sym (ap (λ (voters : Voters). map.get voters q) marks) ∙ is) in
-    let place = left q was.1 in (
-      place.0,
-      (
-        past live n place.0 z q there place.1.0 place.1.1.1 (λ same. was.0 (same ∙ sym at)),
-        place.1.1,
-      ),
-    )
+    ahead_on live n z q there (λ same. was.0 (same ∙ sym at)) (left q was.1)
 
 list_of_each : (rows : List (VPid × Bool)) → EachEntry (λ _ voted. voted ≡ true) rows
     → list_all (λ voted. voted) (each (λ e. e.1) rows) ≡ true
@@ -86,11 +65,7 @@ all_marked live n voters past left =
   where
     has_voted : (p : VPid) (voted : Bool) → map.get voters p ≡ Some voted → voted ≡ true
     has_voted p true is = refl
-    has_voted p false is =
-        let at = left p is in
-        let from = at.1.0 in
-        let below = at.1.1.0 in
-        absurd (omega (arith, past, from, below))
+    has_voted p false is = none_ahead live n p past (left p is)
 
 pub stays_on : (first mid new : Suspension) (voters : Voters) → mid ≡ record first { voters = mid.voters }
     → new ≡ record mid { voters = voters } → new ≡ record first { voters = new.voters }

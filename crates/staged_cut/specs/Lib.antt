@@ -1,3 +1,4 @@
 pub mod Holdings
+pub mod Suspended
 pub mod HandedOn
 pub mod StopVariants

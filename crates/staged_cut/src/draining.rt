@@ -9,6 +9,7 @@ ghost use Rattle.leader_vote.specs.Voters as voting;
 ghost use Rattle.wrap_names.specs.Wrapping.{IsWrapped};
 ghost use Rattle.ckpt_stages.specs.Faults as faults;
 ghost use Rattle.ckpt_stages.specs.Suspensions as words;
+ghost use Rattle.staged_cut.specs.Suspended.{AreSuspended};
 
 use crate::standing::{same, stood_by, wrap};
 use barrier_core::{Barrier, Stage};
@@ -20,7 +21,8 @@ use std::alloc::{AllocError, Global};
 use sys_abi::VPid;
 use wrap_names::stood::Stood;
 
-/// Suspends all processes, has them elect leaders, and drains all channels. `live` names the live processes.
+/// Suspends all processes, has them elect leaders, and drains all channels. `live` names the live processes:
+/// the barrier is theirs, and they are suspended at it.
 ///
 /// # Errors
 /// `Unsupported` with the first descriptor, by process and number, that no image holds; else `Memory`. The
@@ -33,6 +35,7 @@ pub fn drain(
     requires few { length live.now ≤ MEMBER_LIMIT }
     requires listed { (p : VPid) → is_live wrapped p ≡ true → Contains live.now p }
     ensures ok { IfOk result (λ s. (s.kernel ≡ wrapped) × (s.next_id ≡ wrapped.next_id)) }
+    ensures suspended { IfOk result (λ s. AreSuspended (Contains live.now) s.barrier) }
     ensures supported { IfOk result (λ _. faults.FindsUnsupported wrapped None) }
     ensures err { IfErr result (λ r. (r.0 ≡ wrapped) × faults.IsFault wrapped r.1) }
 {
@@ -50,6 +53,7 @@ pub fn drain(
 /// of them.
 fn ask_all(alloc: Global, live: &[VPid]) -> Result<Barrier, AllocError>
     requires { length live.now ≤ MEMBER_LIMIT }
+    ensures { IfOk result (AreSuspended (Contains live.now)) }
 {
     let mut barrier = Barrier::new(alloc)?;
     barrier.ask(live);
@@ -107,7 +111,9 @@ fn enter(
 /// The processes elect leaders, and these drain the channels as agents.
 fn drain_suspended(suspended: Suspended, live: &[VPid]) -> DrainedSet
     requires { (p : VPid) → IsSome (map.get suspended.voters p) → Contains live.now p }
-    ensures { (result.kernel ≡ suspended.kernel) × (result.next_id ≡ suspended.next_id) }
+    ensures kernel { result.kernel ≡ suspended.kernel }
+    ensures next { result.next_id ≡ suspended.next_id }
+    ensures barrier { result.barrier ≡ suspended.barrier }
 {
     let mut suspended = suspended;
     vote_all(&mut suspended, live);
@@ -127,7 +133,9 @@ fn vote_all(suspended: &mut Suspended, live: &[VPid])
 
 /// The agents take all bytes off the channels.
 fn drain_elected(elected: Elected) -> DrainedSet
-    ensures { (result.kernel ≡ elected.kernel) × (result.next_id ≡ elected.next_id) }
+    ensures kernel { result.kernel ≡ elected.kernel }
+    ensures next { result.next_id ≡ elected.next_id }
+    ensures barrier { result.barrier ≡ elected.barrier }
 {
     let mut elected = elected;
     elected.drain_all();

@@ -9,6 +9,7 @@ ghost use Rattle.run_start.specs.HandedOn.{plain_of, IsReady};
 ghost use Rattle.seen_kernel.specs.Seen.{all_in};
 ghost use Rattle.seen_kernel.specs.Unheld.{AllArrived};
 ghost use Rattle.staged_cut.specs.Holdings.{IsHeld};
+ghost use Rattle.staged_cut.specs.Suspended.{AreSuspended};
 
 use crate::draining::drain;
 use crate::refilling::refill;
@@ -105,6 +106,7 @@ fn drained_of(
     requires listed { (p : VPid) → is_live wrapped p ≡ true → Contains live.now p }
     requires arrived { AllArrived wrapped.directions }
     ensures ok { IfOk result (λ r. (r.0.kernel ≡ wrapped) × (r.1 ≡ wrapped)) }
+    ensures suspended { IfOk result (λ r. AreSuspended (Contains live.now) r.0.barrier) }
     ensures err { IfErr result (λ same. same ≡ wrapped) }
 {
     let drained = match drain(alloc, wrapped, live) {

@@ -1,4 +1,6 @@
-use Rattle.std.proofs.Common.{◌∙◌}
+use Rattle.std.proofs.Common.{sym, subst, ◌∙◌}
+use Rattle.std.specs.Prelude.{Contains}
+use Rattle.staged_cut.specs.Suspended.{AreSuspended}
 use Rattle.staged_cut.proofs.Votes.{entered_named}
 use Rattle.staged_cut.proofs.draining.drain.Goals as goal
 
@@ -9,6 +11,11 @@ drain_suspended-requires c =
 
 pub returns-in-Ok-suspend-clause-ok : goal.returns-in-Ok-suspend-clause-ok
 returns-in-Ok-suspend-clause-ok c = (
-  c.drain_suspended.ensures.0 ∙ c.in-Ok-suspend.ensures.ok.kernel,
-  c.drain_suspended.ensures.1 ∙ c.in-Ok-suspend.ensures.ok.next,
+  c.drain_suspended.ensures.kernel ∙ c.in-Ok-suspend.ensures.ok.kernel,
+  c.drain_suspended.ensures.next ∙ c.in-Ok-suspend.ensures.ok.next,
 )
+
+pub returns-in-Ok-suspend-clause-suspended : goal.returns-in-Ok-suspend-clause-suspended
+returns-in-Ok-suspend-clause-suspended c =
+    subst (AreSuspended (Contains c.args.live.now))
+    (sym (c.drain_suspended.ensures.barrier ∙ c.in-Ok-suspend.ensures.ok.barrier_is)) c.in-Ok.ensures

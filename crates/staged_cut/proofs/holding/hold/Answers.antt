@@ -1,9 +1,10 @@
-use Rattle.std.proofs.Common.{length, sym, ap, subst, ◌∙◌, arith}
+use Rattle.std.proofs.Common.{◌≡◌, true, length, sym, ap, subst, ◌∙◌, arith}
 use Rattle.std.specs.Prelude.{Contains}
 use Rattle.plain_machine.specs.declared.kernel.PlainKernel.{PlainKernel}
 use Rattle.plain_machine.specs.Kernel.{is_live}
 use Rattle.staged_cut.proofs.GoingOn.{can_begin}
-use Rattle.staged_cut.proofs.LiveParts.{live_listed, few_listed}
+use Rattle.staged_cut.proofs.Asking.{suspended_by}
+use Rattle.staged_cut.proofs.LiveParts.{live_listed, listed_lives, few_listed}
 use Rattle.staged_cut.proofs.holding.hold.Goals as goal
 
 pub drained_of-requires-clause-few : goal.drained_of-requires-clause-few
@@ -22,7 +23,14 @@ pub returns-in-Ok-clause-ok : goal.returns-in-Ok-clause-ok
 returns-in-Ok-clause-ok c =
     let kernel = c.in-Ok.ensures.ok.1 ∙ c.replace-wrapped.ensures.value in
     let guests = c.replace-guests.ensures.value in
+    let listed = c.as_slice.ensures ∙ c.in_ok-live.ensures in
+    let valid = c.requires.ready.valid in
     record {
+      suspended = suspended_by (Contains c.as_slice.result.now)
+          (λ p. is_live c.args.computation.now.kernel p ≡ true) _
+          (λ p at. listed_lives c.args.computation.now valid p (subst (λ live. Contains live p) listed at))
+          (λ p lives. subst (λ live. Contains live p) (sym listed)
+          (live_listed c.args.computation.now valid p lives)) c.in-Ok.ensures.suspended;
       drained = c.in-Ok.ensures.ok.0 ∙ c.replace-wrapped.ensures.value;
       kernel = kernel;
       guests = guests;
