@@ -13,10 +13,10 @@ use Rattle.trace_log.specs.declared.requests.Schedule.{Schedule}
 use Rattle.trace_log.specs.LogText.{log_text}
 use Rattle.endings.specs.declared.ending.Ending.{Ending}
 use Rattle.endings.specs.declared.ending.Ending.TheVariants.{Done, Usage, InputFault, Missing, BadElf, TooBig, SinkFault, DiskFault, NoSet, Damaged, Budget, Stuck, Memory}
-use Rattle.drive.specs.declared.run_end.RunEnd.{RunEnd}
+use Rattle.drive.specs.declared.loop_end.LoopEnd.{LoopEnd}
 use Rattle.drive.specs.RunEnds.{EndsRun}
 use Rattle.drive.specs.Pace.{KeepsPace, LinesOf}
-use Rattle.drive.specs.declared.run_end.RunEnd.TheVariants.{Done as RunDone, Budget as RunBudget, Stuck as RunStuck, SinkFault as RunSinkFault, Memory as RunMemory}
+use Rattle.drive.specs.declared.loop_end.LoopEnd.TheVariants.{Done as LoopDone, Budget as LoopBudget, Stuck as LoopStuck, SinkFault as LoopSinkFault, Memory as LoopMemory}
 use Rattle.job_words.specs.declared.job.Job.TheVariants.{Launch, Restart}
 use Rattle.job_words.specs.declared.job.LaunchJob.{LaunchJob}
 use Rattle.job_words.specs.declared.job.RestartJob.{RestartJob}
@@ -133,21 +133,21 @@ module _ (words : List (List ℕ)) (files : Option NamedFiles) (folder : Option 
   abbrev begun_call : Session
   begun_call = session (given words files folder) (Some at) trace console
 
-  arrives_by : (end : RunEnd) (begun : Begun (given words files folder)) (records : ℕ) → at ≡ beginning begun → (settings_in begun).records ≡ records → EndsRun end (schedule_in begun) (origin begun) (settings_in begun).records trace console log → IsAtEnding (ending_by end records) begun_call log
-  arrives_by RunDone begun records from same ends = ((record { begun = begun; start = ap (λ is. Some is) from; run = ends.0 }, refl), ends.1)
-  arrives_by RunBudget begun records from same ends = (record { begun = begun; start = ap (λ is. Some is) from; run = ends.0; line = ap budget_line (sym same) }, ends.1)
-  arrives_by RunStuck begun records from same ends = ((record { begun = begun; start = ap (λ is. Some is) from; run = ends.0 }, refl), ends.1)
-  arrives_by RunSinkFault begun records from same ends = (record { begun = begun; start = ap (λ is. Some is) from; run = ends.0 }, ends.1)
-  arrives_by RunMemory begun records from same ends = ((inr (record { begun = begun; start = ap (λ is. Some is) from; run = ends.0 }), refl), ends.1)
+  arrives_by : (end : LoopEnd) (begun : Begun (given words files folder)) (records : ℕ) → at ≡ beginning begun → (settings_in begun).records ≡ records → EndsRun end (schedule_in begun) (origin begun) (settings_in begun).records trace console log → IsAtEnding (ending_by end records) begun_call log
+  arrives_by LoopDone begun records from same ends = ((record { begun = begun; start = ap (λ is. Some is) from; run = ends.0 }, refl), ends.1)
+  arrives_by LoopBudget begun records from same ends = (record { begun = begun; start = ap (λ is. Some is) from; run = ends.0; line = ap budget_line (sym same) }, ends.1)
+  arrives_by LoopStuck begun records from same ends = ((record { begun = begun; start = ap (λ is. Some is) from; run = ends.0 }, refl), ends.1)
+  arrives_by LoopSinkFault begun records from same ends = (record { begun = begun; start = ap (λ is. Some is) from; run = ends.0 }, ends.1)
+  arrives_by LoopMemory begun records from same ends = ((inr (record { begun = begun; start = ap (λ is. Some is) from; run = ends.0 }), refl), ends.1)
 
-  pub paced_by : (end : RunEnd) (records : ℕ) → KeepsPace end at.state trace console log → KeepsPaceAt (ending_by end records) begun_call log
-  paced_by RunDone records paced = tt
-  paced_by RunBudget records paced = tt
-  paced_by RunStuck records paced = tt
-  paced_by RunSinkFault records paced = record { begun = at; start = refl; there = paced }
-  paced_by RunMemory records paced = paced
+  pub paced_by : (end : LoopEnd) (records : ℕ) → KeepsPace end at.state trace console log → KeepsPaceAt (ending_by end records) begun_call log
+  paced_by LoopDone records paced = tt
+  paced_by LoopBudget records paced = tt
+  paced_by LoopStuck records paced = tt
+  paced_by LoopSinkFault records paced = record { begun = at; start = refl; there = paced }
+  paced_by LoopMemory records paced = paced
 
-  ends_at : (end : RunEnd) (begun : Begun (given words files folder)) (room : ℕ) → at ≡ beginning begun → room ≡ (settings_in begun).records → EndsRun end at.schedule at.state room trace console log
+  ends_at : (end : LoopEnd) (begun : Begun (given words files folder)) (room : ℕ) → at ≡ beginning begun → room ≡ (settings_in begun).records → EndsRun end at.schedule at.state room trace console log
       → EndsRun end (schedule_in begun) (origin begun) (settings_in begun).records trace console log
   ends_at end begun room from full ends =
       subst (λ (b : Beginning). EndsRun end b.schedule b.state (settings_in begun).records trace console log) from (subst (λ n. EndsRun end at.schedule at.state n trace console log) full ends)
@@ -158,7 +158,7 @@ same_beginning state schedule = record { state = state; schedule = schedule }
 begins_so : (state other : Plain) (schedule same : Schedule) → state ≡ other → schedule ≡ same → same_beginning state schedule ≡ same_beginning other same
 begins_so state other schedule same states schedules = ap (λ g. same_beginning g schedule) states ∙ ap (same_beginning other) schedules
 
-pub launch_arrives : (words : List (List ℕ)) (files : Option NamedFiles) (folder : Option Folder) (trace : List Record) (console log : Sunk) (end : RunEnd) (start : Start) (job : LaunchJob) (room : ℕ)
+pub launch_arrives : (words : List (List ℕ)) (files : Option NamedFiles) (folder : Option Folder) (trace : List Record) (console log : Sunk) (end : LoopEnd) (start : Start) (job : LaunchJob) (room : ℕ)
     → Asks words (Launch job) → (launched : IsLaunched files folder job start) → room ≡ job.records
     → EndsRun end start.checkpoints.schedule (plain_of start) room trace console log
     → IsAtEnding (ending_by end job.records) (session (given words files folder) (Some (beginning_of start)) trace console) log
@@ -174,7 +174,7 @@ launch_arrives words files folder trace console log end start job room asks laun
     let from = begins_so (plain_of start) (origin begun) start.checkpoints.schedule (schedule_of (settings_of (Launch job)) launched.opening) launched.state launched.schedule in
     arrives_by words files folder trace console log (beginning_of start) end begun job.records from refl (ends_at words files folder trace console log (beginning_of start) end begun room from full ends)
 
-pub restart_arrives : (words : List (List ℕ)) (files : Option NamedFiles) (folder : Option Folder) (trace : List Record) (console log : Sunk) (end : RunEnd) (start : Start) (job : RestartJob) (room : ℕ)
+pub restart_arrives : (words : List (List ℕ)) (files : Option NamedFiles) (folder : Option Folder) (trace : List Record) (console log : Sunk) (end : LoopEnd) (start : Start) (job : RestartJob) (room : ℕ)
     → Asks words (Restart job) → (restarted : IsRestarted folder (settings_of (Restart job)) start) → room ≡ job.records
     → EndsRun end start.checkpoints.schedule (plain_of start) room trace console log
     → IsAtEnding (ending_by end job.records) (session (given words files folder) (Some (beginning_of start)) trace console) log

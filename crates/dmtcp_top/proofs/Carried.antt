@@ -29,9 +29,9 @@ use Rattle.job_words.specs.declared.job.LaunchJob.{LaunchJob}
 use Rattle.job_words.specs.declared.job.Job.TheVariants.{Launch, Restart, Ring, Help}
 use Rattle.job_words.proofs.JobFacts.{launch_every, restart_every}
 use Rattle.drive.specs.HandedOn.{GoesInRounds}
-use Rattle.drive.specs.declared.run_end.RunEnd.{RunEnd}
+use Rattle.drive.specs.declared.loop_end.LoopEnd.{LoopEnd}
 use Rattle.drive.specs.RunEnds.{EndsRun, KernelAtEnd}
-use Rattle.drive.specs.declared.run_end.RunEnd.TheVariants.{Done as RunDone, Budget as RunBudget, Stuck as RunStuck, SinkFault as RunSinkFault, Memory as RunMemory}
+use Rattle.drive.specs.declared.loop_end.LoopEnd.TheVariants.{Done as LoopDone, Budget as LoopBudget, Stuck as LoopStuck, SinkFault as LoopSinkFault, Memory as LoopMemory}
 use Rattle.drive.specs.declared.run_status.RunStatus.{RunStatus}
 use Rattle.drive.specs.declared.run_status.RunStatus.TheVariants.{Ended, SinkFault}
 use Rattle.drive.specs.declared.run_status.RunEnd.TheVariants.{Done, Stuck, Budget, Memory}
@@ -59,14 +59,14 @@ module _ (words : List (List ℕ)) (files : Option NamedFiles) (folder : Option 
   begun_refused (Ring job) ending asks refuses none quiet unlogged = absurd refuses
   begun_refused Help ending asks refuses none quiet unlogged = absurd refuses
 
-  by_job : (end : RunEnd) (start : Start) (job : Job) (room : ℕ) → Asks words job → Begins (Ok start) job files folder → room ≡ (settings_of job).records
+  by_job : (end : LoopEnd) (start : Start) (job : Job) (room : ℕ) → Asks words job → Begins (Ok start) job files folder → room ≡ (settings_of job).records
       → EndsRun end start.checkpoints.schedule (plain_of start) room trace console log → IsAtEnding (ending_by end (settings_of job).records) (session (given words files folder) (Some (beginning_of start)) trace console) log
   by_job end start (Launch job) room asks begins full ends = launch_arrives words files folder trace console log end start job room asks begins full ends
   by_job end start (Restart job) room asks begins full ends = restart_arrives words files folder trace console log end start job room asks begins full ends
   by_job end start (Ring job) room asks begins full ends = absurd begins
   by_job end start Help room asks begins full ends = absurd begins
 
-  pub begun_arrives : (end : RunEnd) (start : Start) (job : Job) (room records : ℕ) → Asks words job → Begins (Ok start) job files folder → room ≡ records → records ≡ (settings_of job).records
+  pub begun_arrives : (end : LoopEnd) (start : Start) (job : Job) (room records : ℕ) → Asks words job → Begins (Ok start) job files folder → room ≡ records → records ≡ (settings_of job).records
       → EndsRun end start.checkpoints.schedule (plain_of start) room trace console log → IsAtEnding (ending_by end records) (session (given words files folder) (Some (beginning_of start)) trace console) log
   begun_arrives end start job room records asks begins full same ends =
       subst (λ n. IsAtEnding (ending_by end n) (session (given words files folder) (Some (beginning_of start)) trace console) log) (sym same)
@@ -153,17 +153,17 @@ begun_ready words files folder start job seen asks begins has =
     }
 
 -- how a run ended is told by the ending, which is Done where nobody lives and nowhere else
-ending_is_other : (end : RunEnd) (records : ℕ) → end ≢ RunDone → status_of (ending_by end records) ≢ IsDone
-ending_is_other RunDone records other = absurd (other refl)
-ending_is_other RunBudget records other = λ e. absurd (cc)
-ending_is_other RunStuck records other = λ e. absurd (cc)
-ending_is_other RunSinkFault records other = λ e. absurd (cc)
-ending_is_other RunMemory records other = λ e. absurd (cc)
+ending_is_other : (end : LoopEnd) (records : ℕ) → end ≢ LoopDone → status_of (ending_by end records) ≢ IsDone
+ending_is_other LoopDone records other = absurd (other refl)
+ending_is_other LoopBudget records other = λ e. absurd (cc)
+ending_is_other LoopStuck records other = λ e. absurd (cc)
+ending_is_other LoopSinkFault records other = λ e. absurd (cc)
+ending_is_other LoopMemory records other = λ e. absurd (cc)
 
 if_there : (back : Option PlainKernel) (system : PlainKernel) (P : PlainKernel → Type 0) → back ≡ Some system → IfSome back P → P system
 if_there back system P is holds = subst (λ o. IfSome o P) is holds
 
-module _ (words : List Text) (trace : List Record) (before now : Outside) (begun : Beginning) (end : RunEnd) (records : ℕ) (back : Option PlainKernel) where
+module _ (words : List Text) (trace : List Record) (before now : Outside) (begun : Beginning) (end : LoopEnd) (records : ℕ) (back : Option PlainKernel) where
   abbrev called : Session
   called = session_in words (Some begun) trace before now
 
@@ -177,7 +177,7 @@ module _ (words : List Text) (trace : List Record) (before now : Outside) (begun
   carried_out (Ok system) left there pace in_rounds whole stands = record {
     come = record {
       start = Some begun;
-      there = subst (λ (e : RunEnd). IsAtEnding (ending_by e records) called (log_in before now)) left.1 there;
+      there = subst (λ (e : LoopEnd). IsAtEnding (ending_by e records) called (log_in before now)) left.1 there;
       pace = tt;
       in_rounds = in_rounds;
       whole = whole;
@@ -196,7 +196,7 @@ module _ (words : List Text) (trace : List Record) (before now : Outside) (begun
   }
 
 -- which status is told of a run's end
-told_by : {P : Type 0} (result : Result PlainKernel Ending) (back : Option PlainKernel) (end : RunEnd) (records : ℕ) (wanted : Status) → IsLeft result back end records
+told_by : {P : Type 0} (result : Result PlainKernel Ending) (back : Option PlainKernel) (end : LoopEnd) (records : ℕ) (wanted : Status) → IsLeft result back end records
     → (status_of (ending_by end records) ≡ wanted → P) → IfErr result (λ ending. status_of ending ≡ wanted → P)
 told_by (Ok system) back end records wanted left holds = tt
 told_by (Err ending) back end records wanted left holds = λ is. holds (sym (ap status_of left.0) ∙ is)
@@ -208,23 +208,23 @@ sink_by (Ended Budget) records is = absurd (cc)
 sink_by (Ended Stuck) records is = absurd (cc)
 sink_by (Ended Memory) records is = absurd (cc)
 
-inside_alone : {P : Type 0} (end : RunEnd) (records : ℕ) (wanted : Status) → (wanted ≡ IsInputFault) ⊎ (wanted ≡ IsDiskFault) → status_of (ending_by end records) ≡ wanted → P
-inside_alone RunDone records wanted (inl a) is = absurd (cc)
-inside_alone RunDone records wanted (inr b) is = absurd (cc)
-inside_alone RunBudget records wanted (inl a) is = absurd (cc)
-inside_alone RunBudget records wanted (inr b) is = absurd (cc)
-inside_alone RunStuck records wanted (inl a) is = absurd (cc)
-inside_alone RunStuck records wanted (inr b) is = absurd (cc)
-inside_alone RunSinkFault records wanted (inl a) is = absurd (cc)
-inside_alone RunSinkFault records wanted (inr b) is = absurd (cc)
-inside_alone RunMemory records wanted (inl a) is = absurd (cc)
-inside_alone RunMemory records wanted (inr b) is = absurd (cc)
+inside_alone : {P : Type 0} (end : LoopEnd) (records : ℕ) (wanted : Status) → (wanted ≡ IsInputFault) ⊎ (wanted ≡ IsDiskFault) → status_of (ending_by end records) ≡ wanted → P
+inside_alone LoopDone records wanted (inl a) is = absurd (cc)
+inside_alone LoopDone records wanted (inr b) is = absurd (cc)
+inside_alone LoopBudget records wanted (inl a) is = absurd (cc)
+inside_alone LoopBudget records wanted (inr b) is = absurd (cc)
+inside_alone LoopStuck records wanted (inl a) is = absurd (cc)
+inside_alone LoopStuck records wanted (inr b) is = absurd (cc)
+inside_alone LoopSinkFault records wanted (inl a) is = absurd (cc)
+inside_alone LoopSinkFault records wanted (inr b) is = absurd (cc)
+inside_alone LoopMemory records wanted (inl a) is = absurd (cc)
+inside_alone LoopMemory records wanted (inr b) is = absurd (cc)
 
 pub sink_told : {P : Type 0} (result : Result PlainKernel Ending) (back : Option PlainKernel) (status : RunStatus) (records : ℕ) → IsLeft result back (end_told status) records → (status ≡ SinkFault → P) → IfErr result (λ ending. status_of ending ≡ IsSinkFault → P)
 sink_told result back status records left holds = told_by result back (end_told status) records IsSinkFault left (λ is. holds (sink_by status records is))
 
-pub no_input : (P : Type 0) (result : Result PlainKernel Ending) (back : Option PlainKernel) (end : RunEnd) (records : ℕ) → IsLeft result back end records → IfErr result (λ ending. status_of ending ≡ IsInputFault → P)
+pub no_input : (P : Type 0) (result : Result PlainKernel Ending) (back : Option PlainKernel) (end : LoopEnd) (records : ℕ) → IsLeft result back end records → IfErr result (λ ending. status_of ending ≡ IsInputFault → P)
 no_input P result back end records left = told_by result back end records IsInputFault left (inside_alone end records IsInputFault (inl refl))
 
-pub no_disk : (P : Type 0) (result : Result PlainKernel Ending) (back : Option PlainKernel) (end : RunEnd) (records : ℕ) → IsLeft result back end records → IfErr result (λ ending. status_of ending ≡ IsDiskFault → P)
+pub no_disk : (P : Type 0) (result : Result PlainKernel Ending) (back : Option PlainKernel) (end : LoopEnd) (records : ℕ) → IsLeft result back end records → IfErr result (λ ending. status_of ending ≡ IsDiskFault → P)
 no_disk P result back end records left = told_by result back end records IsDiskFault left (inside_alone end records IsDiskFault (inr refl))

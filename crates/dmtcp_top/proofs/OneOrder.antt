@@ -27,9 +27,9 @@ use Rattle.trace_log.specs.Requests.{Requests, Phase, NoRequest, Requested, Afte
 use Rattle.trace_log.proofs.RequestMarks.{has_no_marks, is_each_without_marks}
 use Rattle.trace_log.specs.Turns.{Place, Arrival, InTurn, Upcoming, due_signal, turn_of, turn_with, NewRound, After, threads_in, first_thread, first_turn, coming, round_of, round_from, new_round, next_turn, same_turn, stands_in, goes_on, due_at, is_due_at}
 use Rattle.drive.specs.HandedOn.{Standing, GoesInRounds, is_due, is_first_arrival, is_due_for_cut, request_waits, moved, moved_by, standing_after, each_is_due, first_standing}
-use Rattle.drive.specs.declared.run_end.RunEnd.{RunEnd}
+use Rattle.drive.specs.declared.loop_end.LoopEnd.{LoopEnd}
 use Rattle.drive.specs.RunEnds.{IsRun, RanOut, EndsRun}
-use Rattle.drive.specs.declared.run_end.RunEnd.TheVariants.{Done as RunDone, Budget as RunBudget, Stuck as RunStuck, SinkFault as RunSinkFault, Memory as RunMemory}
+use Rattle.drive.specs.declared.loop_end.LoopEnd.TheVariants.{Done as LoopDone, Budget as LoopBudget, Stuck as LoopStuck, SinkFault as LoopSinkFault, Memory as LoopMemory}
 use Rattle.job_words.specs.declared.job.Job.TheVariants.{Launch, Restart}
 use Rattle.dmtcp_top.specs.Jobs.{NameNoEvery}
 use Rattle.dmtcp_top.specs.Launches.{Begun, origin, schedule_in, beginning}
@@ -496,12 +496,12 @@ one_end schedule other g last final a b none none_too valid first second runs al
     }
 
 -- where a run ended
-abbrev pub EndsAt : RunEnd → Plain → ℕ → ℕ → Type 0
-EndsAt RunDone last count room = ended last ≡ true
-EndsAt RunBudget last count room = (ended last ≡ false) × (count ≡ room)
-EndsAt RunStuck last count room = IsStuck last × (full_arrive last ≡ last) × (count < room)
-EndsAt RunSinkFault last count room = ⊥
-EndsAt RunMemory last count room = ⊥
+abbrev pub EndsAt : LoopEnd → Plain → ℕ → ℕ → Type 0
+EndsAt LoopDone last count room = ended last ≡ true
+EndsAt LoopBudget last count room = (ended last ≡ false) × (count ≡ room)
+EndsAt LoopStuck last count room = IsStuck last × (full_arrive last ≡ last) × (count < room)
+EndsAt LoopSinkFault last count room = ⊥
+EndsAt LoopMemory last count room = ⊥
 
 is_stuck_lives : {A : Type 0} (g : Plain) → ended g ≡ true → IsStuck g → A
 is_stuck_lives g over stuck = true_false (sym over ∙ ap not stuck.lives)
@@ -509,40 +509,40 @@ is_stuck_lives g over stuck = true_false (sym over ∙ ap not stuck.lives)
 not_below : {A : Type 0} (count room : ℕ) → count ≡ room → count < room → A
 not_below count room all some = absurd (omega arith)
 
-one_kind : (first second : RunEnd) (last : Plain) (count room : ℕ) → EndsAt first last count room → EndsAt second last count room → first ≡ second
-one_kind RunDone RunDone last count room e f = refl
-one_kind RunDone RunBudget last count room e f = true_false (sym e ∙ f.0)
-one_kind RunDone RunStuck last count room e f = is_stuck_lives last e f.0
-one_kind RunBudget RunDone last count room e f = true_false (sym f ∙ e.0)
-one_kind RunBudget RunBudget last count room e f = refl
-one_kind RunBudget RunStuck last count room e f = not_below count room e.1 f.2
-one_kind RunStuck RunDone last count room e f = is_stuck_lives last f e.0
-one_kind RunStuck RunBudget last count room e f = not_below count room f.1 e.2
-one_kind RunStuck RunStuck last count room e f = refl
-one_kind first RunSinkFault last count room e f = absurd f
-one_kind first RunMemory last count room e f = absurd f
-one_kind RunSinkFault second last count room e f = absurd e
-one_kind RunMemory second last count room e f = absurd e
+one_kind : (first second : LoopEnd) (last : Plain) (count room : ℕ) → EndsAt first last count room → EndsAt second last count room → first ≡ second
+one_kind LoopDone LoopDone last count room e f = refl
+one_kind LoopDone LoopBudget last count room e f = true_false (sym e ∙ f.0)
+one_kind LoopDone LoopStuck last count room e f = is_stuck_lives last e f.0
+one_kind LoopBudget LoopDone last count room e f = true_false (sym f ∙ e.0)
+one_kind LoopBudget LoopBudget last count room e f = refl
+one_kind LoopBudget LoopStuck last count room e f = not_below count room e.1 f.2
+one_kind LoopStuck LoopDone last count room e f = is_stuck_lives last f e.0
+one_kind LoopStuck LoopBudget last count room e f = not_below count room f.1 e.2
+one_kind LoopStuck LoopStuck last count room e f = refl
+one_kind first LoopSinkFault last count room e f = absurd f
+one_kind first LoopMemory last count room e f = absurd f
+one_kind LoopSinkFault second last count room e f = absurd e
+one_kind LoopMemory second last count room e f = absurd e
 
-pub record EndedRun (end : RunEnd) (schedule : Schedule) (g : Plain) (room : ℕ) (a : List Record) : Type 0 where
+pub record EndedRun (end : LoopEnd) (schedule : Schedule) (g : Plain) (room : ℕ) (a : List Record) : Type 0 where
   pub last : Plain
   pub is : IsRun schedule g room a last
   pub order : GoesInRounds schedule g a
   pub there : EndsAt end last (length a) room
 
-ended_run : (end : RunEnd) (schedule : Schedule) (g : Plain) (room : ℕ) (a : List Record) (shown log : Sunk) → IsAnswer end → EndsRun end schedule g room a shown log → GoesInRounds schedule g a → EndedRun end schedule g room a
-ended_run RunDone schedule g room a shown log answer ends order = record { last = ends.0.shown.state; is = ends.0.shown.run; order = order; there = ends.0.nobody }
-ended_run RunBudget schedule g room a shown log answer ends order = record { last = ends.0.shown.state; is = ends.0.shown.run; order = order; there = (ends.0.somebody, ends.0.full) }
-ended_run RunStuck schedule g room a shown log answer ends order = record { last = ends.0.shown.state; is = ends.0.shown.run; order = order; there = (ends.0.stuck, ends.0.arrived, ends.0.roomy) }
-ended_run RunSinkFault schedule g room a shown log answer ends order = absurd answer
-ended_run RunMemory schedule g room a shown log answer ends order = absurd answer
+ended_run : (end : LoopEnd) (schedule : Schedule) (g : Plain) (room : ℕ) (a : List Record) (shown log : Sunk) → IsAnswer end → EndsRun end schedule g room a shown log → GoesInRounds schedule g a → EndedRun end schedule g room a
+ended_run LoopDone schedule g room a shown log answer ends order = record { last = ends.0.shown.state; is = ends.0.shown.run; order = order; there = ends.0.nobody }
+ended_run LoopBudget schedule g room a shown log answer ends order = record { last = ends.0.shown.state; is = ends.0.shown.run; order = order; there = (ends.0.somebody, ends.0.full) }
+ended_run LoopStuck schedule g room a shown log answer ends order = record { last = ends.0.shown.state; is = ends.0.shown.run; order = order; there = (ends.0.stuck, ends.0.arrived, ends.0.roomy) }
+ended_run LoopSinkFault schedule g room a shown log answer ends order = absurd answer
+ended_run LoopMemory schedule g room a shown log answer ends order = absurd answer
 
-ends_or_full : (end : RunEnd) (last : Plain) (count room : ℕ) → EndsAt end last count room → ComesToEnd last ⊎ (count ≡ room)
-ends_or_full RunDone last count room there = inl (inl there)
-ends_or_full RunBudget last count room there = inr there.1
-ends_or_full RunStuck last count room there = inl (inr (there.0, there.1))
-ends_or_full RunSinkFault last count room there = absurd there
-ends_or_full RunMemory last count room there = absurd there
+ends_or_full : (end : LoopEnd) (last : Plain) (count room : ℕ) → EndsAt end last count room → ComesToEnd last ⊎ (count ≡ room)
+ends_or_full LoopDone last count room there = inl (inl there)
+ends_or_full LoopBudget last count room there = inr there.1
+ends_or_full LoopStuck last count room there = inl (inr (there.0, there.1))
+ends_or_full LoopSinkFault last count room there = absurd there
+ends_or_full LoopMemory last count room there = absurd there
 
 -- from the same place nothing is longer than what comes to an end
 none_longer : (b : List Record) → length {A = Record} [] ≤ length b
@@ -577,7 +577,7 @@ equal_lengths n m less more = omega arith
 at_most_same : (n m : ℕ) → n ≡ m → m ≤ n
 at_most_same n m same = omega arith
 
-pub one_ended : (schedule other : Schedule) (g : Plain) (room : ℕ) (a b : List Record) (first second : RunEnd) → IsValid g → schedule.every ≡ None → other.every ≡ None → EndedRun first schedule g room a → EndedRun second other g room b → (first ≡ second) × (a ≡ b)
+pub one_ended : (schedule other : Schedule) (g : Plain) (room : ℕ) (a b : List Record) (first second : LoopEnd) → IsValid g → schedule.every ≡ None → other.every ≡ None → EndedRun first schedule g room a → EndedRun second other g room b → (first ≡ second) × (a ≡ b)
 one_ended schedule other g room a b first second valid none none_too one two =
     let fewer = no_longer_run schedule other g one.last two.last room a b valid none none_too one.is two.is one.order two.order (ends_or_full first one.last (length a) room one.there) in
     let no_fewer = no_longer_run other schedule g two.last one.last room b a valid none_too none two.is one.is two.order one.order (ends_or_full second two.last (length b) room two.there) in
@@ -593,23 +593,23 @@ one_ending schedule other g room a b first second shown log also more valid none
     one_ended schedule other g room a b first second valid none none_too (ended_run first schedule g room a shown log answer ends order) (ended_run second other g room b also more answer_too ends_too order_too)
 
 -- the rounds to an end are a run
-pub run_to_end : (g : Plain) (room : ℕ) (records : List Record) → RunsToEnd g room records → EndedRun RunDone no_checkpoints g room records
+pub run_to_end : (g : Plain) (room : ℕ) (records : List Record) → RunsToEnd g room records → EndedRun LoopDone no_checkpoints g room records
 run_to_end g room records to =
     let reached = is_each_without_marks no_checkpoints g to.last records refl to.steps to.unmarked in
     let is : IsRun no_checkpoints g room records to.last = record { steps = to.steps; requests = reached.0; reaches = reached.1; fits = to.fits } in
     record { last = to.last; is = is; order = to.order; there = to.over }
 
-ends_as : (schedule : Schedule) (g : Plain) (room : ℕ) (records trace : List Record) (end : RunEnd) → IsValid g → schedule.every ≡ None → RunsToEnd g room records → EndedRun end schedule g room trace → (end ≡ RunMemory) ⊎ ((end ≡ RunDone) × (trace ≡ records))
+ends_as : (schedule : Schedule) (g : Plain) (room : ℕ) (records trace : List Record) (end : LoopEnd) → IsValid g → schedule.every ≡ None → RunsToEnd g room records → EndedRun end schedule g room trace → (end ≡ LoopMemory) ⊎ ((end ≡ LoopDone) × (trace ≡ records))
 ends_as schedule g room records trace end valid none to ended_too =
-    let both = one_ended no_checkpoints schedule g room records trace RunDone end valid refl none (run_to_end g room records to) ended_too in
+    let both = one_ended no_checkpoints schedule g room records trace LoopDone end valid refl none (run_to_end g room records to) ended_too in
     inr (sym both.0, sym both.1)
 
 pub ends_so : EndsSo
-ends_so schedule g room records trace RunDone shown log valid none to ends order whole = ends_as schedule g room records trace RunDone valid none to (ended_run RunDone schedule g room trace shown log tt ends order)
-ends_so schedule g room records trace RunBudget shown log valid none to ends order whole = ends_as schedule g room records trace RunBudget valid none to (ended_run RunBudget schedule g room trace shown log tt ends order)
-ends_so schedule g room records trace RunStuck shown log valid none to ends order whole = ends_as schedule g room records trace RunStuck valid none to (ended_run RunStuck schedule g room trace shown log tt ends order)
-ends_so schedule g room records trace RunSinkFault shown log valid none to ends order whole = absurd (whole refl)
-ends_so schedule g room records trace RunMemory shown log valid none to ends order whole = inl refl
+ends_so schedule g room records trace LoopDone shown log valid none to ends order whole = ends_as schedule g room records trace LoopDone valid none to (ended_run LoopDone schedule g room trace shown log tt ends order)
+ends_so schedule g room records trace LoopBudget shown log valid none to ends order whole = ends_as schedule g room records trace LoopBudget valid none to (ended_run LoopBudget schedule g room trace shown log tt ends order)
+ends_so schedule g room records trace LoopStuck shown log valid none to ends order whole = ends_as schedule g room records trace LoopStuck valid none to (ended_run LoopStuck schedule g room trace shown log tt ends order)
+ends_so schedule g room records trace LoopSinkFault shown log valid none to ends order whole = absurd (whole refl)
+ends_so schedule g room records trace LoopMemory shown log valid none to ends order whole = inl refl
 
 -- a call began as its run did
 pub order_of : (session : Session) (begun : Begun session.given) → session.left.start ≡ Some (beginning begun) → CallGoesInRounds session → GoesInRounds (schedule_in begun) (origin begun) session.left.trace

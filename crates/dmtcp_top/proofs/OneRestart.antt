@@ -8,9 +8,9 @@ use Rattle.plain_machine.specs.Valid.{IsValid}
 use Rattle.disk_folder.specs.Files.{FolderFiles as Folder}
 use Rattle.trace_log.specs.declared.requests.Schedule.{Schedule}
 use Rattle.job_words.specs.declared.job.Job.TheVariants.{Restart}
-use Rattle.drive.specs.declared.run_end.RunEnd.{RunEnd}
+use Rattle.drive.specs.declared.loop_end.LoopEnd.{LoopEnd}
 use Rattle.drive.specs.HandedOn.{SpellsSet}
-use Rattle.drive.specs.declared.run_end.RunEnd.TheVariants.{Done as RunDone, Budget as RunBudget, Stuck as RunStuck, Memory as RunMemory}
+use Rattle.drive.specs.declared.loop_end.LoopEnd.TheVariants.{Done as LoopDone, Budget as LoopBudget, Stuck as LoopStuck, Memory as LoopMemory}
 use Rattle.dmtcp_top.specs.declared.settings.Settings.{Settings}
 use Rattle.endings.specs.declared.status.Status.{Status}
 use Rattle.endings.specs.declared.status.Status.TheVariants.{Done, Budget, Stuck, Memory}
@@ -28,11 +28,11 @@ use Rattle.dmtcp_top.proofs.OneOrder.{EndedRun, one_ended, order_of, run_to_end,
 told : (P : Folder → Type 0) (o : Option Folder) (files : Folder) → o ≡ Some files → IfSome o P → P files
 told P o files is holds = subst (λ p. IfSome p P) is holds
 
-abbrev end_of : Status → RunEnd
-end_of Done = RunDone
-end_of Budget = RunBudget
-end_of Stuck = RunStuck
-end_of _ = RunMemory
+abbrev end_of : Status → LoopEnd
+end_of Done = LoopDone
+end_of Budget = LoopBudget
+end_of Stuck = LoopStuck
+end_of _ = LoopMemory
 
 module _ (files : Folder) (generation : ℕ) (g : Plain) (spells : SpellsSet files generation g) (session : Session) (asked : RestartAsked session.given) (folder : session.given.folder ≡ Some files) where
   abbrev settings : Settings
@@ -45,10 +45,10 @@ module _ (files : Folder) (generation : ℕ) (g : Plain) (spells : SpellsSet fil
     ap (λ job. settings_of (Restart job)) (same_restart session.given.words restarted.asked.job asked.job restarted.asked.asks asked.asks),
   )
 
-  abbrev EndsAs : RunEnd → Type 0
+  abbrev EndsAs : LoopEnd → Type 0
   EndsAs end = (opening : ℕ) × EndedRun end (schedule_of settings opening) g settings.records session.left.trace × IsValid g
 
-  begun_here : (end : RunEnd) (begun : Begun session.given) → EndedRun end (schedule_of (settings_in begun) (opening_in begun)) (origin begun) (settings_in begun).records session.left.trace → EndsAs end
+  begun_here : (end : LoopEnd) (begun : Begun session.given) → EndedRun end (schedule_of (settings_in begun) (opening_in begun)) (origin begun) (settings_in begun).records session.left.trace → EndsAs end
   begun_here end begun is =
       let at = begins begun in (
         opening_in begun,
@@ -59,11 +59,11 @@ module _ (files : Folder) (generation : ℕ) (g : Plain) (spells : SpellsSet fil
 
   restart_run : (status : Status) (log : Sunk) → Answers status → Ends status session log → CallGoesInRounds session → EndsAs (end_of status)
   restart_run Done log answers ends order =
-      let is = ends.reached.0 in begun_here RunDone is.begun (record { last = is.run.shown.state; is = is.run.shown.run; order = order_of session is.begun is.start order; there = is.run.nobody })
+      let is = ends.reached.0 in begun_here LoopDone is.begun (record { last = is.run.shown.state; is = is.run.shown.run; order = order_of session is.begun is.start order; there = is.run.nobody })
   restart_run Budget log answers ends order =
-      let is = ends.reached in begun_here RunBudget is.begun (record { last = is.run.shown.state; is = is.run.shown.run; order = order_of session is.begun is.start order; there = (is.run.somebody, is.run.full) })
+      let is = ends.reached in begun_here LoopBudget is.begun (record { last = is.run.shown.state; is = is.run.shown.run; order = order_of session is.begun is.start order; there = (is.run.somebody, is.run.full) })
   restart_run Stuck log answers ends order =
-      let is = ends.reached.0 in begun_here RunStuck is.begun (record { last = is.run.shown.state; is = is.run.shown.run; order = order_of session is.begun is.start order; there = (is.run.stuck, is.run.arrived, is.run.roomy) })
+      let is = ends.reached.0 in begun_here LoopStuck is.begun (record { last = is.run.shown.state; is = is.run.shown.run; order = order_of session is.begun is.start order; there = (is.run.stuck, is.run.arrived, is.run.roomy) })
   restart_run _ log answers ends order = absurd answers
 
 one_status : (first second : Status) → Answers first → Answers second → end_of first ≡ end_of second → first ≡ second
@@ -100,7 +100,7 @@ module _ (files : Folder) (generation : ℕ) (g : Plain) (records : List Record)
   does_so status answers ends =
       let one = restart_run files generation g spells session asked folder status log answers ends order in
       let schedule : Schedule = schedule_of (settings_of (Restart asked.job)) one.0 in
-      let same = one_ended no_checkpoints schedule g asked.job.records records session.left.trace RunDone (end_of status) one.2 refl none (run_to_end g asked.job.records records to) one.1 in
+      let same = one_ended no_checkpoints schedule g asked.job.records records session.left.trace LoopDone (end_of status) one.2 refl none (run_to_end g asked.job.records records to) one.1 in
       (one_status status Done answers tt (sym same.0), sym same.1)
 
   by_status : (status : Status) → Ends status session log → RunsOn status → (status ≡ Memory) ⊎ DoesSo status

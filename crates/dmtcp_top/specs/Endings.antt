@@ -16,10 +16,10 @@ use Rattle.endings.specs.declared.ending.Ending.TheVariants.{Done, SinkFault, Bu
 use Rattle.endings.specs.Log.{memory_line}
 use Rattle.endings.specs.Endings.{status_of, line_of}
 use Rattle.edge_io.specs.Sunk.{Sunk, Took, TookFront}
-use Rattle.drive.specs.declared.run_end.RunEnd.{RunEnd}
+use Rattle.drive.specs.declared.loop_end.LoopEnd.{LoopEnd}
 use Rattle.drive.specs.RunEnds.{KernelAtEnd}
 use Rattle.drive.specs.Pace.{LinesOf}
-use Rattle.drive.specs.declared.run_end.RunEnd.TheVariants as run_ended
+use Rattle.drive.specs.declared.loop_end.LoopEnd.TheVariants as loop_ended
 use Rattle.dmtcp_top.specs.Sessions.{Session, Beginning, Outside, session_in, log_in}
 use Rattle.dmtcp_top.specs.Ends.{Reaches, SinkFailed, Stopped, CallGoesInRounds}
 use Rattle.dmtcp_top.specs.Promise.{StaysWhole}
@@ -46,17 +46,17 @@ pub record ComesToEnd (ending : Ending) (words : List Text) (trace : List Record
   pub in_rounds : CallGoesInRounds (session_in words start trace before now)
   pub whole : StaysWhole start trace before.folder now.folder
 
-abbrev pub ending_by : RunEnd → ℕ → Ending
-ending_by run_ended.Done records = Done
-ending_by run_ended.Budget records = Budget records
-ending_by run_ended.Stuck records = Stuck
-ending_by run_ended.SinkFault records = SinkFault
-ending_by run_ended.Memory records = Memory
+abbrev pub ending_by : LoopEnd → ℕ → Ending
+ending_by loop_ended.Done records = Done
+ending_by loop_ended.Budget records = Budget records
+ending_by loop_ended.Stuck records = Stuck
+ending_by loop_ended.SinkFault records = SinkFault
+ending_by loop_ended.Memory records = Memory
 
 -- where nobody lives it is the system that came back
-abbrev pub IsLeft : Result PlainKernel Ending → Option PlainKernel → RunEnd → ℕ → Type 0
-IsLeft (Ok system) back end records = (back ≡ Some system) × (end ≡ run_ended.Done)
-IsLeft (Err ending) back end records = (ending ≡ ending_by end records) × (end ≢ run_ended.Done)
+abbrev pub IsLeft : Result PlainKernel Ending → Option PlainKernel → LoopEnd → ℕ → Type 0
+IsLeft (Ok system) back end records = (back ≡ Some system) × (end ≡ loop_ended.Done)
+IsLeft (Err ending) back end records = (ending ≡ ending_by end records) × (end ≢ loop_ended.Done)
 
 -- how the call ends whose run gave this
 abbrev pub ending_in : Result PlainKernel Ending → Ending

@@ -35,9 +35,9 @@ use Rattle.endings.specs.declared.status.Status.TheVariants.{Done, Budget, Stuck
 use Rattle.dmtcp_top.specs.Jobs.{NameNoEvery}
 use Rattle.dmtcp_top.specs.Launches.{RestartAsked}
 use Rattle.drive.specs.HandedOn.{SpellsState, SpellsSet, GoesInRounds}
-use Rattle.drive.specs.declared.run_end.RunEnd.{RunEnd}
+use Rattle.drive.specs.declared.loop_end.LoopEnd.{LoopEnd}
 use Rattle.drive.specs.RunEnds.{IsRun, RanOut, EndsRun}
-use Rattle.drive.specs.declared.run_end.RunEnd.TheVariants.{Done as Ended, SinkFault, Memory}
+use Rattle.drive.specs.declared.loop_end.LoopEnd.TheVariants.{Done as Ended, SinkFault, Memory}
 use Rattle.edge_io.specs.Sunk.{Sunk, Took}
 use Rattle.dmtcp_top.specs.Sessions.{Beginning, Session}
 use Rattle.dmtcp_top.specs.Ends.{Ends, IsDecided, CallGoesInRounds}
@@ -91,7 +91,7 @@ OneEnd =
     → AreOne g a b last final
 
 -- what a run comes to where nothing outside fails and there is memory
-abbrev pub IsAnswer : RunEnd → Type 0
+abbrev pub IsAnswer : LoopEnd → Type 0
 IsAnswer SinkFault = ⊥
 IsAnswer Memory = ⊥
 IsAnswer _ = Unit {0}
@@ -99,7 +99,7 @@ IsAnswer _ = Unit {0}
 abbrev pub OneEnding : Type 0
 OneEnding =
     (schedule other : Schedule) (g : Plain) (room : ℕ) (a b : List Record)
-    (first second : RunEnd) (console log also more : Sunk)
+    (first second : LoopEnd) (console log also more : Sunk)
     → IsValid g → schedule.every ≡ None → other.every ≡ None → IsAnswer first → IsAnswer second
     → EndsRun first schedule g room a console log → EndsRun second other g room b also more
     → GoesInRounds schedule g a → GoesInRounds other g b → (first ≡ second) × (a ≡ b)
@@ -120,7 +120,7 @@ pub record RunsToEnd (g : Plain) (room : ℕ) (records : List Record) : Type 0 w
 -- of a run that no sink cut off
 abbrev pub EndsSo : Type 0
 EndsSo =
-    (schedule : Schedule) (g : Plain) (room : ℕ) (records trace : List Record) (end : RunEnd)
+    (schedule : Schedule) (g : Plain) (room : ℕ) (records trace : List Record) (end : LoopEnd)
     (console log : Sunk)
     → IsValid g → schedule.every ≡ None → RunsToEnd g room records
     → EndsRun end schedule g room trace console log → GoesInRounds schedule g trace → end ≢ SinkFault

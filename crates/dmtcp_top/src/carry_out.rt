@@ -2,7 +2,7 @@ ghost use Rattle.std.specs.Prelude.{◌≡◌, ◌≢◌, ◌≤◌, ◌⊎◌, 
 ghost use Rattle.views.specs.Faults.{Rose};
 ghost use Rattle.option_words.specs.Options.{Text};
 ghost use Rattle.endings.specs.Endings.{status_of};
-ghost use Rattle.drive.specs.declared.run_end.RunEnd.TheVariants as run_ended;
+ghost use Rattle.drive.specs.declared.loop_end.LoopEnd.TheVariants as loop_ended;
 ghost use Rattle.drive.specs.Driving.{end_told};
 ghost use Rattle.dmtcp_top.specs.Endings.{IsCarriedOut, IsLeft, ending_by, ending_in};
 ghost use Rattle.dmtcp_top.specs.Jobs.{Asks, IsOneRun, IsQuiet, settings_of};
@@ -93,9 +93,9 @@ fn left_by<'a>(
 
 /// How the call ends whose run ended so, where that is not for want of live processes.
 fn ended_by<'a>(status: RunStatus, records: u32) -> Result<(), Ending<'a>>
-    ensures done { OnOk result (end_told status ≡ run_ended.Done) }
+    ensures done { OnOk result (end_told status ≡ loop_ended.Done) }
     ensures otherwise { IfErr result (λ ending. (ending ≡ ending_by (end_told status) records)
-        × (end_told status ≢ run_ended.Done)) }
+        × (end_told status ≢ loop_ended.Done)) }
 {
     match status {
         RunStatus::Ended(RunEnd::Done) => Ok(()),

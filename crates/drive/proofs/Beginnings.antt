@@ -30,8 +30,8 @@ use Rattle.trace_log.specs.LogText.{at_start}
 use Rattle.trace_log.specs.Requests.{first_tally}
 use Rattle.trace_log.specs.Trace.{TraceState}
 use Rattle.drive.specs.HandedOn.{sunk, NewRound, Checkpointer, IsKept, plain_of, IsReady}
-use Rattle.drive.specs.declared.run_end.RunEnd.{RunEnd as LoopEnd}
-use Rattle.drive.specs.declared.run_end.RunEnd.TheVariants as run_ended
+use Rattle.drive.specs.declared.loop_end.LoopEnd.{LoopEnd}
+use Rattle.drive.specs.declared.loop_end.LoopEnd.TheVariants as loop_ended
 use Rattle.drive.specs.Going.{HasEnded}
 use Rattle.drive.specs.RunEnds.{EndsAt, KernelAtEnd}
 use Rattle.drive.proofs.Ended.{at_memory, kernel_left}
@@ -98,7 +98,7 @@ kept checkpointer kernel guests schedule (Some store) folder tally stored can so
     kept_with checkpointer schedule.opening store folder (ap (λ t. t.greatest) tally) stored can.follows can.fits
 
 pub unbegun : (schedule : Schedule) (g : Plain) (trace : TraceState) (taken told : Option (List ℕ)) (disk : SeenFolder) → trace.records ≡ []
-    → HasEnded run_ended.Memory schedule g trace.room trace.records g (sunk taken taken) (sunk told told) disk disk
+    → HasEnded loop_ended.Memory schedule g trace.room trace.records g (sunk taken taken) (sunk told told) disk disk
 unbegun schedule g trace taken told disk empty =
     let first : Checkpointer = record { schedule = schedule; tally = first_tally schedule; store = None; lines = at_start } in
     let begun = starting g first trace taken told disk empty refl refl in

@@ -28,8 +28,8 @@ use Rattle.checkpointer.specs.Running.{IsRunning}
 use Rattle.checkpointer.specs.UnderWay.{IsUnderWay, IsBrokenOff, IsSettled}
 use Rattle.checkpointer.proofs.Running.{steps_of}
 use Rattle.checkpointer.proofs.Sinks.{took_front}
-use Rattle.drive.specs.declared.run_end.RunEnd.{RunEnd}
-use Rattle.drive.specs.declared.run_end.RunEnd.TheVariants as run_ended
+use Rattle.drive.specs.declared.loop_end.LoopEnd.{LoopEnd}
+use Rattle.drive.specs.declared.loop_end.LoopEnd.TheVariants as loop_ended
 use Rattle.drive.specs.Going.{HasEnded, end_of}
 use Rattle.drive.specs.RunEnds.{EndsAt, KernelAtEnd, IsRun, Shown, ShownInPart, RanOut, FilledUp, GotStuck}
 
@@ -89,21 +89,21 @@ module _ (schedule : Schedule) (g h : Plain) (upcoming : Upcoming) (trace : Trac
     Going = IsUnderWay schedule g h upcoming checkpointer trace sink log first disk
 
     pub at_end : (under : Going) → IsSettled under.running.requests trace → length trace.records + trace.room ≡ room → ended h ≡ true
-        → HasEnded run_ended.Done schedule g room trace.records h sink log first disk
+        → HasEnded loop_ended.Done schedule g room trace.records h sink log first disk
     at_end under settled size over =
         record { ends = (ran_out under.running settled size over, under.noted.logged); left = steps_of schedule g h upcoming trace.records sink under.running; pace = tt; in_rounds = under.running.order; safe = under.safe }
 
     pub at_full : Going → trace.room ≡ 0 → length trace.records + trace.room ≡ room → ended h ≡ false
-        → HasEnded run_ended.Budget schedule g room trace.records h sink log first disk
+        → HasEnded loop_ended.Budget schedule g room trace.records h sink log first disk
     at_full under none size on =
         record { ends = (filled_up under.running none size on, under.noted.logged); left = steps_of schedule g h upcoming trace.records sink under.running; pace = tt; in_rounds = under.running.order; safe = under.safe }
 
     pub at_rest : (under : Going) → IsAnswered under.running.requests → 0 < trace.room → length trace.records + trace.room ≡ room → IsStuck h → full_arrive h ≡ h
-        → HasEnded run_ended.Stuck schedule g room trace.records h sink log first disk
+        → HasEnded loop_ended.Stuck schedule g room trace.records h sink log first disk
     at_rest under free some size stuck arrived =
         record { ends = (got_stuck under.running free some size stuck arrived, under.noted.logged); left = steps_of schedule g h upcoming trace.records sink under.running; pace = tt; in_rounds = under.running.order; safe = under.safe }
 
-    pub at_memory : Going → length trace.records ≤ room → HasEnded run_ended.Memory schedule g room trace.records h sink log first disk
+    pub at_memory : Going → length trace.records ≤ room → HasEnded loop_ended.Memory schedule g room trace.records h sink log first disk
     at_memory under fits = record {
       ends = (running_shown under.running fits, took_front log (log_text trace.records) under.noted.logged);
       left = steps_of schedule g h upcoming trace.records sink under.running;
@@ -130,14 +130,14 @@ module _ (schedule : Schedule) (g h : Plain) (upcoming : Upcoming) (trace : Trac
   }
 
 -- the same said of how it is told
-pub ended_so : {schedule : Schedule} {g : Plain} {room : ℕ} {trace : List Record} {state : Plain} {sink log : Sunk} {first disk : SeenFolder} (end : RunEnd) (stop : Stop) → end ≡ end_of stop
+pub ended_so : {schedule : Schedule} {g : Plain} {room : ℕ} {trace : List Record} {state : Plain} {sink log : Sunk} {first disk : SeenFolder} (end : LoopEnd) (stop : Stop) → end ≡ end_of stop
     → HasEnded (end_of stop) schedule g room trace state sink log first disk → HasEnded end schedule g room trace state sink log first disk
 ended_so {schedule} {g} {room} {trace} {state} {sink} {log} {first} {disk} end stop is ended = subst (λ e. HasEnded e schedule g room trace state sink log first disk) (sym is) ended
 
 -- at each end the kernel part that is left is that at the end of the run
-pub kernel_left : (g : Plain) (trace : List Record) (state : Plain) (end : RunEnd) → EndsAt end g trace state → KernelAtEnd g trace state.kernel
-kernel_left g trace state run_ended.SinkFault left = left
-kernel_left g trace state run_ended.Done left = (state, (left, refl))
-kernel_left g trace state run_ended.Budget left = (state, (left, refl))
-kernel_left g trace state run_ended.Stuck left = (state, (left, refl))
-kernel_left g trace state run_ended.Memory left = (state, (left, refl))
+pub kernel_left : (g : Plain) (trace : List Record) (state : Plain) (end : LoopEnd) → EndsAt end g trace state → KernelAtEnd g trace state.kernel
+kernel_left g trace state loop_ended.SinkFault left = left
+kernel_left g trace state loop_ended.Done left = (state, (left, refl))
+kernel_left g trace state loop_ended.Budget left = (state, (left, refl))
+kernel_left g trace state loop_ended.Stuck left = (state, (left, refl))
+kernel_left g trace state loop_ended.Memory left = (state, (left, refl))

@@ -33,7 +33,7 @@ use Rattle.checkpointer.specs.UnderWay.{IsUnderWay, WaitsIfAsked}
 use Rattle.checkpointer.proofs.Running.{no_line, noted_on, work_counts, work_no_mark}
 use Rattle.checkpointer.proofs.Safety.{safe_quiet}
 use Rattle.checkpointer.proofs.Sinks.{took_front}
-use Rattle.drive.specs.declared.run_end.RunEnd.TheVariants as run_ended
+use Rattle.drive.specs.declared.loop_end.LoopEnd.TheVariants as loop_ended
 use Rattle.drive.specs.Going.{HasEnded}
 use Rattle.drive.proofs.Records.{grows, breaks}
 
@@ -135,7 +135,7 @@ module _ (schedule : Schedule) (g h : Plain) (upcoming : Upcoming) (d : Due) (ch
         record { now = after.0; free = ap (λ (q : Requests). q.phase) after.1 ∙ arrival_frees schedule h r before.running.requests free notes.no_mark idle }
 
   -- the console took a first part of what the record writes
-  pub spoilt : (room : ℕ) (k : Plain) → Spoils h k (Some d) from to (sunk mid has) → length from.records + 1 ≤ room → HasEnded run_ended.SinkFault schedule g room to.records k (sunk had has) log first disk
+  pub spoilt : (room : ℕ) (k : Plain) → Spoils h k (Some d) from to (sunk mid has) → length from.records + 1 ≤ room → HasEnded loop_ended.SinkFault schedule g room to.records k (sunk had has) log first disk
   spoilt room k spoils fits =
       let r = spoils.noted in
       let plain = work_no_mark r spoils.work in

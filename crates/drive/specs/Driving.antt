@@ -16,8 +16,8 @@ use Rattle.plain_machine.specs.Valid.{IsValid}
 use Rattle.guest_proc.specs.Guests.{GuestPart}
 use Rattle.image_store.specs.StoreStates.{Known, FitsFolder, next_generation}
 use Rattle.trace_log.specs.declared.requests.Schedule.{Schedule}
-use Rattle.drive.specs.declared.run_end.RunEnd.{RunEnd as LoopEnd}
-use Rattle.drive.specs.declared.run_end.RunEnd.TheVariants as run_ended
+use Rattle.drive.specs.declared.loop_end.LoopEnd.{LoopEnd}
+use Rattle.drive.specs.declared.loop_end.LoopEnd.TheVariants as loop_ended
 use Rattle.drive.specs.RunEnds.{KernelAtEnd}
 use Rattle.drive.specs.declared.run_status.RunStatus.{RunStatus}
 use Rattle.drive.specs.declared.run_status.RunStatus.TheVariants.{Ended, SinkFault}
@@ -44,11 +44,11 @@ pub record CanDrive (kernel : PlainKernel) (guests : Guests) (schedule : Schedul
   pub fits : IfSome store (λ known. FitsFolder known folder)
 
 abbrev pub end_told : RunStatus → LoopEnd
-end_told (Ended Done) = run_ended.Done
-end_told (Ended Stuck) = run_ended.Stuck
-end_told (Ended Budget) = run_ended.Budget
-end_told (Ended Memory) = run_ended.Memory
-end_told SinkFault = run_ended.SinkFault
+end_told (Ended Done) = loop_ended.Done
+end_told (Ended Stuck) = loop_ended.Stuck
+end_told (Ended Budget) = loop_ended.Budget
+end_told (Ended Memory) = loop_ended.Memory
+end_told SinkFault = loop_ended.SinkFault
 
 abbrev pub StandsAtEnd : Plain → List Record → Option PlainKernel → Type 0
 StandsAtEnd g trace back = IfSome back (KernelAtEnd g trace)

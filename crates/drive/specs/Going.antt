@@ -20,8 +20,8 @@ use Rattle.drive.specs.Scheduling.{IsCome, chosen}
 use Rattle.checkpointer.specs.Keeping.{IsSafe}
 use Rattle.checkpointer.specs.Rounds.{GoesInRounds}
 use Rattle.checkpointer.specs.UnderWay.{IsUnderWay, IsSettled}
-use Rattle.drive.specs.declared.run_end.RunEnd.{RunEnd}
-use Rattle.drive.specs.declared.run_end.RunEnd.TheVariants.{SinkFault, Memory}
+use Rattle.drive.specs.declared.loop_end.LoopEnd.{LoopEnd}
+use Rattle.drive.specs.declared.loop_end.LoopEnd.TheVariants.{SinkFault, Memory}
 use Rattle.drive.specs.declared.start.Start.{Start}
 use Rattle.drive.specs.RunEnds.{EndsAt, EndsRun}
 use Rattle.drive.specs.Pace.{KeepsPace}
@@ -44,7 +44,7 @@ pub record IsChosen (schedule : Schedule) (g : Plain) (now : Start) (rounds : Ro
   pub due : due_at (plain_of now.computation) upcoming
       ≡ chosen rounds (plain_of now.computation) (Some choice)
 
-pub record HasEnded (end : RunEnd) (schedule : Schedule) (g : Plain) (room : ℕ) (trace : List Record)
+pub record HasEnded (end : LoopEnd) (schedule : Schedule) (g : Plain) (room : ℕ) (trace : List Record)
     (state : Plain) (sink log : Sunk) (first disk : SeenFolder) : Type 0 where
   pub ends : EndsRun end schedule g room trace sink log
   pub left : EndsAt end g trace state
@@ -52,6 +52,6 @@ pub record HasEnded (end : RunEnd) (schedule : Schedule) (g : Plain) (room : ℕ
   pub in_rounds : GoesInRounds schedule g trace
   pub safe : IsSafe g trace first disk
 
-abbrev pub end_of : Stop → RunEnd
+abbrev pub end_of : Stop → LoopEnd
 end_of stopped_by.Sink = SinkFault
 end_of stopped_by.Memory = Memory

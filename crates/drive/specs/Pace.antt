@@ -11,8 +11,8 @@ use Rattle.plain_machine.specs.declared.plain.Plain.{Plain}
 use Rattle.plain_machine.specs.Runs.{run, console}
 use Rattle.plain_machine.specs.Tests.{is_work}
 use Rattle.trace_log.specs.LogText.{log_text}
-use Rattle.drive.specs.declared.run_end.RunEnd.{RunEnd}
-use Rattle.drive.specs.declared.run_end.RunEnd.TheVariants.{SinkFault, Memory}
+use Rattle.drive.specs.declared.loop_end.LoopEnd.{LoopEnd}
+use Rattle.drive.specs.declared.loop_end.LoopEnd.TheVariants.{SinkFault, Memory}
 use Rattle.edge_io.specs.Sunk.{Sunk, Took}
 use Rattle.checkpointer.specs.Pace.{CutLines, TookThen}
 
@@ -38,7 +38,7 @@ StopsAtRecord g trace sink log =
 abbrev pub LinesOf : List Record → List Byte → Type 0
 LinesOf trace lines = (lines ≡ log_text trace) ⊎ CutLines trace lines
 
-abbrev pub KeepsPace : RunEnd → Plain → List Record → Sunk → Sunk → Type 0
+abbrev pub KeepsPace : LoopEnd → Plain → List Record → Sunk → Sunk → Type 0
 KeepsPace SinkFault g trace sink log = StopsAtRecord g trace sink log
 KeepsPace Memory g trace sink log = (lines : List ℕ) × (LinesOf trace lines × Took log lines)
 KeepsPace _ g trace sink log = Unit {0}

@@ -14,8 +14,8 @@ use Rattle.plain_machine.specs.Tests.{ended, full_arrive, IsStuck}
 use Rattle.trace_log.specs.declared.requests.Schedule.{Schedule}
 use Rattle.trace_log.specs.Requests.{Requests, RunsTo, IsAnswered}
 use Rattle.trace_log.specs.LogText.{log_text}
-use Rattle.drive.specs.declared.run_end.RunEnd.{RunEnd}
-use Rattle.drive.specs.declared.run_end.RunEnd.TheVariants.{Done, Budget, Stuck, SinkFault, Memory}
+use Rattle.drive.specs.declared.loop_end.LoopEnd.{LoopEnd}
+use Rattle.drive.specs.declared.loop_end.LoopEnd.TheVariants.{Done, Budget, Stuck, SinkFault, Memory}
 use Rattle.edge_io.specs.Sunk.{Sunk, Took, TookFront}
 
 -- each record is a step of the plain machine, requests are made and answered as the schedule asks, and there
@@ -67,7 +67,7 @@ pub record GotStuck (schedule : Schedule) (g : Plain) (room : ℕ) (trace : List
 
 -- how a run ends: the log took the lines for the checkpoints, or a first part of them where a sink failed or
 -- memory was wanted
-abbrev pub EndsRun : RunEnd → Schedule → Plain → ℕ → List Record → Sunk → Sunk → Type 0
+abbrev pub EndsRun : LoopEnd → Schedule → Plain → ℕ → List Record → Sunk → Sunk → Type 0
 EndsRun Done schedule g room trace sink log =
     RanOut schedule g room trace sink × Took log (log_text trace)
 EndsRun Budget schedule g room trace sink log =
@@ -82,6 +82,6 @@ EndsRun Memory schedule g room trace sink log =
 abbrev pub KernelAtEnd : Plain → List Record → PlainKernel → Type 0
 KernelAtEnd g trace kernel = (last : Plain) × ((run g trace ≡ Some last) × (kernel ≡ last.kernel))
 
-abbrev pub EndsAt : RunEnd → Plain → List Record → Plain → Type 0
+abbrev pub EndsAt : LoopEnd → Plain → List Record → Plain → Type 0
 EndsAt SinkFault g trace state = KernelAtEnd g trace state.kernel
 EndsAt _ g trace state = run g trace ≡ Some state

@@ -34,10 +34,10 @@
 #![tactic(auto)]
 
 mod driving;
+pub mod loop_end;
 pub mod queue;
 pub mod rounds;
 pub mod run;
-pub mod run_end;
 mod run_status;
 pub mod start;
 

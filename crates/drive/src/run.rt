@@ -13,7 +13,7 @@ ghost use Rattle.drive.specs.RunEnds.{EndsAt, EndsRun};
 ghost use Rattle.drive.specs.Pace.{KeepsPace};
 ghost use Rattle.drive.specs.Going.{IsGoing, IsChosen, HasEnded, end_of};
 
-use crate::run_end::RunEnd;
+use crate::loop_end::LoopEnd;
 use crate::start::Start;
 use crate::{Chosen, Made, Rounds, Stop};
 use disk_folder::Folder;
@@ -31,7 +31,7 @@ impl Start {
         log: &mut L,
         disk: &mut F,
         trace: &mut Trace,
-    ) -> RunEnd
+    ) -> LoopEnd
         requires ready { IsReady self.old.computation }
         requires every { IfSome self.old.checkpointer.schedule.every (λ every. 0 < every) }
         requires tally { self.old.checkpointer.tally ≡ first_tally self.old.checkpointer.schedule }
@@ -53,25 +53,25 @@ impl Start {
         ensures safe { IsSafe (plain_of self.old.computation) trace.new.records (F.seen disk.old)
             (F.seen disk.new) }
         ensures untouched { self.old.checkpointer.schedule.every ≡ None → disk.new ≡ disk.old }
-        ensures cause { result ≡ RunEnd.SinkFault
+        ensures cause { result ≡ LoopEnd.SinkFault
             → Rose (O.seen out.old).faults (O.seen out.new).faults
             ⊎ Rose (L.seen log.old).faults (L.seen log.new).faults }
         ensures later { (O.seen out.old).faults ≤ (O.seen out.new).faults }
         ensures log_later { (L.seen log.old).faults ≤ (L.seen log.new).faults }
     {
         let Ok(mut rounds) = Rounds::new(alloc) else {
-            return RunEnd::Memory;
+            return LoopEnd::Memory;
         };
         let room = trace.room();
         for _record in 0..room {
             if !self.computation.lives() {
-                return RunEnd::Done;
+                return LoopEnd::Done;
             }
             if trace.room() == 0 {
-                return RunEnd::Budget;
+                return LoopEnd::Budget;
             }
             let Some(choice) = rounds.choose(&self.computation) else {
-                return RunEnd::Stuck;
+                return LoopEnd::Stuck;
             };
             match self.step(alloc, &mut rounds, choice, out, log, disk, trace) {
                 Ok(()) => {}
@@ -79,9 +79,9 @@ impl Start {
             }
         }
         if self.computation.lives() {
-            RunEnd::Budget
+            LoopEnd::Budget
         } else {
-            RunEnd::Done
+            LoopEnd::Done
         }
     }
 
@@ -149,11 +149,11 @@ impl Start {
 }
 
 /// How a run ends that stopped so.
-fn ended_by(stop: Stop) -> RunEnd
+fn ended_by(stop: Stop) -> LoopEnd
     ensures { result ≡ end_of stop }
 {
     match stop {
-        Stop::Sink => RunEnd::SinkFault,
-        Stop::Memory => RunEnd::Memory,
+        Stop::Sink => LoopEnd::SinkFault,
+        Stop::Memory => LoopEnd::Memory,
     }
 }

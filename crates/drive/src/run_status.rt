@@ -1,7 +1,7 @@
 ghost use Rattle.std.specs.Prelude.{◌≡◌};
 ghost use Rattle.drive.specs.Driving.{end_told};
 
-use crate::run_end::RunEnd as LoopEnd;
+use crate::loop_end::LoopEnd;
 
 /// How a driver's call ended.
 #[derive(Clone, Copy, Debug, PartialEq, Eq)]

@@ -1,6 +1,6 @@
-/// How a run ended.
+/// How the loop of a run ended.
 #[derive(Clone, Copy, Debug, PartialEq, Eq)]
-pub enum RunEnd {
+pub enum LoopEnd {
     /// Nobody lives.
     Done,
     /// The trace is full, and somebody lives.
