@@ -1,13 +1,9 @@
 ghost use Rattle.std.specs.Prelude.{◌≡◌, List, [], map, string_bytes};
 ghost use Rattle.option_words.specs.Options.{Text};
-ghost use Rattle.job_words.specs.declared.job.Job.TheVariants.{Ring, Help};
-ghost use Rattle.job_words.specs.declared.job.RingJob.{RingJob};
 ghost use Rattle.dmtcp_top.specs.AsAsked.{DoesAsAsked};
-ghost use Rattle.dmtcp_top.specs.Help.{IsHelp};
 ghost use Rattle.dmtcp_top.specs.Sessions.{outside};
 ghost use Rattle.dmtcp_top.specs.Promise.{IsPromised};
-ghost use Rattle.dmtcp_top.specs.Ring.{IsRing};
-ghost use Rattle.dmtcp_top.specs.Jobs.{AskForOneRun, Asks, IsOneRun, IsQuiet, MakesNoCheckpoints};
+ghost use Rattle.dmtcp_top.specs.Jobs.{Asks, IsOneRun, IsQuiet, MakesNoCheckpoints};
 
 use crate::carry_out::{carry_out, ending_of};
 use crate::help::tell_forms;
@@ -75,33 +71,6 @@ pub fn run_words<I: Inputs, O: Sink, L: Sink, F: Folder>(
         (outside (I.seen inputs.new) (O.seen out.new) (L.seen log.new) (F.seen disk.new)) }
 
     // Without checkpoints, and without a restart, the folder is not touched.
-    ensures untouched { MakesNoCheckpoints (map string_bytes words.now) → disk.new ≡ disk.old }
-{
-    by_words(alloc, words, inputs, out, log, disk, trace)
-}
-
-/// Does what the words ask for: one run, the ring, or help.
-fn by_words<I: Inputs, O: Sink, L: Sink, F: Folder>(
-    alloc: Global,
-    words: &[String],
-    inputs: &mut I,
-    out: &mut O,
-    log: &mut L,
-    disk: &mut F,
-    trace: &mut Trace,
-) -> Status
-    requires { trace.old.records ≡ [] }
-    ensures promise { AskForOneRun (map string_bytes words.now)
-        → IsPromised result (map string_bytes words.now) trace.new.records
-        (outside (I.seen inputs.old) (O.seen out.old) (L.seen log.old) (F.seen disk.old))
-        (outside (I.seen inputs.new) (O.seen out.new) (L.seen log.new) (F.seen disk.new)) }
-    ensures ring { (job : RingJob) → Asks (map string_bytes words.now) (Ring job)
-        → IsRing result job trace.new.records
-        (outside (I.seen inputs.old) (O.seen out.old) (L.seen log.old) (F.seen disk.old))
-        (outside (I.seen inputs.new) (O.seen out.new) (L.seen log.new) (F.seen disk.new)) }
-    ensures help { Asks (map string_bytes words.now) Help → IsHelp result trace.new.records
-        (outside (I.seen inputs.old) (O.seen out.old) (L.seen log.old) (F.seen disk.old))
-        (outside (I.seen inputs.new) (O.seen out.new) (L.seen log.new) (F.seen disk.new)) }
     ensures untouched { MakesNoCheckpoints (map string_bytes words.now) → disk.new ≡ disk.old }
 {
     let job = match read_job(alloc, words) {
