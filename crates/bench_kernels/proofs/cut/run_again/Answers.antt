@@ -1,0 +1,12 @@
+use Rattle.std.proofs.Common.{ℕ, sym, subst}
+use Rattle.plain_machine.specs.declared.kernel.PlainKernel.{PlainKernel}
+use Rattle.wrap_names.specs.Wrapping.{IsWrapped}
+use Rattle.seen_kernel.specs.Seen.{all_in}
+use Rattle.bench_kernels.proofs.cut.run_again.Goals as goal
+
+pub wrap-requires : goal.wrap-requires
+wrap-requires c =
+    subst (λ (k : PlainKernel). IsWrapped c.resume-system.result.0 c.next_id-number.result k)
+    (sym c.stood_after-stood.ensures)
+    (subst (λ (n : ℕ). IsWrapped c.resume-system.result.0 n (all_in c.args.refilled.kernel))
+    (sym c.next_id-number.ensures) c.resume-system.ensures.system)

@@ -1,0 +1,16 @@
+//! Kernels that serve the calls of processes which have no part of their own, for benchmarks: the plain kernel
+//! part, and the kernel over real numbers that stands for one; and checkpoints of the latter by stages.
+//!
+//! Proved: each stays a whole kernel part of the plain machine, so that each call of the crates below is one
+//! that their contracts allow. Nothing is said here of what a call answers: that is proved below.
+#![tactic(auto)]
+
+pub mod cut;
+pub mod plain;
+pub mod real;
+pub mod requests;
+pub mod serves;
+
+pub use plain::PlainBench;
+pub use real::RealBench;
+pub use serves::Serves;
