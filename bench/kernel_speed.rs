@@ -207,7 +207,11 @@ fn cuts(alloc: Global, is_full: bool, task: &str, times: u32, crowd: Crowd) -> R
         _ => Reach::Images,
     };
     for _ in 0..times {
-        wrapped = cut(alloc, wrapped, reach)?;
+        let (after, is_made) = cut(alloc, wrapped, reach);
+        wrapped = after;
+        if !is_made {
+            count = u32::MAX;
+        }
     }
     Ok(count)
 }

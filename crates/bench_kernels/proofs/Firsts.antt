@@ -1,6 +1,5 @@
--- The kernel part of nobody, and that of one process.
---     empty_own      nobody
---     first_is       one process, from which a benchmark begins
+-- The kernel part of one process, from which a benchmark begins.
+--     first_is
 use Rattle.std.proofs.Common.{◌≡◌, ◌≢◌, ◌≤◌, ℕ, Bool, true, false, cond, List, [], All, length, Some, None, inl, inr, refl, sym, ap, subst, ◌∙◌, arith}
 use Rattle.std.specs.Prelude.{Option, ◌⊎◌, is_some}
 use Rattle.std.specs.FinMap as map
@@ -37,13 +36,6 @@ nothing_started = refl
 
 empty_whole : IsKernel empty_kernel
 empty_whole = subst IsKernel nothing_started (start_is_whole [] [] (omega arith) (All-nil _) nothing_named)
-
-nobody_lives : (p : VPid) → is_live empty_kernel p ≡ false
-unfolding empty_kernel is_live
-nobody_lives p = ap (λ (found : Option Process). is_live_process found) (map.get-empty vpid_cmp p)
-
-pub empty_own : IsOwn empty_kernel
-empty_own = record { whole = empty_whole; first = λ p lives. true_false (sym lives ∙ nobody_lives p) }
 
 first_counts : (map.len empty_kernel.processes ≡ 0) × (empty_kernel.next_id ≡ FIRST_PID)
 unfolding empty_kernel

@@ -1,7 +1,7 @@
 -- Calls and arrivals keep what a benchmark keeps of a kernel part.
---     is_asked                      the calls that it makes are asked as they must be
---     answers_own, told_own         after a call
---     arrival_own, brought_own      after bytes have arrived
+--     is_asked         the calls that it makes are asked as they must be
+--     answers_own      after a call
+--     arrival_own      after bytes have arrived
 use Rattle.std.proofs.Common.{◌≡◌, ◌≢◌, ℕ, zero, suc, ◌+◌, ◌-◌, ◌≤◌, min, Bool, true, false, cond, List, [], ◌∷◌, All, length, Option, Some, None, inl, inr, refl, sym, ap, subst, ◌∙◌, arith}
 use Rattle.std.specs.Prelude.{◌⊎◌}
 use Rattle.std.specs.Ordering.{nat_cmp, eq_by_cmp}
@@ -19,11 +19,9 @@ use Rattle.call_table.specs.declared.request.Request.{Request}
 use Rattle.call_table.specs.declared.request.Request.TheVariants.{Exit}
 use Rattle.plain_process.specs.Attempts.{Try, Fails, NotReady, Gives}
 use Rattle.plain_process.specs.Put.{added_thread, made_by}
-use Rattle.plain_tables.specs.Tables.{pid, changed_by}
+use Rattle.plain_tables.specs.Tables.{pid}
 use Rattle.plain_tables.specs.declared.channel.Direction.{Direction}
 use Rattle.plain_machine.specs.declared.kernel.PlainKernel.{PlainKernel}
-use Rattle.plain_tables.specs.declared.answer.Answer.{Answer}
-use Rattle.plain_machine.specs.Answers.{answer_told, served_by}
 use Rattle.plain_machine.specs.Attempts.{Served, settled}
 use Rattle.plain_machine.specs.Kernel.{is_live, has_thread}
 use Rattle.plain_machine.specs.RowLaws.{IsAsked, IsServed, IsMade, there_after, with_one}
@@ -32,9 +30,9 @@ use Rattle.plain_machine.proofs.EachRow.{each_is_served}
 use Rattle.plain_machine.proofs.WholeChanges.{whole_arrival}
 use Rattle.host_tables.specs.declared.reply.KernelReply.{KernelReply}
 use Rattle.host_tables.specs.declared.reply.KernelReply.TheVariants as told
-use Rattle.wrap_names.specs.Changes.{after_arrival, arrived_in, missing_in}
+use Rattle.wrap_names.specs.Changes.{after_arrival, arrived_in}
 use Rattle.wrap_names.specs.Wrapping.{Answers, kernel_left}
-use Rattle.bench_kernels.specs.Owning.{IsOwn, MayMake, MayLend, ends_thread, arrived_by, brought}
+use Rattle.bench_kernels.specs.Owning.{IsOwn, MayMake, MayLend, ends_thread}
 
 one_more : (new : Option ℕ) (u : ℕ) → with_one new u true ≡ true
 one_more None u = refl
@@ -101,11 +99,6 @@ module _ (k : PlainKernel) (p : VPid) (q : Request) (given : List Byte) (own : I
   answers_own after now told.NotReady is = subst IsOwn (sym is.0) (row_own (row k p p.0 q given) refl)
   answers_own after now told.Memory is = subst IsOwn (sym is.0) own
 
-  pub told_own : (after : PlainKernel) (answer : Option Answer)
-      → serve k p p.0 q given ≡ answer_told after given answer → (answer ≡ None → after ≡ k) → IsOwn after
-  told_own after None is waits = subst IsOwn (sym (waits refl)) own
-  told_own after (Some answer) is waits = served_own (served_by after given answer) is
-
 module _ (k : PlainKernel) (d : Dir) (n : ℕ) (own : IsOwn k) where
   arrived_own : (found : Option Direction) → map.get k.directions d ≡ found → IsOwn (arrived_in k d n found)
   unfolding is_live
@@ -119,11 +112,3 @@ module _ (k : PlainKernel) (d : Dir) (n : ℕ) (own : IsOwn k) where
   pub arrival_own : IsOwn (after_arrival k d n)
   unfolding after_arrival
   arrival_own = arrived_own (map.get k.directions d) refl
-
-  pub brought_own : IsOwn (record k { directions = brought k.directions d n })
-  brought_own = by_found (map.get k.directions d) refl
-    where
-      by_found : (found : Option Direction) → map.get k.directions d ≡ found
-          → IsOwn (record k { directions = changed_by k.directions d (arrived_by n) found })
-      by_found None is = own
-      by_found (Some direction) is = arrived_own (Some direction) is

@@ -3,22 +3,16 @@
 --     IsFirst k      besides, a system can be made for it: no bytes are on the way, and no datagram end is open
 --     MayMake q      a call of the kernel, of words, that ends no thread alone
 --     MayLend given  what a call may read: as many bytes as a transfer holds
---     brought directions at n      so many bytes of the direction have arrived, at most those on the way
-use Rattle.std.specs.Prelude.{◌≡◌, ℕ, ◌≤◌, min, Bool, true, false, List, length, Some, All}
+use Rattle.std.specs.Prelude.{◌≡◌, ℕ, ◌≤◌, Bool, true, false, List, length, All}
 use Rattle.call_table.specs.declared.request.Request.{Request}
 use Rattle.call_table.specs.declared.request.Request.TheVariants.{Exit}
 use Rattle.call_table.specs.Requests.{is_local}
-use Rattle.sys_abi.specs.declared.identity.Dir.{Dir}
 use Rattle.sys_abi.specs.declared.identity.VPid.{VPid}
 use Rattle.sys_abi.specs.declared.transfer.TheConstants.{TRANSFER_LIMIT}
 use Rattle.plain_process.specs.Valid.{IsByte, IsRequest}
-use Rattle.plain_tables.specs.declared.channel.Direction.{Direction}
-use Rattle.plain_tables.specs.Tables.{Directions, changed_at}
 use Rattle.plain_machine.specs.declared.kernel.PlainKernel.{PlainKernel}
-use Rattle.plain_machine.specs.Channels.{arrived_more}
 use Rattle.plain_machine.specs.Kernel.{is_live, has_thread}
 use Rattle.plain_machine.specs.Kernels.{IsKernel}
-use Rattle.wrap_names.specs.Changes.{missing_in}
 use Rattle.rebuild_tables.specs.Rebuilt.{HasNoDatagrams}
 use Rattle.rebuild_system.specs.Restarts.{AllArrived}
 
@@ -43,9 +37,3 @@ pub record MayMake (q : Request) : Type 0 where
 pub record MayLend (given : List ℕ) : Type 0 where
   pub bytes : All IsByte given
   pub short : length given ≤ TRANSFER_LIMIT
-
-abbrev pub arrived_by : ℕ → Direction → Direction
-arrived_by n direction = arrived_more (min n (missing_in (Some direction))) direction
-
-abbrev pub brought : Directions → Dir → ℕ → Directions
-brought directions at n = changed_at directions at (arrived_by n)

@@ -1,15 +1,12 @@
 //! A checkpoint by its stages, without a store.
-ghost use Rattle.std.specs.Prelude.{◌≡◌, true, IfOk};
+ghost use Rattle.std.specs.Prelude.{◌≡◌};
 ghost use Rattle.plain_machine.specs.declared.kernel.PlainKernel.{PlainKernel};
-ghost use Rattle.leader_vote.specs.Voters as voting;
 ghost use Rattle.wrap_names.specs.Wrapping.{IsWrapped};
 
-use barrier_core::Barrier;
-use ckpt_stages::{DrainedSet, Elected, Suspended};
-use cut_stages::{PutOutcome, Refilled};
+use ckpt_stages::{Barrier, DrainedSet, Elected, PutOutcome, Refilled, Suspended};
 use host_tables::System;
 use plain_machine::FIRST_PID;
-use std::alloc::{AllocError, Global};
+use std::alloc::Global;
 use sys_abi::VPid;
 use wrap_calls::Wrapped;
 use wrap_names::stood::Stood;
@@ -25,61 +22,49 @@ pub enum Reach {
     Images,
 }
 
-/// Makes a checkpoint.
-///
-/// # Errors
-/// Memory was wanted, or a descriptor refers to what no image holds.
-pub fn cut(alloc: Global, wrapped: Wrapped, reach: Reach) -> Result<Wrapped, AllocError> {
-    let number = wrapped.next_id();
-    let suspended = suspend(alloc, wrapped)?;
-    pass(alloc, suspended, number, reach)
+/// Makes a checkpoint, and tells whether it came so far: it does not where memory is wanted, or where a
+/// descriptor refers to what no image holds.
+pub fn cut(alloc: Global, kernel: Wrapped, reach: Reach) -> (Wrapped, bool) {
+    let Ok(barrier) = Barrier::new(alloc) else {
+        return (kernel, false);
+    };
+    let stood = stood_by(&kernel);
+    let (system, number) = kernel.into_system();
+    enter(alloc, system, number, &stood, barrier, reach)
 }
 
-/// Suspends all processes.
-fn suspend(alloc: Global, wrapped: Wrapped) -> Result<Suspended, AllocError>
-    ensures { IfOk result (λ s. s.next_id ≡ wrapped.next_id) }
-{
-    let barrier = Barrier::new(alloc)?;
-    let stood = stood_by(&wrapped);
-    let (system, number) = wrapped.into_system();
-    enter(alloc, system, number, stood, barrier)
-}
-
-/// Suspends a system that stands for the kernel part.
+/// Suspends all processes of a system that stands for the kernel part.
 fn enter(
     alloc: Global,
     system: System,
     number: u32,
-    stood: Stood,
+    stood: &Stood,
     barrier: Barrier,
-) -> Result<Suspended, AllocError>
-    requires { IsWrapped system number stood.kernel }
-    ensures { IfOk result (λ s. s.next_id ≡ number) }
+    reach: Reach,
+) -> (Wrapped, bool)
+    requires { IsWrapped system number stood.now.kernel }
 {
-    match Suspended::enter(alloc, system, stood, number, barrier) {
-        Ok(suspended) => Ok(suspended),
-        Err(_refused) => Err(AllocError),
+    let again = same(stood);
+    match Suspended::enter(alloc, system, again, number, barrier) {
+        Ok(suspended) => vote(alloc, suspended, number, reach),
+        Err((system, _barrier, _fault)) => (wrap(system, number, stood), false),
     }
 }
 
-/// The processes vote, and the channels are drained and filled again, as far as the checkpoint goes.
-fn pass(
-    alloc: Global,
-    suspended: Suspended,
-    number: u32,
-    reach: Reach,
-) -> Result<Wrapped, AllocError>
+/// The processes vote, and the checkpoint goes on or is given up.
+fn vote(alloc: Global, suspended: Suspended, number: u32, reach: Reach) -> (Wrapped, bool)
     requires { suspended.next_id ≡ number }
 {
     let mut suspended = suspended;
     vote_all(&mut suspended, number);
-    if matches!(reach, Reach::Votes) {
-        return Ok(give_up(suspended, number));
-    }
     if !suspended.all_voted() {
-        return Ok(give_up(suspended, number));
+        return (give_up(suspended, number), false);
     }
-    go_through(alloc, suspended, reach)
+    match reach {
+        Reach::Votes => (give_up(suspended, number), true),
+        Reach::Bytes => (refill(drain(suspended.elected())), true),
+        Reach::Images => image(alloc, drain(suspended.elected())),
+    }
 }
 
 fn vote_all(suspended: &mut Suspended, number: u32)
@@ -98,26 +83,16 @@ fn give_up(suspended: Suspended, number: u32) -> Wrapped
     wrap(system, number, &stood)
 }
 
-fn go_through(alloc: Global, suspended: Suspended, reach: Reach) -> Result<Wrapped, AllocError>
-    requires { voting.all_voted suspended.voters ≡ true }
-{
-    let drained = drain(suspended.elected());
-    image(alloc, &drained, reach)?;
-    Ok(refill(drained))
-}
-
-/// Makes the kernel part for the images, if the checkpoint goes so far.
-fn image(alloc: Global, drained: &DrainedSet, reach: Reach) -> Result<(), AllocError> {
-    if matches!(reach, Reach::Images) {
-        let _kernel = drained.kernel(alloc)?;
-    }
-    Ok(())
-}
-
 fn drain(elected: Elected) -> DrainedSet {
     let mut elected = elected;
     elected.drain_all();
     elected.drained()
+}
+
+/// Makes the kernel part for the images before the channels are filled again.
+fn image(alloc: Global, drained: DrainedSet) -> (Wrapped, bool) {
+    let is_made = drained.kernel(alloc).is_ok();
+    (refill(drained), is_made)
 }
 
 fn refill(drained: DrainedSet) -> Wrapped {
@@ -135,7 +110,15 @@ fn run_again(refilled: Refilled) -> Wrapped {
 }
 
 /// The kernel part that the caller's proof names for a system that runs.
-fn stood_by(_wrapped: &Wrapped) -> Stood
+fn stood_by(_kernel: &Wrapped) -> Stood
+    ghost part: { PlainKernel }
+    ensures { result.kernel ≡ part }
+{
+    Stood::of()
+}
+
+/// The same kernel part once more.
+fn same(_stood: &Stood) -> Stood
     ghost part: { PlainKernel }
     ensures { result.kernel ≡ part }
 {

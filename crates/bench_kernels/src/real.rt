@@ -17,10 +17,19 @@ use sys_abi::{Dir, Reply, Tid, Transfer, VPid};
 use wrap_calls::Wrapped;
 
 /// The kernel over real numbers, with the buffer of its calls.
-#[derive(Drop)]
 pub struct RealBench {
     kernel: Wrapped,
     transfer: Transfer,
+}
+
+// Written out, so that to other crates it is one call to drop a bench.
+impl Drop for RealBench {
+    fn drop(self) {
+        let RealBench {
+            kernel: _,
+            transfer: _,
+        } = self;
+    }
 }
 
 impl Model for RealBench {
@@ -47,7 +56,11 @@ impl RealBench {
 
     /// The kernel, for checkpoints.
     pub fn into_kernel(self) -> Wrapped {
-        self.kernel
+        let RealBench {
+            kernel,
+            transfer: _,
+        } = self;
+        kernel
     }
 }
 

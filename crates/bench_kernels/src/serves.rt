@@ -1,6 +1,5 @@
 //! What the kernels of a benchmark have in common.
-ghost use Rattle.std.specs.Prelude.{◌≡◌, true, IfOk, take, length};
-ghost use Rattle.sys_abi.specs.declared.transfer.TheConstants.{TRANSFER_LIMIT};
+ghost use Rattle.std.specs.Prelude.{IfOk};
 ghost use Rattle.bench_kernels.specs.Owning as words;
 
 use call_table::Request;
