@@ -1,15 +1,13 @@
 -- The kernel part of one process, from which a benchmark begins.
 --     first_is
-use Rattle.std.proofs.Common.{◌≡◌, ◌≢◌, ◌≤◌, ℕ, Bool, true, false, cond, List, [], All, length, Some, None, inl, inr, refl, sym, ap, subst, ◌∙◌, arith}
-use Rattle.std.specs.Prelude.{Option, ◌⊎◌, is_some}
+use Rattle.std.proofs.Common.{◌≡◌, ◌≢◌, ℕ, true, [], Some, inl, inr, refl, sym, ap, subst, ◌∙◌, arith}
+use Rattle.std.specs.Prelude.{◌⊎◌, is_some}
 use Rattle.std.specs.FinMap as map
-use Rattle.std.specs.Ordering.{nat_cmp}
 use Rattle.std.specs.Cmp.{nat_cmp_total}
 use Rattle.std.proofs.lemmas.List.Elements.{All-nil}
 use Rattle.std.proofs.lemmas.Option.{none-some, same_Some}
 use Rattle.views.proofs.MapLaws.{true_false, same_or_other, get_insert_same, get_insert_other}
 use Rattle.sys_abi.specs.declared.identity.VPid.{VPid}
-use Rattle.sys_abi.specs.declared.identity.DescId.{DescId}
 use Rattle.sys_abi.specs.Orders.{vpid_cmp, dir_cmp, desc_cmp}
 use Rattle.sys_abi.proofs.OrderLaws.{vpid_total, vpid_exact, desc_total, desc_exact}
 use Rattle.plain_tables.specs.declared.channel.Direction.{Direction}
@@ -25,10 +23,16 @@ use Rattle.plain_machine.specs.Start.{empty_kernel, start_kernel, with_files, wi
 use Rattle.plain_machine.proofs.WholeStarts.{start_is_whole, whole_process}
 use Rattle.rebuild_tables.specs.Rebuilt.{HasNoDatagrams}
 use Rattle.rebuild_system.specs.Restarts.{AllArrived}
-use Rattle.bench_kernels.specs.Owning.{IsOwn, IsFirst}
+use Rattle.bench_kernels.specs.Owning.{IsFirst}
 
 nothing_named : AreNamed []
-nothing_named = record { count = omega arith; names = All-nil _; bytes = All-nil _; total = omega arith; apart = λ i j d before inside. absurd (omega arith) }
+nothing_named = record {
+  count = omega arith;
+  names = All-nil _;
+  bytes = All-nil _;
+  total = omega arith;
+  apart = λ i j d before inside. absurd (omega arith);
+}
 
 nothing_started : start_kernel [] [] ≡ empty_kernel
 unfolding start_kernel with_processes with_files

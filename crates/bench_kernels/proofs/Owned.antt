@@ -2,14 +2,12 @@
 --     is_asked         the calls that it makes are asked as they must be
 --     answers_own      after a call
 --     arrival_own      after bytes have arrived
-use Rattle.std.proofs.Common.{◌≡◌, ◌≢◌, ℕ, zero, suc, ◌+◌, ◌-◌, ◌≤◌, min, Bool, true, false, cond, List, [], ◌∷◌, All, length, Option, Some, None, inl, inr, refl, sym, ap, subst, ◌∙◌, arith}
+use Rattle.std.proofs.Common.{◌≡◌, ◌≢◌, ℕ, ◌-◌, min, Bool, true, false, cond, List, length, Option, Some, None, inl, inr, refl, sym, ap, subst, ◌∙◌, arith}
 use Rattle.std.specs.Prelude.{◌⊎◌}
 use Rattle.std.specs.Ordering.{nat_cmp, eq_by_cmp}
 use Rattle.std.specs.Cmp.{nat_cmp_total}
 use Rattle.std.specs.FinMap as map
-use Rattle.std.proofs.lemmas.List.Elements.{All-nil}
-use Rattle.std.proofs.lemmas.Option.{same_Some}
-use Rattle.views.proofs.MapLaws.{true_false, key_tied, same_or_other, get_insert_same, get_insert_other}
+use Rattle.views.proofs.MapLaws.{true_false, key_tied, same_or_other}
 use Rattle.views.specs.Numbers.{Byte}
 use Rattle.sys_abi.specs.declared.identity.VPid.{VPid}
 use Rattle.sys_abi.specs.declared.identity.Dir.{Dir}
@@ -67,7 +65,10 @@ is_asked k p q given own may alive lent = record {
 module _ (k : PlainKernel) (p : VPid) (q : Request) (given : List Byte) (own : IsOwn k) (may : MayMake q)
     (asked : IsAsked k p p.0 q given) where
   served_own : (s : Served) → serve k p p.0 q given ≡ Some s → IsOwn s.kernel
-  served_own s serves = record { whole = law.kernel; first = λ r lives. caller r lives (same_or_other vpid_total vpid_exact r p) }
+  served_own s serves = record {
+    whole = law.kernel;
+    first = λ r lives. caller r lives (same_or_other vpid_total vpid_exact r p);
+  }
     where
       law : IsServed k p p.0 q given s
       law = each_is_served k p p.0 q given s asked serves

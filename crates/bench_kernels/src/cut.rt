@@ -1,8 +1,8 @@
 //! A checkpoint by its stages, without a store.
 ghost use Rattle.std.specs.Prelude.{◌≡◌};
-ghost use Rattle.plain_machine.specs.declared.kernel.PlainKernel.{PlainKernel};
 ghost use Rattle.wrap_names.specs.Wrapping.{IsWrapped};
 
+use crate::standing::{stood_by, wrap};
 use ckpt_stages::{Barrier, DrainedSet, Elected, PutOutcome, Refilled, Suspended};
 use host_tables::System;
 use plain_machine::FIRST_PID;
@@ -44,7 +44,7 @@ fn enter(
 ) -> (Wrapped, bool)
     requires { IsWrapped system number stood.now.kernel }
 {
-    let again = same(stood);
+    let again = stood_by(stood);
     match Suspended::enter(alloc, system, again, number, barrier) {
         Ok(suspended) => vote(alloc, suspended, number, reach),
         Err((system, _barrier, _fault)) => (wrap(system, number, stood), false),
@@ -78,7 +78,7 @@ fn vote_all(suspended: &mut Suspended, number: u32)
 fn give_up(suspended: Suspended, number: u32) -> Wrapped
     requires { suspended.next_id ≡ number }
 {
-    let stood = stood_before(&suspended);
+    let stood = stood_by(&suspended);
     let (system, _barrier) = suspended.refuse();
     wrap(system, number, &stood)
 }
@@ -103,48 +103,8 @@ fn refill(drained: DrainedSet) -> Wrapped {
 
 /// Resumes all processes.
 fn run_again(refilled: Refilled) -> Wrapped {
-    let stood = stood_after(&refilled);
+    let stood = stood_by(&refilled);
     let number = refilled.next_id();
     let (system, _barrier, _outcome) = refilled.resume();
     wrap(system, number, &stood)
-}
-
-/// The kernel part that the caller's proof names for a system that runs.
-fn stood_by(_kernel: &Wrapped) -> Stood
-    ghost part: { PlainKernel }
-    ensures { result.kernel ≡ part }
-{
-    Stood::of()
-}
-
-/// The same kernel part once more.
-fn same(_stood: &Stood) -> Stood
-    ghost part: { PlainKernel }
-    ensures { result.kernel ≡ part }
-{
-    Stood::of()
-}
-
-/// The kernel part that the caller's proof names for a system that is suspended.
-fn stood_before(_suspended: &Suspended) -> Stood
-    ghost part: { PlainKernel }
-    ensures { result.kernel ≡ part }
-{
-    Stood::of()
-}
-
-/// The kernel part that the caller's proof names for a system whose channels are filled again.
-fn stood_after(_refilled: &Refilled) -> Stood
-    ghost part: { PlainKernel }
-    ensures { result.kernel ≡ part }
-{
-    Stood::of()
-}
-
-/// A system that runs and stands for the kernel part.
-fn wrap(system: System, number: u32, _stood: &Stood) -> Wrapped
-    ghost part: { PlainKernel }
-    requires { IsWrapped system number part }
-{
-    Wrapped::new(system, number)
 }

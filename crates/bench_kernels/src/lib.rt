@@ -1,5 +1,5 @@
-//! Kernels that serve the calls of processes which have no part of their own, for benchmarks: the plain kernel
-//! part, and the kernel over real numbers that stands for one; and checkpoints of the latter by stages.
+//! Kernels that serve the calls of processes which have no part of their own, for benchmarks: the plain
+//! kernel part, and the kernel over real numbers that stands for one; and checkpoints of the latter by stages.
 //!
 //! Proved: the kernel over real numbers goes on standing for a whole kernel part in which each live process
 //! has its first thread, so that each call of the crates below is one that their contracts allow. Nothing is
@@ -11,6 +11,7 @@ pub mod plain;
 pub mod real;
 pub mod requests;
 pub mod serves;
+mod standing;
 
 pub use plain::PlainBench;
 pub use real::RealBench;

@@ -1,14 +1,13 @@
 //! The kernel over real numbers, with the buffer of its calls.
 ghost use Rattle.std.specs.Prelude.{◌≡◌, ◌<◌, true, IfOk};
-ghost use Rattle.plain_machine.specs.declared.kernel.PlainKernel.{PlainKernel};
 ghost use Rattle.plain_machine.specs.Kernel.{is_live};
-ghost use Rattle.wrap_names.specs.Wrapping.{IsWrapped};
 ghost use Rattle.bench_kernels.specs.Owning as words;
 
 use crate::serves::{Serves, first, lend};
+use crate::standing::{stood_by, wrap};
 use call_table::Request;
 use discovery::Directory;
-use host_tables::{Hosts, KernelReply, System};
+use host_tables::{Hosts, KernelReply};
 use plain_machine::PlainKernel;
 use rebuild_system::rebuild;
 use std::alloc::{AllocError, Global};
@@ -85,16 +84,8 @@ fn begun(alloc: Global, kernel: &PlainKernel) -> Result<Wrapped, AllocError>
     };
     let mut directory = Directory::new(alloc);
     let system = rebuild(alloc, kernel, &hosts, &mut directory)?;
-    Ok(standing_for(system, kernel))
-}
-
-/// The system, which stands for the kernel part.
-fn standing_for(system: System, kernel: &PlainKernel) -> Wrapped
-    ghost part: { PlainKernel }
-    requires { IsWrapped system kernel.now.next_id part }
-    ensures { result ≡ part }
-{
-    Wrapped::new(system, kernel.next_id)
+    let stood = stood_by(kernel);
+    Ok(wrap(system, kernel.next_id, &stood))
 }
 
 impl Serves for RealBench {

@@ -6,7 +6,7 @@ use Rattle.bench_kernels.proofs.cut.enter.Goals as goal
 
 pub enter-requires : goal.enter-requires
 enter-requires c =
-    subst (λ (k : PlainKernel). IsWrapped c.args.system c.args.number k) (sym c.same-again.ensures) c.requires
+    subst (λ (k : PlainKernel). IsWrapped c.args.system c.args.number k) (sym c.stood_by-again.ensures) c.requires
 
 pub wrap-requires : goal.wrap-requires
 wrap-requires c =

@@ -7,6 +7,6 @@ use Rattle.bench_kernels.proofs.cut.run_again.Goals as goal
 pub wrap-requires : goal.wrap-requires
 wrap-requires c =
     subst (λ (k : PlainKernel). IsWrapped c.resume-system.result.0 c.next_id-number.result k)
-    (sym c.stood_after-stood.ensures)
+    (sym c.stood_by-stood.ensures)
     (subst (λ (n : ℕ). IsWrapped c.resume-system.result.0 n (all_in c.args.refilled.kernel))
     (sym c.next_id-number.ensures) c.resume-system.ensures.system)

@@ -1,4 +1,7 @@
 use Rattle.bench_kernels.proofs.real.begun.Given as goal
 
-abbrev pub ghost-standing_for : goal.ghost-standing_for
-ghost-standing_for a = a.kernel.now
+abbrev pub ghost-stood_by : goal.ghost-stood_by
+ghost-stood_by a = a._lent.now
+
+abbrev pub ghost-wrap : goal.ghost-wrap
+ghost-wrap a = a._stood.now.kernel

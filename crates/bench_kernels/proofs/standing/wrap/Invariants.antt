@@ -1,4 +1,4 @@
-use Rattle.bench_kernels.proofs.real.standing_for.Given as goal
+use Rattle.bench_kernels.proofs.standing.wrap.Given as goal
 
 -- it is what the caller names
 abbrev pub ghost-new : goal.ghost-new

@@ -1,4 +1,4 @@
-use Rattle.bench_kernels.proofs.cut.stood_by.Given as goal
+use Rattle.bench_kernels.proofs.standing.stood_by.Given as goal
 
 -- it is what the caller names
 abbrev pub ghost-of : goal.ghost-of

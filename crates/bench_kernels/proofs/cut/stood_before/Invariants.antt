@@ -1,5 +1,0 @@
-use Rattle.bench_kernels.proofs.cut.stood_before.Given as goal
-
--- it is what the caller names
-abbrev pub ghost-of : goal.ghost-of
-ghost-of g a = g.part
