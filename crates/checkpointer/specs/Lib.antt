@@ -6,3 +6,6 @@ pub mod Keeping
 pub mod UnderWay
 pub mod Marks
 pub mod Images
+pub mod HandedOn
+pub mod StopVariants
+pub mod DidVariants

@@ -1,3 +1,4 @@
 pub mod Takes
 pub mod Computations
 pub mod Parts
+pub mod HandedOn

@@ -14,7 +14,7 @@ use Rattle.std.specs.FinMap as map
 use Rattle.sys_abi.specs.declared.identity.ConnId.{ConnId}
 use Rattle.sys_abi.specs.declared.identity.VirtAddr.{VirtAddr}
 use Rattle.sys_abi.specs.Orders.{conn_cmp, desc_cmp, address_cmp}
-pub use Rattle.conn_maps.specs.NextConns.{is_above}
+pub use Rattle.id_maps.specs.HandedOn.{is_above}
 use Rattle.conn_table.specs.declared.conn.Conn.{Conn}
 
 abbrev pub is_open : Conn → Bool

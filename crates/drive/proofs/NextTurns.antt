@@ -9,8 +9,8 @@ use Rattle.sys_abi.specs.declared.record.Record.{Record}
 use Rattle.sys_abi.specs.declared.record.Record.TheVariants.{User, Call, Deliver}
 use Rattle.plain_machine.specs.declared.plain.Plain.{Plain}
 use Rattle.plain_tables.specs.Tables.{pid}
-use Rattle.computation.specs.declared.computation.Did.TheVariants.{Delivered, Served, Ran}
-use Rattle.computation.specs.Computations.{IsDid, first_signal}
+use Rattle.checkpointer.specs.DidVariants.{Delivered, Served, Ran}
+use Rattle.checkpointer.specs.HandedOn.{IsDid, first_signal}
 use Rattle.trace_log.specs.Turns.{Place, Due, Arrival, InTurn, Upcoming, NewRound, After, coming, first_turn, goes_on, round_of, new_round, next_turn, same_turn, after_turn, stands_in, due_at, round_from}
 use Rattle.drive.specs.declared.rounds.Rounds.{Rounds}
 use Rattle.drive.specs.declared.rounds.Turn.{Turn}

@@ -11,10 +11,10 @@ use Rattle.trace_log.specs.Requests.{is_mark}
 use Rattle.trace_log.specs.Turns.{Place, Due, Arrival, InTurn, After, coming, missing_in, is_due_at, is_arrival, is_same_dir}
 use Rattle.plain_machine.specs.declared.plain.Plain.{Plain}
 use Rattle.plain_machine.specs.Tests.{is_work}
-use Rattle.computation.specs.declared.computation.Did.{Did}
-use Rattle.computation.specs.Computations.{IsTurnAt, Worked, Failed}
+use Rattle.checkpointer.specs.HandedOn.{Did}
+use Rattle.checkpointer.specs.HandedOn.{IsTurnAt, Worked, Failed}
 use Rattle.edge_io.specs.Sunk.{Sunk}
-use Rattle.computation.specs.Takes.{Takes}
+use Rattle.checkpointer.specs.HandedOn.{Takes}
 use Rattle.drive.specs.declared.rounds.Turn.{Turn}
 use Rattle.drive.specs.declared.rounds.Come.TheVariants as has_come
 use Rattle.drive.specs.declared.rounds.Chosen.{Chosen}

@@ -1,2 +1,2 @@
 -- The variants of `Did`, handed on.
-pub use Rattle.computation.specs.declared.computation.Did.TheVariants.{Delivered, Served, Ran}
+pub use Rattle.checkpointer.specs.DidVariants.{Delivered, Served, Ran}

@@ -7,7 +7,7 @@ pub use Rattle.checkpointer.specs.Sets.{SpellsSet, SpoilsSet, SpellsState, openi
 pub use Rattle.checkpointer.specs.declared.checkpointer.Checkpointer.{Checkpointer}
 pub use Rattle.edge_io.specs.Sunk.{sunk}
 pub use Rattle.trace_log.specs.Turns.{NewRound}
-pub use Rattle.computation.specs.declared.computation.Computation.{Computation}
-pub use Rattle.computation.specs.declared.computation.Stop.{Stop}
-pub use Rattle.computation.specs.declared.computation.Did.{Did}
-pub use Rattle.computation.specs.Computations.{plain_of, IsDid, IsReady}
+pub use Rattle.checkpointer.specs.HandedOn.{Computation}
+pub use Rattle.checkpointer.specs.HandedOn.{Stop}
+pub use Rattle.checkpointer.specs.HandedOn.{Did}
+pub use Rattle.checkpointer.specs.HandedOn.{plain_of, IsDid, IsReady}

@@ -16,9 +16,9 @@ use Rattle.plain_machine.specs.declared.plain.Plain.{Plain}
 use Rattle.plain_machine.specs.Records.{Users}
 use Rattle.plain_machine.specs.Tests.{is_work}
 use Rattle.plain_tables.specs.Tables.{pid}
-use Rattle.computation.specs.Computations.{CanWork, IsDid, IsTold, first_signal}
+use Rattle.checkpointer.specs.HandedOn.{CanWork, IsDid, IsTold, first_signal}
 use Rattle.edge_io.specs.Sunk.{Sunk}
-use Rattle.computation.specs.Takes.{Takes, Breaks}
+use Rattle.checkpointer.specs.HandedOn.{Takes, Breaks}
 use Rattle.drive.specs.declared.rounds.Turn.{Turn}
 use Rattle.drive.specs.declared.rounds.Come.{Come}
 use Rattle.drive.specs.declared.rounds.Come.TheVariants as has_come

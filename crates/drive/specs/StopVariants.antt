@@ -1,2 +1,2 @@
 -- The variants of `Stop`, handed on.
-pub use Rattle.computation.specs.declared.computation.Stop.TheVariants.{Sink, Memory}
+pub use Rattle.checkpointer.specs.StopVariants.{Sink, Memory}

@@ -41,8 +41,7 @@ pub mod run;
 mod run_status;
 pub mod start;
 
-pub use checkpointer::{Checkpointer, restored};
-pub use computation::{Computation, Stop, Wrapped};
+pub use checkpointer::{Checkpointer, Computation, Stop, Wrapped, restored};
 pub use driving::drive;
 pub use rounds::{Chosen, Made, Rounds};
 pub use run_status::{RunEnd, RunStatus};

@@ -6,14 +6,14 @@ ghost use Rattle.sys_abi.specs.declared.record.Record.{Record};
 ghost use Rattle.plain_process.specs.Steps.{UserStep};
 ghost use Rattle.plain_machine.specs.Records.{stands};
 ghost use Rattle.guest_proc.specs.Guests.{ran_at};
-ghost use Rattle.computation.specs.Computations.{plain_of, user_at, IsDid, IsReady, IsTold};
-ghost use Rattle.computation.specs.Parts.{StandsAt};
+ghost use Rattle.checkpointer.specs.HandedOn.{plain_of, user_at, IsDid, IsReady, IsTold};
+ghost use Rattle.checkpointer.specs.HandedOn.{StandsAt};
 ghost use Rattle.edge_io.specs.Sunk.{sunk};
 ghost use Rattle.trace_log.specs.Turns.{Place, Upcoming, threads_in, turn_of, first_thread, first_turn, new_round, next_turn, same_turn, after_turn, due_at};
 ghost use Rattle.drive.specs.Scheduling.{place_of, place_in, chosen, CanTake, CanTurn, IsCome, IsPast, IsToldOf, Notes, Spoils};
 
 use crate::queue::Queue;
-use computation::{Computation, Did, Next, Stop};
+use checkpointer::{Computation, Did, Next, Stop};
 use edge_io::Sink;
 use guest_proc::Ran;
 use std::alloc::{AllocError, Global};

@@ -20,3 +20,4 @@ pub mod Disowned
 pub mod FewerProcesses
 pub mod Left
 pub mod ExitRows
+pub mod HandedOn

@@ -3,3 +3,4 @@ pub mod Raises
 pub mod Waits
 pub mod Forks
 pub mod Leaves
+pub mod HandedOn

@@ -22,8 +22,8 @@ use Rattle.plain_machine.specs.Attempts.{replied}
 use Rattle.plain_machine.specs.Kernel.{with_object}
 use Rattle.plain_machine.specs.Transfers.Answers.{gave}
 use Rattle.plain_machine.specs.Transfers.Counters.{COUNTER_SIZE, number_added, may_add, read_counter, write_counter}
-use Rattle.host_descriptors.specs.declared.held.Held.{Held}
-use Rattle.host_descriptors.specs.Held.{seen_held}
+use Rattle.host_processes.specs.HandedOn.{Held}
+use Rattle.host_processes.specs.HandedOn.{seen_held}
 use Rattle.host_tables.specs.declared.attempt.Attempt.TheVariants as answer
 use Rattle.host_tables.specs.declared.kernel.Kernel.{Kernel}
 use Rattle.host_tables.specs.Datagrams.{inbox_of}

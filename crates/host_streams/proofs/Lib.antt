@@ -9,3 +9,4 @@ pub mod SocketLookUps
 pub mod PipeLookUps
 pub mod SocketRows
 pub mod CounterRows
+pub mod HandedOn

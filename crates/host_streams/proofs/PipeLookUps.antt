@@ -14,10 +14,10 @@ use Rattle.sys_abi.specs.declared.identity.DescId.{DescId}
 use Rattle.plain_tables.specs.Valid.Channels.{IsStream}
 use Rattle.plain_machine.specs.declared.kernel.PlainKernel.{PlainKernel}
 use Rattle.plain_machine.specs.Kernels.{IsKernel}
-use Rattle.host_descriptors.specs.declared.held.Held.{Held}
-use Rattle.host_descriptors.specs.Held.{held_in}
-use Rattle.host_descriptors.proofs.HeldChanges.{there_of, none_held, held_by}
-use Rattle.host_descriptors.proofs.HeldTold.{held_told}
+use Rattle.host_processes.specs.HandedOn.{Held}
+use Rattle.host_processes.specs.HandedOn.{held_in}
+use Rattle.host_processes.proofs.HandedOn.{there_of, none_held, held_by}
+use Rattle.host_processes.proofs.HandedOn.{held_told}
 use Rattle.host_tables.specs.declared.kernel.Kernel.{Kernel}
 use Rattle.host_tables.specs.Descriptions.{seen_desc, seen_object}
 use Rattle.host_tables.specs.Stands.{Given, Stands}

@@ -28,7 +28,7 @@ use Rattle.wire_channels.specs.declared.net_fault.NetFault.TheVariants as fault
 use Rattle.wire_channels.specs.Answers.{received_on}
 use Rattle.wire_channels.specs.Channels as channels
 use Rattle.wire_channels.specs.Directions.{Direction, standing, receive_answer, after_receive}
-use Rattle.host_descriptors.proofs.ClosedEnds.{plain_of}
+use Rattle.host_processes.proofs.HandedOn.{plain_of}
 use Rattle.host_tables.specs.declared.attempt.Attempt.{Attempt}
 use Rattle.host_tables.specs.declared.attempt.Attempt.TheVariants as answer
 use Rattle.host_tables.specs.declared.kernel.Kernel.{Kernel}

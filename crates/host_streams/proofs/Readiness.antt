@@ -18,7 +18,7 @@ use Rattle.wire_channels.specs.Answers.{received_on, counts_of}
 use Rattle.wire_channels.specs.Channels as channels
 use Rattle.wire_channels.specs.Directions.{Direction, standing}
 use Rattle.wire_net.specs.Networks.{Network}
-use Rattle.host_descriptors.proofs.ClosedEnds.{plain_of}
+use Rattle.host_processes.proofs.HandedOn.{plain_of}
 use Rattle.host_tables.specs.declared.kernel.Kernel.{Kernel}
 use Rattle.host_tables.specs.Stands.{Given, Stands}
 use Rattle.host_tables.proofs.DirectionChanges.{IsSeen, seen_direction}

@@ -14,7 +14,7 @@ use Rattle.plain_machine.specs.declared.kernel.PlainKernel.{PlainKernel}
 use Rattle.wire_channels.specs.declared.channel.Channel.{Channel}
 use Rattle.wire_channels.specs.Directions.{Direction, after_end, after_stop_reading}
 use Rattle.wire_channels.specs.Channels as channels
-use Rattle.host_descriptors.proofs.ClosedEnds.{ended_kept, unread_kept, plain_of}
+use Rattle.host_processes.proofs.HandedOn.{ended_kept, unread_kept, plain_of}
 use Rattle.host_tables.specs.declared.kernel.Kernel.{Kernel}
 use Rattle.host_tables.specs.Stands.{Given, Stands}
 use Rattle.host_streams.proofs.ReadRows.{no_direction}

@@ -17,10 +17,10 @@ use Rattle.plain_process.specs.Attempts.{Try, Fails, Gives, and_then, need}
 use Rattle.plain_machine.specs.declared.kernel.PlainKernel.{PlainKernel}
 use Rattle.plain_machine.specs.Kernel as plain
 use Rattle.plain_machine.specs.SocketWords.{is_socket, socket_at}
-use Rattle.host_descriptors.specs.declared.held.Held.{Held}
-use Rattle.host_descriptors.specs.Held.{held_in, seen_held}
-use Rattle.host_descriptors.proofs.HeldChanges.{there_of, none_held}
-use Rattle.host_descriptors.proofs.HeldTold.{held_told}
+use Rattle.host_processes.specs.HandedOn.{Held}
+use Rattle.host_processes.specs.HandedOn.{held_in, seen_held}
+use Rattle.host_processes.proofs.HandedOn.{there_of, none_held}
+use Rattle.host_processes.proofs.HandedOn.{held_told}
 use Rattle.host_tables.specs.declared.kernel.Kernel.{Kernel}
 use Rattle.host_tables.specs.Descriptions.{Names, seen_object}
 use Rattle.host_tables.specs.Stands.{Given, Stands}

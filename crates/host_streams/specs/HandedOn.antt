@@ -1,2 +1,2 @@
 -- What is handed on of the libraries below, so that who uses this one need not name them.
-pub use Rattle.host_descriptors.specs.Held.{held_in}
+pub use Rattle.host_processes.specs.HandedOn.{held_in, seen_held, Held}

@@ -12,8 +12,8 @@ use Rattle.fd_book.specs.Books.{Books}
 use Rattle.fd_tables.specs.declared.description.Object as real_object
 use Rattle.fd_tables.specs.declared.description.Object.TheVariants as real
 use Rattle.fd_tables.specs.declared.real_slot.RealSlot.{RealSlot}
-use Rattle.host_descriptors.specs.declared.held.Held.{Held}
-use Rattle.host_descriptors.specs.Held.{held_in}
+use Rattle.host_processes.specs.HandedOn.{Held}
+use Rattle.host_processes.specs.HandedOn.{held_in}
 use Rattle.host_tables.specs.Network.{Conns, is_pipe_conn}
 
 abbrev pub is_pipe_object : Conns → real_object.Object → Bool

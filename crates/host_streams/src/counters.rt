@@ -9,10 +9,10 @@ ghost use Rattle.plain_machine.specs.Transfers.Counters as words;
 ghost use Rattle.plain_tables.specs.declared.description.Object.TheVariants.{Counter};
 ghost use Rattle.host_tables.specs.Serves.{Serves, ByNumber, same};
 ghost use Rattle.host_tables.specs.Stands.{Given, Stands};
-ghost use Rattle.host_descriptors.specs.Held.{seen_held};
+ghost use Rattle.host_processes.specs.HandedOn.{seen_held};
 
 use fd_book::Object;
-use host_descriptors::Held;
+use host_processes::Held;
 use host_tables::{Attempt, Kernel};
 use sys_abi::errors::EINVAL;
 use sys_abi::{Errno, Transfer};

@@ -18,7 +18,7 @@ mod writing;
 
 pub use broken::broken_pipe;
 pub use counters::{read_counter, write_counter};
-pub use host_descriptors::held_at;
+pub use host_processes::{Held, held_at};
 pub use plain_transfers::counters::{is_counted, takes_more};
 pub use reading::{is_receivable, read_stream};
 pub use shutting::{setsockopt, shutdown};

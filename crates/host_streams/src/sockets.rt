@@ -4,7 +4,7 @@ ghost use Rattle.fd_tables.specs.Slots as slots;
 ghost use Rattle.host_streams.specs.PipeEnds as words;
 
 use fd_book::{Book, Object};
-use host_descriptors::{Held, held_at};
+use host_processes::{Held, held_at};
 use sys_abi::errors::{EBADF, ENOTSOCK};
 use sys_abi::{Errno, RealPid};
 

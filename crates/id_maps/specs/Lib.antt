@@ -1,1 +1,2 @@
 pub mod LentValues
+pub mod HandedOn

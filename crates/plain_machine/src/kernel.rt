@@ -1,9 +1,9 @@
 ghost use Rattle.std.specs.Prelude.{◌≡◌, IfOk};
 
-use id_maps::{ByAddress, ByConn, ByDesc, ByDir, ByName, ByPid, BySlot};
 use plain_tables::channel::{Channel, Direction, Listening};
 use plain_tables::description::Description;
 use plain_tables::process::Process;
+use plain_tables::{ByAddress, ByConn, ByDesc, ByDir, ByName, ByPid, BySlot};
 use std::alloc::{AllocError, Global};
 use sys_abi::{Descriptor, Maker};
 use views::duplicate::Duplicate;

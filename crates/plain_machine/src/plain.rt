@@ -1,6 +1,6 @@
 use crate::kernel::PlainKernel;
-use id_maps::ByPid;
 use plain_process::user_part::UserPart;
+use plain_tables::ByPid;
 use std::alloc::{AllocError, Global};
 use views::duplicate::Duplicate;
 

@@ -2,9 +2,9 @@ ghost use Rattle.std.specs.Prelude.{◌≡◌, ◌+◌, ◌^◌, ◌<◌, OnOk, 
 ghost use Rattle.plain_machine.specs.Start as words;
 
 use crate::kernel::PlainKernel;
-use id_maps::{ByAddress, ByConn, ByDesc, ByDir, ByName, ByPid, BySlot};
 use plain_tables::description::{Description, Object};
 use plain_tables::start::{with_made, with_standard, with_started};
+use plain_tables::{ByAddress, ByConn, ByDesc, ByDir, ByName, ByPid, BySlot};
 use std::alloc::{AllocError, Global};
 use sys_abi::flags::O_RDWR;
 use sys_abi::{DescId, Descriptor, Maker, VPid};

@@ -27,5 +27,6 @@ pub use answer::{Answer, Attempt, RowResult};
 pub use channel::{Channel, ChannelEnd, ChannelKind, Direction, Listening};
 pub use description::{Description, Object};
 pub use ends::NOBODY;
+pub use id_maps::{ByAddress, ByConn, ByDesc, ByDir, ByName, ByPid, BySlot};
 pub use process::Process;
 pub use waiting::Waiting;

@@ -1,3 +1,4 @@
 pub mod Starts
 pub mod HandedOn
 pub mod StopVariants
+pub mod DidVariants

@@ -9,5 +9,6 @@
 mod listing;
 pub mod start;
 
-pub use computation::{Computation, Stop, Wrapped};
+pub use computation::{Computation, Did, Next, Stop, Wrapped};
+pub use guest_proc::Guest;
 pub use start::Start;

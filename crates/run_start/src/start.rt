@@ -9,7 +9,7 @@ ghost use Rattle.plain_machine.specs.Kernels.{IsKernel};
 ghost use Rattle.rebuild_tables.specs.Hosts.{IsHosts};
 ghost use Rattle.rebuild_tables.specs.Rebuilt.{HasNoDatagrams};
 ghost use Rattle.rebuild_system.specs.Restarts.{AllArrived};
-ghost use Rattle.wrap_names.specs.Wrapping.{IsWrapped};
+ghost use Rattle.computation.specs.HandedOn.{IsWrapped};
 ghost use Rattle.computation.specs.Computations.{plain_of, IsReady};
 
 use crate::listing::listed;

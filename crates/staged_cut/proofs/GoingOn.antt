@@ -17,7 +17,7 @@ use Rattle.run_start.specs.declared.start.Start.{Start}
 use Rattle.run_start.specs.Starts.{CanBegin}
 use Rattle.seen_kernel.specs.Seen.{all_in}
 use Rattle.seen_kernel.specs.Unheld.{AllArrived}
-use Rattle.rebuild_tables.specs.Rebuilt.{HasNoDatagrams}
+use Rattle.run_start.specs.HandedOn.{HasNoDatagrams}
 use Rattle.staged_cut.proofs.Supported.{no_datagrams}
 
 arrived_already : (o : Option Direction)

@@ -1,2 +1,2 @@
 -- The variants of `Stop`, handed on.
-pub use Rattle.run_start.specs.StopVariants.{Sink}
+pub use Rattle.run_start.specs.StopVariants.{Sink, Memory}

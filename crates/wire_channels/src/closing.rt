@@ -7,8 +7,8 @@ ghost use Rattle.wire_channels.specs.Channels as words;
 use crate::channel::Channel;
 use crate::limits::ACCEPTING_SIDE;
 use crate::listener::ConnQueue;
-use id_maps::ByConn;
 use sys_abi::ConnId;
+use virt_ids::ByConn;
 
 /// Closes an end of a channel, and tells whether the channel has an open end then, or isn't there.
 fn close_end(channels: &mut ByConn<Channel>, id: ConnId, side: u8) -> bool

@@ -8,8 +8,8 @@ ghost use Rattle.wire_channels.specs.Answers as answers;
 use crate::channel::Channel;
 use crate::net_fault::NetFault;
 use crate::place::Place;
-use id_maps::ByConn;
 use sys_abi::{Dir, Transfer};
+use virt_ids::ByConn;
 
 /// Takes as much of the piece as the direction has room for (`man 2 send`). Takes no memory.
 ///

@@ -10,15 +10,14 @@ ghost use Rattle.wire_channels.specs.Answers as answers;
 ghost use Rattle.wire_net.specs.Networks as words;
 
 use crate::listening::{accept_at, has_room, new_listener, next_port, wait_at};
-use id_maps::ByConn;
 use std::alloc::{AllocError, Global};
 use std::marker::Model;
 use sys_abi::{ConnId, Dir, RealAddr, Transfer};
 use virt_ids::ByRealAddress;
 use wire_channels::limits::CHANNEL_LIMIT;
 use wire_channels::{
-    Channel, Listener, NetFault, Place, drop_end, drop_pending, end_on, move_on, receive_on,
-    send_on, stop_reading_on,
+    ByConn, Channel, Listener, NetFault, Place, drop_end, drop_pending, end_on, move_on,
+    receive_on, send_on, stop_reading_on,
 };
 
 /// The network between the nodes: listeners by their ports, and channels by their names.

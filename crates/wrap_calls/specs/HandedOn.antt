@@ -5,3 +5,4 @@ pub use Rattle.wrap_calls.specs.Directions.{is_above}
 pub use Rattle.wrap_names.specs.Wrapping.{Answers}
 pub use Rattle.wrap_names.specs.Changes.{arrived_in}
 unfoldable pub use Rattle.wrap_names.specs.Changes.{after_arrival}
+pub use Rattle.wrap_names.specs.Wrapping.{IsWrapped}

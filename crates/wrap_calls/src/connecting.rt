@@ -41,7 +41,7 @@ pub(crate) fn is_connect_ready(
 {
     system.kernel.book.whole();
     let own = socket_address(system, who, fd);
-    host_sockets::is_connect_ready(
+    wrap_sockets::is_connect_ready(
         &system.kernel,
         who,
         fd,

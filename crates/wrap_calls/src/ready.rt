@@ -7,12 +7,12 @@ ghost use Rattle.wrap_names.specs.Wrapping.{IsWrapped};
 use crate::connecting::is_connect_ready;
 use crate::strangers::is_stranger_ready;
 use call_table::Request;
-use host_kernel::{is_read_ready, is_write_ready};
-use host_processes::is_wait4_ready;
-use host_sockets::is_accept_ready;
 use host_tables::System;
 use sys_abi::{Tid, VPid};
+use wrap_ends::is_wait4_ready;
 use wrap_names::naming::{leads_to_pipe, named, next_desc};
+use wrap_passing::{is_read_ready, is_write_ready};
+use wrap_sockets::is_accept_ready;
 
 /// Whether a call of a thread doesn't wait, by the first 16 bytes that it reads, with zeros where it reads
 /// fewer. Takes no memory.

@@ -17,8 +17,8 @@ use Rattle.plain_tables.specs.Tables.{Descriptions}
 use Rattle.plain_machine.specs.declared.kernel.PlainKernel.{PlainKernel}
 use Rattle.plain_machine.specs.Kernel.{with_object}
 use Rattle.plain_machine.specs.Kernels.{IsKernel}
-use Rattle.host_descriptors.specs.declared.held.Held.{Held}
-use Rattle.host_descriptors.specs.Held.{seen_held}
+use Rattle.host_streams.specs.HandedOn.{Held}
+use Rattle.host_streams.specs.HandedOn.{seen_held}
 use Rattle.host_tables.specs.declared.system.System.{System}
 use Rattle.host_tables.specs.Datagrams.{RealDescriptions}
 use Rattle.host_tables.specs.Descriptions.{Names, Addresses, address_of, nowhere, seen_object, seen_desc, IsTold, SameDescriptions}

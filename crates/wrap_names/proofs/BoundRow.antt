@@ -13,7 +13,7 @@ use Rattle.plain_machine.specs.Kernels.{IsKernel}
 use Rattle.host_tables.specs.declared.reply.KernelReply.TheVariants.{Done, Error, Memory}
 use Rattle.host_tables.specs.declared.system.System.{System}
 use Rattle.host_tables.specs.Systems.{given_of}
-use Rattle.host_descriptors.proofs.HeldChanges.{held_by}
+use Rattle.host_streams.proofs.HandedOn.{held_by}
 use Rattle.conn_table.specs.declared.table.ConnTable.{ConnTable}
 use Rattle.wrap_names.specs.Wrapping.{IsWrapped, StandsAfter, kernel_left}
 use Rattle.wrap_names.specs.declared.binding.Bound.{Bound}

@@ -14,8 +14,8 @@ use Rattle.fd_tables.specs.Slots as slots
 use Rattle.plain_machine.specs.declared.kernel.PlainKernel.{PlainKernel}
 use Rattle.plain_machine.specs.SocketWords.{socket_at}
 use Rattle.plain_ports.specs.Told.{told}
-use Rattle.host_descriptors.specs.declared.held.Held.{Held}
-use Rattle.host_descriptors.specs.Held.{held_in, seen_held}
+use Rattle.host_streams.specs.HandedOn.{Held}
+use Rattle.host_streams.specs.HandedOn.{held_in, seen_held}
 use Rattle.host_streams.specs.PipeEnds.{is_socket_unless, socket_by, socket_in}
 use Rattle.host_streams.proofs.SocketLookUps.{socket_none, socket_some}
 use Rattle.host_tables.specs.declared.system.System.{System}

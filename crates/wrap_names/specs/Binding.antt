@@ -21,7 +21,7 @@ use Rattle.plain_machine.specs.Kernel.{with_object}
 use Rattle.plain_machine.specs.Addresses.{AF_INET, ADDRESS_SIZE, endpoint_of, named_host, address_at}
 use Rattle.plain_machine.specs.Rows.Sockets.{is_own_host, port_for}
 use Rattle.plain_machine.specs.SocketWords.{unbound_host}
-use Rattle.host_descriptors.specs.Held.{held_in, seen_held}
+use Rattle.host_streams.specs.HandedOn.{held_in, seen_held}
 use Rattle.host_tables.specs.declared.kernel.Kernel.{Kernel}
 use Rattle.host_tables.specs.Stands.{Given}
 use Rattle.wrap_names.specs.declared.binding.Bound.{Bound}

@@ -13,3 +13,5 @@ pub mod requests;
 pub mod serving;
 pub mod taking;
 pub mod telling;
+
+pub use host_kernel::{is_read_ready, is_write_ready};

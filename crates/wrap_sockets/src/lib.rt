@@ -15,3 +15,5 @@ mod listing;
 mod replies;
 pub mod serving;
 mod targets;
+
+pub use host_sockets::{is_accept_ready, is_connect_ready};

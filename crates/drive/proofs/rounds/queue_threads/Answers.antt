@@ -2,7 +2,7 @@ use Rattle.std.proofs.Common.{◌≡◌, ℕ, Option, Some, None, sym, ap, ◌�
 use Rattle.std.specs.Prelude.{find}
 use Rattle.std.specs.FinMap as map
 use Rattle.views.specs.NumberMap.{is_above}
-use Rattle.computation.specs.Computations.{plain_of, user_at}
+use Rattle.checkpointer.specs.HandedOn.{plain_of, user_at}
 use Rattle.drive.proofs.Queueing.{none_queued, one_queued, fewer_above, room_left, all_queued}
 use Rattle.drive.proofs.Threads.{threads_of, keys_of, few_threads, numbers}
 use Rattle.drive.proofs.rounds.queue_threads.Goals as goal

@@ -1,4 +1,4 @@
-use Rattle.computation.specs.Computations.{user_at}
+use Rattle.checkpointer.specs.HandedOn.{user_at}
 use Rattle.drive.proofs.Queueing.{IsQueued, left_above}
 use Rattle.drive.proofs.Threads.{threads_of}
 use Rattle.drive.proofs.rounds.queue_threads.Given as goal

@@ -1,6 +1,6 @@
 use Rattle.std.proofs.Common.{refl, sym, subst}
 use Rattle.plain_machine.specs.Rows.Sockets.{setsockopt_row}
-use Rattle.host_descriptors.specs.Held.{seen_held}
+use Rattle.host_processes.specs.HandedOn.{seen_held}
 use Rattle.host_tables.specs.declared.attempt.Attempt.TheVariants as answer
 use Rattle.host_tables.specs.Serves.{Serves, ByNumber, same}
 use Rattle.host_tables.proofs.Replies.{gave, refused}

@@ -1,7 +1,7 @@
 use Rattle.std.proofs.Common.{◌≡◌, Result, sym, subst}
 use Rattle.sys_abi.specs.declared.reply.Errno.{Errno}
 use Rattle.plain_machine.specs.Rows.Sockets.{bind_row}
-use Rattle.host_descriptors.specs.Held.{seen_held}
+use Rattle.host_streams.specs.HandedOn.{seen_held}
 use Rattle.host_tables.specs.Systems.{given_of}
 use Rattle.wrap_names.specs.declared.binding.Bound.{Bound}
 use Rattle.wrap_names.specs.Binding.{bound_told}

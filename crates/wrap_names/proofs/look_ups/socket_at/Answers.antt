@@ -4,8 +4,8 @@ use Rattle.sys_abi.specs.declared.reply.Errno.{Errno}
 use Rattle.fd_tables.specs.Slots as slots
 use Rattle.plain_machine.specs.SocketWords.{socket_at}
 use Rattle.plain_ports.specs.Told.{told}
-use Rattle.host_descriptors.specs.declared.held.Held.{Held}
-use Rattle.host_descriptors.specs.Held.{held_in, seen_held}
+use Rattle.host_streams.specs.HandedOn.{Held}
+use Rattle.host_streams.specs.HandedOn.{held_in, seen_held}
 use Rattle.host_streams.specs.PipeEnds.{socket_in}
 use Rattle.host_tables.specs.Systems.{given_of}
 use Rattle.wrap_names.proofs.Sockets.{socket_told, socket_there}

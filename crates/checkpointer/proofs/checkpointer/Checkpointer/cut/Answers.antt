@@ -6,7 +6,7 @@ use Rattle.plain_machine.specs.declared.plain.Plain.{Plain}
 use Rattle.plain_machine.specs.Tests.{full_arrive}
 use Rattle.trace_log.specs.Requests.{Requested}
 use Rattle.trace_log.specs.Turns.{Upcoming}
-use Rattle.seen_kernel.specs.Seen.{all_in}
+use Rattle.staged_cut.specs.HandedOn.{all_in}
 use Rattle.staged_cut.specs.HandedOn.{plain_of}
 use Rattle.edge_io.specs.Sunk.{Sunk, sunk}
 use Rattle.checkpointer.specs.declared.checkpointer.Checkpointer.{Checkpointer}

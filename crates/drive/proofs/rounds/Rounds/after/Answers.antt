@@ -1,6 +1,6 @@
 use Rattle.std.proofs.Common.{◌≡◌, true, false, sym, ap, subst, ◌∙◌, refl}
 use Rattle.std.specs.Prelude.{is_some}
-use Rattle.computation.specs.Computations.{plain_of, first_signal, IsDid}
+use Rattle.checkpointer.specs.HandedOn.{plain_of, first_signal, IsDid}
 use Rattle.drive.specs.Scheduling.{place_in}
 use Rattle.drive.proofs.NextTurns.{served, delivered}
 use Rattle.drive.proofs.rounds.Rounds.after.Goals as goal

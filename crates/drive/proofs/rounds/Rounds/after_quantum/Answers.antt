@@ -1,5 +1,5 @@
 use Rattle.std.proofs.Common.{◌≡◌, true, false, sym, ap, ◌∙◌, refl}
-use Rattle.computation.specs.Computations.{plain_of}
+use Rattle.checkpointer.specs.HandedOn.{plain_of}
 use Rattle.plain_process.specs.Steps.{user_step}
 use Rattle.trace_log.specs.Turns.{stands_in}
 use Rattle.drive.specs.Scheduling.{place_in}

@@ -1,6 +1,6 @@
 use Rattle.std.proofs.Common.{◌≡◌, true, false, sym, ap, ◌∙◌, refl}
 use Rattle.std.specs.Prelude.{is_some}
-use Rattle.computation.specs.Computations.{plain_of}
+use Rattle.checkpointer.specs.HandedOn.{plain_of}
 use Rattle.drive.specs.Scheduling.{place_in}
 use Rattle.drive.proofs.NextTurns.{stays}
 use Rattle.drive.proofs.rounds.Rounds.after_signal.Goals as goal

@@ -1,5 +1,5 @@
 use Rattle.std.proofs.Common.{◌≡◌, sym, ap, subst, ◌∙◌, refl}
-use Rattle.computation.specs.Computations.{plain_of}
+use Rattle.checkpointer.specs.HandedOn.{plain_of}
 use Rattle.drive.specs.Scheduling.{IsComeSo, chosen}
 use Rattle.drive.proofs.NextTurns.{worked_due, new_due, arrived_due}
 use Rattle.drive.proofs.rounds.Rounds.choose.Goals as goal

@@ -1,7 +1,7 @@
 use Rattle.std.proofs.Common.{◌≡◌, sym, ap, ◌∙◌, map as each}
 use Rattle.std.specs.Prelude.{option_map}
 use Rattle.plain_tables.specs.Tables.{pid}
-use Rattle.computation.specs.Computations.{plain_of}
+use Rattle.checkpointer.specs.HandedOn.{plain_of}
 use Rattle.trace_log.specs.Turns.{first_thread, first_turn}
 use Rattle.drive.specs.Scheduling.{place_in}
 use Rattle.drive.proofs.FirstTurns.{no_process, process_found, process_passed}

@@ -1,6 +1,6 @@
 use Rattle.std.proofs.Common.{◌≡◌, length, map as each}
 use Rattle.plain_tables.specs.Tables.{pid}
-use Rattle.computation.specs.Computations.{plain_of}
+use Rattle.checkpointer.specs.HandedOn.{plain_of}
 use Rattle.trace_log.specs.Turns.{first_turn}
 use Rattle.drive.proofs.rounds.Rounds.first_turn.Given as goal
 

@@ -1,7 +1,7 @@
 use Rattle.std.proofs.Common.{◌≡◌, [], sym, ap, ◌∙◌}
 use Rattle.std.specs.Prelude.{option_map}
 use Rattle.views.proofs.MapLaws.{true_false}
-use Rattle.computation.specs.Computations.{plain_of}
+use Rattle.checkpointer.specs.HandedOn.{plain_of}
 use Rattle.trace_log.specs.Turns.{InTurn}
 use Rattle.drive.specs.Scheduling.{place_in}
 use Rattle.drive.proofs.NextTurns.{nobody, arrival, turn}

@@ -1,8 +1,8 @@
 use Rattle.std.proofs.Common.{◌≡◌, sym, ap, subst, ◌∙◌}
 use Rattle.std.specs.Prelude.{Some, Result, Err}
-use Rattle.computation.specs.declared.computation.Did.{Did}
-use Rattle.computation.specs.declared.computation.Stop.{Stop}
-use Rattle.computation.specs.Computations.{plain_of}
+use Rattle.checkpointer.specs.HandedOn.{Did}
+use Rattle.checkpointer.specs.HandedOn.{Stop}
+use Rattle.checkpointer.specs.HandedOn.{plain_of}
 use Rattle.edge_io.specs.Sunk.{sunk}
 use Rattle.drive.specs.declared.rounds.Come.TheVariants as has_come
 use Rattle.drive.specs.declared.rounds.Made.{Made}

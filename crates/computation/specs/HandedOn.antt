@@ -1,0 +1,2 @@
+-- What is handed on of the libraries below, so that who uses this one need not name them.
+pub use Rattle.wrap_calls.specs.HandedOn.{IsWrapped}
