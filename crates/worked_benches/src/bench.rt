@@ -77,34 +77,22 @@ impl Bench {
 
     /// What the last call left.
     pub fn outcome(&self) -> Result<&Outcome, CaseFault> {
-        match &self.last {
-            Some(outcome) => Ok(&**outcome),
-            None => Err(CaseFault::Unclear),
-        }
+        made(&self.last)
     }
 
     /// What the undisturbed call left.
     pub fn whole(&self) -> Result<&Outcome, CaseFault> {
-        match &self.whole {
-            Some(outcome) => Ok(&**outcome),
-            None => Err(CaseFault::Unclear),
-        }
+        made(&self.whole)
     }
 
     /// Takes the last call into the chain, up to its last set.
     pub fn chain_part(&mut self) -> Result<Kept, CaseFault> {
-        match &self.last {
-            Some(outcome) => Ok(self.chain.take_part(outcome)?),
-            None => Err(CaseFault::Unclear),
-        }
+        Ok(self.chain.take_part(made(&self.last)?)?)
     }
 
     /// Takes all of the last call into the chain.
     pub fn chain_end(&mut self) -> Result<Kept, CaseFault> {
-        match &self.last {
-            Some(outcome) => Ok(self.chain.take_whole(outcome)?),
-            None => Err(CaseFault::Unclear),
-        }
+        Ok(self.chain.take_whole(made(&self.last)?)?)
     }
 
     /// Whether the chain did what the undisturbed call did.
@@ -113,5 +101,13 @@ impl Bench {
             Some(whole) => self.chain.is_like(whole),
             None => false,
         }
+    }
+}
+
+/// What a call left, if it was made.
+fn made(outcome: &Option<Box<Outcome>>) -> Result<&Outcome, CaseFault> {
+    match outcome {
+        Some(outcome) => Ok(&**outcome),
+        None => Err(CaseFault::Unclear),
     }
 }

@@ -1,9 +1,5 @@
-ghost use Rattle.std.specs.Prelude.{◌≡◌, []};
-
-use dmtcp_top::{Status, run_words};
+use dmtcp_top::Status;
 use edge_io::{MemInputs, MemSink};
-use set_disk::MemFolder;
-use std::alloc::Global;
 use sys_abi::Record;
 use trace_log::Trace;
 
@@ -56,25 +52,4 @@ impl Outcome {
             && self.log() == other.log()
             && self.records() == other.records()
     }
-}
-
-/// Makes the top call, which leaves its records in a trace that has none.
-pub fn called(
-    alloc: Global,
-    words: &[String],
-    streams: &mut Streams,
-    disk: &mut MemFolder,
-    trace: &mut Trace,
-) -> Status
-    requires { trace.old.records ≡ [] }
-{
-    run_words(
-        alloc,
-        words,
-        &mut streams.inputs,
-        &mut streams.console,
-        &mut streams.log,
-        disk,
-        trace,
-    )
 }

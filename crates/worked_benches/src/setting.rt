@@ -1,4 +1,5 @@
-use crate::outcome::{Outcome, Streams, called};
+use crate::outcome::{Outcome, Streams};
+use dmtcp_top::run_words;
 use edge_io::{MemInputs, MemSink};
 use set_disk::MemFolder;
 use std::alloc::{AllocError, Global};
@@ -119,7 +120,16 @@ impl Setting {
     pub fn call(&self, words: &[String], disk: &mut MemFolder) -> Result<Box<Outcome>, AllocError> {
         let mut streams = self.streams()?;
         let mut trace = Trace::new(self.alloc);
-        let status = called(self.alloc, words, &mut streams, disk, &mut trace);
+        let lent: &mut Streams = &mut streams;
+        let status = run_words(
+            self.alloc,
+            words,
+            &mut lent.inputs,
+            &mut lent.console,
+            &mut lent.log,
+            disk,
+            &mut trace,
+        );
         let outcome = Outcome {
             status,
             trace,
