@@ -1,0 +1,108 @@
+#!/usr/bin/env python3
+"""Breaks expected values of the tests, and sees that the tests fail.
+
+    tools/break_values.py [CRATE..]       crates of tests; none: all of them
+
+In each file of tests one number becomes greater by one: the last one of a table of cases, or else that
+of an assertion. All files of a crate are changed at once, in a copy, and
+its tests are run without proofs (`rt try --test`). Of each file a test has to fail that passed before.
+The programs among the crates of tests need none of this: what they print is compared with a file.
+
+A line is written for each file. The status is 1 where no test of a file fails, and 2 where there is no such
+crate.
+"""
+
+import argparse
+import re
+import shutil
+import subprocess
+import sys
+import tempfile
+from pathlib import Path
+
+TOP = Path(__file__).resolve().parent.parent
+TABLE = re.compile(r"^(?:pub )?const \w+: &?\[[^=]*= &?\[(.*?)\n\];", re.M | re.S)
+ASSERTION = re.compile(r"^ +(?:same|came|gives|bytes|same_bytes|found|answers)\w*\(.*\d.*\);$", re.M)
+ANSWER = re.compile(r"(?:Value|Gives|Some|Ok)\(\s*$")
+NUMBER = re.compile(r"(?<![\w.])(?:0x[0-9A-Fa-f_]+|\d[\d_]*)(?![\w.])")
+FAILED = re.compile(r"^test (\w+)::\S+ \.\.\. FAILED", re.M)
+
+
+def crates_of_tests():
+    """The crates of tests, without the programs and libraries among them."""
+    has_tests = lambda folder: any("#[test]" in file.read_text() for file in (folder / "src").glob("*.rt"))
+    return [it.name for it in sorted((TOP / "crates").glob("worked_*")) if has_tests(it)]
+
+
+def can_break(text, found):
+    """Whether a number stands in no quotes, is no length of an array, and is small enough."""
+    line = text[text.rfind("\n", 0, found.start()) + 1 : found.start()]
+    return line.count('"') % 2 == 0 and not line.endswith("; ") and int(found[0].replace("_", ""), 0) < 2**31
+
+
+def last_expected(text, start, end):
+    """The last number between two places that an answer has, or else the last one of all."""
+    numbers = [it for it in NUMBER.finditer(text, start, end) if can_break(text, it)]
+    answers = [it for it in numbers if ANSWER.search(text[: it.start()])]
+    return (answers or numbers)[-1:]
+
+
+def places(text):
+    """The numbers that tests expect: the last ones of tables, and those of an assertion's last argument."""
+    for table in TABLE.finditer(text):
+        yield from last_expected(text, *table.span(1))
+    for found in ASSERTION.finditer(text):
+        yield from last_expected(text, text.rfind(", ", *found.span()), found.end())
+
+
+def broken(text):
+    """The text with one expected number greater by one, and that number, if there is one."""
+    for found in places(text):
+        more = int(found[0].replace("_", ""), 0) + 1
+        spelled = hex(more) if found[0].startswith("0x") else str(more)
+        return text[: found.start()] + spelled + text[found.end() :], found[0]
+    return text, None
+
+
+def break_crate(crate, room):
+    """Breaks a number in each file of a crate's tests, and returns these numbers by the files' names."""
+    done = {}
+    for file in sorted((room / "crates" / crate / "src").glob("*.rt")):
+        text = file.read_text()
+        if "#[test]" in text:
+            changed, done[file.stem] = broken(text)
+            file.write_text(changed)
+    return done
+
+
+def try_crate(crate, room):
+    """Tells how many tests of each file fail, and returns whether some do of each that was changed."""
+    done = break_crate(crate, room)
+    how = {"stdout": subprocess.PIPE, "stderr": subprocess.STDOUT, "text": True}
+    said = subprocess.run(["rt", "try", "--test"], cwd=room / "crates" / crate, **how).stdout
+    failed = FAILED.findall(said)
+    for module, number in done.items():
+        what = f"{number} broken, {failed.count(module)} tests fail" if number else "has no such number"
+        print(f"{crate}/{module}: {what}", flush=True)
+    if not failed:
+        print("\n".join(said.splitlines()[-5:]), file=sys.stderr)
+    return all(module in failed for module, number in done.items() if number)
+
+
+def main():
+    raw = argparse.RawDescriptionHelpFormatter
+    reader = argparse.ArgumentParser(description=__doc__, formatter_class=raw)
+    reader.add_argument("crates", nargs="*", metavar="CRATE")
+    wanted = reader.parse_args().crates or crates_of_tests()
+    if unknown := [it for it in wanted if it not in crates_of_tests()]:
+        print(f"there is no crate of tests {unknown[0]}", file=sys.stderr)
+        return 2
+    with tempfile.TemporaryDirectory(prefix="break-values-") as name:
+        room = Path(name)
+        shutil.copytree(TOP / "crates", room / "crates", ignore=shutil.ignore_patterns("out"))
+        shutil.copy(TOP / "crates.txt", room / "crates.txt")
+        return 0 if all([try_crate(crate, room) for crate in wanted]) else 1
+
+
+if __name__ == "__main__":
+    sys.exit(main())
