@@ -4,12 +4,13 @@
     tools/break_values.py [CRATE..]       crates of tests; none: all of them
 
 In each file of tests one number becomes greater by one: the last one of a table of cases, or else that
-of an assertion. All files of a crate are changed at once, in a copy, and
-its tests are run without proofs (`rt try --test`). Of each file a test has to fail that passed before.
-The programs among the crates of tests need none of this: what they print is compared with a file.
+of an assertion. All files of a crate are changed at once, in a copy, and its tests are run without proofs
+(`rt try --test`). Where no test of a file fails, it is changed once more alone: tests of another file may
+use its table. The programs among the crates of tests need none of this: what they print is compared with a
+file.
 
-A line is written for each file. The status is 1 where no test of a file fails, and 2 where there is no such
-crate.
+A line is written for each file. The status is 1 where no test fails for a file, and 2 where there is no
+such crate.
 """
 
 import argparse
@@ -64,29 +65,41 @@ def broken(text):
     return text, None
 
 
-def break_crate(crate, room):
-    """Breaks a number in each file of a crate's tests, and returns these numbers by the files' names."""
+def break_files(folder, files):
+    """Breaks a number in each of these files of a crate, and returns the numbers by the files' names."""
     done = {}
-    for file in sorted((room / "crates" / crate / "src").glob("*.rt")):
-        text = file.read_text()
-        if "#[test]" in text:
-            changed, done[file.stem] = broken(text)
-            file.write_text(changed)
+    for file in files:
+        changed, done[file.stem] = broken(file.read_text())
+        (folder / "src" / file.name).write_text(changed)
     return done
 
 
-def try_crate(crate, room):
-    """Tells how many tests of each file fail, and returns whether some do of each that was changed."""
-    done = break_crate(crate, room)
+def failures(folder):
+    """The modules of the tests of a crate that fail, once for each test."""
     how = {"stdout": subprocess.PIPE, "stderr": subprocess.STDOUT, "text": True}
-    said = subprocess.run(["rt", "try", "--test"], cwd=room / "crates" / crate, **how).stdout
-    failed = FAILED.findall(said)
-    for module, number in done.items():
-        what = f"{number} broken, {failed.count(module)} tests fail" if number else "has no such number"
-        print(f"{crate}/{module}: {what}", flush=True)
-    if not failed:
-        print("\n".join(said.splitlines()[-5:]), file=sys.stderr)
-    return all(module in failed for module, number in done.items() if number)
+    said = subprocess.run(["rt", "try", "--test"], cwd=folder, **how).stdout
+    if "test result" not in said:
+        print(said[-600:], file=sys.stderr)
+    return FAILED.findall(said)
+
+
+def try_crate(crate, room):
+    """Tells how many tests fail for each file, and returns whether some do for each that was changed."""
+    folder, sources = room / "crates" / crate, sorted((TOP / "crates" / crate / "src").glob("*.rt"))
+    files = [it for it in sources if "#[test]" in it.read_text()]
+    done, failed, is_well = break_files(folder, files), failures(folder), True
+    for file in files:
+        number, count = done[file.stem], failed.count(file.stem)
+        if number and not count:
+            # (tests of another file may use its table)
+            for it in files:
+                shutil.copy(it, folder / "src" / it.name)
+            break_files(folder, [file])
+            count = len(failures(folder))
+        is_well = is_well and bool(count or not number)
+        what = f"{number} broken, {count} tests fail" if number else "has no such number"
+        print(f"{crate}/{file.stem}: {what}", flush=True)
+    return is_well
 
 
 def main():
