@@ -5,9 +5,9 @@
 
 In each file of tests one number becomes greater by one: the last one of a table of cases, or else that
 of an assertion. All files of a crate are changed at once, in a copy, and its tests are run without proofs
-(`rt try --test`). Where no test of a file fails, it is changed once more alone: tests of another file may
-use its table. The programs among the crates of tests need none of this: what they print is compared with a
-file.
+(`rt try --test`). Where no test of a file fails, it is changed alone, since tests of another file may use
+its table, and then by its next number: some rows of a table are what tests begin with. The programs among
+the crates of tests need none of this: what they print is compared with a file.
 
 A line is written for each file. The status is 1 where no test fails for a file, and 2 where there is no
 such crate.
@@ -22,6 +22,7 @@ import tempfile
 from pathlib import Path
 
 TOP = Path(__file__).resolve().parent.parent
+TRIES = 3  # of numbers of a file
 TABLE = re.compile(r"^(?:pub )?const \w+: &?\[[^=]*= &?\[(.*?)\n\];", re.M | re.S)
 ASSERTION = re.compile(r"^ +(?:same|came|gives|bytes|same_bytes|found|answers)\w*\(.*\d.*\);$", re.M)
 ANSWER = re.compile(r"(?:Value|Gives|Some|Ok)\(\s*$")
@@ -56,20 +57,20 @@ def places(text):
         yield from last_expected(text, text.rfind(", ", *found.span()), found.end())
 
 
-def broken(text):
-    """The text with one expected number greater by one, and that number, if there is one."""
-    for found in places(text):
+def broken(text, nth=0):
+    """The text with the nth expected number greater by one, and that number, if there is one."""
+    for found in list(places(text))[nth : nth + 1]:
         more = int(found[0].replace("_", ""), 0) + 1
         spelled = hex(more) if found[0].startswith("0x") else str(more)
         return text[: found.start()] + spelled + text[found.end() :], found[0]
     return text, None
 
 
-def break_files(folder, files):
+def break_files(folder, files, nth=0):
     """Breaks a number in each of these files of a crate, and returns the numbers by the files' names."""
     done = {}
     for file in files:
-        changed, done[file.stem] = broken(file.read_text())
+        changed, done[file.stem] = broken(file.read_text(), nth)
         (folder / "src" / file.name).write_text(changed)
     return done
 
@@ -83,6 +84,19 @@ def failures(folder):
     return FAILED.findall(said)
 
 
+def alone(folder, file, files):
+    """Breaks one file alone, by one of its first numbers, until a test fails; the number and how many fail."""
+    number, count = None, 0
+    for nth in range(TRIES):
+        for it in files:
+            shutil.copy(it, folder / "src" / it.name)
+        number = break_files(folder, [file], nth)[file.stem]
+        count = len(failures(folder)) if number else 0
+        if count or not number:
+            break
+    return number, count
+
+
 def try_crate(crate, room):
     """Tells how many tests fail for each file, and returns whether some do for each that was changed."""
     folder, sources = room / "crates" / crate, sorted((TOP / "crates" / crate / "src").glob("*.rt"))
@@ -91,13 +105,9 @@ def try_crate(crate, room):
     for file in files:
         number, count = done[file.stem], failed.count(file.stem)
         if number and not count:
-            # (tests of another file may use its table)
-            for it in files:
-                shutil.copy(it, folder / "src" / it.name)
-            break_files(folder, [file])
-            count = len(failures(folder))
-        is_well = is_well and bool(count or not number)
-        what = f"{number} broken, {count} tests fail" if number else "has no such number"
+            number, count = alone(folder, file, files)
+        is_well = is_well and bool(count or not done[file.stem])
+        what = f"{number} broken, {count} tests fail" if done[file.stem] else "has no such number"
         print(f"{crate}/{file.stem}: {what}", flush=True)
     return is_well
 
