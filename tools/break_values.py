@@ -3,11 +3,12 @@
 
     tools/break_values.py [CRATE..]       crates of tests; none: all of them
 
-In each file of tests one number becomes greater by one: the last one of a table of cases, or else that
-of an assertion. All files of a crate are changed at once, in a copy, and its tests are run without proofs
-(`rt try --test`). Where no test of a file fails, it is changed alone, since tests of another file may use
-its table, and then by its next number: some rows of a table are what tests begin with. The programs among
-the crates of tests need none of this: what they print is compared with a file.
+In each file of tests one number becomes greater by one: the last one of an answer in a table of cases, or
+else that of an assertion, or else any of a table. All files of a crate are changed at once, in a copy, and
+its tests are run without proofs (`rt try --test`). Where no test of a file fails, it is changed alone,
+since tests of another file may use its table, and then by its next number: some rows of a table are what
+tests begin with. The programs among the crates of tests need none of this: what they print is compared
+with a file.
 
 A line is written for each file. The status is 1 where no test fails for a file, and 2 where there is no
 such crate.
@@ -42,19 +43,21 @@ def can_break(text, found):
     return line.count('"') % 2 == 0 and not line.endswith("; ") and int(found[0].replace("_", ""), 0) < 2**31
 
 
-def last_expected(text, start, end):
-    """The last number between two places that an answer has, or else the last one of all."""
-    numbers = [it for it in NUMBER.finditer(text, start, end) if can_break(text, it)]
-    answers = [it for it in numbers if ANSWER.search(text[: it.start()])]
-    return (answers or numbers)[-1:]
+def numbers(text, start, end, of_answers):
+    """The last number between two places, of those that an answer has, or of any."""
+    found = [it for it in NUMBER.finditer(text, start, end) if can_break(text, it)]
+    return [it for it in found if not of_answers or ANSWER.search(text[: it.start()])][-1:]
 
 
 def places(text):
-    """The numbers that tests expect: the last ones of tables, and those of an assertion's last argument."""
-    for table in TABLE.finditer(text):
-        yield from last_expected(text, *table.span(1))
+    """The numbers that tests expect: of answers in tables, of assertions, then any of tables."""
+    tables = [it.span(1) for it in TABLE.finditer(text)]
+    for span in tables:
+        yield from numbers(text, *span, of_answers=True)
     for found in ASSERTION.finditer(text):
-        yield from last_expected(text, text.rfind(", ", *found.span()), found.end())
+        yield from numbers(text, text.rfind(", ", *found.span()), found.end(), of_answers=False)
+    for span in tables:
+        yield from numbers(text, *span, of_answers=False)
 
 
 def broken(text, nth=0):
@@ -85,7 +88,7 @@ def failures(folder):
 
 
 def alone(folder, file, files):
-    """Breaks one file alone, by one of its first numbers, until a test fails; the number and how many fail."""
+    """Breaks one file alone, by one number after the other, until a test fails."""
     number, count = None, 0
     for nth in range(TRIES):
         for it in files:
