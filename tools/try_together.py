@@ -28,7 +28,7 @@ from try_edits import ANSWERS, LIST, Unknown, copy_crates, folder_of
 
 REFUSED, LET_THROUGH, BAD, UNTRIED = ANSWERS
 FUNCTION = re.compile(r"^([ \t]*)(?:pub(?:\([a-z]+\))? )?(?:const )?fn (\w+)", re.M)
-IMPL = re.compile(r"^impl(?:<[^>]*>)? (?:[^{\n]* for )?&?(\w+)", re.M)
+IMPL = re.compile(r"^impl(?:<(?:[^<>]|<[^<>]*>)*>)? (?:[^{\n]* for )?&?(\w+)", re.M)
 JUDGED = re.compile(r"^fn (\S+): (proved|not proved|no proof|could not tell)(.*)$", re.M)
 OF_ANOTHER = "it calls"  # what a check says of a function by whose callee its proof falls
 ERROR = re.compile(r"^(?:note: )?(?:\./)?(\S+?):\d+:\d+: (.*)", re.M)
