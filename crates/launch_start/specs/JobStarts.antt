@@ -3,7 +3,7 @@
 --     room_after files            how many bytes the files to come may have
 --     HasRead files start read    these inputs were read, nothing was wrong with them, and the start is theirs
 use Rattle.std.specs.Prelude.{◌≡◌, ◌≢◌, ℕ, ◌-◌, ◌<◌, ◌≤◌, nat_lt, if◌then◌else◌, List, [], ◌∷◌, ◌++◌, length, map, sum_by, All, Option, Some, None}
-use Rattle.views.specs.Limits.{HOST_LIMIT, PROCESS_LIMIT, ALL_FILES_LIMIT}
+use Rattle.views.specs.Limits.{HOST_LIMIT, PROCESS_LIMIT, NAMED_FILE_LIMIT, ALL_FILES_LIMIT, NAME_LIMIT}
 use Rattle.elf32.specs.declared.fault.ElfFault.{ElfFault}
 use Rattle.elf32.specs.declared.program.Program.{Program}
 use Rattle.elf32.specs.Programs.{program_of}
@@ -108,9 +108,9 @@ with_program read program bytes =
 
 -- a file of this name may come after these
 pub record CanFollow (before : List FileInput) (name : Text) : Type 0 where
-  pub few : length before < 64
+  pub few : length before < NAMED_FILE_LIMIT
   pub some : 1 ≤ length name
-  pub short : length name ≤ 255
+  pub short : length name ≤ NAME_LIMIT
   pub plain : HasNoZero name
   pub apart : All (λ (input : FileInput). input.name ≢ name) before
 

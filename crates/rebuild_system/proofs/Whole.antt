@@ -108,6 +108,7 @@ module _ (h : Hosts) (k : PlainKernel) (whole : IsKernel k) (arrived : AllArrive
   handed_out =
       let same : s.kernel.procs.next ≡ m.procs.next = ap (λ procs. procs.next) is.procs in
       record {
+        hosts = is.nodes;
         numbers = live.given;
         ports = is.net.ports;
         nodes = ap length same ∙ is.made.nodes;

@@ -3,8 +3,8 @@
 -- Desktop", 2009: virtual numbers stay over a restart, real ones change.
 --     AllArrived directions      all bytes that were sent can be read
 --     ArePairedFor processes ids      each process has a real number, and no address is paired
---     HandedOut h k s            each real number and port is one that a node hands out, and each node has
---                                numbers left
+--     HandedOut h k s            each host is on its node, each real number and port is one that a node hands
+--                                out, and each node has numbers left
 use Rattle.std.specs.Prelude.{◌≡◌, ℕ, ◌+◌, ◌-◌, ◌^◌, ◌<◌, ◌≤◌, length, slice_index, Some, IsSome}
 use Rattle.std.specs.FinMap as map
 use Rattle.sys_abi.specs.declared.identity.VPid.{VPid}
@@ -19,6 +19,7 @@ use Rattle.plain_machine.specs.declared.kernel.PlainKernel.{PlainKernel}
 use Rattle.plain_machine.specs.Rows.Clone.{LAST_ID}
 use Rattle.host_tables.specs.declared.kernel.Hosts.{Hosts}
 use Rattle.host_tables.specs.declared.system.System.{System}
+use Rattle.rebuild_tables.specs.Hosts.{nodes_from}
 use Rattle.rebuild_processes.specs.Making.{SPARE}
 
 abbrev pub AllArrived : Directions → Type 0
@@ -29,8 +30,11 @@ pub record ArePairedFor (processes : Processes) (ids : Pairs) : Type 0 where
   pub addresses : ids.addresses ≡ map.empty
   pub ports : ids.ports ≡ map.empty
 
--- so many numbers are left on each node besides those that the kernel part may still give out
+-- by these nodes the pairs of a system that stands for the kernel part are judged: a process's real number is
+-- one of its host's node. So many numbers are left on each node besides those that the kernel part may still
+-- give out
 pub record HandedOut (h : Hosts) (k : PlainKernel) (s : System) : Type 0 where
+  pub hosts : s.kernel.nodes ≡ nodes_from h
   pub numbers : (v : ℕ) (r : RealPid) → map.get s.ids.pids v ≡ Some r → h.pid_base ≤ r.pid
   pub ports : (a : VirtAddr) (at : RealAddr) → map.get s.ids.addresses a ≡ Some at → h.port_base ≤ at.port
   pub nodes : length s.kernel.procs.next ≡ h.nodes

@@ -2,9 +2,11 @@
 --     files_owed owed      the files, none where it is all that the folder holds
 --     owes_folder owed     the folder itself is synced too, since it has a new entry (`man 2 fsync`)
 --     with_file name       these files and that one, which stands among them once
-use Rattle.std.specs.Prelude.{Bool, true, ◌&&◌, if◌then◌else◌, ◌==◌, List, [], ◌∷◌, ◌++◌, Option, Some, None}
+--     cut_to name len      a cut that is put off: of this file to so many bytes
+use Rattle.std.specs.Prelude.{ℕ, Bool, true, ◌&&◌, if◌then◌else◌, ◌==◌, List, [], ◌∷◌, ◌++◌, Option, Some, None}
 use Rattle.std.specs.List.{list_any}
 use Rattle.disk_folder.specs.declared.file_name.FileName.{FileName}
+use Rattle.set_disk.specs.declared.host_folder.PutOff.{PutOff}
 use Rattle.set_disk.specs.declared.owed.Owed.{Owed}
 use Rattle.set_disk.specs.declared.owed.Owed.TheVariants.{All, Changes}
 
@@ -21,3 +23,6 @@ is_name name q = (q.slot == name.slot) && (q.index == name.index)
 
 abbrev pub with_file : FileName → List FileName → List FileName
 with_file name files = if list_any (is_name name) files then files else files ++ name ∷ []
+
+abbrev pub cut_to : FileName → ℕ → PutOff
+cut_to name len = record { name = name; len = len }

@@ -1,7 +1,7 @@
-ghost use Rattle.std.specs.Prelude.{◌≡◌, ◌≤◌, [], Some, None, false, length, option_map, IfOk, OnOk, string_bytes};
+ghost use Rattle.std.specs.Prelude.{◌≡◌, ◌≤◌, ◌⊎◌, ◌||◌, [], Some, None, IsSome, false, length, option_map, IfOk, OnOk, OnErr, string_bytes};
 ghost use Rattle.disk_folder.specs.Faults.{HasCause};
 ghost use Rattle.set_disk.specs.HostNames.{host_path};
-ghost use Rattle.set_disk.specs.Owed.{files_owed, owes_folder, with_file};
+ghost use Rattle.set_disk.specs.Owed.{files_owed, owes_folder, with_file, cut_to};
 ghost use Rattle.set_disk.specs.Untold.{without_content};
 ghost use Rattle.set_disk.specs.declared.owed.Owed.TheVariants.{All};
 
@@ -103,6 +103,7 @@ impl<R: Files<File = File> + AllocGlobal + Clone + Drop> HostFolder<R> {
 
     /// Makes the folder where it is missing, and takes it, at the first sync or change.
     fn take(&mut self) -> Result<(), DiskFault>
+        ensures held { OnOk result (IsSome self.new.held) }
         ensures owed { self.new.owed ≡ self.old.owed }
         ensures place { self.new.path ≡ self.old.path }
         ensures faults { self.new.faults ≡ self.old.faults }
@@ -115,6 +116,9 @@ impl<R: Files<File = File> + AllocGlobal + Clone + Drop> HostFolder<R> {
 
     /// Takes down a cut that the next call makes.
     fn put_off(&mut self, name: FileName, len: u64) -> Result<(), DiskFault>
+        ensures cut { OnOk result (self.new.cut ≡ Some (cut_to name len)) }
+        ensures owes { OnOk result
+            (files_owed self.new.owed ≡ option_map (with_file name) (files_owed self.old.owed)) }
         ensures place { self.new.path ≡ self.old.path }
         ensures faults { self.new.faults ≡ self.old.faults }
     {
@@ -126,6 +130,9 @@ impl<R: Files<File = File> + AllocGlobal + Clone + Drop> HostFolder<R> {
 
     /// Writes, and answers whether the file was made. A cut to where the write begins is made with it.
     fn write(&mut self, name: FileName, at: u64, bytes: &[u8]) -> Result<bool, DiskFault>
+        ensures cut { OnOk result (self.new.cut ≡ None) }
+        ensures owes { OnOk result
+            (files_owed self.new.owed ≡ option_map (with_file name) (files_owed self.old.owed)) }
         ensures place { self.new.path ≡ self.old.path }
         ensures faults { self.new.faults ≡ self.old.faults }
     {
@@ -142,10 +149,11 @@ impl<R: Files<File = File> + AllocGlobal + Clone + Drop> HostFolder<R> {
         write_file(&self.rt, path.as_str(), at, bytes)
     }
 
-    /// Makes durable what is owed. After a failure all is owed.
+    /// Makes durable what is owed. After a failure all is owed, or, where the folder can't be taken, what was.
     fn sync_owed(&mut self) -> Result<(), DiskFault>
         ensures files { OnOk result (files_owed self.new.owed ≡ Some []) }
         ensures folder { OnOk result (owes_folder self.new.owed ≡ false) }
+        ensures failed { OnErr result ((self.new.owed ≡ All) ⊎ (self.new.owed ≡ self.old.owed)) }
         ensures place { self.new.path ≡ self.old.path }
         ensures faults { self.new.faults ≡ self.old.faults }
     {
@@ -163,6 +171,10 @@ impl<R: Files<File = File> + AllocGlobal + Clone + Drop> HostFolder<R> {
     /// Counts the answer of a write, if it is a fault. The next sync owes the folder where a file was made,
     /// and all where the write failed.
     fn count_write(&mut self, answer: Result<bool, DiskFault>) -> Result<(), DiskFault>
+        ensures files { OnOk result (files_owed self.new.owed ≡ files_owed self.old.owed) }
+        ensures folder { IfOk answer (λ is_made.
+            owes_folder self.new.owed ≡ (is_made || owes_folder self.old.owed)) }
+        ensures failed { OnErr result (self.new.owed ≡ All) }
         ensures place { self.new.path ≡ self.old.path }
         ensures cause { HasCause result self.old.faults self.new.faults }
     {
@@ -180,6 +192,7 @@ impl<R: Files<File = File> + AllocGlobal + Clone + Drop> HostFolder<R> {
     /// Counts the answer, if it is a fault.
     fn count<T: Drop>(&mut self, answer: Result<T, DiskFault>) -> Result<T, DiskFault>
         ensures same { result ≡ answer }
+        ensures owed { self.new.owed ≡ self.old.owed }
         ensures place { self.new.path ≡ self.old.path }
         ensures cause { HasCause result self.old.faults self.new.faults }
     {
