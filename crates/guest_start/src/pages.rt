@@ -1,4 +1,4 @@
-ghost use Rattle.std.specs.Prelude.{◌≡◌, ◌+◌, ◌*◌, ◌^◌, ◌≤◌, ◌<◌, length, find, Some, IfOk, OnOk};
+ghost use Rattle.std.specs.Prelude.{◌≡◌, ◌+◌, ◌*◌, ◌^◌, ◌≤◌, ◌<◌, length, find, Some, IfOk, OnOk, OnErr};
 ghost use Rattle.std.specs.Option.{option_copied};
 ghost use Rattle.std.specs.FinMap as map;
 ghost use Rattle.plain_process.specs.Start as start;
@@ -65,6 +65,7 @@ pub fn insert_page(space: &mut Space, number: u32, frame: Frame) -> Result<(), A
     requires place { number < 2 ^ 20 }
     requires room { map.len space.old < 2048 }
     ensures page { OnOk result (space.new ≡ map.insert space.old number frame) }
+    ensures err { OnErr result (space.new ≡ space.old) }
 {
     match space.insert_page(number, frame) {
         Ok(()) => Ok(()),

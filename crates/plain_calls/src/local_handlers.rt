@@ -1,4 +1,4 @@
-ghost use Rattle.std.specs.Prelude.{◌≡◌, ◌==◌, ◌&&◌, ◌||◌, ◌-◌, not, nat_le, slice_set, Some, IfOk, IfSome};
+ghost use Rattle.std.specs.Prelude.{◌≡◌, ◌==◌, ◌&&◌, ◌||◌, ◌-◌, not, nat_le, slice_set, Some, IfOk, IfSome, IfNone};
 ghost use Rattle.std.specs.Option.{option_map};
 ghost use Rattle.std.specs.FinMap as map;
 ghost use Rattle.sys_abi.specs.Signals.{is_signal as is_number};
@@ -63,7 +63,8 @@ pub fn sigaction(
 
 /// Sets the mask of a thread, if it is there.
 fn set_mask(threads: &mut NumberMap<ThreadPart>, t: Tid, mask: u32)
-    ensures { IfSome (map.get threads.old t.0) (λ thread. threads.new ≡ map.insert threads.old t.0 (rows.with_mask thread mask)) }
+    ensures there { IfSome (map.get threads.old t.0) (λ thread. threads.new ≡ map.insert threads.old t.0 (rows.with_mask thread mask)) }
+    ensures none { IfNone (map.get threads.old t.0) (threads.new ≡ threads.old) }
 {
     if let Some(thread) = threads.get_mut(t.0) {
         thread.mask = mask;

@@ -1,4 +1,4 @@
-ghost use Rattle.std.specs.Prelude.{◌≡◌, ◌==◌, Some, IfOk, IfSome};
+ghost use Rattle.std.specs.Prelude.{◌≡◌, ◌==◌, Some, IfOk, IfSome, IfNone};
 ghost use Rattle.std.specs.FinMap as map;
 ghost use Rattle.plain_process.specs.Buffers.{is_wait as waits};
 ghost use Rattle.plain_process.specs.Local.{set_tid_address_row, with_clear_tid};
@@ -19,7 +19,8 @@ use views::number_map::NumberMap;
 
 /// Sets the word that the end of a thread clears, if the thread is there.
 fn set_clear_tid(threads: &mut NumberMap<ThreadPart>, t: Tid, place: u32)
-    ensures { IfSome (map.get threads.old t.0) (λ thread. threads.new ≡ map.insert threads.old t.0 (with_clear_tid thread place)) }
+    ensures there { IfSome (map.get threads.old t.0) (λ thread. threads.new ≡ map.insert threads.old t.0 (with_clear_tid thread place)) }
+    ensures none { IfNone (map.get threads.old t.0) (threads.new ≡ threads.old) }
 {
     if let Some(thread) = threads.get_mut(t.0) {
         thread.clear_tid = place;

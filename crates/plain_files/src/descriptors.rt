@@ -1,4 +1,4 @@
-ghost use Rattle.std.specs.Prelude.{◌≡◌, Some, IfOk, if◌then◌else◌};
+ghost use Rattle.std.specs.Prelude.{◌≡◌, Some, IfOk, IsOk, if◌then◌else◌};
 ghost use Rattle.plain_machine.specs.Answers.{RowTold, KeepsUnlessGives};
 ghost use Rattle.plain_machine.specs.Attempts.{replied};
 ghost use Rattle.plain_machine.specs.HeldTold.{held_of};
@@ -89,6 +89,7 @@ fn is_cloexec_at_most(flags: u32) -> bool
 pub fn close(kernel: &mut PlainKernel, alloc: Global, p: VPid, fd: u32) -> RowResult
     ensures row { IfOk result (RowTold (rows.close_row kernel.old p fd) kernel.new) }
     ensures kept { IfOk result (λ attempt. KeepsUnlessGives attempt kernel.old kernel.new) }
+    ensures memory { IsOk result }
 {
     let Some(_) = kernel.held_at(p, fd) else {
         return Ok(Attempt::fails(EBADF));

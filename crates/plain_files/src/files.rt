@@ -1,4 +1,4 @@
-ghost use Rattle.std.specs.Prelude.{◌≡◌, ◌+◌, ◌^◌, ◌<◌, ◌≤◌, ◌==◌, Some, None, [], length, position, IfSome, IfOk, OnOk, if◌then◌else◌};
+ghost use Rattle.std.specs.Prelude.{◌≡◌, ◌+◌, ◌^◌, ◌<◌, ◌≤◌, ◌==◌, Some, None, [], length, position, IfSome, IfOk, IsOk, OnOk, if◌then◌else◌};
 ghost use Rattle.plain_machine.specs.Answers.{attempt_told, RowTold, KeepsUnlessGives};
 ghost use Rattle.plain_tables.specs.declared.description.Object.TheVariants.{File};
 ghost use Rattle.plain_machine.specs.HeldTold.{held_of};
@@ -48,6 +48,7 @@ pub fn unlinkat(
     ensures row { IfOk result (λ attempt.
         rows.unlinkat_row kernel.old p directory flags given.now ≡ attempt_told kernel.new given.now attempt) }
     ensures kept { IfOk result (λ attempt. KeepsUnlessGives attempt kernel.old kernel.new) }
+    ensures memory { IsOk result }
 {
     if directory != AT_FDCWD {
         return Ok(Attempt::fails(EBADF));

@@ -1,4 +1,4 @@
-ghost use Rattle.std.specs.Prelude.{◌≡◌, IfSome, IfErr};
+ghost use Rattle.std.specs.Prelude.{◌≡◌, IfSome, IfNone, IfErr};
 ghost use Rattle.std.specs.FinMap as map;
 ghost use Rattle.plain_process.specs.Steps as words;
 ghost use Rattle.plain_steps.specs.Results.{effect_told, step_told, steps_told, KeepsUnlessNext, KeepsUnlessStepped, StopsAt};
@@ -80,7 +80,8 @@ pub fn user_step(user: &mut UserPart, t: Tid) -> UserStep
 
 /// Sets the registers of a thread, if it is there.
 pub fn set_regs(threads: &mut NumberMap<ThreadPart>, t: Tid, regs: Regs)
-    ensures { IfSome (map.get threads.old t.0) (λ thread. threads.new ≡ map.insert threads.old t.0 (words.with_regs thread regs)) }
+    ensures there { IfSome (map.get threads.old t.0) (λ thread. threads.new ≡ map.insert threads.old t.0 (words.with_regs thread regs)) }
+    ensures none { IfNone (map.get threads.old t.0) (threads.new ≡ threads.old) }
 {
     if let Some(thread) = threads.get_mut(t.0) {
         thread.regs = regs;

@@ -1,5 +1,5 @@
 //! brk, munmap and mmap (`man 2 brk`, `man 2 mmap`).
-ghost use Rattle.std.specs.Prelude.{◌≡◌, ◌+◌, ◌-◌, ◌≤◌, ◌<◌, ◌^◌, ◌==◌, ◌&&◌, ◌%◌, not, nat_le, nat_lt, IfSome, OnOk, OnErr};
+ghost use Rattle.std.specs.Prelude.{◌≡◌, ◌≢◌, ◌+◌, ◌-◌, ◌≤◌, ◌<◌, ◌^◌, ◌==◌, ◌&&◌, ◌%◌, not, nat_le, nat_lt, Err, IfSome, OnOk, OnErr};
 ghost use Rattle.std.specs.FinMap as map;
 ghost use Rattle.views.specs.Limits as limits;
 ghost use Rattle.plain_process.specs.Pages as words;
@@ -110,9 +110,10 @@ impl ProcessMemory {
     /// munmap: it answers 0.
     #[tactic(auto, unfolding(plain_process::specs::Rows::Mappings::munmap_row, plain_process::specs::Attempts::and_then, plain_process::specs::Attempts::need))]
     pub fn munmap(&mut self, address: u32, length: u32) -> Result<u32, LocalFault>
-        ensures { (user : UserPart) → DoesRow value_told
+        ensures row { (user : UserPart) → DoesRow value_told
             (with_memory_part user self.old) (with_memory_part user self.new)
             (rows.munmap_row (with_memory_part user self.old) address length) result }
+        ensures memory { result ≢ Err LocalFault.Memory }
     {
         if !is_unmapping(address, length) {
             return Err(INVALID);

@@ -6,8 +6,8 @@ use Rattle.plain_process.specs.Rows.Handlers.{with_mask}
 use Rattle.views.proofs.Outcomes.{on_some}
 use Rattle.plain_calls.proofs.local_handlers.set_mask.Goals as goal
 
-pub returns-in-Some : goal.returns-in-Some
-returns-in-Some c =
+pub returns-in-Some-clause-there : goal.returns-in-Some-clause-there
+returns-in-Some-clause-there c =
     let written = on_some c.in-Some.is (c.get_mut.follows.holds (with_mask c.in-Some.thread.now c.args.mask)) in
     subst (λ found. IfSome found (λ (thread : ThreadPart). c.get_mut.follows.lender (with_mask c.in-Some.thread.now c.args.mask) ≡ map.insert c.args.threads.now c.args.t.0 (with_mask thread c.args.mask)))
     c.in-Some.ensures.value written

@@ -63,7 +63,7 @@ pub returns-in-Munmap-clause-call : goal.returns-in-Munmap-clause-call
 unfolding local_by added_thread
 returns-in-Munmap-clause-call c =
     value_call (joined c.args.memory.now c.args.self.now) (joined c.munmap.new.self c.args.self.now) c.args.t.0 c.args.request.now (Munmap c.in-Munmap.address c.in-Munmap.length) c.munmap.result
-    c.value_answer-in-Munmap.result c.in-Munmap.is c.value_answer-in-Munmap.ensures (λ thread given asked. c.munmap.ensures (joined c.args.memory.now c.args.self.now)) (λ value. refl)
+    c.value_answer-in-Munmap.result c.in-Munmap.is c.value_answer-in-Munmap.ensures (λ thread given asked. c.munmap.ensures.row (joined c.args.memory.now c.args.self.now)) (λ value. refl)
 
 pub returns-in-Mmap-clause-call : goal.returns-in-Mmap-clause-call
 unfolding local_by added_thread
