@@ -28,6 +28,15 @@ bytes_are file place (byte ∷ bytes) reason =
     first_some
     (needs (slice_index file place == byte) reason place ∷ bytes_are file (place + 1) bytes reason ∷ [])
 
+-- the file is an executable for this machine, with headers of the size that the format gives them
+abbrev pub kind_rules : List Byte → List (Option ElfFault)
+kind_rules file =
+    needs (e_machine file == 243) Machine 18
+    ∷ needs (e_type file == 2) FileType 16
+    ∷ needs (bit_and (e_flags file) 0x0F == 0) Flags 36
+    ∷ needs (e_phentsize file == 32) Segment 42
+    ∷ []
+
 -- e_ident begins with ELFMAG, 7F and "ELF". EI_CLASS is ELFCLASS32, EI_DATA ELFDATA2LSB and EI_VERSION
 -- EV_CURRENT, all 1. EM_RISCV is 243, ET_EXEC 2. Of e_flags the RISC-V ELF psABI gives bit 0 to RVC, bits 1
 -- and 2 to the floating point ABI and bit 3 to RVE. An Elf32_Phdr has 32 bytes. The format has no limit of 64
@@ -37,11 +46,8 @@ file_header_rules file =
     needs (nat_le 52 (length file)) Short (length file)
     ∷ bytes_are file 0 (0x7F ∷ codes "ELF") Magic
     ∷ bytes_are file 4 (1 ∷ 1 ∷ 1 ∷ []) Class
-    ∷ needs (e_machine file == 243) Machine 18
-    ∷ needs (e_type file == 2) FileType 16
-    ∷ needs (bit_and (e_flags file) 0x0F == 0) Flags 36
-    ∷ needs (e_phentsize file == 32) Segment 42
-    ∷ needs (nat_lt 0 (e_phnum file) && nat_le (e_phnum file) 64) Segment 44
+    ∷ kind_rules file
+    ++ needs (nat_lt 0 (e_phnum file) && nat_le (e_phnum file) 64) Segment 44
     ∷ needs (nat_le (e_phoff file + 32 * e_phnum file) (length file)) Short (length file)
     ∷ []
 

@@ -2,7 +2,7 @@ ghost use Rattle.std.specs.Prelude.{◌≡◌, ◌+◌, ◌*◌, ◌≤◌, leng
 ghost use Rattle.std.specs.Result.{result_err};
 ghost use Rattle.elf32.specs.Faults.{first_some};
 ghost use Rattle.elf32.specs.FileHeader.{header_of};
-ghost use Rattle.elf32.specs.Rules.{bytes_are, file_header_rules};
+ghost use Rattle.elf32.specs.Rules.{bytes_are, file_header_rules, kind_rules};
 
 use crate::fault::{ElfFault, ElfReason, check};
 use crate::fields::{half_at, word_at};
@@ -67,18 +67,7 @@ impl FileHeader {
         check(file.len() >= Self::SIZE, ElfReason::Short, file.len())?;
         check_bytes(file, 0, &MAGIC, ElfReason::Magic)?;
         check_bytes(file, EI_CLASS, &CLASS, ElfReason::Class)?;
-        let machine = half_at(file, E_MACHINE);
-        check(machine == RISC_V, ElfReason::Machine, E_MACHINE)?;
-        let file_type = half_at(file, E_TYPE);
-        check(file_type == EXECUTABLE, ElfReason::FileType, E_TYPE)?;
-        let flags = word_at(file, E_FLAGS);
-        check(flags & UNSUPPORTED_FLAGS == 0, ElfReason::Flags, E_FLAGS)?;
-        let entry_size = half_at(file, E_PHENTSIZE) as usize;
-        check(
-            entry_size == ProgramHeader::SIZE,
-            ElfReason::Segment,
-            E_PHENTSIZE,
-        )?;
+        check_kind(file)?;
         let header = FileHeader {
             entry: word_at(file, E_ENTRY),
             phoff: word_at(file, E_PHOFF),
@@ -90,6 +79,27 @@ impl FileHeader {
         check(table_end <= file.len(), ElfReason::Short, file.len())?;
         Ok(header)
     }
+}
+
+/// Checks that the file is an executable for this machine, with headers of the usual size.
+#[tactic(auto, using(std::proofs::lemmas::Bool::Decides::nat_tests), unfolding(crate::specs::Faults::first_some))]
+fn check_kind(file: &[u8]) -> Result<(), ElfFault>
+    requires { 52 ≤ length file.now }
+    ensures { result_err result ≡ first_some (kind_rules file.now) }
+{
+    let machine = half_at(file, E_MACHINE);
+    check(machine == RISC_V, ElfReason::Machine, E_MACHINE)?;
+    let file_type = half_at(file, E_TYPE);
+    check(file_type == EXECUTABLE, ElfReason::FileType, E_TYPE)?;
+    let flags = word_at(file, E_FLAGS);
+    check(flags & UNSUPPORTED_FLAGS == 0, ElfReason::Flags, E_FLAGS)?;
+    let entry_size = half_at(file, E_PHENTSIZE) as usize;
+    check(
+        entry_size == ProgramHeader::SIZE,
+        ElfReason::Segment,
+        E_PHENTSIZE,
+    )?;
+    Ok(())
 }
 
 /// Checks that the bytes from a place on are these.
