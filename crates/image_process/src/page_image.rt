@@ -2,7 +2,7 @@ ghost use Rattle.std.specs.Prelude.{◌≡◌, ◌==◌, ◌&&◌, ◌+◌, nat_
 ghost use Rattle.std.specs.Prelude.{length, OnOk};
 ghost use Rattle.std.specs.List.{list_all};
 ghost use Rattle.image_format.specs.Fields.{is_bytes};
-ghost use Rattle.image_format.specs.Format.{counted};
+ghost use Rattle.image_format.specs.Format.{counted, n32, raw, unsigned};
 ghost use Rattle.image_process.specs.ProcessImages.{page_format};
 ghost use Rattle.image_process.specs.ProcessFits.{IsPage};
 ghost use Rattle.image_process.specs.ProcessTexts.{page_text, list_text};
@@ -147,6 +147,36 @@ pub(crate) fn has_return_page(pages: &[PageImage]) -> bool
     pages.iter().any(|page| page.number == RETURN_PAGE)
 }
 
+/// The number of a page that follows these.
+#[tactic(auto, unfolding(image_format::specs::Reading::read, image_format::specs::Reading::read_if))]
+fn number_at<'a>(
+    start: u32,
+    end: u32,
+    front: &[PageImage],
+    text: &'a [u8],
+) -> Result<(u32, &'a [u8]), Fault>
+    ensures { Gives (λ x. (x.0, x.1.now)) result
+        (read (unsigned n32 (is_page_number start end front.now)) text.now) }
+{
+    let (number, rest) = u32_at(text)?;
+    if !is_page_number(start, end, front, number) {
+        return Err(Fault::Left(text.len()));
+    }
+    Ok((number, rest))
+}
+
+/// The bytes of the page with this number.
+#[tactic(auto, unfolding(image_format::specs::Reading::read, image_format::specs::Reading::read_if))]
+fn content_at(alloc: Global, number: u32, text: &[u8]) -> Result<(Page, &[u8]), Fault>
+    ensures { Gives (λ x. (x.0, x.1.now)) result (read (raw 4096 (is_page_content number)) text.now) }
+{
+    let (bytes, rest) = bytes_at(text, PAGE_SIZE)?;
+    if !is_page_content(number, bytes) {
+        return Err(Fault::Left(text.len()));
+    }
+    Ok((Page::of_slice(alloc, bytes)?, rest))
+}
+
 #[tactic(auto, unfolding(crate::specs::ProcessImages::page_format, image_format::specs::Reading::read, image_format::specs::Reading::read_next, image_format::specs::Reading::read_if))]
 fn page_at<'a>(
     alloc: Global,
@@ -157,26 +187,14 @@ fn page_at<'a>(
 ) -> Result<(PageImage, &'a [u8]), Fault>
     ensures { Gives (λ x. (x.0, x.1.now)) result (read (page_format start end front.now) text.now) }
 {
-    let (number, rest) = u32_at(text)?;
-    if !is_page_number(start, end, front, number) {
-        return Err(Fault::Left(text.len()));
-    }
+    let (number, rest) = number_at(start, end, front, text)?;
     let (rights, content) = u8_at(rest)?;
     if !is_page_rights(number, rights) {
         return Err(Fault::Left(rest.len()));
     }
-    let (bytes, rest) = bytes_at(content, PAGE_SIZE)?;
-    if !is_page_content(number, bytes) {
-        return Err(Fault::Left(content.len()));
-    }
-    let page = Page::of_slice(alloc, bytes)?;
-    Ok((
-        PageImage {
-            number,
-            frame: Frame { rights, page },
-        },
-        rest,
-    ))
+    let (page, rest) = content_at(alloc, number, content)?;
+    let frame = Frame { rights, page };
+    Ok((PageImage { number, frame }, rest))
 }
 
 #[tactic(auto, unfolding(image_format::specs::Format::counted, image_format::specs::Reading::read, image_format::specs::Reading::read_next, image_format::specs::Reading::read_if), using(image_format::proofs::Loop::goes_on, image_format::proofs::Loop::one_item, image_format::proofs::Loop::is_done))]

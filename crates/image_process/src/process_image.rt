@@ -1,11 +1,12 @@
-ghost use Rattle.std.specs.Prelude.{◌≡◌, ℕ, ◌≤◌, [], filter, slice_get, IfOk};
+ghost use Rattle.std.specs.Prelude.{◌≡◌, ℕ, ◌≤◌, ◌++◌, [], filter, slice_get, IfOk, OnOk};
 ghost use Rattle.std.specs.Option.{option_copied};
 ghost use Rattle.image_format.specs.Files.{IsRead, IsDamagedAt};
+ghost use Rattle.image_format.specs.Format.{n32, unsigned};
 ghost use Rattle.image_process.specs.ProcessImages.{process_at, pid_at, tids_at, tids_of, process_format, is_whole_process, SpellsProcess, DamagedProcess, SpellsFileAt, DamagedFileAt};
 ghost use Rattle.sys_abi.specs.Lives.{lives};
-ghost use Rattle.image_process.specs.ProcessFits.{threads_of, IsPage, HasImage};
-ghost use Rattle.image_process.specs.ProcessTexts.{IsProcessText};
-ghost use Rattle.image_process.specs.ProcessTests.{is_number};
+ghost use Rattle.image_process.specs.ProcessFits.{threads_of, IsPage, HasImage, ImageWords};
+ghost use Rattle.image_process.specs.ProcessTexts.{process_text, IsProcessText};
+ghost use Rattle.image_process.specs.ProcessTests.{is_number, is_break_start, is_break_end};
 ghost use Rattle.image_format.specs.Reading.{Gives, read};
 ghost use Rattle.image_format.specs.Texts.{EachFrom};
 
@@ -91,6 +92,39 @@ fn is_whole_process(p: &ProcImage) -> bool
     has_heap(p.break_start, p.break_end, p.pages.as_slice()) && has_return_page(p.pages.as_slice())
 }
 
+#[tactic(auto, unfolding(image_format::specs::Reading::read, image_format::specs::Reading::read_if))]
+fn number_at(pid: Option<u32>, text: &[u8]) -> Result<(u32, &[u8]), Fault>
+    ensures { Gives (λ x. (x.0, x.1.now)) result (read (unsigned n32 (is_number pid)) text.now) }
+{
+    let (number, rest) = u32_at(text)?;
+    if !is_number(pid, number) {
+        return Err(Fault::Left(text.len()));
+    }
+    Ok((number, rest))
+}
+
+#[tactic(auto, unfolding(image_format::specs::Reading::read, image_format::specs::Reading::read_if))]
+fn break_start_at(text: &[u8]) -> Result<(u32, &[u8]), Fault>
+    ensures { Gives (λ x. (x.0, x.1.now)) result (read (unsigned n32 is_break_start) text.now) }
+{
+    let (start, rest) = u32_at(text)?;
+    if !is_break_start(start) {
+        return Err(Fault::Left(text.len()));
+    }
+    Ok((start, rest))
+}
+
+#[tactic(auto, unfolding(image_format::specs::Reading::read, image_format::specs::Reading::read_if))]
+fn break_end_at(start: u32, text: &[u8]) -> Result<(u32, &[u8]), Fault>
+    ensures { Gives (λ x. (x.0, x.1.now)) result (read (unsigned n32 (is_break_end start)) text.now) }
+{
+    let (end, rest) = u32_at(text)?;
+    if !is_break_end(start, end) {
+        return Err(Fault::Left(text.len()));
+    }
+    Ok((end, rest))
+}
+
 #[tactic(auto, unfolding(crate::specs::ProcessImages::process_format, image_format::specs::Reading::read, image_format::specs::Reading::read_next, image_format::specs::Reading::read_if))]
 fn process_of<'a>(
     alloc: Global,
@@ -100,19 +134,10 @@ fn process_of<'a>(
 ) -> Result<(ProcImage, &'a [u8]), Fault>
     ensures { Gives (λ x. (x.0, x.1.now)) result (read (process_format pid (tids_of threads.now)) text.now) }
 {
-    let at_number = after_magic(text, b"DMTPRC01")?;
-    let (number, at_start) = u32_at(at_number)?;
-    if !is_number(pid, number) {
-        return Err(Fault::Left(at_number.len()));
-    }
-    let (break_start, at_end) = u32_at(at_start)?;
-    if !is_break_start(break_start) {
-        return Err(Fault::Left(at_start.len()));
-    }
-    let (break_end, rest) = u32_at(at_end)?;
-    if !is_break_end(break_start, break_end) {
-        return Err(Fault::Left(at_end.len()));
-    }
+    let rest = after_magic(text, b"DMTPRC01")?;
+    let (number, rest) = number_at(pid, rest)?;
+    let (break_start, rest) = break_start_at(rest)?;
+    let (break_end, rest) = break_end_at(break_start, rest)?;
     let (pages, rest) = pages_at(alloc, break_start, break_end, rest)?;
     let (actions, rest) = actions_at(alloc, rest)?;
     let (waiters, rest) = waiters_at(alloc, threads, rest)?;
@@ -181,19 +206,27 @@ pub fn read_process(
 }
 
 #[tactic(auto, unfolding(crate::specs::ProcessTexts::process_text))]
+fn put_process(bytes: &mut Vec<u8>, p: &ProcImage) -> Result<(), AllocError>
+    requires { HasImage p.now }
+    ensures value { OnOk result (bytes.new.items ≡ bytes.old.items ++ process_text p.now) }
+    ensures words { OnOk result (ImageWords p.now) }
+{
+    put_bytes(bytes, b"DMTPRC01")?;
+    put_u32(bytes, p.pid.0)?;
+    put_u32(bytes, p.break_start)?;
+    put_u32(bytes, p.break_end)?;
+    put_pages(bytes, p.pages.as_slice())?;
+    put_actions(bytes, p.actions.as_slice())?;
+    put_waiters(bytes, p.waiters.as_slice())?;
+    put_threads(bytes, p.threads.as_slice())
+}
+
 fn process_text(alloc: Global, p: &ProcImage) -> Result<Vec<u8>, AllocError>
     requires { HasImage p.now }
     ensures { IfOk result (λ bytes. IsProcessText (Some p.now.pid.0) (threads_of p.now) bytes.items p.now) }
 {
     let mut bytes = Vec::with_capacity(alloc, (p.pages.len() + 1) * (PAGE_SIZE + 5))?;
-    put_bytes(&mut bytes, b"DMTPRC01")?;
-    put_u32(&mut bytes, p.pid.0)?;
-    put_u32(&mut bytes, p.break_start)?;
-    put_u32(&mut bytes, p.break_end)?;
-    put_pages(&mut bytes, p.pages.as_slice())?;
-    put_actions(&mut bytes, p.actions.as_slice())?;
-    put_waiters(&mut bytes, p.waiters.as_slice())?;
-    put_threads(&mut bytes, p.threads.as_slice())?;
+    put_process(&mut bytes, p)?;
     Ok(bytes)
 }
 

@@ -1,6 +1,6 @@
 ghost use Rattle.std.specs.Prelude.{◌≡◌, ◌<◌, ◌^◌, ◌++◌, [], length, All, OnOk};
 ghost use Rattle.std.specs.List.{flat_map};
-ghost use Rattle.image_format.specs.Format.{number_text, counted, each, n32};
+ghost use Rattle.image_format.specs.Format.{number_text, counted, each, n32, unsigned};
 ghost use Rattle.image_process.specs.ProcessImages.{tids_of, word_format, registers_format, context_format, thread_format};
 ghost use Rattle.image_process.specs.ProcessFits.{ContextWords, ThreadWords};
 ghost use Rattle.image_process.specs.ProcessTexts.{registers_text, context_text, thread_text, list_text};
@@ -109,6 +109,23 @@ fn contexts_at(alloc: Global, text: &[u8]) -> Result<(ListOf<Context>, &[u8]), F
     Ok((contexts, rest))
 }
 
+/// The number of the thread at this place.
+#[tactic(auto, unfolding(image_format::specs::Reading::read, image_format::specs::Reading::read_if))]
+fn tid_at<'a>(
+    threads: &[ThreadEntry],
+    place: usize,
+    text: &'a [u8],
+) -> Result<(u32, &'a [u8]), Fault>
+    ensures { Gives (λ x. (x.0, x.1.now)) result
+        (read (unsigned n32 (is_thread_at (tids_of threads.now) place)) text.now) }
+{
+    let (tid, rest) = u32_at(text)?;
+    if !is_thread_at(threads, place, tid) {
+        return Err(Fault::Left(text.len()));
+    }
+    Ok((tid, rest))
+}
+
 #[tactic(auto, unfolding(crate::specs::ProcessImages::thread_format, image_format::specs::Reading::read, image_format::specs::Reading::read_next, image_format::specs::Reading::read_if))]
 fn thread_at<'a>(
     alloc: Global,
@@ -119,10 +136,7 @@ fn thread_at<'a>(
     ensures { Gives (λ x. (x.0, x.1.now)) result
         (read (thread_format (tids_of threads.now) front.now) text.now) }
 {
-    let (tid, rest) = u32_at(text)?;
-    if !is_thread_at(threads, front.len(), tid) {
-        return Err(Fault::Left(text.len()));
-    }
+    let (tid, rest) = tid_at(threads, front.len(), text)?;
     let (x, rest) = registers_at(rest)?;
     let (pc, rest) = word_at(rest)?;
     let (mask, rest) = word_at(rest)?;
@@ -190,17 +204,26 @@ fn put_context(bytes: &mut Vec<u8>, context: &Context) -> Result<(), AllocError>
     put_u32(bytes, context.mask)
 }
 
-#[tactic(auto, unfolding(crate::specs::ProcessTexts::list_text), using(image_format::proofs::Writing::puts_none, image_format::proofs::Writing::puts_more, image_format::proofs::Writing::puts_all))]
+#[tactic(auto, using(image_format::proofs::Writing::puts_none, image_format::proofs::Writing::puts_more, image_format::proofs::Writing::puts_all))]
+fn put_each_context(bytes: &mut Vec<u8>, contexts: &[Context]) -> Result<(), AllocError>
+    ensures value { OnOk result
+        (bytes.new.items ≡ bytes.old.items ++ flat_map context_text contexts.now) }
+    ensures words { OnOk result (All ContextWords contexts.now) }
+{
+    for context in contexts {
+        put_context(bytes, context)?;
+    }
+    Ok(())
+}
+
+#[tactic(auto, unfolding(crate::specs::ProcessTexts::list_text))]
 fn put_contexts(bytes: &mut Vec<u8>, contexts: &[Context]) -> Result<(), AllocError>
     requires { length contexts.now < 2 ^ 32 }
     ensures value { OnOk result (bytes.new.items ≡ bytes.old.items ++ list_text context_text contexts.now) }
     ensures words { OnOk result (All ContextWords contexts.now) }
 {
     put_u32(bytes, contexts.len() as u32)?;
-    for context in contexts {
-        put_context(bytes, context)?;
-    }
-    Ok(())
+    put_each_context(bytes, contexts)
 }
 
 #[tactic(auto, unfolding(crate::specs::ProcessTexts::thread_text))]
@@ -217,7 +240,19 @@ fn put_thread(bytes: &mut Vec<u8>, thread: &ThreadImage) -> Result<(), AllocErro
     put_contexts(bytes, thread.part.contexts.as_slice())
 }
 
-#[tactic(auto, unfolding(crate::specs::ProcessTexts::list_text), using(image_format::proofs::Writing::puts_none, image_format::proofs::Writing::puts_more, image_format::proofs::Writing::puts_all))]
+#[tactic(auto, using(image_format::proofs::Writing::puts_none, image_format::proofs::Writing::puts_more, image_format::proofs::Writing::puts_all))]
+fn put_each_thread(bytes: &mut Vec<u8>, threads: &[ThreadImage]) -> Result<(), AllocError>
+    requires { All (λ thread. length thread.part.contexts < 2 ^ 32) threads.now }
+    ensures value { OnOk result (bytes.new.items ≡ bytes.old.items ++ flat_map thread_text threads.now) }
+    ensures words { OnOk result (All ThreadWords threads.now) }
+{
+    for thread in threads {
+        put_thread(bytes, thread)?;
+    }
+    Ok(())
+}
+
+#[tactic(auto, unfolding(crate::specs::ProcessTexts::list_text))]
 pub(crate) fn put_threads(bytes: &mut Vec<u8>, threads: &[ThreadImage]) -> Result<(), AllocError>
     requires count { length threads.now < 2 ^ 32 }
     requires contexts { All (λ thread. length thread.part.contexts < 2 ^ 32) threads.now }
@@ -225,8 +260,5 @@ pub(crate) fn put_threads(bytes: &mut Vec<u8>, threads: &[ThreadImage]) -> Resul
     ensures words { OnOk result (All ThreadWords threads.now) }
 {
     put_u32(bytes, threads.len() as u32)?;
-    for thread in threads {
-        put_thread(bytes, thread)?;
-    }
-    Ok(())
+    put_each_thread(bytes, threads)
 }

@@ -1,6 +1,6 @@
 // Who waits on a process's words, in its image.
 ghost use Rattle.std.specs.Prelude.{◌≡◌, ◌==◌, ◌<◌, ◌^◌, ◌++◌, length, map as each_of, All, OnOk};
-ghost use Rattle.std.specs.List.{list_any};
+ghost use Rattle.std.specs.List.{flat_map, list_any};
 ghost use Rattle.image_format.specs.Format.{any, counted};
 ghost use Rattle.image_process.specs.ProcessImages.{tids_of, waiter_format};
 ghost use Rattle.image_process.specs.ProcessFits.{WaiterWords};
@@ -79,15 +79,23 @@ fn put_waiter(bytes: &mut Vec<u8>, waiter: &Waiter) -> Result<(), AllocError>
     put_u32(bytes, waiter.address)
 }
 
-#[tactic(auto, unfolding(crate::specs::ProcessTexts::list_text), using(image_format::proofs::Writing::puts_none, image_format::proofs::Writing::puts_more, image_format::proofs::Writing::puts_all))]
+#[tactic(auto, using(image_format::proofs::Writing::puts_none, image_format::proofs::Writing::puts_more, image_format::proofs::Writing::puts_all))]
+fn put_each_waiter(bytes: &mut Vec<u8>, waiters: &[Waiter]) -> Result<(), AllocError>
+    ensures value { OnOk result (bytes.new.items ≡ bytes.old.items ++ flat_map waiter_text waiters.now) }
+    ensures words { OnOk result (All WaiterWords waiters.now) }
+{
+    for waiter in waiters {
+        put_waiter(bytes, waiter)?;
+    }
+    Ok(())
+}
+
+#[tactic(auto, unfolding(crate::specs::ProcessTexts::list_text))]
 pub fn put_waiters(bytes: &mut Vec<u8>, waiters: &[Waiter]) -> Result<(), AllocError>
     requires { length waiters.now < 2 ^ 32 }
     ensures value { OnOk result (bytes.new.items ≡ bytes.old.items ++ list_text waiter_text waiters.now) }
     ensures words { OnOk result (All WaiterWords waiters.now) }
 {
     put_u32(bytes, waiters.len() as u32)?;
-    for waiter in waiters {
-        put_waiter(bytes, waiter)?;
-    }
-    Ok(())
+    put_each_waiter(bytes, waiters)
 }

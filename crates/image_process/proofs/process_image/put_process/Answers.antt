@@ -1,6 +1,6 @@
 use Rattle.std.proofs.Common.{[]}
 use Rattle.image_process.proofs.ProcessFiles.{few_contexts, waiter_count-below}
-use Rattle.image_process.proofs.process_image.process_text.Goals as goal
+use Rattle.image_process.proofs.process_image.put_process.Goals as goal
 
 pub put_waiters-requires : goal.put_waiters-requires
 put_waiters-requires c = rw c.as_slice-3.ensures (waiter_count-below _ _ c.args.p.now c.requires.fields)
