@@ -5,7 +5,7 @@ ghost use Rattle.barrier_core.specs.Stages as stages;
 use crate::stage::{Message, Stage, depth, is_stage, next_message, order, stage_before};
 
 /// How far a member of a request has come.
-#[derive(Clone, Copy, Debug, PartialEq, Eq)]
+#[derive(Clone, Copy)]
 pub struct Member {
     /// The greatest stage that it has reached.
     pub reached: Option<Stage>,

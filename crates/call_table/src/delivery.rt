@@ -21,7 +21,7 @@ pub enum At {
 }
 
 /// What a delivery came to.
-#[derive(Clone, Copy, Debug, PartialEq, Eq)]
+#[derive(Clone, Copy)]
 pub enum Delivered {
     /// The handler begins.
     Entered,

@@ -12,7 +12,7 @@ use sys_abi::{Dir, Record};
 use trace_log::Trace;
 
 /// What the bytes of a direction pass between a cut and its outcome.
-#[derive(Clone, Copy, Debug, PartialEq, Eq)]
+#[derive(Clone, Copy)]
 pub enum Pass {
     /// They are drained.
     Drain,

@@ -7,7 +7,7 @@ use staged_cut::{Computation, first_unsupported as supports};
 use sys_abi::{Fd, Kind, VPid};
 
 /// A descriptor of a process that refers to what no image holds.
-#[derive(Clone, Copy, Debug, PartialEq, Eq)]
+#[derive(Clone, Copy)]
 pub struct Unsupported {
     pub p: VPid,
     pub fd: Fd,

@@ -1,7 +1,7 @@
 use sys_abi::{Fd, Kind, VPid};
 
 /// Why a system was not suspended.
-#[derive(Clone, Copy, Debug, PartialEq, Eq)]
+#[derive(Clone, Copy)]
 pub enum StageFault {
     /// No image holds what this descriptor of the process refers to.
     Unsupported(VPid, Fd, Kind),

@@ -19,7 +19,7 @@ use trace_log::Trace;
 use wrap_calls::Wrapped;
 
 /// Why a turn made no record, or the last one.
-#[derive(Clone, Copy, Debug, PartialEq, Eq)]
+#[derive(Clone, Copy)]
 pub enum Stop {
     /// The console failed.
     Sink,

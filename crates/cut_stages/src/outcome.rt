@@ -1,5 +1,5 @@
 /// How the writing of a checkpoint's images ended.
-#[derive(Clone, Copy, Debug, PartialEq, Eq)]
+#[derive(Clone, Copy)]
 pub enum PutOutcome {
     /// They are written, as the set of this generation.
     Put(u64),

@@ -1,7 +1,7 @@
 use sys_abi::RealAddr;
 
 /// What a directory has of a channel.
-#[derive(Clone, Copy, Debug, PartialEq, Eq)]
+#[derive(Clone, Copy)]
 pub struct Publication {
     /// Where the end that accepts was published last.
     pub at: RealAddr,

@@ -2,7 +2,7 @@ use std::alloc::{AllocError, Global};
 use views::duplicate::Duplicate;
 
 /// The name of a file in a folder: a slot, and an index in that slot.
-#[derive(Clone, Copy, Debug, PartialEq, Eq, PartialOrd, Ord)]
+#[derive(Clone, Copy, PartialEq, Eq, PartialOrd, Ord)]
 pub struct FileName {
     pub slot: u32,
     pub index: u32,

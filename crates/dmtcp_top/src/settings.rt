@@ -6,7 +6,7 @@ use job_words::Job;
 use trace_log::Schedule;
 
 /// What a job sets for its run.
-#[derive(Clone, Copy, Debug, PartialEq, Eq)]
+#[derive(Clone, Copy)]
 pub struct Settings {
     /// After how many records of work each a checkpoint is asked for, if ever.
     pub every: Option<u32>,

@@ -1,5 +1,5 @@
 /// How the loop of a run ended.
-#[derive(Clone, Copy, Debug, PartialEq, Eq)]
+#[derive(Clone, Copy)]
 pub enum LoopEnd {
     /// Nobody lives.
     Done,

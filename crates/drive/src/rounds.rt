@@ -51,7 +51,7 @@ pub enum Chosen {
 }
 
 /// What a record was.
-#[derive(Clone, Copy, Debug, PartialEq, Eq)]
+#[derive(Clone, Copy)]
 pub enum Made {
     /// An arrival.
     Arrival,

@@ -5,7 +5,7 @@ use std::alloc::{AllocError, Global};
 use views::list_of::ListOf;
 
 /// Which calls of an object in memory are to fail, and how many there have been.
-#[derive(Debug, Drop)]
+#[derive(Drop)]
 pub struct FaultScript {
     /// The numbers of the calls that are to fail, counted from 1.
     pub fails: ListOf<u64>,

@@ -63,7 +63,7 @@ impl fmt::Display for ElfReason {
 }
 
 /// The first rule that a file breaks, and the place in the file where it does.
-#[derive(Clone, Copy, Debug, PartialEq, Eq, Error)]
+#[derive(Clone, Copy, Debug, Error)]
 #[error("{reason} at {offset}")]
 pub struct ElfFault {
     pub reason: ElfReason,

@@ -12,7 +12,7 @@ use itoa::Buffer;
 use std::alloc::AllocError;
 
 /// How a call came to its end, with what the last line of its log tells.
-#[derive(Clone, Copy, Debug)]
+#[derive(Clone, Copy)]
 pub enum Ending<'a> {
     Done,
     Usage,

@@ -1,4 +1,4 @@
--- The order of the descriptors of real processes: by their parts in turn, as their derived comparison has it.
+-- The order of the descriptors of real processes: by their parts in turn.
 use Rattle.std.specs.declared.cmp.Ordering.{Ordering}
 use Rattle.std.specs.Ordering.{nat_cmp, ordering_then}
 use Rattle.std.specs.Coded.{Coded}

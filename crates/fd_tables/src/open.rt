@@ -1,7 +1,7 @@
 use crate::description::Desc;
 
 /// An open description, and how many descriptors refer to it.
-#[derive(Clone, Copy, Debug, PartialEq, Eq)]
+#[derive(Clone, Copy)]
 pub struct Open {
     pub desc: Desc,
     pub holders: u64,

@@ -1,7 +1,7 @@
 use sys_abi::RealPid;
 
 /// A descriptor of a process that a node runs.
-#[derive(Clone, Copy, Debug, PartialEq, Eq, PartialOrd, Ord)]
+#[derive(Clone, Copy)]
 pub struct RealSlot {
     pub pid: RealPid,
     pub fd: u32,

@@ -7,7 +7,7 @@ use plain_process::{Insn, Regs};
 use rv_isa::{AccessFault, GuestMemory, Outcome, exec};
 
 /// A store that is not made yet.
-#[derive(Clone, Copy, Debug, PartialEq, Eq)]
+#[derive(Clone, Copy)]
 pub struct Pending {
     pub address: u32,
     pub size: u32,

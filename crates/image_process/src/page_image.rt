@@ -21,7 +21,7 @@ use sys_abi::page::PAGE_SIZE;
 use views::list_of::ListOf;
 
 /// A page of a process, by its number.
-#[derive(Debug, Drop)]
+#[derive(Drop)]
 pub struct PageImage {
     pub number: u32,
     pub frame: Frame,

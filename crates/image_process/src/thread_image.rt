@@ -20,7 +20,7 @@ const THREAD_LIMIT: u32 = 64;
 const CONTEXT_LIMIT: u32 = 64;
 
 /// A thread of a process, by its number.
-#[derive(Debug, Drop)]
+#[derive(Drop)]
 pub struct ThreadImage {
     pub tid: u32,
     pub part: ThreadPart,

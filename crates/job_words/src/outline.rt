@@ -14,7 +14,7 @@ use crate::programs::hosts_in;
 use option_words::{Form, OptionKey, read_options};
 
 /// What a job is, and where it runs: as much of it as words tell without memory.
-#[derive(Clone, Copy, Debug, PartialEq, Eq)]
+#[derive(Clone, Copy)]
 pub enum Outline {
     Launch(LaunchOutline),
     Restart(RestartOutline),
@@ -24,7 +24,7 @@ pub enum Outline {
 }
 
 /// Where a launch runs.
-#[derive(Clone, Copy, Debug, PartialEq, Eq)]
+#[derive(Clone, Copy)]
 pub struct LaunchOutline {
     pub nodes: u32,
     /// The number above the greatest host.
@@ -33,7 +33,7 @@ pub struct LaunchOutline {
 }
 
 /// Where a restart runs.
-#[derive(Clone, Copy, Debug, PartialEq, Eq)]
+#[derive(Clone, Copy)]
 pub struct RestartOutline {
     pub nodes: u32,
     pub workers: u32,
@@ -43,7 +43,7 @@ pub struct RestartOutline {
 }
 
 /// Where a ring runs.
-#[derive(Clone, Copy, Debug, PartialEq, Eq)]
+#[derive(Clone, Copy)]
 pub struct RingOutline {
     pub workers: u32,
 }

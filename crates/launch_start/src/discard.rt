@@ -4,7 +4,7 @@ ghost use Rattle.edge_io.specs.Sink.{SeenSink};
 use edge_io::{Sink, SinkFault};
 
 /// A sink that takes all bytes, keeps none and tells none.
-#[derive(Clone, Copy, Debug, Drop)]
+#[derive(Clone, Copy, Drop)]
 pub struct Discard;
 
 impl Sink for Discard {

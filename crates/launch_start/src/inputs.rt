@@ -10,7 +10,7 @@ use std::alloc::Global;
 pub(crate) const RING: &str = "ring";
 
 /// Inputs that hold the ring's program under its name, and nothing else. They never fail.
-#[derive(Clone, Copy, Debug, Drop)]
+#[derive(Clone, Copy, Drop)]
 pub struct RingInputs;
 
 impl Inputs for RingInputs {

@@ -1,5 +1,5 @@
 /// An end of a channel that a call makes: the descriptor that refers to it, its side, and its status flags.
-#[derive(Clone, Copy, Debug, PartialEq, Eq)]
+#[derive(Clone, Copy)]
 pub struct NewEnd {
     pub fd: u32,
     pub side: u8,

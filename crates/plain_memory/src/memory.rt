@@ -9,7 +9,7 @@ use views::list_of::ListOf;
 use views::number_map::NumberMap;
 
 /// A store to a page that is missing or may not be written.
-#[derive(Clone, Copy, Debug, PartialEq, Eq)]
+#[derive(Clone, Copy)]
 pub struct Denied;
 
 /// Whether rights have the one that an access needs.

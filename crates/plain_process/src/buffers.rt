@@ -7,14 +7,14 @@ use sys_abi::transfer::TRANSFER_LIMIT;
 use sys_abi::{CloneForm, clone_form};
 
 /// So many bytes of a process's memory, from an address on.
-#[derive(Clone, Copy, Debug, PartialEq, Eq)]
+#[derive(Clone, Copy)]
 pub struct Span {
     pub address: u32,
     pub length: u32,
 }
 
 /// What a call reads from its process's memory.
-#[derive(Clone, Copy, Debug, PartialEq, Eq)]
+#[derive(Clone, Copy)]
 pub enum Source {
     Nothing,
     Bytes(Span),
@@ -23,7 +23,7 @@ pub enum Source {
 }
 
 /// What a call's answer may write there: at most two spans, in order.
-#[derive(Clone, Copy, Debug, PartialEq, Eq)]
+#[derive(Clone, Copy)]
 pub struct Spans {
     pub first: Option<Span>,
     pub second: Option<Span>,

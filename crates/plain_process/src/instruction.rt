@@ -53,7 +53,7 @@ pub enum Op {
 
 /// An instruction with its operands. A field that its format does not have is 0; `imm` is the immediate with
 /// its sign.
-#[derive(Clone, Copy, Debug, PartialEq, Eq)]
+#[derive(Clone, Copy, PartialEq, Eq)]
 pub struct Insn {
     pub op: Op,
     pub rd: u8,

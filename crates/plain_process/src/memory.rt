@@ -4,7 +4,7 @@ use views::duplicate::Duplicate;
 
 /// What an access needs of its page: a load reads, a store writes, a fetch executes (ELF's `PF_R`, `PF_W`,
 /// `PF_X`).
-#[derive(Clone, Copy, Debug, PartialEq, Eq)]
+#[derive(Clone, Copy)]
 pub enum Right {
     Read,
     Write,
@@ -12,7 +12,7 @@ pub enum Right {
 }
 
 /// A page of a process's memory: its rights (4 reads, 2 writes, 1 executes) and its 4,096 bytes.
-#[derive(Debug, Drop)]
+#[derive(Drop)]
 pub struct Frame {
     pub rights: u8,
     pub page: Page,

@@ -6,7 +6,7 @@ use views::list_of::ListOf;
 use views::number_map::NumberMap;
 
 /// What a signal handler interrupted: registers, program counter and signal mask.
-#[derive(Clone, Copy, Debug, PartialEq, Eq)]
+#[derive(Clone, Copy)]
 pub struct Context {
     pub regs: Regs,
     pub mask: u32,
@@ -14,7 +14,7 @@ pub struct Context {
 
 /// A thread of a process: its registers, its signal mask, the word that its end clears (0: none), and the
 /// contexts that its handlers interrupted, oldest first.
-#[derive(Debug, Drop)]
+#[derive(Drop)]
 pub struct ThreadPart {
     pub regs: Regs,
     pub mask: u32,
@@ -24,7 +24,7 @@ pub struct ThreadPart {
 
 /// What a process does on a signal: handler (0 default, 1 ignore, else its address), flags, and mask while it
 /// runs.
-#[derive(Clone, Copy, Debug, PartialEq, Eq)]
+#[derive(Clone, Copy)]
 pub struct SignalAction {
     pub handler: u32,
     pub flags: u32,
@@ -32,7 +32,7 @@ pub struct SignalAction {
 }
 
 /// A thread that waits on the word at an address (`man 2 futex`).
-#[derive(Clone, Copy, Debug, PartialEq, Eq)]
+#[derive(Clone, Copy)]
 pub struct Waiter {
     pub tid: u32,
     pub address: u32,

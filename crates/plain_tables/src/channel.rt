@@ -3,7 +3,7 @@ use sys_abi::{ConnId, VirtAddr};
 use views::duplicate::Duplicate;
 use views::list_of::ListOf;
 
-#[derive(Clone, Copy, Debug, PartialEq, Eq)]
+#[derive(Clone, Copy, PartialEq, Eq)]
 pub enum ChannelKind {
     /// A pair of stream ends (`man 2 socketpair`).
     Pair,
@@ -14,7 +14,7 @@ pub enum ChannelKind {
 }
 
 /// One side of a channel: its address, where the channel is an internet connection, and whether it is open.
-#[derive(Clone, Copy, Debug, PartialEq, Eq)]
+#[derive(Clone, Copy)]
 pub struct ChannelEnd {
     pub address: Option<VirtAddr>,
     pub is_open: bool,
@@ -22,7 +22,7 @@ pub struct ChannelEnd {
 
 /// A channel without its bytes: its kind and its sides 0 and 1. Side 0 of an internet connection is the
 /// client's.
-#[derive(Clone, Copy, Debug, PartialEq, Eq)]
+#[derive(Clone, Copy)]
 pub struct Channel {
     pub kind: ChannelKind,
     pub first: ChannelEnd,

@@ -7,7 +7,7 @@ use sys_abi::{ConnId, DescId, Descriptor, VirtAddr};
 use views::duplicate::Duplicate;
 
 /// What an open description stands for.
-#[derive(Clone, Copy, Debug, PartialEq, Eq)]
+#[derive(Clone, Copy)]
 pub enum Object {
     Console,
     /// A file and the place of the next read or write.
@@ -25,7 +25,7 @@ pub enum Object {
 
 /// An open description (`man 2 open`): its object, access mode and status flags, and the owner set by
 /// F_SETOWN (0: nobody).
-#[derive(Clone, Copy, Debug, PartialEq, Eq)]
+#[derive(Clone, Copy)]
 pub struct Description {
     pub object: Object,
     pub flags: u32,

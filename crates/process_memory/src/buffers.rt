@@ -14,7 +14,7 @@ use sys_abi::Transfer;
 use thiserror::Error;
 
 /// Why a call's bytes were not lent.
-#[derive(Clone, Copy, Debug, PartialEq, Eq, Error)]
+#[derive(Clone, Copy, Debug, Error)]
 pub enum LendFault {
     /// A buffer of the call is not readable or writable as it needs (EFAULT).
     #[error("a buffer of the call can't be read or written")]

@@ -2,7 +2,7 @@ use sys_abi::Errno;
 use sys_abi::errors::{EINVAL, ENOSYS};
 
 /// Why a call is not made that its process answers alone.
-#[derive(Clone, Copy, Debug)]
+#[derive(Clone, Copy)]
 pub enum LocalFault {
     /// The call answers an error.
     Refused(Errno),

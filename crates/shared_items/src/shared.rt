@@ -65,14 +65,14 @@ pub struct DescriptionImage {
 }
 
 /// A thread of a process, with the signals that are pending for it.
-#[derive(Clone, Copy, Debug, PartialEq, Eq)]
+#[derive(Clone, Copy)]
 pub struct ThreadEntry {
     pub tid: u32,
     pub pending: u32,
 }
 
 /// A descriptor of a process, with the description to which it refers.
-#[derive(Clone, Copy, Debug, PartialEq, Eq)]
+#[derive(Clone, Copy)]
 pub struct DescriptorEntry {
     pub number: u32,
     pub desc: DescId,

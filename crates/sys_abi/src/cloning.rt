@@ -3,7 +3,7 @@ ghost use Rattle.std.specs.Prelude.{◌≡◌};
 ghost use Rattle.sys_abi.specs.Clones as clones;
 
 /// What a clone makes.
-#[derive(Clone, Copy, Debug, PartialEq, Eq)]
+#[derive(Clone, Copy)]
 pub enum CloneForm {
     /// A process of its own, with a copy of the memory.
     Fork,

@@ -4,7 +4,7 @@ use views::duplicate::Duplicate;
 
 /// A descriptor (`man 2 open`): the open description that it refers to, and its close-on-exec flag
 /// (`man 2 fcntl`).
-#[derive(Clone, Copy, Debug, PartialEq, Eq)]
+#[derive(Clone, Copy)]
 pub struct Descriptor {
     pub desc: DescId,
     pub cloexec: bool,

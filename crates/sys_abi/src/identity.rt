@@ -8,15 +8,15 @@ use views::duplicate::Duplicate;
 pub struct VPid(pub u32);
 
 /// A virtual thread number.
-#[derive(Clone, Copy, Debug, PartialEq, Eq, PartialOrd, Ord)]
+#[derive(Clone, Copy, Debug, PartialEq, Eq)]
 pub struct Tid(pub u32);
 
 /// A descriptor's number, from 0 to 255.
-#[derive(Clone, Copy, Debug, PartialEq, Eq, PartialOrd, Ord)]
+#[derive(Clone, Copy, Debug, PartialEq, Eq)]
 pub struct Fd(pub u32);
 
 /// A signal's number, from 1 to 31 (`man 7 signal`).
-#[derive(Clone, Copy, Debug, PartialEq, Eq, PartialOrd, Ord)]
+#[derive(Clone, Copy, Debug, PartialEq, Eq)]
 pub struct Signal(pub u32);
 
 /// A channel's name: the process that made it, and that process's running number.

@@ -2,7 +2,7 @@ ghost use Rattle.std.specs.Prelude.{◌≡◌};
 ghost use Rattle.sys_abi.specs.Lives.{lives};
 
 /// Whether a process lives, or has ended and its parent has not waited for it (`man 2 wait4`).
-#[derive(Clone, Copy, Debug, PartialEq, Eq)]
+#[derive(Clone, Copy)]
 pub enum Life {
     Live,
     /// With the status that its parent reads.

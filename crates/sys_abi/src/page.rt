@@ -9,7 +9,7 @@ use views::duplicate::Duplicate;
 pub const PAGE_SIZE: usize = 4096;
 
 /// The content of a page: a list of 4,096 bytes.
-#[derive(Debug, Drop)]
+#[derive(Drop)]
 pub struct Page {
     bytes: Box<[u8; PAGE_SIZE]>,
 }

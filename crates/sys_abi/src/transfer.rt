@@ -8,7 +8,7 @@ pub const TRANSFER_LIMIT: usize = 65_536;
 
 /// The bytes that a call reads from its process or gives to it: a list of at most 65,536 bytes, whose room is
 /// taken once.
-#[derive(Debug, Drop)]
+#[derive(Drop)]
 pub struct Transfer {
     bytes: Vec<u8>,
 }

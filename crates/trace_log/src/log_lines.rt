@@ -5,7 +5,7 @@ use std::alloc::{AllocError, Global};
 use sys_abi::{Cause, Kind, Record};
 
 /// How far a log has come in its trace.
-#[derive(Clone, Copy, Debug, PartialEq, Eq)]
+#[derive(Clone, Copy)]
 pub struct Progress {
     /// The number of the request that the next outcome is of, counted from 1.
     pub request: u64,

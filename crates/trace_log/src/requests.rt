@@ -6,7 +6,7 @@ ghost use Rattle.trace_log.specs.RequestSteps.{MarkStays, StandsAlone, Arrives, 
 use sys_abi::Record;
 
 /// When a run asks for checkpoints, and from which generation on it counts its sets.
-#[derive(Clone, Copy, Debug, PartialEq, Eq)]
+#[derive(Clone, Copy)]
 pub struct Schedule {
     /// A request is made each time that so many work records have come, at least 1. None is made without it.
     pub every: Option<u32>,
@@ -15,7 +15,7 @@ pub struct Schedule {
 }
 
 /// What of a trace so far decides when the next request comes, and what its cut is called.
-#[derive(Clone, Copy, Debug, PartialEq, Eq)]
+#[derive(Clone, Copy)]
 pub struct Tally {
     /// The number of work records.
     pub work: u64,

@@ -8,7 +8,7 @@ use std::marker::Model;
 use std::slice;
 
 /// A list whose contracts speak of its elements alone, and not of its buffer.
-#[derive(Debug, Drop)]
+#[derive(Drop)]
 pub struct ListOf<T> {
     elements: Vec<T>,
 }

@@ -1,5 +1,5 @@
 /// Where bytes stand that have not reached their receiver.
-#[derive(Clone, Copy, Debug, PartialEq, Eq)]
+#[derive(Clone, Copy)]
 pub enum Place {
     /// The sender's queue, from which they move to the wire.
     Send,

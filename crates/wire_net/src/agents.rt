@@ -32,7 +32,7 @@ impl Stepped {
 }
 
 /// An end of a channel, and the process that acts for it in a checkpoint, if one does.
-#[derive(Clone, Copy, Debug, PartialEq, Eq)]
+#[derive(Clone, Copy)]
 pub struct AgentEnd {
     pub conn: ConnId,
     pub side: u8,

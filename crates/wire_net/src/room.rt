@@ -7,7 +7,7 @@ use std::mem;
 use views::list_of::ListOf;
 
 /// A list with room that was taken before: as long as it is no longer than its room it grows without memory.
-#[derive(Debug, Drop)]
+#[derive(Drop)]
 pub struct Room<T> {
     items: Vec<T>,
     room: usize,

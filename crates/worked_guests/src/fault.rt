@@ -2,7 +2,7 @@ use set_disk::DiskFault;
 use std::alloc::{AllocError, AllocFailed};
 
 /// Why a line of the cases is not carried out.
-#[derive(Clone, Copy, Debug, PartialEq, Eq)]
+#[derive(Clone, Copy)]
 pub enum CaseFault {
     /// It is none of the language, or asks for what is not there.
     Unclear,
