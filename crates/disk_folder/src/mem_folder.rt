@@ -4,13 +4,13 @@ ghost use Rattle.disk_folder.specs.Files.{contents, with_write, with_cut};
 ghost use Rattle.disk_folder.specs.Crash.{CutOrNot, IsSettled, Same, Takes, Torn};
 ghost use Rattle.disk_folder.specs.Moments.{Passes};
 ghost use Rattle.disk_folder.specs.Faults.{HasCause};
-ghost use Rattle.disk_folder.specs.History.{image_after, is_due};
+ghost use Rattle.disk_folder.specs.History.{image_after, is_due, with_call};
 ghost use Rattle.disk_folder.specs.InMemory.{Answers, in_memory};
 ghost use Rattle.views.specs.Bytes.{read_from};
 
 use crate::call::Call;
 use crate::files::Files;
-use crate::replay::crash_files;
+use crate::replay::{crash_files, redo};
 use crate::request::Request;
 use crate::{DiskFault, FileName, Folder};
 use std::alloc::{AllocError, Global};
@@ -116,23 +116,23 @@ impl MemFolder {
         self.fails.iter().any(|fail| *fail == number)
     }
 
-    /// Makes a call: records it, and does it unless it is to fail.
+    /// Makes a call, which is not done if it is to fail.
     fn make(&mut self, request: Request) -> Result<(), DiskFault>
         ensures { Answers request self.old self.new result }
     {
+        let done = !self.is_due();
+        self.keep(Call { request, done })?;
+        if done { Ok(()) } else { Err(DiskFault::Failed) }
+    }
+
+    /// Takes one more call into the record, and does it unless it failed.
+    fn keep(&mut self, call: Call) -> Result<(), AllocError>
+        ensures ok { OnOk result (self.new ≡ with_call self.old call.request call.done) }
+        ensures err { OnErr result (self.new ≡ self.old) }
+    {
         self.calls.reserve(1)?;
-        if self.is_due() {
-            self.calls.push(Call {
-                request,
-                done: false,
-            })?;
-            return Err(DiskFault::Failed);
-        }
-        self.files.apply(self.alloc, &request)?;
-        self.calls.push(Call {
-            request,
-            done: true,
-        })?;
+        redo(self.alloc, &mut self.files, &call)?;
+        self.calls.push(call)?;
         Ok(())
     }
 }

@@ -1,4 +1,4 @@
-ghost use Rattle.std.specs.Prelude.{◌≡◌, ◌<◌, ◌≤◌, fold, length, IfOk, OnOk};
+ghost use Rattle.std.specs.Prelude.{◌≡◌, ◌<◌, ◌≤◌, fold, length, IfOk, OnOk, OnErr};
 ghost use Rattle.disk_folder.specs.History.{after_call, after_filled, image_after, reads_after, settled_count, with_pending};
 
 use crate::call::Call;
@@ -67,8 +67,10 @@ fn replay(alloc: Global, files: &mut Files, calls: &[Call]) -> Result<(), AllocE
     Ok(())
 }
 
-fn redo(alloc: Global, files: &mut Files, call: &Call) -> Result<(), AllocError>
-    ensures { OnOk result (files.new ≡ after_call files.old call.now) }
+/// Does what a call asks for, unless it failed.
+pub fn redo(alloc: Global, files: &mut Files, call: &Call) -> Result<(), AllocError>
+    ensures ok { OnOk result (files.new ≡ after_call files.old call.now) }
+    ensures err { OnErr result (files.new ≡ files.old) }
 {
     if call.done {
         files.apply(alloc, &call.request)
