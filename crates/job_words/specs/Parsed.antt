@@ -17,13 +17,18 @@ plain_app name = on_top (λ top. record top { no_binary_name = true; disable_hel
 abbrev pub with_option : App → Text → List Text → App
 with_option app name defaults = with_rule app (option_rule name defaults)
 
-abbrev pub restart_app : App
-restart_app =
-    with_option (with_option (with_option (with_option (with_option (with_option (with_option (plain_app (codes "restart"))
+-- the options of a restart that tell how it runs
+abbrev pub with_run : App → App
+with_run app =
+    with_option (with_option (with_option (with_option app
     (codes "nodes") (codes "16" ∷ []))
     (codes "workers") (codes "0" ∷ []))
     (codes "every") [])
-    (codes "records") (codes "1000000" ∷ []))
+    (codes "records") (codes "1000000" ∷ [])
+
+abbrev pub restart_app : App
+restart_app =
+    with_option (with_option (with_option (with_run (plain_app (codes "restart")))
     (codes "shift") (codes "0" ∷ []))
     (codes "pid-base") (codes "2000" ∷ []))
     (codes "port-base") (codes "30000" ∷ [])

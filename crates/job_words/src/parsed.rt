@@ -1,14 +1,14 @@
 ghost use Rattle.std.specs.Prelude.{◌≡◌, ◌<◌, ◌^◌, ℕ, true, false, List, [], ◌∷◌, map, Some, None, IfOk, IfErr, string_bytes};
 ghost use Rattle.std.specs.Fmt.{decimal};
 ghost use Rattle.clap.specs.Matches.{found_of};
-ghost use Rattle.clap.specs.Simple.{app_of, matches_of, with_rule};
+ghost use Rattle.clap.specs.Simple.{app_of, matches_of};
 ghost use Rattle.clap.specs.Takes.{takes};
-ghost use Rattle.clap.specs.Walk.{first_of, rows_of, rule_of};
+ghost use Rattle.clap.specs.Walk.{first_of, rows_of};
 ghost use Rattle.job_words.specs.declared.word_fault.WordFault.TheVariants.{Memory};
 ghost use Rattle.option_words.specs.declared.option_key.Form.TheVariants as form;
 ghost use Rattle.option_words.specs.Options.{Setting, AreSettings, words_of_all};
 ghost use Rattle.job_words.specs.Jobs.{IsRestartOf, IsRingOf};
-ghost use Rattle.job_words.specs.Parsed.{option_rule, plain_app, restart_app, ring_app, AreOptions, IsNumber};
+ghost use Rattle.job_words.specs.Parsed.{plain_app, restart_app, ring_app, with_option, with_run, AreOptions, IsNumber};
 ghost use Rattle.option_words.specs.Reading.{texts_of};
 
 use crate::job::{RestartJob, RingJob};
@@ -55,22 +55,27 @@ pub(crate) fn ring_of(alloc: Global, processes: u32, words: &[String]) -> Result
 fn restart_command<'a>(alloc: Global) -> Result<Command<'a>, AllocError>
     ensures { IfOk result (λ command. app_of command ≡ restart_app) }
 {
-    let command = plain(alloc, "restart");
-    let command = with(command, option_or(alloc, "nodes", "16"))?;
-    let command = with(command, option_or(alloc, "workers", "0"))?;
-    let command = with(command, option(alloc, "every"))?;
-    let command = with(command, option_or(alloc, "records", "1000000"))?;
-    let command = with(command, option_or(alloc, "shift", "0"))?;
-    let command = with(command, option_or(alloc, "pid-base", "2000"))?;
-    with(command, option_or(alloc, "port-base", "30000"))
+    let command = with_run(alloc, plain(alloc, "restart"))?;
+    let command = with_default(alloc, command, "shift", "0")?;
+    let command = with_default(alloc, command, "pid-base", "2000")?;
+    with_default(alloc, command, "port-base", "30000")
+}
+
+/// The options of a restart that tell how it runs.
+fn with_run<'a>(alloc: Global, command: Command<'a>) -> Result<Command<'a>, AllocError>
+    ensures { IfOk result (λ longer. app_of longer ≡ with_run (app_of command.entry)) }
+{
+    let command = with_default(alloc, command, "nodes", "16")?;
+    let command = with_default(alloc, command, "workers", "0")?;
+    let command = with_option(alloc, command, "every")?;
+    with_default(alloc, command, "records", "1000000")
 }
 
 fn ring_command<'a>(alloc: Global) -> Result<Command<'a>, AllocError>
     ensures { IfOk result (λ command. app_of command ≡ ring_app) }
 {
-    let command = plain(alloc, "ring");
-    let command = with(command, option_or(alloc, "workers", "0"))?;
-    with(command, option_or(alloc, "every", "1000"))
+    let command = with_default(alloc, plain(alloc, "ring"), "workers", "0")?;
+    with_default(alloc, command, "every", "1000")
 }
 
 /// A command whose first word is an argument, without a flag for help.
@@ -82,26 +87,27 @@ fn plain<'a>(alloc: Global, name: &'a str) -> Command<'a>
         .disable_help_flag(true)
 }
 
-fn with<'a>(command: Command<'a>, arg: Arg<'a>) -> Result<Command<'a>, AllocError>
-    requires { arg.global ≡ false }
-    ensures { IfOk result (λ longer. app_of longer ≡ with_rule (app_of command.entry) (rule_of arg.entry)) }
+/// One more option, without a default.
+fn with_option<'a>(
+    alloc: Global,
+    command: Command<'a>,
+    name: &'a str,
+) -> Result<Command<'a>, AllocError>
+    ensures { IfOk result (λ longer. app_of longer ≡ with_option (app_of command.entry) name.entry.now []) }
 {
-    command.arg(arg)
+    command.arg(Arg::new(alloc, name).long(name))
 }
 
-/// An option without a default.
-fn option<'a>(alloc: Global, name: &'a str) -> Arg<'a>
-    ensures rule { rule_of result ≡ option_rule name.entry.now [] }
-    ensures local { result.global ≡ false }
+/// One more option, with what it is where it isn't given.
+fn with_default<'a>(
+    alloc: Global,
+    command: Command<'a>,
+    name: &'a str,
+    default: &'a str,
+) -> Result<Command<'a>, AllocError>
+    ensures { IfOk result (λ longer. app_of longer ≡ with_option (app_of command.entry) name.entry.now (default.entry.now ∷ [])) }
 {
-    Arg::new(alloc, name).long(name)
-}
-
-fn option_or<'a>(alloc: Global, name: &'a str, default: &'a str) -> Arg<'a>
-    ensures rule { rule_of result ≡ option_rule name.entry.now (default.entry.now ∷ []) }
-    ensures local { result.global ≡ false }
-{
-    option(alloc, name).default_value(default)
+    command.arg(Arg::new(alloc, name).long(name).default_value(default))
 }
 
 /// What the parse finds. For words that the command takes it fails for want of memory alone.

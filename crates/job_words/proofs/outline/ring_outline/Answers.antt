@@ -3,7 +3,7 @@ use Rattle.std.specs.Prelude.{string_bytes, unwrap_or}
 use Rattle.std.specs.Fmt.{decimal}
 use Rattle.option_words.specs.declared.option_key.Form.TheVariants.{Ring}
 use Rattle.option_words.specs.declared.option_key.OptionKey.TheVariants.{Workers}
-use Rattle.option_words.specs.Options.{Text, given_or, words_of_all}
+use Rattle.option_words.specs.Options.{Text, words_of_all}
 use Rattle.option_words.specs.Reading.{texts_of}
 use Rattle.job_words.specs.declared.outline.RingOutline.{RingOutline}
 use Rattle.job_words.proofs.Outlines.{kept_is, same_settings}

@@ -1,14 +1,13 @@
-use Rattle.std.proofs.Common.{◌∙◌, ap₂}
+use Rattle.std.proofs.Common.{◌∙◌, ap}
+use Rattle.std.specs.Prelude.{[], ◌∷◌, codes}
 use Rattle.std.proofs.lemmas.Result.{IfOk-weaker}
-use Rattle.clap.specs.Simple.{with_rule}
+use Rattle.clap.specs.Simple.{App}
+use Rattle.job_words.specs.Parsed.{with_option, with_run}
 use Rattle.job_words.proofs.parsed.restart_command.Goals as goal
 
 pub returns : goal.returns
 returns c =
-    let one = c.in_ok-command.ensures ∙ ap₂ with_rule c.plain-command.ensures c.option_or.ensures.rule in
-    let two = c.in_ok-command-2.ensures ∙ ap₂ with_rule one c.option_or-2.ensures.rule in
-    let three = c.in_ok-command-3.ensures ∙ ap₂ with_rule two c.option.ensures.rule in
-    let four = c.in_ok-command-4.ensures ∙ ap₂ with_rule three c.option_or-3.ensures.rule in
-    let five = c.in_ok-command-5.ensures ∙ ap₂ with_rule four c.option_or-4.ensures.rule in
-    let six = c.in_ok-command-6.ensures ∙ ap₂ with_rule five c.option_or-5.ensures.rule in
-    IfOk-weaker c.with-7.result _ _ (λ longer is. is ∙ ap₂ with_rule six c.option_or-6.ensures.rule) c.with-7.ensures
+    let one = c.in_ok-command.ensures ∙ ap with_run c.plain.ensures in
+    let two = c.in_ok-command-2.ensures ∙ ap (λ (app : App). with_option app (codes "shift") (codes "0" ∷ [])) one in
+    let three = c.in_ok-command-3.ensures ∙ ap (λ (app : App). with_option app (codes "pid-base") (codes "2000" ∷ [])) two in
+    IfOk-weaker c.with_default-3.result _ _ (λ longer is. is ∙ ap (λ (app : App). with_option app (codes "port-base") (codes "30000" ∷ [])) three) c.with_default-3.ensures

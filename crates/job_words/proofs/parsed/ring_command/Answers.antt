@@ -1,9 +1,11 @@
-use Rattle.std.proofs.Common.{◌∙◌, ap₂}
+use Rattle.std.proofs.Common.{◌∙◌, ap}
+use Rattle.std.specs.Prelude.{[], ◌∷◌, codes}
 use Rattle.std.proofs.lemmas.Result.{IfOk-weaker}
-use Rattle.clap.specs.Simple.{with_rule}
+use Rattle.clap.specs.Simple.{App}
+use Rattle.job_words.specs.Parsed.{with_option}
 use Rattle.job_words.proofs.parsed.ring_command.Goals as goal
 
 pub returns : goal.returns
 returns c =
-    let one = c.in_ok-command.ensures ∙ ap₂ with_rule c.plain-command.ensures c.option_or.ensures.rule in
-    IfOk-weaker c.with-2.result _ _ (λ longer is. is ∙ ap₂ with_rule one c.option_or-2.ensures.rule) c.with-2.ensures
+    let one = c.in_ok-command.ensures ∙ ap (λ (app : App). with_option app (codes "workers") (codes "0" ∷ [])) c.plain.ensures in
+    IfOk-weaker c.with_default-2.result _ _ (λ longer is. is ∙ ap (λ (app : App). with_option app (codes "every") (codes "1000" ∷ [])) one) c.with_default-2.ensures
