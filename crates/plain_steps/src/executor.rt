@@ -4,15 +4,12 @@ ghost use Rattle.plain_process.specs.Registers as registers;
 ghost use Rattle.plain_process.specs.Instructions as words;
 ghost use Rattle.plain_steps.specs.Results.{effect_told, KeepsUnlessNext};
 
-use crate::arithmetic::{
-    high_of_mixed, high_of_product, high_of_signed, is_below, one_if, quotient, quotient_of_signed,
-    remainder, remainder_of_signed, shift_down, shift_left, shift_right,
-};
+use crate::computing::{Computed, compute, size};
 use crate::decoder::sign_extended;
 use crate::effect::Effect;
 use plain_memory::memory::{Denied, load, store};
-use plain_memory::registers::{next_pc, reg, set_reg};
-use plain_process::instruction::{Insn, Op};
+use plain_memory::registers::{next_pc, set_reg};
+use plain_process::instruction::Insn;
 use plain_process::memory::Frame;
 use plain_process::regs::Regs;
 use sys_abi::Signal;
@@ -28,67 +25,27 @@ pub const MISALIGNED: Signal = Signal(7);
 pub const FAULT: Signal = Signal(11);
 
 /// Does one instruction. A call and a trap leave registers and memory as they were.
-#[tactic(auto, unfolding(plain_process::specs::Instructions::effect, plain_process::specs::Instructions::effect_by))]
 pub fn effect(insn: Insn, regs: &mut Regs, memory: &mut NumberMap<Frame>) -> Effect
     ensures effect { words.effect insn regs.old memory.old ≡ effect_told result regs.new memory.new }
     ensures regs { KeepsUnlessNext result regs.old regs.new }
     ensures memory { KeepsUnlessNext result memory.old memory.new }
 {
     let rd = insn.rd;
-    let a = reg(regs, insn.rs1);
-    let b = reg(regs, insn.rs2);
-    let i = insn.imm.cast_unsigned();
-    let target = regs.pc.wrapping_add(i);
-    let address = a.wrapping_add(i);
-    match insn.op {
-        Op::Lui => writes(regs, rd, i),
-        Op::Auipc => writes(regs, rd, target),
-        Op::Jal => jumps(regs, rd, target),
-        Op::Jalr => jumps(regs, rd, 2 * (address / 2)),
-        Op::Beq => branches(regs, a == b, target),
-        Op::Bne => branches(regs, a != b, target),
-        Op::Blt => branches(regs, is_below(a, b), target),
-        Op::Bge => branches(regs, !is_below(a, b), target),
-        Op::Bltu => branches(regs, a < b, target),
-        Op::Bgeu => branches(regs, !(a < b), target),
-        Op::Lb => loads_signed(regs, memory, rd, address, 1),
-        Op::Lh => loads_signed(regs, memory, rd, address, 2),
-        Op::Lw => loads(regs, memory, rd, address, 4),
-        Op::Lbu => loads(regs, memory, rd, address, 1),
-        Op::Lhu => loads(regs, memory, rd, address, 2),
-        Op::Sb => stores(regs, memory, address, 1, b),
-        Op::Sh => stores(regs, memory, address, 2, b),
-        Op::Sw => stores(regs, memory, address, 4, b),
-        Op::Addi => writes(regs, rd, address),
-        Op::Slti => writes(regs, rd, one_if(is_below(a, i))),
-        Op::Sltiu => writes(regs, rd, one_if(a < i)),
-        Op::Xori => writes(regs, rd, a ^ i),
-        Op::Ori => writes(regs, rd, a | i),
-        Op::Andi => writes(regs, rd, a & i),
-        Op::Slli => writes(regs, rd, shift_left(a, i)),
-        Op::Srli => writes(regs, rd, shift_right(a, i)),
-        Op::Srai => writes(regs, rd, shift_down(a, i)),
-        Op::Add => writes(regs, rd, a.wrapping_add(b)),
-        Op::Sub => writes(regs, rd, a.wrapping_sub(b)),
-        Op::Sll => writes(regs, rd, shift_left(a, b % 32)),
-        Op::Slt => writes(regs, rd, one_if(is_below(a, b))),
-        Op::Sltu => writes(regs, rd, one_if(a < b)),
-        Op::Xor => writes(regs, rd, a ^ b),
-        Op::Srl => writes(regs, rd, shift_right(a, b % 32)),
-        Op::Sra => writes(regs, rd, shift_down(a, b % 32)),
-        Op::Or => writes(regs, rd, a | b),
-        Op::And => writes(regs, rd, a & b),
-        Op::Mul => writes(regs, rd, a.wrapping_mul(b)),
-        Op::Mulh => writes(regs, rd, high_of_signed(a, b)),
-        Op::Mulhsu => writes(regs, rd, high_of_mixed(a, b)),
-        Op::Mulhu => writes(regs, rd, high_of_product(a, b)),
-        Op::Div => writes(regs, rd, quotient_of_signed(a, b)),
-        Op::Divu => writes(regs, rd, quotient(a, b)),
-        Op::Rem => writes(regs, rd, remainder_of_signed(a, b)),
-        Op::Remu => writes(regs, rd, remainder(a, b)),
-        Op::Fence => passes(regs),
-        Op::Ecall => Effect::Calls,
-        Op::Ebreak => Effect::Traps(BREAKPOINT),
+    match compute(insn, regs) {
+        Computed::Value(value) => writes(regs, rd, value),
+        Computed::Jump(target) => jumps(regs, rd, target),
+        Computed::Branch { is_taken, target } => branches(regs, is_taken, target),
+        Computed::SignedByte(address) => loads_signed(regs, memory, rd, address, 1),
+        Computed::SignedHalf(address) => loads_signed(regs, memory, rd, address, 2),
+        Computed::Load { address, width } => loads(regs, memory, rd, address, size(width)),
+        Computed::Store {
+            address,
+            width,
+            value,
+        } => stores(regs, memory, address, size(width), value),
+        Computed::Nothing => passes(regs),
+        Computed::Call => Effect::Calls,
+        Computed::Break => Effect::Traps(BREAKPOINT),
     }
 }
 

@@ -9,6 +9,7 @@
 #![tactic(auto)]
 
 pub mod arithmetic;
+pub mod computing;
 pub mod decoder;
 pub mod effect;
 pub mod executor;
