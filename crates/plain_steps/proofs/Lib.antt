@@ -1,1 +1,2 @@
+pub mod FieldBounds
 pub mod StepsInRow

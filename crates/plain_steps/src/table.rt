@@ -58,12 +58,18 @@ const ROWS: [Op; 48] = [
 ];
 
 /// The row of an instruction.
-#[tactic(auto, unfolding(plain_process::specs::Instructions::encoding))]
 pub fn encoding(op: Op) -> Encoding
     ensures row { encoding_told result ≡ words.encoding op }
     ensures opcode { result.opcode < 2 ^ 24 }
     ensures funct3 { result.funct3 < 8 }
     ensures funct7 { result.funct7 < 2 ^ 7 }
+{
+    fixed_fields(op)
+}
+
+#[tactic(auto, unfolding(plain_process::specs::Instructions::encoding))]
+fn fixed_fields(op: Op) -> Encoding
+    ensures { encoding_told result ≡ words.encoding op }
 {
     match op {
         Op::Lui => row(Format::U, 0x37, 0, 0),
