@@ -2,6 +2,7 @@ ghost use Rattle.std.specs.Prelude.{◌≡◌, ◌≤◌, ℕ, List, None, is_so
 ghost use Rattle.sys_abi.specs.declared.transfer.TheConstants.{TRANSFER_LIMIT};
 ghost use Rattle.plain_machine.specs.Serve as words;
 ghost use Rattle.plain_machine.specs.Answers.{answer_told, attempt_told, KeepsUnlessGives};
+ghost use Rattle.plain_rows.specs.Groups.{IsNoFileCall, IsNoProcessCall};
 
 use crate::numbers::{getpid, getppid};
 use crate::send::{kill, tgkill};
@@ -112,12 +113,61 @@ fn row(
         Request::Lseek { fd, offset, whence } => lseek(kernel, alloc, p, fd, offset, whence),
         Request::Read { fd, count, .. } => read(kernel, alloc, p, fd, count),
         Request::Write { fd, count, .. } => write(kernel, alloc, p, t, fd, count, given),
+        _ => process_row(kernel, alloc, p, t, request, given),
+    }
+}
+
+/// The row of a call on processes, or of one on sockets.
+#[tactic(auto, unfolding(plain_machine::specs::Serve::row))]
+fn process_row(
+    kernel: &mut PlainKernel,
+    alloc: Global,
+    p: VPid,
+    t: Tid,
+    request: &Request,
+    given: &[u8],
+) -> RowResult
+    requires short { length given.now ≤ TRANSFER_LIMIT }
+    requires no_file { IsNoFileCall request.now }
+    ensures row { IfOk result (λ attempt.
+        words.row kernel.old p t.0 request.now given.now ≡ attempt_told kernel.new given.now attempt) }
+    ensures kept { IfOk result (λ attempt. KeepsUnlessGives attempt kernel.old kernel.new) }
+{
+    match *request {
         Request::Exit { code } => Ok(exit(kernel, alloc, p, t, code)),
         Request::ExitGroup { code } => Ok(exit_group(kernel, alloc, p, code)),
         Request::Kill { pid, signal } => Ok(kill(kernel, alloc, p, pid, signal)),
         Request::Tgkill { pid, tid, signal } => Ok(tgkill(kernel, alloc, p, pid, tid, signal)),
         Request::Getpid => Ok(getpid(kernel, alloc, p)),
         Request::Getppid => Ok(getppid(kernel, alloc, p)),
+        Request::Clone { flags, .. } => clone(kernel, alloc, p, flags),
+        Request::Wait4 {
+            pid,
+            options,
+            usage,
+            ..
+        } => wait4(kernel, alloc, p, pid, options, usage),
+        _ => socket_row(kernel, alloc, p, request, given),
+    }
+}
+
+/// The row of a call on sockets. A call that has no row is refused.
+#[tactic(auto, unfolding(plain_machine::specs::Serve::row))]
+fn socket_row(
+    kernel: &mut PlainKernel,
+    alloc: Global,
+    p: VPid,
+    request: &Request,
+    given: &[u8],
+) -> RowResult
+    requires short { length given.now ≤ TRANSFER_LIMIT }
+    requires no_file { IsNoFileCall request.now }
+    requires no_process { IsNoProcessCall request.now }
+    ensures row { (t : ℕ) → IfOk result (λ attempt.
+        words.row kernel.old p t request.now given.now ≡ attempt_told kernel.new given.now attempt) }
+    ensures kept { IfOk result (λ attempt. KeepsUnlessGives attempt kernel.old kernel.new) }
+{
+    match *request {
         Request::Socket {
             domain,
             socket_type,
@@ -137,13 +187,6 @@ fn row(
         Request::Getpeername { fd, .. } => getpeername(kernel, alloc, p, fd, given),
         Request::Setsockopt { fd, .. } => setsockopt(kernel, alloc, p, fd),
         Request::Shutdown { fd, how } => shutdown(kernel, alloc, p, fd, how),
-        Request::Clone { flags, .. } => clone(kernel, alloc, p, flags),
-        Request::Wait4 {
-            pid,
-            options,
-            usage,
-            ..
-        } => wait4(kernel, alloc, p, pid, options, usage),
         _ => Ok(Attempt::fails(ENOSYS)),
     }
 }
