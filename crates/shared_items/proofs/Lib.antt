@@ -3,7 +3,7 @@ pub mod DescriptionNames
 pub mod Keys
 mod MadeNumbers
 mod Names
-mod OneMore
+pub mod OneMore
 pub mod Searched
 pub mod FieldLaws
 pub mod ItemLaws
