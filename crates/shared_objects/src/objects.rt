@@ -1,7 +1,7 @@
 //! What follows in an open description of each kind.
 
-ghost use Rattle.std.specs.Prelude.{◌≡◌};
-ghost use Rattle.image_format.specs.Format.{counted};
+ghost use Rattle.std.specs.Prelude.{◌≡◌, OnOk};
+ghost use Rattle.image_format.specs.Format.{counted, each};
 ghost use Rattle.image_format.specs.Reading.{Gives, read};
 ghost use Rattle.shared_items.specs.SharedFormat as format;
 ghost use Rattle.shared_items.specs.SharedTests as field;
@@ -114,7 +114,30 @@ fn connection_at<'a>(
     Ok((conn, rest))
 }
 
-#[tactic(auto, unfolding(image_format::specs::Format::counted, image_format::specs::Reading::read, image_format::specs::Reading::read_next, image_format::specs::Reading::read_if), using(image_format::proofs::Loop::goes_on, image_format::proofs::Loop::one_item, image_format::proofs::Loop::is_done))]
+/// Reads one more connection that waits behind the earlier ones.
+#[tactic(auto, unfolding(image_format::specs::Format::each, image_format::specs::Reading::read, image_format::specs::Reading::read_next))]
+fn add_connection<'a>(
+    channels: &[ChannelImage],
+    front: &[DescriptionImage],
+    sides: &ByDir<()>,
+    pending: &mut ListOf<ConnId>,
+    queued: &mut ByConn<()>,
+    text: &'a [u8],
+) -> Result<&'a [u8], Fault>
+    requires channels { ChannelsRise channels.now }
+    requires sides { KnowsSides sides.now front.now }
+    requires queue { KnowsQueue queued.old pending.old }
+    ensures read { Gives (λ rest. (pending.new, rest.now)) result
+        (read (each (format.connection channels.now front.now) 1 pending.old) text.now) }
+    ensures queue { OnOk result (KnowsQueue queued.new pending.new) }
+{
+    let (conn, rest) = connection_at(channels, front, sides, pending.as_slice(), queued, text)?;
+    queued.insert(conn, ())?;
+    pending.push(conn)?;
+    Ok(rest)
+}
+
+#[tactic(auto, unfolding(image_format::specs::Format::counted, image_format::specs::Reading::read, image_format::specs::Reading::read_next, image_format::specs::Reading::read_if), using(shared_items::proofs::OneMore::one_more, image_format::proofs::Loop::is_done))]
 fn queue_at<'a>(
     alloc: Global,
     channels: &[ChannelImage],
@@ -137,11 +160,7 @@ fn queue_at<'a>(
     let mut pending = ListOf::new(alloc);
     let mut rest = items;
     for _item in 0..count {
-        let earlier = pending.as_slice();
-        let (conn, more) = connection_at(channels, front, sides, earlier, &queued, rest)?;
-        queued.insert(conn, ())?;
-        pending.push(conn)?;
-        rest = more;
+        rest = add_connection(channels, front, sides, &mut pending, &mut queued, rest)?;
     }
     Ok((pending, rest))
 }
