@@ -99,12 +99,9 @@ thread_format tids front = do
     };
   })
 
-unfoldable pub process_format : Option ℕ → List ThreadNumber → FormatOf ProcImage
-process_format pid tids = do
-  magic ← raw 8 (is_bytes PROCESS_MAGIC)
-  number ← unsigned n32 (is_number pid)
-  start ← unsigned n32 is_break_start
-  end ← unsigned n32 (is_break_end start)
+-- the lists of the process of this number with this break, as its whole image
+abbrev pub lists_format : List ThreadNumber → ℕ → Address → Address → FormatOf ProcImage
+lists_format tids number start end = do
   pages ← counted is_page_count (page_format start end)
   actions ← each (λ _. action_format) 31 []
   waiters ← counted any (waiter_format tids)
@@ -118,6 +115,14 @@ process_format pid tids = do
     waiters = waiters;
     threads = threads;
   })
+
+unfoldable pub process_format : Option ℕ → List ThreadNumber → FormatOf ProcImage
+process_format pid tids = do
+  magic ← raw 8 (is_bytes PROCESS_MAGIC)
+  number ← unsigned n32 (is_number pid)
+  start ← unsigned n32 is_break_start
+  end ← unsigned n32 (is_break_end start)
+  lists_format tids number start end
 
 -- at the end of the file: no page lacks
 unfoldable pub is_whole_process : ProcImage → Bool

@@ -13,7 +13,7 @@ use plain_process::SignalAction;
 use std::alloc::{AllocError, Global};
 use views::list_of::ListOf;
 
-const SIGNAL_COUNT: u32 = 31;
+pub const SIGNAL_COUNT: u32 = 31;
 
 #[tactic(auto, unfolding(crate::specs::ProcessImages::action_format, image_format::specs::Reading::read, image_format::specs::Reading::read_next))]
 fn action_at(text: &[u8]) -> Result<(SignalAction, &[u8]), Fault>
@@ -32,7 +32,7 @@ fn action_at(text: &[u8]) -> Result<(SignalAction, &[u8]), Fault>
 
 /// The next so many rows.
 #[tactic(auto, unfolding(image_format::specs::Reading::read_next), using(image_format::proofs::Loop::goes_on, image_format::proofs::Loop::one_item, image_format::proofs::Loop::is_done))]
-fn so_many_actions_at(
+pub fn actions_at(
     alloc: Global,
     count: u32,
     text: &[u8],
@@ -47,13 +47,6 @@ fn so_many_actions_at(
         rest = more;
     }
     Ok((actions, rest))
-}
-
-/// The rows of the signals 1 to 31.
-pub fn actions_at(alloc: Global, text: &[u8]) -> Result<(ListOf<SignalAction>, &[u8]), Fault>
-    ensures { Gives (λ x. (x.0, x.1.now)) result (read (each (λ _. action_format) 31 []) text.now) }
-{
-    so_many_actions_at(alloc, SIGNAL_COUNT, text)
 }
 
 #[tactic(auto, unfolding(crate::specs::ProcessTexts::action_text))]

@@ -1,17 +1,13 @@
-ghost use Rattle.std.specs.Prelude.{◌≡◌, ◌==◌, ◌&&◌, ◌+◌, nat_lt, if◌then◌else◌, ◌≤◌, ◌<◌, ◌^◌, ◌++◌, []};
-ghost use Rattle.std.specs.Prelude.{length, OnOk};
+ghost use Rattle.std.specs.Prelude.{◌≡◌, ◌==◌, ◌&&◌, ◌+◌, nat_lt, if◌then◌else◌, ◌≤◌, ◌<◌, ◌^◌, ◌++◌, [], length, OnOk};
 ghost use Rattle.std.specs.List.{list_all};
 ghost use Rattle.image_format.specs.Fields.{is_bytes};
 ghost use Rattle.image_format.specs.Format.{counted, n32, raw, unsigned};
+ghost use Rattle.image_format.specs.Reading.{Gives, read};
+ghost use Rattle.image_format.specs.Texts.{EachFrom};
 ghost use Rattle.image_process.specs.ProcessImages.{page_format};
 ghost use Rattle.image_process.specs.ProcessFits.{IsPage};
 ghost use Rattle.image_process.specs.ProcessTexts.{page_text, list_text};
-ghost use Rattle.image_process.specs.ProcessTests.{is_break_start, is_break_end, is_page_count};
-ghost use Rattle.image_process.specs.ProcessTests.{is_page_number, is_free_of_break, is_page_rights};
-ghost use Rattle.image_process.specs.ProcessTests.{is_page_content, return_content, has_heap};
-ghost use Rattle.image_process.specs.ProcessTests.{has_return_page};
-ghost use Rattle.image_format.specs.Reading.{Gives, read};
-ghost use Rattle.image_format.specs.Texts.{EachFrom};
+ghost use Rattle.image_process.specs.ProcessTests.{is_page_count, is_page_number, is_free_of_break, is_page_rights, is_page_content, return_content, has_heap, has_return_page};
 
 use image_format::fields::{Fault, bytes_at, put_bytes, put_u8, put_u32, u8_at, u32_at};
 use plain_process::Frame;
@@ -30,7 +26,7 @@ pub struct PageImage {
 const PAGE_BYTES: u32 = 4096;
 
 /// The break never passes this address.
-const BREAK_LIMIT: u32 = 0x4000_0000;
+pub(crate) const BREAK_LIMIT: u32 = 0x4000_0000;
 
 /// No page has this number.
 const NUMBER_LIMIT: u32 = 1 << 20;
@@ -44,24 +40,6 @@ const RETURN_PAGE: u32 = 0x80000;
 const RETURN_RIGHTS: u8 = 5;
 
 const RETURN_CODE: [u8; 8] = [0x93, 0x08, 0xB0, 0x08, 0x73, 0x00, 0x00, 0x00];
-
-pub(crate) fn is_break_start(start: u32) -> bool
-    ensures { result ≡ is_break_start start }
-{
-    start % PAGE_BYTES == 0 && start <= BREAK_LIMIT
-}
-
-pub(crate) fn is_break_end(start: u32, end: u32) -> bool
-    ensures { result ≡ is_break_end start end }
-{
-    start <= end && end <= BREAK_LIMIT
-}
-
-fn is_page_count(count: u32) -> bool
-    ensures { result ≡ is_page_count count }
-{
-    count <= PAGE_LIMIT
-}
 
 fn is_free_of_break(start: u32, end: u32, page: u32) -> bool
     ensures { result ≡ is_free_of_break start end page }
@@ -207,12 +185,12 @@ pub(crate) fn pages_at(
     ensures { Gives (λ x. (x.0, x.1.now)) result
         (read (counted is_page_count (page_format start end)) text.now) }
 {
-    let (count, items) = u32_at(text)?;
-    if !is_page_count(count) {
+    let (count, mut rest) = u32_at(text)?;
+    let is_allowed = count <= PAGE_LIMIT;
+    if !is_allowed {
         return Err(Fault::Left(text.len()));
     }
     let mut pages = ListOf::new(alloc);
-    let mut rest = items;
     for _item in 0..count {
         let (page, more) = page_at(alloc, start, end, pages.as_slice(), rest)?;
         pages.push(page)?;

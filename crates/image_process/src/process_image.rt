@@ -1,20 +1,20 @@
 ghost use Rattle.std.specs.Prelude.{◌≡◌, ℕ, ◌≤◌, ◌++◌, [], filter, slice_get, IfOk, OnOk};
+ghost use Rattle.std.specs.List.{flat_map};
 ghost use Rattle.std.specs.Option.{option_copied};
 ghost use Rattle.image_format.specs.Files.{IsRead, IsDamagedAt};
-ghost use Rattle.image_format.specs.Format.{n32, unsigned};
-ghost use Rattle.image_process.specs.ProcessImages.{process_at, pid_at, tids_at, tids_of, process_format, is_whole_process, SpellsProcess, DamagedProcess, SpellsFileAt, DamagedFileAt};
+ghost use Rattle.image_format.specs.Format.{n32, number_text, unsigned};
+ghost use Rattle.image_process.specs.ProcessImages.{process_at, pid_at, tids_at, tids_of, lists_format, process_format, is_whole_process, PROCESS_MAGIC, SpellsProcess, DamagedProcess, SpellsFileAt, DamagedFileAt};
 ghost use Rattle.sys_abi.specs.Lives.{lives};
 ghost use Rattle.image_process.specs.ProcessFits.{threads_of, IsPage, HasImage, ImageWords};
-ghost use Rattle.image_process.specs.ProcessTexts.{process_text, IsProcessText};
-ghost use Rattle.image_process.specs.ProcessTests.{is_number, is_break_start, is_break_end};
+ghost use Rattle.image_process.specs.ProcessTexts.{action_text, list_text, page_text, thread_text, waiter_text};
+ghost use Rattle.image_process.specs.ProcessTests.{is_break_start, is_break_end};
+ghost use Rattle.plain_process.specs.Valid.{IsWord};
 ghost use Rattle.image_format.specs.Reading.{Gives, read};
 ghost use Rattle.image_format.specs.Texts.{EachFrom};
 
-use crate::actions::{actions_at, put_actions};
-use crate::page_image::{
-    PageImage, has_heap, has_return_page, is_break_end, is_break_start, pages_at, put_pages,
-};
-use crate::thread_image::{ThreadImage, put_threads, threads_at};
+use crate::actions::{SIGNAL_COUNT, actions_at, put_actions};
+use crate::page_image::{BREAK_LIMIT, PageImage, has_heap, has_return_page, pages_at, put_pages};
+use crate::thread_image::{ThreadImage, number_at, put_threads, threads_at};
 use crate::waiters::{put_waiters, waiters_at};
 use image_format::ReadFault;
 use image_format::damage::damaged;
@@ -40,12 +40,6 @@ pub struct ProcImage {
     pub threads: ListOf<ThreadImage>,
 }
 
-fn lives(process: &ProcessEntry) -> bool
-    ensures { result ≡ lives process.now.life }
-{
-    process.life.is_live()
-}
-
 /// The live process at this place.
 #[tactic(auto, unfolding(crate::proofs::LiveProcesses::live_from), using(crate::proofs::LiveProcesses::passes_dead, crate::proofs::LiveProcesses::passes_live, crate::proofs::LiveProcesses::is_found, crate::proofs::LiveProcesses::is_none))]
 fn live_at(processes: &[ProcessEntry], place: usize) -> Option<&ProcessEntry>
@@ -53,7 +47,7 @@ fn live_at(processes: &[ProcessEntry], place: usize) -> Option<&ProcessEntry>
 {
     let mut left = place;
     for process in processes {
-        if lives(process) {
+        if process.life.is_live() {
             if left == 0 {
                 return Some(process);
             }
@@ -74,15 +68,6 @@ fn process_at(shared: &Shared, file: u32) -> Option<&ProcessEntry>
     live_at(shared.processes.as_slice(), file as usize - 2)
 }
 
-fn is_number(pid: Option<u32>, number: u32) -> bool
-    ensures { result ≡ is_number pid number }
-{
-    match pid {
-        Some(pid) => pid == number,
-        None => false,
-    }
-}
-
 #[tactic(auto, unfolding(crate::specs::ProcessImages::is_whole_process))]
 fn is_whole_process(p: &ProcImage) -> bool
     requires order { p.now.break_start ≤ p.now.break_end }
@@ -93,22 +78,11 @@ fn is_whole_process(p: &ProcImage) -> bool
 }
 
 #[tactic(auto, unfolding(image_format::specs::Reading::read, image_format::specs::Reading::read_if))]
-fn number_at(pid: Option<u32>, text: &[u8]) -> Result<(u32, &[u8]), Fault>
-    ensures { Gives (λ x. (x.0, x.1.now)) result (read (unsigned n32 (is_number pid)) text.now) }
-{
-    let (number, rest) = u32_at(text)?;
-    if !is_number(pid, number) {
-        return Err(Fault::Left(text.len()));
-    }
-    Ok((number, rest))
-}
-
-#[tactic(auto, unfolding(image_format::specs::Reading::read, image_format::specs::Reading::read_if))]
 fn break_start_at(text: &[u8]) -> Result<(u32, &[u8]), Fault>
     ensures { Gives (λ x. (x.0, x.1.now)) result (read (unsigned n32 is_break_start) text.now) }
 {
     let (start, rest) = u32_at(text)?;
-    if !is_break_start(start) {
+    if start as usize % PAGE_SIZE != 0 || start > BREAK_LIMIT {
         return Err(Fault::Left(text.len()));
     }
     Ok((start, rest))
@@ -119,13 +93,42 @@ fn break_end_at(start: u32, text: &[u8]) -> Result<(u32, &[u8]), Fault>
     ensures { Gives (λ x. (x.0, x.1.now)) result (read (unsigned n32 (is_break_end start)) text.now) }
 {
     let (end, rest) = u32_at(text)?;
-    if !is_break_end(start, end) {
+    if end < start || end > BREAK_LIMIT {
         return Err(Fault::Left(text.len()));
     }
     Ok((end, rest))
 }
 
-#[tactic(auto, unfolding(crate::specs::ProcessImages::process_format, image_format::specs::Reading::read, image_format::specs::Reading::read_next, image_format::specs::Reading::read_if))]
+/// The lists of a process of this number with this break, as its whole image.
+#[tactic(auto, unfolding(image_format::specs::Reading::read, image_format::specs::Reading::read_next))]
+fn lists_at<'a>(
+    alloc: Global,
+    number: u32,
+    break_start: u32,
+    break_end: u32,
+    threads: &[ThreadEntry],
+    text: &'a [u8],
+) -> Result<(ProcImage, &'a [u8]), Fault>
+    ensures { Gives (λ x. (x.0, x.1.now)) result
+        (read (lists_format (tids_of threads.now) number break_start break_end) text.now) }
+{
+    let (pages, rest) = pages_at(alloc, break_start, break_end, text)?;
+    let (actions, rest) = actions_at(alloc, SIGNAL_COUNT, rest)?;
+    let (waiters, rest) = waiters_at(alloc, threads, rest)?;
+    let (threads, rest) = threads_at(alloc, threads, rest)?;
+    let p = ProcImage {
+        pid: VPid(number),
+        break_start,
+        break_end,
+        pages,
+        actions,
+        waiters,
+        threads,
+    };
+    Ok((p, rest))
+}
+
+#[tactic(auto, unfolding(crate::specs::ProcessImages::process_format, image_format::specs::Reading::read, image_format::specs::Reading::read_next))]
 fn process_of<'a>(
     alloc: Global,
     pid: Option<u32>,
@@ -138,20 +141,7 @@ fn process_of<'a>(
     let (number, rest) = number_at(pid, rest)?;
     let (break_start, rest) = break_start_at(rest)?;
     let (break_end, rest) = break_end_at(break_start, rest)?;
-    let (pages, rest) = pages_at(alloc, break_start, break_end, rest)?;
-    let (actions, rest) = actions_at(alloc, rest)?;
-    let (waiters, rest) = waiters_at(alloc, threads, rest)?;
-    let (images, rest) = threads_at(alloc, threads, rest)?;
-    let p = ProcImage {
-        pid: VPid(number),
-        break_start,
-        break_end,
-        pages,
-        actions,
-        waiters,
-        threads: images,
-    };
-    Ok((p, rest))
+    lists_at(alloc, number, break_start, break_end, threads, rest)
 }
 
 /// The image of the process of this number with these threads.
@@ -205,35 +195,41 @@ pub fn read_process(
     }
 }
 
-#[tactic(auto, unfolding(crate::specs::ProcessTexts::process_text))]
-fn put_process(bytes: &mut Vec<u8>, p: &ProcImage) -> Result<(), AllocError>
-    requires { HasImage p.now }
-    ensures value { OnOk result (bytes.new.items ≡ bytes.old.items ++ process_text p.now) }
-    ensures words { OnOk result (ImageWords p.now) }
+/// The magic, the number and the break.
+fn put_head(bytes: &mut Vec<u8>, p: &ProcImage) -> Result<(), AllocError>
+    ensures value { OnOk result (bytes.new.items ≡ bytes.old.items ++ PROCESS_MAGIC
+        ++ number_text n32 p.now.pid.0 ++ number_text n32 p.now.break_start
+        ++ number_text n32 p.now.break_end) }
+    ensures number { OnOk result (IsWord p.now.pid.0) }
 {
     put_bytes(bytes, b"DMTPRC01")?;
     put_u32(bytes, p.pid.0)?;
     put_u32(bytes, p.break_start)?;
-    put_u32(bytes, p.break_end)?;
+    put_u32(bytes, p.break_end)
+}
+
+fn put_lists(bytes: &mut Vec<u8>, p: &ProcImage) -> Result<(), AllocError>
+    requires image { HasImage p.now }
+    requires number { IsWord p.now.pid.0 }
+    ensures value { OnOk result (bytes.new.items ≡ bytes.old.items ++ list_text page_text p.now.pages
+        ++ flat_map action_text p.now.actions ++ list_text waiter_text p.now.waiters
+        ++ list_text thread_text p.now.threads) }
+    ensures words { OnOk result (ImageWords p.now) }
+{
     put_pages(bytes, p.pages.as_slice())?;
     put_actions(bytes, p.actions.as_slice())?;
     put_waiters(bytes, p.waiters.as_slice())?;
     put_threads(bytes, p.threads.as_slice())
 }
 
-fn process_text(alloc: Global, p: &ProcImage) -> Result<Vec<u8>, AllocError>
-    requires { HasImage p.now }
-    ensures { IfOk result (λ bytes. IsProcessText (Some p.now.pid.0) (threads_of p.now) bytes.items p.now) }
-{
-    let mut bytes = Vec::with_capacity(alloc, (p.pages.len() + 1) * (PAGE_SIZE + 5))?;
-    put_process(&mut bytes, p)?;
-    Ok(bytes)
-}
-
 /// The bytes of the process's image.
+#[tactic(auto, unfolding(crate::specs::ProcessTexts::process_text), using(crate::proofs::ProcessFiles::of_text))]
 pub fn write_process(alloc: Global, p: &ProcImage) -> Result<Vec<u8>, AllocError>
     requires { HasImage p.now }
     ensures { IfOk result (λ bytes. SpellsProcess (Some p.now.pid.0) (threads_of p.now) bytes.items p.now) }
 {
-    process_text(alloc, p)
+    let mut bytes = Vec::with_capacity(alloc, (p.pages.len() + 1) * (PAGE_SIZE + 5))?;
+    put_head(&mut bytes, p)?;
+    put_lists(&mut bytes, p)?;
+    Ok(bytes)
 }

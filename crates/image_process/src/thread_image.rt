@@ -1,10 +1,10 @@
-ghost use Rattle.std.specs.Prelude.{◌≡◌, ◌<◌, ◌^◌, ◌++◌, [], length, All, OnOk};
+ghost use Rattle.std.specs.Prelude.{◌≡◌, ◌<◌, ◌^◌, ◌++◌, [], length, slice_get, All, OnOk};
 ghost use Rattle.std.specs.List.{flat_map};
 ghost use Rattle.image_format.specs.Format.{number_text, counted, each, n32, unsigned};
 ghost use Rattle.image_process.specs.ProcessImages.{tids_of, word_format, registers_format, context_format, thread_format};
 ghost use Rattle.image_process.specs.ProcessFits.{ContextWords, ThreadWords};
 ghost use Rattle.image_process.specs.ProcessTexts.{registers_text, context_text, thread_text, list_text};
-ghost use Rattle.image_process.specs.ProcessTests.{is_context_count, is_count_of_threads, is_thread_at};
+ghost use Rattle.image_process.specs.ProcessTests.{is_context_count, is_count_of_threads, is_number};
 ghost use Rattle.image_format.specs.Reading.{Gives, read};
 ghost use Rattle.plain_process.specs.Valid.{IsWord};
 
@@ -26,25 +26,10 @@ pub struct ThreadImage {
     pub part: ThreadPart,
 }
 
-fn is_context_count(count: u32) -> bool
-    ensures { result ≡ is_context_count count }
-{
-    count <= CONTEXT_LIMIT
-}
-
 fn is_count_of_threads(threads: &[ThreadEntry], count: u32) -> bool
     ensures { result ≡ is_count_of_threads (tids_of threads.now) count }
 {
     1 <= count && count <= THREAD_LIMIT && threads.len() == count as usize
-}
-
-fn is_thread_at(threads: &[ThreadEntry], place: usize, tid: u32) -> bool
-    ensures { result ≡ is_thread_at (tids_of threads.now) place tid }
-{
-    match threads.get(place) {
-        Some(thread) => thread.tid == tid,
-        None => false,
-    }
 }
 
 #[tactic(auto, unfolding(crate::specs::ProcessImages::word_format))]
@@ -95,12 +80,12 @@ fn contexts_at(alloc: Global, text: &[u8]) -> Result<(ListOf<Context>, &[u8]), F
     ensures { Gives (λ x. (x.0, x.1.now)) result
         (read (counted is_context_count (λ _. context_format)) text.now) }
 {
-    let (count, items) = u32_at(text)?;
-    if !is_context_count(count) {
+    let (count, mut rest) = u32_at(text)?;
+    let is_allowed = count <= CONTEXT_LIMIT;
+    if !is_allowed {
         return Err(Fault::Left(text.len()));
     }
     let mut contexts = ListOf::new(alloc);
-    let mut rest = items;
     for _item in 0..count {
         let (context, more) = context_at(rest)?;
         contexts.push(context)?;
@@ -110,20 +95,22 @@ fn contexts_at(alloc: Global, text: &[u8]) -> Result<(ListOf<Context>, &[u8]), F
 }
 
 /// The number of the thread at this place.
-#[tactic(auto, unfolding(image_format::specs::Reading::read, image_format::specs::Reading::read_if))]
-fn tid_at<'a>(
-    threads: &[ThreadEntry],
-    place: usize,
-    text: &'a [u8],
-) -> Result<(u32, &'a [u8]), Fault>
-    ensures { Gives (λ x. (x.0, x.1.now)) result
-        (read (unsigned n32 (is_thread_at (tids_of threads.now) place)) text.now) }
+fn tid_of(threads: &[ThreadEntry], place: usize) -> Option<u32>
+    ensures { result ≡ slice_get (tids_of threads.now) place }
 {
-    let (tid, rest) = u32_at(text)?;
-    if !is_thread_at(threads, place, tid) {
-        return Err(Fault::Left(text.len()));
+    Some(threads.get(place)?.tid)
+}
+
+/// The number that has to stand there.
+#[tactic(auto, unfolding(image_format::specs::Reading::read, image_format::specs::Reading::read_if))]
+pub(crate) fn number_at(expected: Option<u32>, text: &[u8]) -> Result<(u32, &[u8]), Fault>
+    ensures { Gives (λ x. (x.0, x.1.now)) result (read (unsigned n32 (is_number expected)) text.now) }
+{
+    let (number, rest) = u32_at(text)?;
+    match expected {
+        Some(expected) if expected == number => Ok((number, rest)),
+        _ => Err(Fault::Left(text.len())),
     }
-    Ok((tid, rest))
 }
 
 #[tactic(auto, unfolding(crate::specs::ProcessImages::thread_format, image_format::specs::Reading::read, image_format::specs::Reading::read_next, image_format::specs::Reading::read_if))]
@@ -136,7 +123,7 @@ fn thread_at<'a>(
     ensures { Gives (λ x. (x.0, x.1.now)) result
         (read (thread_format (tids_of threads.now) front.now) text.now) }
 {
-    let (tid, rest) = tid_at(threads, front.len(), text)?;
+    let (tid, rest) = number_at(tid_of(threads, front.len()), text)?;
     let (x, rest) = registers_at(rest)?;
     let (pc, rest) = word_at(rest)?;
     let (mask, rest) = word_at(rest)?;
@@ -162,12 +149,11 @@ pub(crate) fn threads_at<'a>(
         (read (counted (is_count_of_threads (tids_of threads.now)) (thread_format (tids_of threads.now)))
         text.now) }
 {
-    let (count, items) = u32_at(text)?;
+    let (count, mut rest) = u32_at(text)?;
     if !is_count_of_threads(threads, count) {
         return Err(Fault::Left(text.len()));
     }
     let mut images = ListOf::new(alloc);
-    let mut rest = items;
     for _item in 0..count {
         let (image, more) = thread_at(alloc, threads, images.as_slice(), rest)?;
         images.push(image)?;

@@ -59,9 +59,8 @@ pub fn waiters_at<'a>(
     ensures { Gives (λ x. (x.0, x.1.now)) result
         (read (counted any (waiter_format (tids_of threads.now))) text.now) }
 {
-    let (count, items) = u32_at(text)?;
+    let (count, mut rest) = u32_at(text)?;
     let mut waiters = ListOf::new(alloc);
-    let mut rest = items;
     for _item in 0..count {
         let (waiter, more) = waiter_at(threads, waiters.as_slice(), rest)?;
         waiters.push(waiter)?;
