@@ -1,3 +1,4 @@
 pub mod Alone
 pub mod Handed
+pub mod Taken
 pub mod Ticks

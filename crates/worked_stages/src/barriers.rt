@@ -1,6 +1,5 @@
 //! Requests of one member and of two.
-ghost use Rattle.std.specs.Prelude.{◌≡◌, true};
-
+use crate::checks::holds;
 use barrier_core::{Barrier, Message, Stage};
 use std::alloc::{AllocError, Global};
 use std::process::Abort;
@@ -19,12 +18,6 @@ const STAGES: [(Stage, Message); 5] = [
     (Stage::Written, Message::Refill),
     (Stage::Refilled, Message::Resume),
 ];
-
-fn holds(rt: &impl Abort, is_so: bool)
-    ensures { is_so ≡ true }
-{
-    assert!(rt; is_so);
-}
 
 fn at_rest(alloc: Global) -> Result<Box<Barrier>, AllocError> {
     Ok(Box::new(alloc, Barrier::new(alloc)?)?)

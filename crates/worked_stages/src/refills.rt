@@ -1,8 +1,9 @@
 //! Refills of one channel between two processes, with what was drained of it.
-ghost use Rattle.std.specs.Prelude.{◌≡◌, ◌≤◌, false, length, IfOk};
+ghost use Rattle.std.specs.Prelude.{◌≡◌, ◌≤◌, ◌++◌, ◌∷◌, [], length, IfOk, OnOk};
 ghost use Rattle.std.specs.FinMap as map;
 ghost use Rattle.wire_channels.specs.Channels.{new_channel};
 ghost use Rattle.refill_core.specs.Refills.{Fits};
+ghost use Rattle.worked_stages.specs.Taken.{taken};
 
 use crate::channel::{CLIENT, CONN, ENDS, FIRST, SECOND, SERVER, STRANGER, one_channel, tick};
 use crate::checks::{holds, queues, reads, same, stepped};
@@ -14,34 +15,40 @@ use sys_abi::{Dir, Transfer};
 use views::list_of::ListOf;
 use wire_net::{CutRoom, DirBytes, DrainedNet, Net, Stepped};
 
-/// What was drained of a direction.
-fn list(alloc: Global, dir: Dir, text: &[u8]) -> Result<DirBytes, AllocError>
-    ensures { IfOk result (λ list. list ≡ record { dir = dir; bytes = text.now; in_place = false }) }
+/// Puts what was drained of a direction.
+fn put(lists: &mut Vec<DirBytes>, alloc: Global, dir: Dir, text: &[u8]) -> Result<(), AllocError>
+    ensures { OnOk result (lists.new.items ≡ lists.old.items ++ taken dir text.now ∷ []) }
 {
-    let mut bytes = Vec::with_capacity(alloc, text.len())?;
-    bytes.extend_from_slice(text)?;
-    Ok(DirBytes {
+    let bytes = ListOf::from_vec(text.to_vec(alloc)?);
+    Ok(lists.push(DirBytes {
         dir,
-        bytes: ListOf::from_vec(bytes),
+        bytes,
         in_place: false,
+    })?)
+}
+
+/// What was drained of both directions. The second list comes first.
+fn both(alloc: Global, first: &[u8], second: &[u8]) -> Result<DrainedNet, AllocError>
+    ensures { IfOk result (λ drained. drained.lists ≡ taken SECOND second.now ∷ taken FIRST first.now ∷ []) }
+{
+    let mut lists = Vec::new(alloc);
+    put(&mut lists, alloc, SECOND, second)?;
+    put(&mut lists, alloc, FIRST, first)?;
+    Ok(DrainedNet {
+        lists: ListOf::from_vec(lists),
     })
 }
 
-/// A refill of both directions with these bytes. The second list comes first.
+/// A refill of both directions with these bytes.
 fn begin(alloc: Global, net: &Net, first: &[u8], second: &[u8]) -> Result<Refill, AllocError>
     requires net { net.now.channels ≡ map.insert map.empty CONN new_channel }
     requires first { length first.now ≤ 65536 }
     requires second { length second.now ≤ 65536 }
     ensures { IfOk result (λ refill. Fits net.now.channels refill) }
 {
-    let mut lists = Vec::new(alloc);
-    lists.push(list(alloc, SECOND, second)?)?;
-    lists.push(list(alloc, FIRST, first)?)?;
+    let drained = both(alloc, first, second)?;
     let lengths = [(FIRST, first.len() as u32), (SECOND, second.len() as u32)];
     let room = CutRoom::reserve(alloc, &lengths)?;
-    let drained = DrainedNet {
-        lists: ListOf::from_vec(lists),
-    };
     Ok(Refill::begin(room, drained, &ENDS))
 }
 
@@ -56,7 +63,7 @@ fn round(net: &mut Net, refill: &mut Refill)
     tick(net);
 }
 
-pub(crate) fn go_on(net: &mut Net, refill: &mut Refill)
+fn go_on(net: &mut Net, refill: &mut Refill)
     requires { Fits net.old.channels refill.old }
     ensures { Fits net.new.channels refill.new }
 {
@@ -65,21 +72,36 @@ pub(crate) fn go_on(net: &mut Net, refill: &mut Refill)
     }
 }
 
-/// The refill is done, and is ended.
-pub(crate) fn finish(rt: &impl Abort, net: &Net, refill: Refill)
-    requires { Fits net.now.channels refill }
+/// The refill goes on until it is done, and is ended.
+pub(crate) fn finish(rt: &impl Abort, net: &mut Net, mut refill: Refill)
+    requires { Fits net.old.channels refill }
 {
+    go_on(net, &mut refill);
     holds(rt, refill.is_done(net));
     holds(rt, !refill.has_work(net, CLIENT));
     refill.finish(net);
 }
 
+/// Both directions are filled with these bytes.
+fn fill(
+    rt: &(impl Abort + AllocGlobal),
+    net: &mut Net,
+    first: &[u8],
+    second: &[u8],
+) -> Result<(), AllocError>
+    requires net { net.old.channels ≡ map.insert map.empty CONN new_channel }
+    requires first { length first.now ≤ 65536 }
+    requires second { length second.now ≤ 65536 }
+{
+    let refill = begin(rt.alloc(), net, first, second)?;
+    finish(rt, net, refill);
+    Ok(())
+}
+
 #[test]
 fn both_ways_are_filled_again(rt: HostRuntime) -> Result<(), Fail> {
     let mut net = one_channel(&rt, rt.alloc())?;
-    let mut refill = begin(rt.alloc(), &net, b"hello", b"good morning")?;
-    go_on(&mut net, &mut refill);
-    finish(&rt, &net, refill);
+    fill(&rt, &mut net, b"hello", b"good morning")?;
     let mut xfer = Transfer::new(rt.alloc())?;
     reads(&rt, &mut net, FIRST, 100, &mut xfer, b"hello");
     reads(&rt, &mut net, SECOND, 100, &mut xfer, b"good morning");

@@ -1,5 +1,5 @@
 -- What was drained of the one new channel that the network has.
-use Rattle.std.proofs.Common.{◌≡◌, ◌≢◌, ℕ, ◌==◌, ◌<◌, ◌≤◌, Bool, true, false, List, [], ◌∷◌, length, refl, sym, ap, subst, ◌∙◌, arith, inl, inr, ◌++◌, ap₂}
+use Rattle.std.proofs.Common.{◌≡◌, ◌≢◌, ℕ, ◌==◌, ◌<◌, ◌≤◌, Bool, true, false, List, [], ◌∷◌, length, refl, sym, ap, subst, ◌∙◌, arith, inl, inr, ◌++◌}
 use Rattle.std.specs.Prelude.{Option, Some, None, IsSome, not, if◌then◌else◌}
 use Rattle.std.specs.Option.{option_map, option_map_or}
 use Rattle.std.specs.FinMap as map
@@ -18,6 +18,7 @@ use Rattle.wire_channels.specs.Channels.{Channels, new_channel, direction_of, is
 use Rattle.wire_net.specs.DrainedNets.{IsListOf, IsDrained, HasLists, list_on}
 use Rattle.wire_net.specs.Ends.{end_of, agent_of, IsFor}
 use Rattle.wire_net.specs.Whereabouts.{stream_on}
+use Rattle.worked_stages.specs.Taken.{taken}
 use Rattle.worked_stages.specs.declared.channel.TheConstants.{CONN, FIRST, SECOND, ENDS}
 use Rattle.worked_stages.proofs.refills.begin.Goals as goal
 
@@ -57,9 +58,6 @@ ends_are_for = record {
 
 -- ---- what was drained
 
-abbrev taken : Dir → List ℕ → DirBytes
-taken d bytes = record { dir = d; bytes = bytes; in_place = false }
-
 abbrev drained : List ℕ → List ℕ → List DirBytes
 drained first second = taken SECOND second ∷ taken FIRST first ∷ []
 
@@ -96,14 +94,9 @@ has_lists first second d side there =
     some_channel None is = is
     some_channel (Some channel) is = refl
 
-made : (c : goal.After-begin) → c.from_vec.result ≡ drained c.args.first.now c.args.second.now
-made c =
-    c.from_vec.ensures ∙ c.in_ok-push-2.ensures.items
-    ∙ ap₂ (λ (l : List DirBytes) (list : DirBytes). l ++ list ∷ []) (c.in_ok-push.ensures.items ∙ ap₂ (λ (l : List DirBytes) (list : DirBytes). l ++ list ∷ []) c.new-lists.ensures.items c.in_ok-list.ensures) c.in_ok-list-2.ensures
-
 pub returns : goal.returns
 returns c =
     c.begin.ensures.fits c.args.net.now.channels
     (subst (λ (m : Channels). IsFor m ENDS) (sym c.requires.net) ends_are_for)
-    (subst (λ (m : Channels). IsDrained m c.from_vec.result) (sym c.requires.net) (subst (IsDrained one) (sym (made c)) (is_drained c.args.first.now c.args.second.now c.requires.first c.requires.second)))
-    (subst (λ (m : Channels). HasLists m c.from_vec.result) (sym c.requires.net) (subst (HasLists one) (sym (made c)) (has_lists c.args.first.now c.args.second.now)))
+    (subst (λ (m : Channels). IsDrained m c.in_ok-drained.drained.lists) (sym c.requires.net) (subst (IsDrained one) (sym c.in_ok-drained.ensures) (is_drained c.args.first.now c.args.second.now c.requires.first c.requires.second)))
+    (subst (λ (m : Channels). HasLists m c.in_ok-drained.drained.lists) (sym c.requires.net) (subst (HasLists one) (sym c.in_ok-drained.ensures) (has_lists c.args.first.now c.args.second.now)))
