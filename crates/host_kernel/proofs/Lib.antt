@@ -5,3 +5,4 @@ pub mod Accesses
 pub mod Objects
 pub mod ReadRows
 pub mod WriteRows
+pub mod UnknownCalls

@@ -2,6 +2,7 @@
 ghost use Rattle.std.specs.Prelude.{◌≡◌, IfOk, OnErr};
 ghost use Rattle.host_tables.specs.Conditions.{IsSound, IsAsking, IsFresh};
 ghost use Rattle.host_tables.specs.Serves.{ServesAttempt, ServesCall};
+ghost use Rattle.host_kernel.specs.Groups.{IsNoFileCall, IsSocketCall};
 
 use crate::{read, write};
 use host_descriptors::{close, dup, dup3, fcntl};
@@ -76,6 +77,28 @@ fn row(
         RealRequest::Lseek { fd, offset, whence } => Ok(lseek(kernel, who, fd, offset, whence)),
         RealRequest::Read { fd, count } => Ok(read(kernel, who, fd, count, transfer)),
         RealRequest::Write { fd, count } => write(kernel, who, thread, fd, count, transfer),
+        _ => process_row(kernel, who, thread, request, transfer),
+    }
+}
+
+/// The row of a call on processes, or of one on sockets.
+fn process_row(
+    kernel: &mut Kernel,
+    who: RealPid,
+    thread: u32,
+    request: &RealRequest,
+    transfer: &mut Transfer,
+) -> RowResult
+    requires sound { IsSound kernel.old }
+    requires asking { IsAsking kernel.old.procs who thread }
+    requires fresh { IsFresh kernel.old who request.now }
+    requires no_file { IsNoFileCall request.now }
+    ensures ok { IfOk result
+        (ServesAttempt kernel.old kernel.new who thread request.now transfer.old transfer.new) }
+    ensures err { OnErr result (kernel.new ≡ kernel.old) }
+    ensures kept { OnErr result (transfer.new ≡ transfer.old) }
+{
+    match *request {
         RealRequest::Exit { code } => Ok(exit(kernel, who, thread, code)),
         RealRequest::ExitGroup { code } => Ok(exit_group(kernel, who, code)),
         RealRequest::Kill {
@@ -92,6 +115,35 @@ fn row(
         } => Ok(tgkill(kernel, number, tid, signal, target, thread)),
         RealRequest::Getpid => Ok(getpid(who)),
         RealRequest::Getppid => Ok(getppid(kernel, who)),
+        RealRequest::Clone { flags } => clone(kernel, who, flags),
+        RealRequest::Wait4 {
+            number,
+            options,
+            usage,
+            target,
+        } => Ok(wait4(kernel, who, number, options, usage, target, transfer)),
+        _ => socket_row(kernel, who, thread, request, transfer),
+    }
+}
+
+/// The row of a call on sockets. A call that has no row is refused.
+fn socket_row(
+    kernel: &mut Kernel,
+    who: RealPid,
+    thread: u32,
+    request: &RealRequest,
+    transfer: &mut Transfer,
+) -> RowResult
+    requires sound { IsSound kernel.old }
+    requires asking { IsAsking kernel.old.procs who thread }
+    requires fresh { IsFresh kernel.old who request.now }
+    requires sockets { IsSocketCall request.now }
+    ensures ok { IfOk result
+        (ServesAttempt kernel.old kernel.new who thread request.now transfer.old transfer.new) }
+    ensures err { OnErr result (kernel.new ≡ kernel.old) }
+    ensures kept { OnErr result (transfer.new ≡ transfer.old) }
+{
+    match *request {
         RealRequest::Socket {
             domain,
             socket_type,
@@ -130,13 +182,6 @@ fn row(
         } => connect(kernel, who, fd, to, channel, port_free, of_pipe),
         RealRequest::Setsockopt { fd, of_pipe } => Ok(setsockopt(kernel, who, fd, of_pipe)),
         RealRequest::Shutdown { fd, how, of_pipe } => Ok(shutdown(kernel, who, fd, how, of_pipe)),
-        RealRequest::Clone { flags } => clone(kernel, who, flags),
-        RealRequest::Wait4 {
-            number,
-            options,
-            usage,
-            target,
-        } => Ok(wait4(kernel, who, number, options, usage, target, transfer)),
-        RealRequest::Unknown(_) => Ok(Attempt::Fails(Errno(ENOSYS))),
+        _ => Ok(Attempt::Fails(Errno(ENOSYS))),
     }
 }
