@@ -1,7 +1,7 @@
 //! The list of processes.
 
 ghost use Rattle.std.specs.Prelude.{◌≡◌};
-ghost use Rattle.image_format.specs.Format.{counted};
+ghost use Rattle.image_format.specs.Format.{counted, give, n32, next, unsigned};
 ghost use Rattle.image_format.specs.Reading.{Gives, read};
 ghost use Rattle.shared_items.specs.SharedFormat as format;
 ghost use Rattle.shared_items.specs.SharedTests as field;
@@ -161,7 +161,116 @@ fn life_at<'a>(
     Ok((Life::Live, rest))
 }
 
-#[tactic(auto, unfolding(shared_items::specs::SharedFormat::process, image_format::specs::Reading::read, image_format::specs::Reading::read_next, image_format::specs::Reading::read_if))]
+/// The number of a process, above those before it.
+#[tactic(auto, unfolding(image_format::specs::Reading::read, image_format::specs::Reading::read_if))]
+fn pid_at<'a>(
+    next_id: u32,
+    front: &[ProcessEntry],
+    tids: &NumberMap<()>,
+    text: &'a [u8],
+) -> Result<(u32, &'a [u8]), Fault>
+    requires { KnowsThreads tids.now front.now }
+    ensures { Gives (λ x. (x.0, x.1.now)) result
+        (read (unsigned n32 (field.is_process_number next_id front.now)) text.now) }
+{
+    let (pid, rest) = u32_at(text)?;
+    if !is_process_number(next_id, front, tids, pid) {
+        return Err(Fault::Left(text.len()));
+    }
+    Ok((pid, rest))
+}
+
+#[tactic(auto, unfolding(image_format::specs::Reading::read, image_format::specs::Reading::read_if))]
+fn parent_at<'a>(front: &[ProcessEntry], text: &'a [u8]) -> Result<(u32, &'a [u8]), Fault>
+    requires { ProcessesRise front.now }
+    ensures { Gives (λ x. (x.0, x.1.now)) result (read (unsigned n32 (field.is_parent front.now)) text.now) }
+{
+    let (parent, rest) = u32_at(text)?;
+    if !is_parent(front, parent) {
+        return Err(Fault::Left(text.len()));
+    }
+    Ok((parent, rest))
+}
+
+#[tactic(auto, unfolding(image_format::specs::Reading::read, image_format::specs::Reading::read_if))]
+fn host_at(text: &[u8]) -> Result<(u32, &[u8]), Fault>
+    ensures { Gives (λ x. (x.0, x.1.now)) result (read (unsigned n32 field.is_host) text.now) }
+{
+    let (host, rest) = u32_at(text)?;
+    if host >= 16 {
+        return Err(Fault::Left(text.len()));
+    }
+    Ok((host, rest))
+}
+
+/// The signals that wait at a process.
+#[tactic(auto, unfolding(image_format::specs::Reading::read, image_format::specs::Reading::read_if))]
+fn pending_at(life: Life, text: &[u8]) -> Result<(u32, &[u8]), Fault>
+    ensures { Gives (λ x. (x.0, x.1.now)) result (read (unsigned n32 (field.is_pending_set life)) text.now) }
+{
+    let (pending, rest) = u32_at(text)?;
+    if !is_pending_set(life, pending) {
+        return Err(Fault::Left(text.len()));
+    }
+    Ok((pending, rest))
+}
+
+/// What a process is before its lists.
+#[derive(Clone, Copy)]
+struct Head {
+    pid: VPid,
+    parent: u32,
+    host: u32,
+    made: u32,
+    life: Life,
+}
+
+/// The process with this head, behind which stand its signals, its threads and its descriptors.
+#[tactic(auto, unfolding(image_format::specs::Reading::read, image_format::specs::Reading::read_next))]
+fn process_of<'a>(
+    alloc: Global,
+    next_id: u32,
+    descriptions: &[DescriptionImage],
+    front: &[ProcessEntry],
+    tids: &NumberMap<()>,
+    head: Head,
+    text: &'a [u8],
+) -> Result<(ProcessEntry, &'a [u8]), Fault>
+    requires descriptions { DescriptionsRise descriptions.now }
+    requires processes { ProcessesRise front.now }
+    requires threads { KnowsThreads tids.now front.now }
+    ensures { Gives (λ x. (x.0, x.1.now)) result
+        (read (next (unsigned n32 (field.is_pending_set head.life)) (λ pending.
+        next (counted (field.is_thread_count head.life) (format.thread next_id front.now)) (λ threads.
+        next (counted (field.is_descriptor_count head.life) (format.descriptor descriptions.now)) (λ fds.
+        give (record {
+          pid = head.pid;
+          parent = head.parent;
+          host = head.host;
+          made = head.made;
+          life = head.life;
+          pending = pending;
+          threads = threads;
+          descriptors = fds;
+        }))))) text.now) }
+{
+    let (pending, rest) = pending_at(head.life, text)?;
+    let (threads, rest) = threads_at(alloc, next_id, front, tids, head.life, rest)?;
+    let (descriptors, rest) = descriptors_at(alloc, descriptions, head.life, rest)?;
+    let process = ProcessEntry {
+        pid: head.pid,
+        parent: head.parent,
+        host: head.host,
+        made: head.made,
+        life: head.life,
+        pending,
+        threads,
+        descriptors,
+    };
+    Ok((process, rest))
+}
+
+#[tactic(auto, unfolding(shared_items::specs::SharedFormat::process, image_format::specs::Reading::read, image_format::specs::Reading::read_next))]
 fn process_at<'a>(
     alloc: Global,
     next_id: u32,
@@ -178,37 +287,19 @@ fn process_at<'a>(
     ensures { Gives (λ x. (x.0, x.1.now)) result
         (read (format.process next_id channels.now descriptions.now front.now) text.now) }
 {
-    let (pid, after_pid) = u32_at(text)?;
-    if !is_process_number(next_id, front, tids, pid) {
-        return Err(Fault::Left(text.len()));
-    }
-    let (parent, after_parent) = u32_at(after_pid)?;
-    if !is_parent(front, parent) {
-        return Err(Fault::Left(after_pid.len()));
-    }
-    let (host, after_host) = u32_at(after_parent)?;
-    if host >= 16 {
-        return Err(Fault::Left(after_parent.len()));
-    }
-    let (made, after_made) = u32_at(after_host)?;
-    let (life, after_life) = life_at(channels, descriptions, pid, parent, made, after_made)?;
-    let (pending, after_pending) = u32_at(after_life)?;
-    if !is_pending_set(life, pending) {
-        return Err(Fault::Left(after_life.len()));
-    }
-    let (threads, after_threads) = threads_at(alloc, next_id, front, tids, life, after_pending)?;
-    let (descriptors, rest) = descriptors_at(alloc, descriptions, life, after_threads)?;
-    let process = ProcessEntry {
+    let (pid, rest) = pid_at(next_id, front, tids, text)?;
+    let (parent, rest) = parent_at(front, rest)?;
+    let (host, rest) = host_at(rest)?;
+    let (made, rest) = u32_at(rest)?;
+    let (life, rest) = life_at(channels, descriptions, pid, parent, made, rest)?;
+    let head = Head {
         pid: VPid(pid),
         parent,
         host,
         made,
         life,
-        pending,
-        threads,
-        descriptors,
     };
-    Ok((process, rest))
+    process_of(alloc, next_id, descriptions, front, tids, head, rest)
 }
 
 #[tactic(auto, unfolding(image_format::specs::Format::counted, image_format::specs::Reading::read, image_format::specs::Reading::read_next, image_format::specs::Reading::read_if), using(image_format::proofs::Loop::goes_on, image_format::proofs::Loop::one_item, image_format::proofs::Loop::is_done))]

@@ -1,22 +1,17 @@
 // What is tested at the end of the file, over the whole value.
-ghost use Rattle.std.specs.Prelude.{◌≡◌, IfOk, is_some};
+ghost use Rattle.std.specs.Prelude.{◌≡◌, IfOk};
 ghost use Rattle.std.specs.List.{list_all, list_any};
-ghost use Rattle.std.specs.FinMap as map;
 ghost use Rattle.shared_items.specs.RisingLists.{ChannelsRise, ProcessesRise};
 ghost use Rattle.shared_items.specs.WholeShared as whole;
-ghost use Rattle.shared_objects.specs.Known.{KnowsOpened, KnowsSides};
 ghost use Rattle.shared_reader.specs.HoldersOf.{KnowsHolders, verdict};
 
 use crate::holders::{Holders, holders_of};
-use id_maps::{ByDesc, ByDir};
+use id_maps::ByDesc;
 use shared_items::found::{channel_of, process_of};
-use shared_items::{
-    ChannelImage, DescriptionImage, FileImage, ObjectImage, ProcessEntry, Shared, SideImage,
-};
-use shared_objects::{opened_of, sides_of};
+use shared_items::{ChannelImage, DescriptionImage, ObjectImage, ProcessEntry, Shared, SideImage};
+use shared_objects::{are_kept, are_rightly_named, opened_of, sides_of};
 use std::alloc::{AllocError, Global};
-use sys_abi::{ConnId, Dir, VirtAddr};
-use views::number_map::NumberMap;
+use sys_abi::{ConnId, VirtAddr};
 
 /// Whether a process of the host that lives has this number.
 fn is_owner_of_some(processes: &[ProcessEntry], host: u32, owner: u32) -> bool
@@ -111,43 +106,6 @@ fn are_near_parents(processes: &[ProcessEntry]) -> bool
         .all(|process| is_near_parent(processes, process))
 }
 
-fn is_named(sides: &ByDir<()>, conn: ConnId, side: u8) -> bool
-    ensures { result ≡ is_some (map.get sides.now (record { conn = conn; side = side })) }
-{
-    sides.contains_key(Dir { conn, side })
-}
-
-/// Whether a side of the channel is named, and each that is not is closed.
-fn is_rightly_named(
-    descriptions: &[DescriptionImage],
-    sides: &ByDir<()>,
-    channel: &ChannelImage,
-) -> bool
-    requires { KnowsSides sides.now descriptions.now }
-    ensures { result ≡ whole.is_rightly_named descriptions.now channel.now }
-{
-    let _ = descriptions;
-    let id = channel.id;
-    let first = is_named(sides, id, 0);
-    let second = is_named(sides, id, 1);
-    (first || second)
-        && (first || (channel.first.ended && channel.second.unread))
-        && (second || (channel.second.ended && channel.first.unread))
-}
-
-fn are_rightly_named(
-    descriptions: &[DescriptionImage],
-    sides: &ByDir<()>,
-    channels: &[ChannelImage],
-) -> bool
-    requires { KnowsSides sides.now descriptions.now }
-    ensures { result ≡ list_all (whole.is_rightly_named descriptions.now) channels.now }
-{
-    channels
-        .iter()
-        .all(|channel| is_rightly_named(descriptions, sides, channel))
-}
-
 /// Whether a description with these holders is rightly held: all are of one host, and so are its owner and
 /// what it stands for.
 fn is_held_by(
@@ -201,24 +159,6 @@ fn are_rightly_held(
         holders,
         description,
     ))
-}
-
-/// Whether the file has a name or is open.
-fn is_kept_file(descriptions: &[DescriptionImage], opened: &NumberMap<()>, file: &FileImage) -> bool
-    requires { KnowsOpened opened.now descriptions.now }
-    ensures { result ≡ whole.is_kept_file descriptions.now file.now }
-{
-    let _ = descriptions;
-    !file.name.is_empty() || opened.contains_key(file.number)
-}
-
-fn are_kept(descriptions: &[DescriptionImage], opened: &NumberMap<()>, files: &[FileImage]) -> bool
-    requires { KnowsOpened opened.now descriptions.now }
-    ensures { result ≡ list_all (whole.is_kept_file descriptions.now) files.now }
-{
-    files
-        .iter()
-        .all(|file| is_kept_file(descriptions, opened, file))
 }
 
 /// What is tested at the end of the file, over the whole value.
