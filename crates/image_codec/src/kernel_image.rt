@@ -1,6 +1,6 @@
 //! The image of a kernel part, and the kernel part that an image stands for.
 
-ghost use Rattle.std.specs.Prelude.{◌≡◌, IfOk, filter, map as each};
+ghost use Rattle.std.specs.Prelude.{◌≡◌, [], ◌∷◌, ◌++◌, IfOk, OnOk, filter, map as each};
 ghost use Rattle.std.specs.FinMap as map;
 ghost use Rattle.image_codec.specs.KernelImages.{IsImage, shared_of, description_image, descriptor_image, is_of, listener_image, maker_or, object_image, process_image, thread_image};
 
@@ -12,7 +12,7 @@ use shared_items::{
     DescriptionImage, DescriptorEntry, ObjectImage, ProcessEntry, Shared, ThreadEntry,
 };
 use std::alloc::{AllocError, Global};
-use sys_abi::{Descriptor, Maker, VPid, VirtAddr};
+use sys_abi::{DescId, Descriptor, Maker, VPid, VirtAddr};
 use views::duplicate::Duplicate;
 use views::list_of::ListOf;
 use views::number_map::NumberMap;
@@ -43,14 +43,28 @@ fn description_images(
 {
     let mut images = ListOf::new(alloc);
     for (id, description) in descriptions.iter() {
-        images.push(DescriptionImage {
-            id: *id,
-            object: object_image(alloc, listeners, description.object)?,
-            flags: description.flags,
-            owner: description.owner,
-        })?;
+        push_description(alloc, &mut images, listeners, *id, description)?;
     }
     Ok(images)
+}
+
+fn push_description(
+    alloc: Global,
+    images: &mut ListOf<DescriptionImage>,
+    listeners: &ByAddress<Listening>,
+    id: DescId,
+    description: &Description,
+) -> Result<(), AllocError>
+    ensures { OnOk result
+        (images.new ≡ images.old ++ description_image listeners.now (id, description.now) ∷ []) }
+{
+    let object = object_image(alloc, listeners, description.object)?;
+    images.push(DescriptionImage {
+        id,
+        object,
+        flags: description.flags,
+        owner: description.owner,
+    })
 }
 
 fn object_image(
