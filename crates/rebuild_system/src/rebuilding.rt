@@ -61,6 +61,32 @@ fn list(alloc: Global, kernel: &PlainKernel) -> Result<(Files, ConnTable), Alloc
     Ok((files, conns))
 }
 
+/// All tables but those of the processes and of their numbers' pairs, by these pairs.
+fn make_tables(
+    alloc: Global,
+    kernel: &PlainKernel,
+    hosts: &Hosts,
+    ids: &mut Ids,
+    directory: &mut Directory,
+) -> Result<((Net, Book), (Files, ConnTable)), AllocError>
+    requires whole { IsKernel kernel.now }
+    requires plain { HasNoDatagrams kernel.now.descriptions }
+    requires hosts { IsHosts hosts.now }
+    requires numbered { ArePairedFor kernel.now.processes ids.old }
+    requires none { directory.old ≡ map.empty }
+    ensures net { IfOk result (λ made. IsNet hosts.now kernel.now ids.new made.0.0) }
+    ensures book { IfOk result (λ made. IsBook kernel.now ids.new made.0.1) }
+    ensures files { IfOk result (λ made.
+        SameFiles made.1.0 kernel.now.names kernel.now.files kernel.now.next_file) }
+    ensures conns { IfOk result (λ made. IsTableOf kernel.now made.1.1) }
+    ensures numbers { (ids.new.pids ≡ ids.old.pids) × (ids.new.virts ≡ ids.old.virts) }
+    ensures published { OnOk result (ArePublished hosts.now kernel.now directory.new) }
+{
+    let connected = connect(alloc, kernel, hosts, ids, directory)?;
+    let listed = list(alloc, kernel)?;
+    Ok((connected, listed))
+}
+
 /// Makes a system on these hosts that stands for the kernel part: files are opened again, sockets connected,
 /// processes forked, their descriptors rearranged, and the channels' bytes put back.
 ///
@@ -82,8 +108,13 @@ pub fn rebuild(
     ensures published { OnOk result (ArePublished hosts.now kernel.now directory.new) }
 {
     let mut numbered = rebuild_processes(alloc, kernel, hosts)?;
-    let (net, book) = connect(alloc, kernel, hosts, &mut numbered.ids, directory)?;
-    let (files, conns) = list(alloc, kernel)?;
+    let ((net, book), (files, conns)) = make_tables(
+        alloc,
+        kernel,
+        hosts,
+        &mut numbered.ids,
+        directory,
+    )?;
     Ok(System {
         kernel: Kernel {
             files,

@@ -7,27 +7,27 @@ pub returns-clause-stands : goal.returns-clause-stands
 returns-clause-stands c =
     let s : System = record {
       kernel = record {
-        files = c.in_ok-files.files;
+        files = c.in_ok-net.files;
         book = c.in_ok-net.book;
         net = c.in_ok-net.net;
         procs = c.in_ok-numbered.numbered.procs;
         datagrams = c.new.result;
         nodes = c.nodes_of.result;
       };
-      ids = c.connect.new.ids;
-      conns = c.in_ok-files.conns;
+      ids = c.make_tables.new.ids;
+      conns = c.in_ok-net.conns;
     } in
     record {
       stands = stands c.args.hosts.now c.args.kernel.now c.requires.whole c.requires.arrived c.requires.plain
           c.in_ok-numbered.numbered s (record {
             made = c.in_ok-numbered.ensures;
             procs = refl;
-            pids = c.connect.ensures.numbers.0;
-            virts = c.connect.ensures.numbers.1;
+            pids = c.make_tables.ensures.numbers.0;
+            virts = c.make_tables.ensures.numbers.1;
             net = c.in_ok-net.ensures.net;
             book = c.in_ok-net.ensures.book;
-            files = c.in_ok-files.ensures.files;
-            conns = c.in_ok-files.ensures.conns;
+            files = c.in_ok-net.ensures.files;
+            conns = c.in_ok-net.ensures.conns;
             datagrams = c.new.ensures;
             nodes = c.nodes_of.ensures;
           });
@@ -38,26 +38,26 @@ pub returns-clause-handed_out : goal.returns-clause-handed_out
 returns-clause-handed_out c =
     let s : System = record {
       kernel = record {
-        files = c.in_ok-files.files;
+        files = c.in_ok-net.files;
         book = c.in_ok-net.book;
         net = c.in_ok-net.net;
         procs = c.in_ok-numbered.numbered.procs;
         datagrams = c.new.result;
         nodes = c.nodes_of.result;
       };
-      ids = c.connect.new.ids;
-      conns = c.in_ok-files.conns;
+      ids = c.make_tables.new.ids;
+      conns = c.in_ok-net.conns;
     } in
     handed_out c.args.hosts.now c.args.kernel.now c.requires.whole c.requires.arrived c.requires.plain
     c.in_ok-numbered.numbered s (record {
       made = c.in_ok-numbered.ensures;
       procs = refl;
-      pids = c.connect.ensures.numbers.0;
-      virts = c.connect.ensures.numbers.1;
+      pids = c.make_tables.ensures.numbers.0;
+      virts = c.make_tables.ensures.numbers.1;
       net = c.in_ok-net.ensures.net;
       book = c.in_ok-net.ensures.book;
-      files = c.in_ok-files.ensures.files;
-      conns = c.in_ok-files.ensures.conns;
+      files = c.in_ok-net.ensures.files;
+      conns = c.in_ok-net.ensures.conns;
       datagrams = c.new.ensures;
       nodes = c.nodes_of.ensures;
     })
