@@ -79,6 +79,22 @@ pub(crate) fn lists(
     list(rt, &lists[1], in_place, second);
 }
 
+/// The drain goes on to its end, and gives these lists.
+fn gives(
+    rt: &impl Abort,
+    net: &mut Net,
+    mut drain: Drain,
+    in_place: bool,
+    first: &[u8],
+    second: &[u8],
+)
+    requires { IsDraining net.old.channels ENDS drain }
+{
+    go_on(net, &mut drain);
+    let (drained, _room) = finished(rt, net, drain);
+    lists(rt, &drained, in_place, first, second);
+}
+
 #[test]
 fn both_ways_are_emptied(rt: HostRuntime) -> Result<(), Fail> {
     let mut net = one_channel(&rt, rt.alloc())?;
@@ -88,9 +104,7 @@ fn both_ways_are_emptied(rt: HostRuntime) -> Result<(), Fail> {
     stepped(&rt, step(&mut net, &mut drain, STRANGER), Stepped::Finished);
     stepped(&rt, step(&mut net, &mut drain, CLIENT), Stepped::Moved);
     stepped(&rt, step(&mut net, &mut drain, CLIENT), Stepped::Again);
-    go_on(&mut net, &mut drain);
-    let (drained, _room) = finished(&rt, &net, drain);
-    lists(&rt, &drained, false, b"hello", b"good morning");
+    gives(&rt, &mut net, drain, false, b"hello", b"good morning");
     queues(&rt, &net, FIRST, [0, 0, 0]);
     queues(&rt, &net, SECOND, [0, 0, 0]);
     same(&rt, net.carried(FIRST), 21);
@@ -102,12 +116,10 @@ fn a_channel_that_has_ended_is_left_in_place(rt: HostRuntime) -> Result<(), Fail
     let mut net = one_channel(&rt, rt.alloc())?;
     say(&rt, &mut net, FIRST, b"the last words");
     shut(&mut net, FIRST);
-    let mut drain = begin(rt.alloc(), &net)?;
+    let drain = begin(rt.alloc(), &net)?;
     holds(&rt, !drain.has_work(&net, SERVER));
     holds(&rt, !drain.is_done(&net));
-    go_on(&mut net, &mut drain);
-    let (drained, _room) = finished(&rt, &net, drain);
-    lists(&rt, &drained, true, b"the last words", b"");
+    gives(&rt, &mut net, drain, true, b"the last words", b"");
     queues(&rt, &net, FIRST, [0, 0, 14]);
     Ok(())
 }
