@@ -3,8 +3,8 @@
 //!
 //! Proved: each reader gives what the format says of the bytes (`shared_items/specs/SharedFormat.antt`), for
 //! all bytes; and what is tested of channels and files by the names of all descriptions is what
-//! `shared_items/specs/WholeShared.antt` says. Not proved, but so written: a reader takes no more memory than the bytes that are there account
-//! for.
+//! `shared_items/specs/WholeShared.antt` says. Not proved, but so written: a reader takes no more memory than
+//! the bytes that are there account for.
 #![tactic(auto)]
 
 pub mod descriptions;
