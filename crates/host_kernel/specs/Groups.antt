@@ -1,8 +1,18 @@
 -- Which calls a group of rows leaves to the next one.
---     IsNoFileCall q     it isn't on descriptors and files
---     IsSocketCall q     it is on sockets, or no row has it
+--     IsNoDescriptorCall q     it isn't on descriptors
+--     IsNoFileCall q           nor on files
+--     IsSocketCall q           it is on sockets, or no row has it
 use Rattle.host_tables.specs.declared.request.RealRequest.{RealRequest}
 use Rattle.host_tables.specs.declared.request.RealRequest.TheVariants.{Eventfd2, Dup, Dup3, Fcntl, Close, Pipe2, Unlinkat, Openat, Lseek, Read, Write, Socket, Socketpair, Listen, Accept, Connect, Setsockopt, Shutdown, Unknown}
+
+abbrev pub IsNoDescriptorCall : RealRequest → Type 0
+IsNoDescriptorCall (Eventfd2 value flags id) = ⊥
+IsNoDescriptorCall (Dup fd) = ⊥
+IsNoDescriptorCall (Dup3 fd to flags) = ⊥
+IsNoDescriptorCall (Fcntl fd command argument target) = ⊥
+IsNoDescriptorCall (Close fd) = ⊥
+IsNoDescriptorCall (Pipe2 flags ids) = ⊥
+IsNoDescriptorCall _ = Unit {0}
 
 abbrev pub IsNoFileCall : RealRequest → Type 0
 IsNoFileCall (Eventfd2 value flags id) = ⊥

@@ -2,7 +2,7 @@
 ghost use Rattle.std.specs.Prelude.{◌≡◌, IfOk, OnErr};
 ghost use Rattle.host_tables.specs.Conditions.{IsSound, IsAsking, IsFresh};
 ghost use Rattle.host_tables.specs.Serves.{ServesAttempt, ServesCall};
-ghost use Rattle.host_kernel.specs.Groups.{IsNoFileCall, IsSocketCall};
+ghost use Rattle.host_kernel.specs.Groups.{IsNoDescriptorCall, IsNoFileCall, IsSocketCall};
 
 use crate::{read, write};
 use host_descriptors::{close, dup, dup3, fcntl};
@@ -66,6 +66,28 @@ fn row(
         } => fcntl(kernel, who, fd, command, argument, target),
         RealRequest::Close { fd } => Ok(close(kernel, who, fd).0),
         RealRequest::Pipe2 { flags, ids } => pipe2(kernel, who, flags, ids, transfer),
+        _ => file_row(kernel, who, thread, request, transfer),
+    }
+}
+
+/// The row of a call on files, or of one on processes or sockets.
+fn file_row(
+    kernel: &mut Kernel,
+    who: RealPid,
+    thread: u32,
+    request: &RealRequest,
+    transfer: &mut Transfer,
+) -> RowResult
+    requires sound { IsSound kernel.old }
+    requires asking { IsAsking kernel.old.procs who thread }
+    requires fresh { IsFresh kernel.old who request.now }
+    requires no_descriptor { IsNoDescriptorCall request.now }
+    ensures ok { IfOk result
+        (ServesAttempt kernel.old kernel.new who thread request.now transfer.old transfer.new) }
+    ensures err { OnErr result (kernel.new ≡ kernel.old) }
+    ensures kept { OnErr result (transfer.new ≡ transfer.old) }
+{
+    match *request {
         RealRequest::Unlinkat { directory, flags } => Ok(unlinkat(
             kernel, directory, flags, transfer,
         )),
