@@ -1,5 +1,6 @@
 //! One channel between two processes, drained and filled again.
 ghost use Rattle.worked_stages.specs.Alone.{IsAlone};
+ghost use Rattle.worked_stages.specs.Handed.{IsHanded};
 
 use crate::channel::{CONN, ENDS, FIRST, SECOND, carry, one_channel, say, shut};
 use crate::checks::{queues, reads, same};
@@ -10,7 +11,14 @@ use std::alloc::AllocError;
 use std::process::Abort;
 use std::test::Fail;
 use sys_abi::Transfer;
-use wire_net::Net;
+use wire_net::{CutRoom, DrainedNet, Net};
+
+/// All that was drained comes back.
+fn refilled(rt: &impl Abort, net: &mut Net, drained: DrainedNet, room: CutRoom)
+    requires { IsHanded net.old.channels ENDS drained room }
+{
+    refills::finish(rt, net, Refill::begin(room, drained, &ENDS));
+}
 
 /// Asserts whether the first direction is ended, and what stands in its queues. The other one is empty.
 fn stands(rt: &impl Abort, net: &Net, is_ended: bool, first: [u32; 3]) {
@@ -32,9 +40,9 @@ fn comes_back(
     let mut drain = drains::begin(rt.alloc(), net)?;
     drains::go_on(net, &mut drain);
     let (given, room) = drains::finished(rt, net, drain);
-    lists(rt, &given, in_place, text, b"");
+    lists(rt, &given, in_place, [text, b""]);
     stands(rt, net, in_place, between);
-    refills::finish(rt, net, Refill::begin(room, given, &ENDS));
+    refilled(rt, net, given, room);
     Ok(())
 }
 

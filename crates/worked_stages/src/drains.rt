@@ -66,33 +66,20 @@ fn list(rt: &impl Abort, given: &DirBytes, in_place: bool, text: &[u8]) {
 }
 
 /// What was drained of both directions.
-pub(crate) fn lists(
-    rt: &impl Abort,
-    drained: &DrainedNet,
-    in_place: bool,
-    first: &[u8],
-    second: &[u8],
-) {
+pub(crate) fn lists(rt: &impl Abort, drained: &DrainedNet, in_place: bool, texts: [&[u8]; 2]) {
     let lists = drained.lists.as_slice();
     assert_eq!(rt; lists.len(), 2);
-    list(rt, &lists[0], in_place, first);
-    list(rt, &lists[1], in_place, second);
+    list(rt, &lists[0], in_place, texts[0]);
+    list(rt, &lists[1], in_place, texts[1]);
 }
 
 /// The drain goes on to its end, and gives these lists.
-fn gives(
-    rt: &impl Abort,
-    net: &mut Net,
-    mut drain: Drain,
-    in_place: bool,
-    first: &[u8],
-    second: &[u8],
-)
+fn gives(rt: &impl Abort, net: &mut Net, mut drain: Drain, in_place: bool, texts: [&[u8]; 2])
     requires { IsDraining net.old.channels ENDS drain }
 {
     go_on(net, &mut drain);
     let (drained, _room) = finished(rt, net, drain);
-    lists(rt, &drained, in_place, first, second);
+    lists(rt, &drained, in_place, texts);
 }
 
 #[test]
@@ -104,7 +91,7 @@ fn both_ways_are_emptied(rt: HostRuntime) -> Result<(), Fail> {
     stepped(&rt, step(&mut net, &mut drain, STRANGER), Stepped::Finished);
     stepped(&rt, step(&mut net, &mut drain, CLIENT), Stepped::Moved);
     stepped(&rt, step(&mut net, &mut drain, CLIENT), Stepped::Again);
-    gives(&rt, &mut net, drain, false, b"hello", b"good morning");
+    gives(&rt, &mut net, drain, false, [b"hello", b"good morning"]);
     queues(&rt, &net, FIRST, [0, 0, 0]);
     queues(&rt, &net, SECOND, [0, 0, 0]);
     same(&rt, net.carried(FIRST), 21);
@@ -119,7 +106,7 @@ fn a_channel_that_has_ended_is_left_in_place(rt: HostRuntime) -> Result<(), Fail
     let drain = begin(rt.alloc(), &net)?;
     holds(&rt, !drain.has_work(&net, SERVER));
     holds(&rt, !drain.is_done(&net));
-    gives(&rt, &mut net, drain, true, b"the last words", b"");
+    gives(&rt, &mut net, drain, true, [b"the last words", b""]);
     queues(&rt, &net, FIRST, [0, 0, 14]);
     Ok(())
 }

@@ -2,6 +2,7 @@
 use crate::asserts::same;
 use crate::folders::{NAME, OTHER, shown};
 use set_disk::{DiskFault, FileName, Folder, HostFolder};
+use std::alloc::{AllocError, Global};
 use std::fs::{self, File};
 use std::os::unix::fs::symlink;
 use std::process::Abort;
@@ -10,38 +11,128 @@ use std::test::Fail;
 
 const PLACE: &str = "worked_folders_one";
 
+/// A call that changes a folder.
+#[derive(Clone, Copy)]
+enum Call {
+    Write(FileName, u64, &'static str),
+    Cut(FileName, u64),
+    Sync,
+}
+
+fn make<R: Files<File = File> + AllocGlobal>(
+    folder: &mut HostFolder<&R>,
+    call: &Call,
+) -> Result<(), DiskFault> {
+    match call {
+        Call::Write(name, at, text) => folder.write_at(*name, *at, text.as_bytes()),
+        Call::Cut(name, len) => folder.cut(*name, *len),
+        Call::Sync => folder.sync(),
+    }
+}
+
+fn make_each<R: Files<File = File> + AllocGlobal>(
+    folder: &mut HostFolder<&R>,
+    calls: &[Call],
+) -> Result<(), DiskFault> {
+    for call in calls {
+        make(folder, call)?;
+    }
+    Ok(())
+}
+
+/// A folder of the host, which makes no call of it yet.
+fn folder_at<'r, R: Files<File = File> + AllocGlobal>(
+    rt: &'r R,
+    path: &str,
+) -> Result<Box<HostFolder<&'r R>>, AllocError> {
+    let folder = HostFolder::new(rt, rt.alloc(), path)?;
+    Ok(Box::new(rt.alloc(), folder)?)
+}
+
+/// Makes the calls in the folder at the path, and lets it go.
+fn run_at<R: Files<File = File> + AllocGlobal>(
+    rt: &R,
+    path: &str,
+    calls: &[Call],
+) -> Result<(), Fail> {
+    let mut folder = folder_at(rt, path)?;
+    Ok(make_each(&mut folder, calls)?)
+}
+
+/// Makes the calls, and reads a file.
+fn shown_after<R: Files<File = File> + AllocGlobal>(
+    alloc: Global,
+    folder: &mut HostFolder<&R>,
+    calls: &[Call],
+    name: FileName,
+) -> Result<String, DiskFault> {
+    make_each(folder, calls)?;
+    shown(alloc, folder, name)
+}
+
+/// What a file has after these calls, read in the folder that made them.
+fn text_after<R: Files<File = File> + AllocGlobal>(
+    rt: &R,
+    calls: &[Call],
+    name: FileName,
+) -> Result<String, Fail> {
+    let mut folder = folder_at(rt, PLACE)?;
+    Ok(shown_after(rt.alloc(), &mut folder, calls, name)?)
+}
+
 fn assert_shown(
     rt: &(impl Files<File = File> + AllocGlobal + Abort),
     name: FileName,
     want: &str,
 ) -> Result<(), Fail> {
-    let mut folder = HostFolder::new(rt, rt.alloc(), PLACE)?;
-    let text = shown(rt.alloc(), &mut folder, name)?;
+    let text = text_after(rt, &[], name)?;
     same(rt, text.as_str(), want);
     Ok(())
 }
 
-/// Makes the folder, with two files of its own and one that is not, and lets it go.
-fn fill(rt: &(impl Files<File = File> + AllocGlobal)) -> Result<(), Fail> {
-    let mut folder = HostFolder::new(rt, rt.alloc(), PLACE)?;
-    folder.cut(NAME, 0)?;
-    folder.write_at(NAME, 0, b"abcdef")?;
-    folder.write_at(NAME, 2, b"XY")?;
-    folder.cut(NAME, 5)?;
-    folder.write_at(OTHER, 0, b"")?;
+/// Asserts what a file of the host has.
+fn assert_host_file(
+    rt: &(impl Files<File = File> + AllocGlobal + Abort),
+    path: &str,
+    want: &str,
+) -> Result<(), Fail> {
+    let text = fs::read_to_string(rt, path)?;
+    same(rt, (path, text.as_str()), (path, want));
+    Ok(())
+}
+
+const FILLS: [Call; 5] = [
+    Call::Cut(NAME, 0),
+    Call::Write(NAME, 0, "abcdef"),
+    Call::Write(NAME, 2, "XY"),
+    Call::Cut(NAME, 5),
+    Call::Write(OTHER, 0, ""),
+];
+
+/// Puts two files of its own into the folder and one that is not, and syncs it.
+fn fill<R: Files<File = File> + AllocGlobal>(
+    rt: &R,
+    folder: &mut HostFolder<&R>,
+) -> Result<(), Fail> {
+    make_each(folder, &FILLS)?;
     fs::write(rt, "worked_folders_one/notes.txt", "ignored")?;
     folder.sync()?;
     Ok(())
 }
 
+/// Makes the folder, with these files, and lets it go.
+fn make_folder<R: Files<File = File> + AllocGlobal>(rt: &R) -> Result<(), Fail> {
+    let mut folder = folder_at(rt, PLACE)?;
+    fill(rt, &mut folder)
+}
+
 #[test]
 fn a_folder_of_the_host(rt: HostRuntime) -> Result<(), Fail> {
     assert_shown(&rt, NAME, "-")?;
-    fill(&rt)?;
+    make_folder(&rt)?;
     assert_shown(&rt, NAME, "abXYe")?;
     assert_shown(&rt, OTHER, "")?;
-    let text = fs::read_to_string(&rt, "worked_folders_one/s0_1.img")?;
-    same(&rt, text.as_str(), "abXYe");
+    assert_host_file(&rt, "worked_folders_one/s0_1.img", "abXYe")?;
     fs::remove_dir_all(&rt, PLACE)?;
     Ok(())
 }
@@ -51,55 +142,62 @@ fn assert_cut(
     rt: &(impl Files<File = File> + AllocGlobal + Abort),
     len: u64,
     at: u64,
-    bytes: &[u8],
+    text: &'static str,
     want: &str,
 ) -> Result<(), Fail> {
-    let mut folder = HostFolder::new(rt, rt.alloc(), PLACE)?;
-    folder.write_at(NAME, 0, b"abcdef")?;
-    folder.cut(NAME, len)?;
-    folder.write_at(NAME, at, bytes)?;
-    let text = shown(rt.alloc(), &mut folder, NAME)?;
-    same(rt, (len, at, text.as_str()), (len, at, want));
+    let calls = [
+        Call::Write(NAME, 0, "abcdef"),
+        Call::Cut(NAME, len),
+        Call::Write(NAME, at, text),
+    ];
+    let found = text_after(rt, &calls, NAME)?;
+    same(rt, (len, at, found.as_str()), (len, at, want));
     Ok(())
 }
 
 /// A cut is made by the write that follows it at the file's new end, and else before what follows.
 #[test]
 fn cuts_before_writes(rt: HostRuntime) -> Result<(), Fail> {
-    assert_cut(&rt, 0, 0, b"ABCDEF", "ABCDEF")?;
-    assert_cut(&rt, 2, 2, b"C", "abC")?;
-    assert_cut(&rt, 2, 2, b"CDEFGH", "abCDEFGH")?;
-    assert_cut(&rt, 3, 0, b"A", "Abc")?;
+    assert_cut(&rt, 0, 0, "ABCDEF", "ABCDEF")?;
+    assert_cut(&rt, 2, 2, "C", "abC")?;
+    assert_cut(&rt, 2, 2, "CDEFGH", "abCDEFGH")?;
+    assert_cut(&rt, 3, 0, "A", "Abc")?;
     fs::remove_dir_all(&rt, PLACE)?;
     Ok(())
 }
 
-/// Cuts a file, and then does something else than write it.
-fn cut_alone(rt: &(impl Files<File = File> + AllocGlobal)) -> Result<(), Fail> {
-    let mut folder = HostFolder::new(rt, rt.alloc(), PLACE)?;
-    folder.write_at(NAME, 0, b"abcdef")?;
-    folder.cut(NAME, 4)?;
-    folder.cut(OTHER, 0)?;
-    folder.write_at(OTHER, 0, b"other")?;
-    folder.cut(NAME, 3)?;
-    folder.sync()?;
-    Ok(())
-}
+/// Cuts of a file, after which something else is done than to write it.
+const CUTS_ALONE: [Call; 6] = [
+    Call::Write(NAME, 0, "abcdef"),
+    Call::Cut(NAME, 4),
+    Call::Cut(OTHER, 0),
+    Call::Write(OTHER, 0, "other"),
+    Call::Cut(NAME, 3),
+    Call::Sync,
+];
 
 #[test]
 fn cuts_before_other_calls(rt: HostRuntime) -> Result<(), Fail> {
-    cut_alone(&rt)?;
-    let text = fs::read_to_string(&rt, "worked_folders_one/s0_1.img")?;
-    same(&rt, text.as_str(), "abc");
+    run_at(&rt, PLACE, &CUTS_ALONE)?;
+    assert_host_file(&rt, "worked_folders_one/s0_1.img", "abc")?;
     assert_shown(&rt, OTHER, "other")?;
     fs::remove_dir_all(&rt, PLACE)?;
     Ok(())
 }
 
+/// What the first sync of the folder at the path answers.
+fn synced<R: Files<File = File> + AllocGlobal>(
+    rt: &R,
+    path: &str,
+) -> Result<Result<(), DiskFault>, AllocError> {
+    let mut folder = folder_at(rt, path)?;
+    Ok(folder.sync())
+}
+
 #[test]
 fn a_folder_that_cannot_be_made_fails(rt: HostRuntime) -> Result<(), Fail> {
-    let mut nowhere = HostFolder::new(&rt, rt.alloc(), "worked_folders_missing/folder")?;
-    same(&rt, nowhere.sync(), Err(DiskFault::Failed));
+    let answer = synced(&rt, "worked_folders_missing/folder")?;
+    same(&rt, answer, Err(DiskFault::Failed));
     Ok(())
 }
 
@@ -114,10 +212,12 @@ fn assert_path(
     name: FileName,
     path: &str,
 ) -> Result<(), Fail> {
-    let mut folder = HostFolder::new(rt, rt.alloc(), "worked_folders_sets/of")?;
-    folder.write_at(name, 0, b"file")?;
-    let text = fs::read_to_string(rt, path)?;
-    same(rt, (path, text.as_str()), (path, "file"));
+    run_at(
+        rt,
+        "worked_folders_sets/of",
+        &[Call::Write(name, 0, "file")],
+    )?;
+    assert_host_file(rt, path, "file")?;
     fs::remove_file(rt, path)?;
     Ok(())
 }
@@ -144,10 +244,9 @@ fn sync_beside(
 ) -> Result<Result<(), DiskFault>, Fail> {
     let place = format!(in rt.alloc(); "worked_folders_names/{name}")?;
     symlink(rt, "nowhere", place.as_str())?;
-    let mut folder = HostFolder::new(rt, rt.alloc(), "worked_folders_names")?;
-    let synced = folder.sync();
+    let answer = synced(rt, "worked_folders_names")?;
     fs::remove_file(rt, place.as_str())?;
-    Ok(synced)
+    Ok(answer)
 }
 
 fn assert_syncs(
@@ -156,8 +255,8 @@ fn assert_syncs(
     want: Result<(), DiskFault>,
 ) -> Result<(), Fail> {
     for name in names {
-        let synced = sync_beside(rt, name)?;
-        same(rt, (*name, synced), (*name, want));
+        let answer = sync_beside(rt, name)?;
+        same(rt, (*name, answer), (*name, want));
     }
     Ok(())
 }
