@@ -1,5 +1,5 @@
 //! A system that no stage of a checkpoint holds, and all of whose bytes have arrived.
-ghost use Rattle.std.specs.Prelude.{◌≡◌, ◌<◌, map as each, None, All, IfOk};
+ghost use Rattle.std.specs.Prelude.{◌≡◌, ◌<◌, [], map as each, None, All, IfOk, OnOk};
 ghost use Rattle.plain_machine.specs.declared.kernel.PlainKernel as plain;
 ghost use Rattle.host_tables.specs.Systems.{StandsFor};
 ghost use Rattle.seen_kernel.specs.Unheld as words;
@@ -34,10 +34,26 @@ fn list_arrived(alloc: Global, net: &Net, dirs: &[Dir]) -> Result<Vec<DirBytes>,
 {
     let mut transfer = Transfer::new(alloc)?;
     let mut lists = Vec::with_capacity(alloc, dirs.len())?;
-    for d in dirs {
-        lists.push(bytes_in(alloc, net, *d, &mut transfer)?)?;
-    }
+    add_lists(&mut lists, alloc, net, dirs, &mut transfer)?;
     Ok(lists)
+}
+
+/// Adds the bytes of each direction to the lists, of which there are none yet.
+fn add_lists(
+    lists: &mut Vec<DirBytes>,
+    alloc: Global,
+    net: &Net,
+    dirs: &[Dir],
+    transfer: &mut Transfer,
+) -> Result<(), AllocError>
+    requires sides { All (λ d. d.side < 2) dirs.now }
+    requires none { lists.old.items ≡ [] }
+    ensures { OnOk result (lists.new.items ≡ each (words.arrived_in net.now.channels) dirs.now) }
+{
+    for d in dirs {
+        lists.push(bytes_in(alloc, net, *d, transfer)?)?;
+    }
+    Ok(())
 }
 
 /// The bytes of the direction that can be read, and stay where they are.
