@@ -128,18 +128,49 @@ fn answer(
 ) -> Result<bool, AllocError>
     ensures { IfOk result (λ is_step. state_of (words.outcome_of_lent g.old p t.0 user.value request.now (lent user.value.memory request.now)) ≡ after_told is_step g.new) }
 {
-    let mut user = user;
-    let Some(given) = lent(alloc, &user.memory, request)? else {
-        put_fault(alloc, &mut user, t, request)?;
-        g.users.insert(p, Box::into_inner(user))?;
-        return Ok(true);
-    };
-    if is_local(request) {
-        local_row(alloc, &mut user, t, request)?;
-        g.users.insert(p, Box::into_inner(user))?;
-        return Ok(true);
+    match lent(alloc, &user.memory, request)? {
+        None => answer_fault(alloc, g, p, t, user, request),
+        Some(given) => answer_with(alloc, g, p, t, user, request, given.as_slice()),
     }
-    serve(alloc, g, p, t, &user, request, given.as_slice())
+}
+
+/// Answers a call whose bytes can't be read.
+fn answer_fault(
+    alloc: Global,
+    g: &mut Plain,
+    p: VPid,
+    t: Tid,
+    user: Box<UserPart>,
+    request: &Request,
+) -> Result<bool, AllocError>
+    ensures { IfOk result (λ is_step. state_of (words.outcome_of_lent g.old p t.0 user.value request.now None) ≡ after_told is_step g.new) }
+{
+    let mut user = user;
+    put_fault(alloc, &mut user, t, request)?;
+    g.users.insert(p, Box::into_inner(user))?;
+    Ok(true)
+}
+
+/// Answers a call that reads these bytes.
+fn answer_with(
+    alloc: Global,
+    g: &mut Plain,
+    p: VPid,
+    t: Tid,
+    user: Box<UserPart>,
+    request: &Request,
+    given: &[u8],
+) -> Result<bool, AllocError>
+    requires { length given.now ≤ TRANSFER_LIMIT }
+    ensures { IfOk result (λ is_step. state_of (words.outcome_of_lent g.old p t.0 user.value request.now (Some given.now)) ≡ after_told is_step g.new) }
+{
+    if !is_local(request) {
+        return serve(alloc, g, p, t, &user, request, given);
+    }
+    let mut user = user;
+    local_row(alloc, &mut user, t, request)?;
+    g.users.insert(p, Box::into_inner(user))?;
+    Ok(true)
 }
 
 /// Has the kernel part serve a call of a thread of this part, where `given` are the bytes that the call
