@@ -4,9 +4,10 @@ ghost use Rattle.plain_machine.specs.declared.plain.Plain.{Plain};
 ghost use Rattle.trace_log.specs.declared.requests.Schedule.{Schedule};
 ghost use Rattle.trace_log.specs.LogText.{at_start};
 ghost use Rattle.trace_log.specs.Requests.{first_tally};
+ghost use Rattle.trace_log.specs.Turns.{Upcoming};
 ghost use Rattle.drive.specs.HandedOn.{plain_of, IsReady};
 ghost use Rattle.edge_io.specs.Sunk.{sunk};
-ghost use Rattle.drive.specs.Scheduling.{CanTake, IsToldOf};
+ghost use Rattle.drive.specs.Scheduling.{CanTake, IsCome, IsToldOf};
 ghost use Rattle.checkpointer.specs.Keeping.{IsKept, IsSafe};
 ghost use Rattle.checkpointer.specs.Rounds.{GoesInRounds};
 ghost use Rattle.drive.specs.RunEnds.{EndsAt, EndsRun};
@@ -62,6 +63,39 @@ impl Start {
         let Ok(mut rounds) = Rounds::new(alloc) else {
             return LoopEnd::Memory;
         };
+        self.go_on(alloc, &mut rounds, out, log, disk, trace)
+    }
+
+    /// Makes record after record from the beginning of the first round on.
+    fn go_on<O: Sink, L: Sink, F: Folder>(
+        &mut self,
+        alloc: Global,
+        rounds: &mut Rounds,
+        out: &mut O,
+        log: &mut L,
+        disk: &mut F,
+        trace: &mut Trace,
+    ) -> LoopEnd
+        requires ready { IsReady self.old.computation }
+        requires every { IfSome self.old.checkpointer.schedule.every (λ every. 0 < every) }
+        requires tally { self.old.checkpointer.tally ≡ first_tally self.old.checkpointer.schedule }
+        requires lines { self.old.checkpointer.lines ≡ at_start }
+        requires kept { self.old.checkpointer.schedule.every ≢ None
+            → IsKept self.old.checkpointer (F.seen disk.old) }
+        requires empty { trace.old.records ≡ [] }
+        requires come { IsCome rounds.old (plain_of self.old.computation) Upcoming.NewRound }
+        requires told { IsToldOf rounds.old.come (plain_of self.old.computation).users }
+        ensures ended { HasEnded result self.old.checkpointer.schedule (plain_of self.old.computation)
+            trace.old.room trace.new.records (plain_of self.new.computation)
+            (sunk (O.seen out.old).taken (O.seen out.new).taken)
+            (sunk (L.seen log.old).taken (L.seen log.new).taken) (F.seen disk.old) (F.seen disk.new) }
+        ensures untouched { self.old.checkpointer.schedule.every ≡ None → disk.new ≡ disk.old }
+        ensures cause { result ≡ LoopEnd.SinkFault
+            → Rose (O.seen out.old).faults (O.seen out.new).faults
+            ⊎ Rose (L.seen log.old).faults (L.seen log.new).faults }
+        ensures later { (O.seen out.old).faults ≤ (O.seen out.new).faults }
+        ensures log_later { (L.seen log.old).faults ≤ (L.seen log.new).faults }
+    {
         let room = trace.room();
         for _record in 0..room {
             if !self.computation.lives() {
@@ -73,7 +107,7 @@ impl Start {
             let Some(choice) = rounds.choose(&self.computation) else {
                 return LoopEnd::Stuck;
             };
-            match self.step(alloc, &mut rounds, choice, out, log, disk, trace) {
+            match self.step(alloc, rounds, choice, out, log, disk, trace) {
                 Ok(()) => {}
                 Err(stop) => return ended_by(stop),
             }

@@ -4,7 +4,7 @@ use Rattle.edge_io.specs.Sunk.{sunk}
 use Rattle.drive.specs.Scheduling.{IsToldOf}
 use Rattle.checkpointer.specs.Keeping.{IsKept}
 use Rattle.drive.specs.Going.{IsGoing}
-use Rattle.drive.proofs.start.Start.run.Given as goal
+use Rattle.drive.proofs.start.Start.go_on.Given as goal
 
 abbrev pub invariant-loop-record : goal.invariant-loop-record
 invariant-loop-record g l = record {
