@@ -3,7 +3,7 @@ use set_disk::{FileName, Folder, MemFolder};
 use std::alloc::Global;
 use std::fmt::Write;
 use worked_guests::fault::CaseFault;
-use worked_guests::numbers::{Numbers, byte, long, unsigned};
+use worked_guests::numbers::{Numbers, long, unsigned};
 
 /// How many bytes of a file are printed.
 const MOST_SHOWN: usize = 64;
@@ -30,23 +30,27 @@ pub fn copied(alloc: Global, disk: &MemFolder) -> Result<MemFolder, CaseFault> {
     }
 }
 
-/// Does a file harm: cuts it to so many bytes, or writes a byte or a number of four bytes at a
-/// place.
+/// Does a file harm: cuts it to so many bytes, or writes a byte or a number of four bytes at a place.
 pub fn harm(disk: &mut MemFolder, numbers: &Numbers, words: &[String]) -> Result<(), CaseFault> {
     let [slot, index, how, rest @ ..] = words else {
         return Err(CaseFault::Unclear);
     };
     let name = file_name(slot.as_str(), index.as_str())?;
-    match (how.as_str(), rest) {
-        ("cut", [length]) => Ok(disk.cut(name, long(length.as_str())?)?),
-        ("byte", [at, value]) => {
-            let value = byte(numbers.read(value.as_str())?)?;
-            Ok(disk.write_at(name, long(at.as_str())?, &[value])?)
+    match rest {
+        [length] if how.as_str() == "cut" => Ok(disk.cut(name, long(length.as_str())?)?),
+        [at, value] => {
+            let number = numbers.read(value.as_str())?.to_le_bytes();
+            Ok(disk.write_at(name, long(at.as_str())?, written(how.as_str(), &number)?)?)
         }
-        ("number", [at, value]) => {
-            let value = numbers.read(value.as_str())?;
-            Ok(disk.write_at(name, long(at.as_str())?, &value.to_le_bytes())?)
-        }
+        _ => Err(CaseFault::Unclear),
+    }
+}
+
+/// What is written of a number.
+fn written<'n>(how: &str, number: &'n [u8; 4]) -> Result<&'n [u8], CaseFault> {
+    match (how, number) {
+        ("byte", [_, 0, 0, 0]) => Ok(&number[..1]),
+        ("number", _) => Ok(number),
         _ => Err(CaseFault::Unclear),
     }
 }
