@@ -126,6 +126,10 @@ pub cut_tally : (tally : Tally) (generation : ℕ) → (tally_after tally (Cut g
 unfolding tally_after
 cut_tally tally generation = refl
 
+pub cut_work : (tally : Tally) (generation : ℕ) → (tally_after tally (Cut generation)).work ≡ tally.work
+unfolding tally_after
+cut_work tally generation = refl
+
 pub outcome_tally : (tally : Tally) (r : Record) → is_mark r ≡ true → ((generation : ℕ) → r ≢ Cut generation) → (tally_after tally r).greatest ≡ tally.greatest
 unfolding tally_after
 outcome_tally tally (Cut generation) marks other = absurd (other generation refl)

@@ -6,6 +6,7 @@ pub mod Safety
 pub mod Checkpoints
 pub mod Served
 pub mod Passing
+pub mod Settling
 pub mod Arrived
 pub mod Supported
 pub mod FilesOfProcesses

@@ -7,25 +7,22 @@ use Rattle.std.proofs.lemmas.List.{take-append-drop, take_all, length-append, le
 use Rattle.std.proofs.Math.Seq.{take-append_seam}
 use Rattle.sys_abi.specs.declared.identity.Dir.{Dir}
 use Rattle.sys_abi.specs.declared.record.Record.{Record}
-use Rattle.sys_abi.specs.declared.record.Record.TheVariants.{Cut, Drained, Refilled, Complete}
+use Rattle.sys_abi.specs.declared.record.Record.TheVariants.{Drained, Refilled, Complete}
 use Rattle.edge_io.specs.Sink.{appended}
 use Rattle.edge_io.specs.Sunk.{Sunk, sunk}
 use Rattle.disk_folder.specs.SeenFolder.{SeenFolder}
-use Rattle.disk_folder.specs.Moments.{LeavesOnly}
-use Rattle.image_store.specs.StoreCrashes.{ChangesNothing}
 use Rattle.plain_machine.specs.declared.plain.Plain.{Plain}
 use Rattle.plain_machine.specs.Records.{outcome, quiet}
-use Rattle.plain_machine.specs.Tests.{full_arrive}
 use Rattle.plain_tables.specs.declared.channel.Direction.{Direction}
 use Rattle.trace_log.specs.declared.requests.Schedule.{Schedule}
 use Rattle.trace_log.specs.declared.requests.Tally.{Tally}
 use Rattle.trace_log.specs.declared.log_lines.Progress.{Progress}
 use Rattle.trace_log.specs.Trace.{TraceState, with_record}
-use Rattle.trace_log.specs.Requests.{Requests, Requested, AfterCut, CanBeHeld, CutAt, can_be_held, is_mark, left_in, all_left, cut_marks, next_requests, phase_after_mark, tally_after}
+use Rattle.trace_log.specs.Requests.{Requests, Requested, AfterCut, CutAt, can_be_held, is_mark, left_in, next_requests, phase_after_mark, tally_after}
 use Rattle.trace_log.specs.LogText.{line_of, after, after_all}
 use Rattle.trace_log.specs.Turns.{Upcoming, coming}
 use Rattle.checkpointer.specs.declared.checkpointer.Checkpointer.{Checkpointer}
-use Rattle.checkpointer.specs.Keeping.{Counts, is_disk_fault}
+use Rattle.checkpointer.specs.Keeping.{is_disk_fault}
 use Rattle.checkpointer.specs.Marks.{mark_of, marks_of, with_marks}
 use Rattle.checkpointer.specs.declared.marks.Pass.{Pass}
 use Rattle.checkpointer.specs.declared.marks.Pass.TheVariants as pass
@@ -36,7 +33,7 @@ use Rattle.checkpointer.proofs.Walks.{arrival_of}
 use Rattle.checkpointer.proofs.Running.{after_one_more, running_arrival, noted_arrival, same_phase}
 use Rattle.checkpointer.proofs.Safety.{cut_grows, safe_quiet}
 use Rattle.checkpointer.proofs.Checkpoints.{marked, pass_stands}
-use Rattle.checkpointer.proofs.Served.{AtCut, cut_made, not_complete}
+use Rattle.checkpointer.proofs.Served.{AtCut, not_complete}
 
 -- bytes of a direction arrive while a request waits
 pub arrived_meanwhile : (schedule : Schedule) (g h k : Plain) (upcoming : Upcoming) (checkpointer : Checkpointer) (from to : TraceState) (sink log : Sunk) (dir : Dir) (rest : List Dir) (first disk : SeenFolder)
@@ -64,10 +61,6 @@ abbrev pub ArePasses : List Record → Type 0
 ArePasses [] = Unit {0}
 ArePasses (r ∷ rs) = IsPass r × ArePasses rs
 
-passes_both : (xs ys : List Record) → ArePasses xs → ArePasses ys → ArePasses (xs ++ ys)
-passes_both [] ys first second = second
-passes_both (x ∷ xs) ys first second = (first.0, passes_both xs ys first.1 second)
-
 passes_front : (n : ℕ) (xs : List Record) → ArePasses xs → ArePasses (take n xs)
 passes_front zero xs all = tt
 passes_front (suc n) [] all = tt
@@ -87,10 +80,6 @@ is_pass pass.Refill dir n = IsRefilled
 
 pub kind_passes : (passes : Pass) (g : Plain) → ArePasses (marks_of passes g)
 kind_passes passes g = are_passes (mark_of passes) (is_pass passes) (map.entries g.kernel.directions)
-
-pub cut_passes : (g : Plain) → ArePasses (cut_marks g)
-unfolding cut_marks
-cut_passes g = passes_both (all_left Drained g) (all_left Refilled g) (are_passes Drained (λ dir n. IsDrained) (map.entries g.kernel.directions)) (are_passes Refilled (λ dir n. IsRefilled) (map.entries g.kernel.directions))
 
 -- one of them leaves the counts of requests and lines, and has no line
 record Passes (schedule : Schedule) (g : Plain) (requests : Requests) (lines : Progress) (r : Record) (still : List Record) : Type 0 where
@@ -151,15 +140,18 @@ module _ (schedule : Schedule) (g h : Plain) (upcoming : Upcoming) (sink : Sunk)
       less : (a b : ℕ) → a - suc b ≡ a - 1 - b
       less a b = omega arith
 
-  -- the marks of the cut, as far as the trace has room
-  pub all_passed : (checkpointer later : Checkpointer) (from to : TraceState) (marks : List Record) → AtCut schedule g h upcoming checkpointer from sink (sunk had has) first disk generation marks → ArePasses marks
+  -- those of one kind, as far as the trace has room, before the rest of them
+  pub front_passed : (checkpointer later : Checkpointer) (from to : TraceState) (marks rest : List Record) → AtCut schedule g h upcoming checkpointer from sink (sunk had has) first disk generation (marks ++ rest) → ArePasses marks
       → later ≡ record checkpointer { lines = after_all checkpointer.lines (take from.room marks) } → to ≡ with_marks from marks
-      → AtCut schedule g h upcoming later to sink (sunk had has) first disk generation (drop from.room marks)
-  all_passed checkpointer later from to marks at all is traced =
-      passed checkpointer later from to (take from.room marks) (drop from.room marks)
-      (subst (λ (ms : List Record). AtCut schedule g h upcoming checkpointer from sink (sunk had has) first disk generation ms) (sym (take-append-drop from.room marks)) at)
+      → AtCut schedule g h upcoming later to sink (sunk had has) first disk generation (drop from.room marks ++ rest)
+  front_passed checkpointer later from to marks rest at all is traced =
+      passed checkpointer later from to (take from.room marks) (drop from.room marks ++ rest)
+      (subst (λ (ms : List Record). AtCut schedule g h upcoming checkpointer from sink (sunk had has) first disk generation ms) whole at)
       (passes_front from.room marks all) is (traced ∙ ap (λ n. let t : TraceState = record { records = from.records ++ take from.room marks; room = n } in t) left)
     where
+      whole : marks ++ rest ≡ take from.room marks ++ (drop from.room marks ++ rest)
+      whole = ap (λ xs. xs ++ rest) (sym (take-append-drop from.room marks)) ∙ append_assoc (take from.room marks) (drop from.room marks) rest
+
       left : from.room - length marks ≡ from.room - length (take from.room marks)
       left = let short = length-take from.room marks in omega arith
 
@@ -167,12 +159,26 @@ module _ (schedule : Schedule) (g h : Plain) (upcoming : Upcoming) (sink : Sunk)
 pub none_left : (from to : TraceState) (marks : List Record) → to ≡ with_marks from marks → 0 < to.room → drop from.room marks ≡ []
 none_left from to marks traced some = drop_all from.room marks (let room = ap (λ (t : TraceState). t.room) traced in omega arith)
 
+-- what a trace has and its room together stay
+pub record_size : (from to : TraceState) (r : Record) → 0 < from.room → to ≡ with_record from r → (length to.records + to.room ≡ length from.records + from.room) × (to.room ≤ from.room)
+record_size from to r some traced =
+    let room = ap (λ (t : TraceState). t.room) traced in
+    let records = ap (λ (t : TraceState). length t.records) traced ∙ length-append from.records (r ∷ []) in
+    (omega arith, omega arith)
+
 pub marks_size : (from to : TraceState) (marks : List Record) → to ≡ with_marks from marks → (length to.records + to.room ≡ length from.records + from.room) × (to.room ≤ from.room)
 marks_size from to marks traced =
     let room = ap (λ (t : TraceState). t.room) traced in
     let records = ap (λ (t : TraceState). length t.records) traced ∙ length-append from.records (take from.room marks) in
     let short = length-take from.room marks in
     (omega arith, omega arith)
+
+pub both_size : (from to : TraceState) (r : Record) (marks : List Record) → 0 < from.room → to ≡ with_marks (with_record from r) marks → (length to.records + to.room ≡ length from.records + from.room) × (to.room ≤ from.room)
+both_size from to r marks some traced =
+    let one = record_size from (with_record from r) r some refl in
+    let more = marks_size (with_record from r) to marks traced in
+    let size = one.0 in let less = one.1 in let less_again = more.1 in
+    (more.0 ∙ size, omega arith)
 
 -- they leave the number of the request
 no_count : (tally : Tally) {m : Record} → IsPass m → tally_after tally m ≡ tally
@@ -191,30 +197,6 @@ passes_count lines (m ∷ ms) all = passes_count (after lines m) ms all.1 ∙ on
 
 pub front_counts : (lines : Progress) (n : ℕ) (marks : List Record) → ArePasses marks → (after_all lines (take n marks)).request ≡ lines.request
 front_counts lines n marks all = passes_count lines (take n marks) (passes_front n marks all)
-
--- the cut and its marks, as far as the trace has room: the checkpointer whose store was taken, after the cut and after the marks
-pub cut_and_passed : (schedule : Schedule) (g h : Plain) (upcoming : Upcoming) (k opened cut later : Checkpointer) (from mid to : TraceState) (sink : Sunk) (had has : Option (List ℕ)) (generation : ℕ) (first disk next : SeenFolder)
-    → (before : IsUnderWay schedule g h upcoming k from sink (sunk had has) first disk) → before.running.requests.phase ≡ Requested [] → CanBeHeld h → full_arrive h ≡ h → generation ≡ suc k.tally.greatest
-    → opened ≡ record k { store = None } → cut ≡ record opened { tally = tally_after opened.tally (Cut generation) } → mid ≡ with_record from (Cut generation)
-    → later ≡ record cut { lines = after_all cut.lines (take mid.room (cut_marks h)) } → to ≡ with_marks mid (cut_marks h)
-    → ChangesNothing disk next → LeavesOnly disk next disk.may_leave → Counts disk.faults next.faults
-    → AtCut schedule g h upcoming later to sink (sunk had has) first next generation (drop mid.room (cut_marks h))
-cut_and_passed schedule g h upcoming k opened cut later from mid to sink had has generation first disk next before waits held arrived numbered opens cuts traced passes_on traced_too nothing leaves counts =
-    let at = cut_made schedule g h upcoming k cut from mid sink had has generation first disk next before waits held arrived numbered traced
-    (ap (λ (x : Checkpointer). x.schedule) cuts ∙ ap (λ (x : Checkpointer). x.schedule) opens) (ap (λ (x : Checkpointer). x.lines) cuts ∙ ap (λ (x : Checkpointer). x.lines) opens)
-    (ap (λ (x : Checkpointer). x.tally) cuts ∙ ap (λ (x : Checkpointer). tally_after x.tally (Cut generation)) opens) nothing leaves counts in
-    all_passed schedule g h upcoming sink had has first next generation cut later mid to (cut_marks h) at (cut_passes h) passes_on traced_too
-
--- where there is room left all marks came
-pub cut_whole : (schedule : Schedule) (g h : Plain) (upcoming : Upcoming) (k opened cut later : Checkpointer) (from mid to : TraceState) (sink : Sunk) (had has : Option (List ℕ)) (generation : ℕ) (first disk next : SeenFolder)
-    → (before : IsUnderWay schedule g h upcoming k from sink (sunk had has) first disk) → before.running.requests.phase ≡ Requested [] → CanBeHeld h → full_arrive h ≡ h → generation ≡ suc k.tally.greatest
-    → opened ≡ record k { store = None } → cut ≡ record opened { tally = tally_after opened.tally (Cut generation) } → mid ≡ with_record from (Cut generation)
-    → later ≡ record cut { lines = after_all cut.lines (take mid.room (cut_marks h)) } → to ≡ with_marks mid (cut_marks h)
-    → ChangesNothing disk next → LeavesOnly disk next disk.may_leave → Counts disk.faults next.faults → 0 < to.room
-    → AtCut schedule g h upcoming later to sink (sunk had has) first next generation []
-cut_whole schedule g h upcoming k opened cut later from mid to sink had has generation first disk next before waits held arrived numbered opens cuts traced passes_on traced_too nothing leaves counts some =
-    subst (λ (still : List Record). AtCut schedule g h upcoming later to sink (sunk had has) first next generation still) (none_left mid to (cut_marks h) traced_too some)
-    (cut_and_passed schedule g h upcoming k opened cut later from mid to sink had has generation first disk next before waits held arrived numbered opens cuts traced passes_on traced_too nothing leaves counts)
 
 -- these marks came so far, and those are left
 pub record AreSoFar (k now : Checkpointer) (from to : TraceState) (marks left : List Record) : Type 0 where
@@ -283,58 +265,18 @@ so_far_all k now from to marks left so (inr full) =
           ∙ ap (λ n. let t : TraceState = record { records = from.records ++ take from.room marks; room = n } in t) (omega arith),
     )
 
-take_both : (n : ℕ) (xs ys : List Record) → take n (xs ++ ys) ≡ take n xs ++ take (n - length xs) ys
-take_both n [] ys = ap (λ m. take m ys) (all_of n) ∙ ap (λ xs. xs ++ take (n - 0) ys) (sym (take_none n [] refl))
-  where
-    all_of : (m : ℕ) → m ≡ m - 0
-    all_of m = omega arith
-
-    take_none : (m : ℕ) (xs : List Record) → xs ≡ [] → take m xs ≡ []
-    take_none zero xs is = refl
-    take_none (suc m) xs is = ap (take (suc m)) is
-take_both zero (x ∷ xs) ys = ap (λ m. take m ys) (nothing_more (length xs))
-  where
-    nothing_more : (m : ℕ) → 0 ≡ 0 - suc m
-    nothing_more m = omega arith
-take_both (suc n) (x ∷ xs) ys = ap (λ zs. x ∷ zs) (take_both n xs ys) ∙ ap (λ m. (x ∷ take n xs) ++ take m ys) (one_less n (length xs))
-  where
-    one_less : (a b : ℕ) → a - b ≡ suc a - suc b
-    one_less a b = omega arith
-
--- the marks of both kinds, one after the other
-pub marks_of_both : (from mid to : TraceState) (first second : List Record) → mid ≡ with_marks from first → to ≡ with_marks mid second → to ≡ with_marks from (first ++ second)
-marks_of_both from mid to first second one two =
-    two ∙ ap (λ (t : TraceState). with_marks t second) one
-    ∙ ap (λ xs. let t : TraceState = record { records = xs; room = from.room - length first - length second } in t) (append_assoc from.records (take from.room first) (take (from.room - length first) second) ∙ ap (λ xs. from.records ++ xs) (sym (take_both from.room first second)))
-    ∙ ap (λ n. let t : TraceState = record { records = from.records ++ take from.room (first ++ second); room = n } in t) (let size = length-append first second in omega arith)
-
 one_left : (mark : Dir → ℕ → Record) (e : Dir × Direction) (es : List (Dir × Direction)) → (length e.1.left == 0) ≡ false → filter_map (left_in mark) (e ∷ es) ≡ mark e.0 (length e.1.left) ∷ filter_map (left_in mark) es
 one_left mark e es some = ap (λ b. cons_option (cond b None (Some (mark e.0 (length e.1.left)))) (filter_map (left_in mark) es)) some
 
 -- the mark of the direction that comes next
-pub so_far_next : (k now marked : Checkpointer) (lines : Progress) (from to later : TraceState) (marks : List Record) (passes : Pass) (e : Dir × Direction) (es left : List (Dir × Direction)) (r : Record)
+pub so_far_next : (k now next : Checkpointer) (from to later : TraceState) (marks : List Record) (passes : Pass) (e : Dir × Direction) (es left : List (Dir × Direction)) (r : Record)
     → AreSoFar k now from to marks (filter_map (left_in (mark_of passes)) left) → left ≡ e ∷ es → (length e.1.left == 0) ≡ false → r ≡ mark_of passes e.0 (length e.1.left) → 0 < to.room
-    → marked ≡ record now { tally = tally_after now.tally r } → lines ≡ after marked.lines r → later ≡ with_record to r → lines.drained ≤ marked.lines.drained + 2 ^ 32
-    → AreSoFar k (record marked { lines = lines }) from later marks (filter_map (left_in (mark_of passes)) es)
-so_far_next k now marked lines from to later marks passes e es left r so steps some same room marks_it lines_are traced more =
+    → next ≡ record now { tally = tally_after now.tally r; lines = after now.lines r } → later ≡ with_record to r → next.lines.drained ≤ now.lines.drained + 2 ^ 32
+    → AreSoFar k next from later marks (filter_map (left_in (mark_of passes)) es)
+so_far_next k now next from to later marks passes e es left r so steps some same room is traced more =
     let m = mark_of passes e.0 (length e.1.left) in
     let whole : AreSoFar k now from to marks (m ∷ filter_map (left_in (mark_of passes)) es) =
     subst (AreSoFar k now from to marks) (ap (filter_map (left_in (mark_of passes))) steps ∙ one_left (mark_of passes) e es some) so in
-    let kept : marked.lines ≡ now.lines = ap (λ (x : Checkpointer). x.lines) marks_it in
-    let after_it : lines ≡ after now.lines m = lines_are ∙ ap (λ (l : Progress). after l r) kept ∙ ap (after now.lines) same in
-    let all : record marked { lines = lines } ≡ record now { tally = tally_after now.tally m; lines = after now.lines m } =
-    ap (λ (l : Progress). let x : Checkpointer = record marked { lines = l } in x) after_it ∙ ap (λ (x : Checkpointer). let y : Checkpointer = record x { lines = after now.lines m } in y) marks_it
-    ∙ ap (λ (x : Record). let y : Checkpointer = record now { tally = tally_after now.tally x; lines = after now.lines m } in y) same in
-    so_far_more k now (record marked { lines = lines }) from to later marks (filter_map (left_in (mark_of passes)) es) m whole (is_pass passes e.0 (length e.1.left)) room all (traced ∙ ap (with_record to) same)
-    (let a = ap (λ (l : Progress). l.drained) after_it in let b = ap (λ (l : Progress). l.drained) kept in omega arith)
-
-after_both : (lines : Progress) (xs ys : List Record) → after_all lines (xs ++ ys) ≡ after_all (after_all lines xs) ys
-after_both lines [] ys = refl
-after_both lines (x ∷ xs) ys = after_both (after lines x) xs ys
-
--- the marks of both kinds
-pub lines_of_both : (k mid to : Checkpointer) (n : ℕ) (first second : List Record) → mid ≡ record k { lines = after_all k.lines (take n first) } → to ≡ record mid { lines = after_all mid.lines (take (n - length first) second) }
-    → to ≡ record k { lines = after_all k.lines (take n (first ++ second)) }
-lines_of_both k mid to n first second one two =
-    two ∙ ap (λ (x : Checkpointer). let y : Checkpointer = record x { lines = after_all x.lines (take (n - length first) second) } in y) one
-    ∙ ap (λ (l : Progress). let y : Checkpointer = record k { lines = l } in y) (sym (after_both k.lines (take n first) (take (n - length first) second)) ∙ ap (after_all k.lines) (sym (take_both n first second)))
+    so_far_more k now next from to later marks (filter_map (left_in (mark_of passes)) es) m whole (is_pass passes e.0 (length e.1.left)) room
+    (is ∙ ap (λ (x : Record). let y : Checkpointer = record now { tally = tally_after now.tally x; lines = after now.lines x } in y) same) (traced ∙ ap (with_record to) same)
+    (let a = ap (λ (x : Checkpointer). x.lines.drained) is in let b = ap (λ (x : Record). (after now.lines x).drained) same in omega arith)

@@ -32,11 +32,11 @@ use Rattle.image_store.specs.FoundSets.{last_set, HasSet}
 use Rattle.image_store.specs.StoreStates.{Known, FitsFolder, generation_after, next_generation}
 use Rattle.image_store.specs.StoreCrashes.{OldOrNew, ChangesNothing}
 use Rattle.checkpointer.specs.declared.checkpointer.Checkpointer.{Checkpointer}
-use Rattle.checkpointer.specs.Keeping.{IsKept, IsPut, IsSafe, Counts, CountsFaults, IsOutside}
+use Rattle.checkpointer.specs.Keeping.{IsKept, HasNoLater, IsSafe, Counts, CountsFaults, IsOutside}
 use Rattle.checkpointer.specs.UnderWay.{IsUnderWay, IsBrokenOff, IsSettled}
 use Rattle.checkpointer.proofs.Sinks.{took_nothing}
 use Rattle.checkpointer.proofs.Running.{steps_of}
-use Rattle.checkpointer.proofs.Safety.{some_there, new_below, same_below, counts_fault, safe_quiet, safe_looked, safe_put, safe_complete, safe_refused}
+use Rattle.checkpointer.proofs.Safety.{some_there, new_below, same_below, counts_fault, safe_quiet, safe_looked, safe_refused}
 use Rattle.checkpointer.proofs.Checkpoints.{lapse_stands, refusal_stands, unsupported_stands, cut_stands, after_cut, complete_stands, late_refusal_stands, complete_ends, refusal_ends, lapse_ends, cut_tally, marked, broken}
 
 pub on_ok2 : {A E P Q R : Type 0} (r : Result A E) → OnOk r P → OnOk r Q → (P → Q → R) → OnOk r R
@@ -67,10 +67,10 @@ raised files least most le below = by (last files) below
     by None bound = tt
     by (Some info) bound = omega arith
 
-pub kept_cut : (checkpointer later : Checkpointer) (was now : SeenFolder) → IsKept checkpointer was → later.store ≡ None → later.tally.greatest ≡ suc checkpointer.tally.greatest → now.files ≡ was.files → IsKept later now
-kept_cut checkpointer later was now kept gone next same_told = record {
+pub kept_cut : (least : ℕ) (later : Checkpointer) (was now : SeenFolder) → HasNoLater least was → later.store ≡ None → later.tally.greatest ≡ suc least → now.files ≡ was.files → IsKept later now
+kept_cut least later was now above gone next same_told = record {
   fits = λ store is. absurd (cc);
-  above = λ files is. raised files checkpointer.tally.greatest later.tally.greatest (omega arith) (kept.above files (sym same_told ∙ is));
+  above = λ files is. raised files least later.tally.greatest (omega arith) (above files (sym same_told ∙ is));
   floor = λ _. omega arith;
 }
 
@@ -142,7 +142,7 @@ pub record AtCut (schedule : Schedule) (g : Plain) (h : Plain) (upcoming : Upcom
   pub greatest : now.running.requests.tally.greatest ≡ generation
   pub at : CutAt g trace.records generation h
 
-refusal_safe : (g : Plain) (records : List Record) (cause : Cause) (first mid next : SeenFolder) → IsOutside cause → IsSafe g records first next → CountsFaults records first.faults mid.faults → Counts mid.faults next.faults → (cause ≡ DiskFault → Rose mid.faults next.faults) → IsSafe g (records ++ Refused cause ∷ []) first next
+pub refusal_safe : (g : Plain) (records : List Record) (cause : Cause) (first mid next : SeenFolder) → IsOutside cause → IsSafe g records first next → CountsFaults records first.faults mid.faults → Counts mid.faults next.faults → (cause ≡ DiskFault → Rose mid.faults next.faults) → IsSafe g (records ++ Refused cause ∷ []) first next
 refusal_safe g records DiskFault first mid next kind safe counted counts rose = safe_refused g records first next safe (counts_fault records first.faults mid.faults next.faults counted (rose refl) counts.later counts.small)
 refusal_safe g records Memory first mid next kind safe counted counts rose = safe_quiet g records (Refused Memory) first next (not_complete (Refused Memory) (λ generation is. cc)) refl safe
 refusal_safe g records (Unsupported p fd k) first mid next kind safe counted counts rose = absurd kind
@@ -208,17 +208,15 @@ lapsed_broken schedule g h upcoming checkpointer from to sink had mid has first 
     (safe_quiet g from.records Lapsed first disk (not_complete Lapsed (λ generation is. cc)) refl before.safe)
 
 -- the cut
-pub cut_made : (schedule : Schedule) (g : Plain) (h : Plain) (upcoming : Upcoming) (checkpointer later : Checkpointer) (from to : TraceState) (sink : Sunk) (had mid : Option (List ℕ)) (generation : ℕ) (first disk next : SeenFolder)
+pub cut_made : (schedule : Schedule) (g : Plain) (h : Plain) (upcoming : Upcoming) (checkpointer later : Checkpointer) (from to : TraceState) (sink : Sunk) (had mid : Option (List ℕ)) (generation : ℕ) (first disk : SeenFolder)
     → (before : IsUnderWay schedule g h upcoming checkpointer from sink (sunk had mid) first disk) → before.running.requests.phase ≡ Requested [] → CanBeHeld h → full_arrive h ≡ h
     → generation ≡ suc checkpointer.tally.greatest → to ≡ with_record from (Cut generation) → later.schedule ≡ checkpointer.schedule → later.lines ≡ checkpointer.lines → later.tally ≡ tally_after checkpointer.tally (Cut generation)
-    → ChangesNothing disk next → LeavesOnly disk next disk.may_leave → Counts disk.faults next.faults
-    → AtCut schedule g h upcoming later to sink (sunk had mid) first next generation (cut_marks h)
-cut_made schedule g h upcoming checkpointer later from to sink had mid generation first disk next before waits held arrived is traced scheduled lined tallied nothing leaves counts =
+    → AtCut schedule g h upcoming later to sink (sunk had mid) first disk generation (cut_marks h)
+cut_made schedule g h upcoming checkpointer later from to sink had mid generation first disk before waits held arrived is traced scheduled lined tallied =
     let numbered : generation ≡ before.running.requests.tally.greatest + 1 = let same = ap (λ (t : Tally). t.greatest) before.noted.tallied in omega arith in
-    let looked = safe_looked g from.records first disk next before.safe nothing leaves counts.later counts.small in
-    let safe = safe_quiet g from.records (Cut generation) first next (not_complete (Cut generation) (λ n e. cc)) refl looked in
+    let safe = safe_quiet g from.records (Cut generation) first disk (not_complete (Cut generation) (λ n e. cc)) refl before.safe in
     let silent : Took (sunk mid mid) (line_of checkpointer.lines (Cut generation)) = took_nothing mid ∙ ap (appended mid) (sym (no_cut_line checkpointer.lines generation)) in
-    let done = marked schedule g h upcoming checkpointer later from to sink had mid mid (Cut generation) first disk next before refl (cut_stands h before.running.requests generation waits held arrived numbered) traced
+    let done = marked schedule g h upcoming checkpointer later from to sink had mid mid (Cut generation) first disk disk before refl (cut_stands h before.running.requests generation waits held arrived numbered) traced
     scheduled (lined ∙ sym (cut_lines checkpointer.lines generation)) tallied silent (let same = ap (λ (l : Progress). l.request) lined in omega arith) (λ none. absurd (let cut = after_cut schedule h before.running.requests generation in cc)) safe in
     record {
       now = done.0;
@@ -269,21 +267,6 @@ pub safe_open_refused : (g : Plain) (records : List Record) (cause : Cause) (fir
     → (cause ≡ DiskFault → Rose disk.faults next.faults) → IsSafe g (records ++ Refused cause ∷ []) first next
 safe_open_refused g records cause first disk next safe kind nothing leaves counts rose =
     refusal_safe g records cause first disk next kind (safe_looked g records first disk next safe nothing leaves counts.later counts.small) safe.counted counts rose
-
-pub safe_put_complete : (g state : Plain) (records : List Record) (generation : ℕ) (result : Result Known Cause) (done : Known) (first disk next : SeenFolder)
-    → IsSafe g records first disk → CutAt g records generation state → ForSome disk.files (λ files. IfSome (last files) (λ info. info.generation ≤ generation))
-    → result ≡ Ok done → IsPut state generation result disk next → Counts disk.faults next.faults → IsSafe g (records ++ Complete generation ∷ []) first next
-safe_put_complete g state records generation result done first disk next safe cut above is put counts =
-    let safe_now = safe_put g state records generation put.images first disk next safe cut put.spelled above put.crash put.told counts.later counts.small in
-    let durable : ForSome disk.files (λ _. (image : Folder) → next.may_leave image → HasSet (last_set image) generation put.images) = subst (λ (r : Result Known Cause). OnOk r (ForSome disk.files (λ _. (image : Folder) → next.may_leave image → HasSet (last_set image) generation put.images))) is put.durable in
-    safe_complete g records generation put.images first next safe_now (λ files told. let here = some_there first.files disk.files files safe.told told in durable here.0 here.1)
-
-pub safe_put_refused : (g state : Plain) (records : List Record) (generation : ℕ) (result : Result Known Cause) (cause : Cause) (first disk next : SeenFolder)
-    → IsSafe g records first disk → CutAt g records generation state → ForSome disk.files (λ files. IfSome (last files) (λ info. info.generation ≤ generation))
-    → IsOutside cause → IsPut state generation result disk next → Counts disk.faults next.faults → (cause ≡ DiskFault → Rose disk.faults next.faults)
-    → IsSafe g (records ++ Refused cause ∷ []) first next
-safe_put_refused g state records generation result cause first disk next safe cut above kind put counts rose =
-    refusal_safe g records cause first disk next kind (safe_put g state records generation put.images first disk next safe cut put.spelled above put.crash put.told counts.later counts.small) safe.counted counts rose
 
 -- no memory for the images: the folder was not called
 pub safe_no_images : (g : Plain) (records : List Record) (first disk : SeenFolder) → IsSafe g records first disk → IsSafe g (records ++ Refused Memory ∷ []) first disk

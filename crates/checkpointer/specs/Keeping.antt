@@ -2,6 +2,7 @@
 --     IsSafe g records old new     a crash at any moment of the call so far leaves the set that counted in
 --                                  an image of its start, if one did, or one of the run's
 --     IsKept checkpointer folder   what the checkpointer knows of the folder
+--     HasNoLater generation folder     a part of it: the folder's set is of no later generation
 --     IsPut state generation result old new     a set that was put, or tried
 use Rattle.std.specs.Prelude.{◌≡◌, ◌⊎◌, ℕ, suc, ◌+◌, ◌-◌, ◌^◌, ◌<◌, ◌≤◌, Bool, true, false, List, Some, None, is_some, IfSome, Result, OnOk, OnErr}
 use Rattle.std.specs.List.{count_by, Contains}
@@ -63,6 +64,11 @@ pub record IsKept (checkpointer : Checkpointer) (folder : SeenFolder) : Type 0 w
   pub above : ForSome folder.files
       (λ files. IfSome (last files) (λ info. info.generation ≤ checkpointer.tally.greatest))
   pub floor : checkpointer.store ≡ None → 0 < checkpointer.tally.greatest
+
+-- the set of the folder, where it tells its content, is none of a later generation
+abbrev pub HasNoLater : ℕ → SeenFolder → Type 0
+HasNoLater generation folder =
+    ForSome folder.files (λ files. IfSome (last files) (λ info. info.generation ≤ generation))
 
 pub record IsSafe (g : Plain) (records : List Record) (old new : SeenFolder) : Type 0 where
   pub told : is_some new.files ≡ is_some old.files

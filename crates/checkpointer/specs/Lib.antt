@@ -5,6 +5,7 @@ pub mod Running
 pub mod Keeping
 pub mod UnderWay
 pub mod Marks
+pub mod Settling
 pub mod Images
 pub mod HandedOn
 pub mod StopVariants

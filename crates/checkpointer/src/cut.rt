@@ -1,9 +1,9 @@
-ghost use Rattle.std.specs.Prelude.{◌≡◌, ◌≢◌, ◌+◌, ◌-◌, ◌^◌, ◌<◌, ◌≤◌, ◌⊎◌, ℕ, suc, Option, None, List, [], length, Err, IsTrue, IfOk, IfErr, OnOk, OnErr};
+ghost use Rattle.std.specs.Prelude.{◌≡◌, ◌≢◌, ◌+◌, ◌-◌, ◌*◌, ◌^◌, ◌<◌, ◌≤◌, ◌⊎◌, ℕ, suc, Option, None, List, [], length, take, Err, IsTrue, IfOk, IfErr, OnOk, OnErr};
 ghost use Rattle.views.specs.Faults.{IsFaultOf};
 ghost use Rattle.plain_machine.specs.declared.plain.Plain.{Plain};
 ghost use Rattle.plain_machine.specs.Tests.{full_arrive};
 ghost use Rattle.trace_log.specs.Spelling.{is_spellable};
-ghost use Rattle.trace_log.specs.LogText.{line_of, after};
+ghost use Rattle.trace_log.specs.LogText.{line_of, after, after_all};
 ghost use Rattle.trace_log.specs.Requests.{tally_after, CanBeHeld, Requested};
 ghost use Rattle.trace_log.specs.Turns.{Upcoming};
 ghost use Rattle.image_store.specs.StoreStates.{FitsFolder, next_generation};
@@ -12,10 +12,13 @@ ghost use Rattle.disk_folder.specs.Moments.{LeavesOnly};
 ghost use Rattle.staged_cut.specs.HandedOn.{plain_of, IsReady, state_of, CanBegin};
 ghost use Rattle.edge_io.specs.Sunk.{Sunk, sunk, Took, TookFront};
 ghost use Rattle.trace_log.specs.Trace.{with_record};
-ghost use Rattle.checkpointer.specs.Keeping.{IsKept, IsPut, Counts, IsOutside, cause_told};
+ghost use Rattle.checkpointer.specs.Keeping.{IsKept, HasNoLater, IsPut, Counts, IsOutside, cause_told};
+ghost use Rattle.checkpointer.specs.Marks.{marks_of, with_marks};
+ghost use Rattle.checkpointer.specs.Settling.{told_of, Settles};
 ghost use Rattle.checkpointer.specs.UnderWay.{IsUnderWay, IsBrokenOff, IsSettled};
 
 use crate::checkpointer::Checkpointer;
+use crate::marks::Pass;
 use crate::set_files::images;
 use disk_folder::Folder;
 use edge_io::Sink;
@@ -77,8 +80,8 @@ impl Checkpointer {
         told
     }
 
-    /// Puts the cut, its marks and its set where they belong, and what came of it on the trace and the log. It
-    /// tells how the writing ended; where the trace had no room for it nothing was written.
+    /// Puts the cut, its marks and its set where they belong, and what came of it on the trace and the log, as
+    /// far as the trace has room. It tells how the writing ended.
     fn make_set<L: Sink, F: Folder>(
         &mut self,
         alloc: Global,
@@ -119,30 +122,124 @@ impl Checkpointer {
         ensures cause { IsFaultOf result.1 Stop.Sink (L.seen log.old).faults (L.seen log.new).faults }
         ensures later { (L.seen log.old).faults ≤ (L.seen log.new).faults }
     {
-        let store = match self.open(alloc, disk) {
-            Ok(store) => store,
+        match self.open(alloc, disk) {
+            Ok(store) => self.write_set(alloc, start, store, log, disk, trace),
             Err(cause) => {
-                let told = self.conclude(alloc, Record::Refused { cause }, log, trace);
-                return (outcome_of(cause), told);
+                let told = Record::Refused { cause };
+                (outcome_of(told), self.conclude(alloc, told, log, trace))
             }
-        };
+        }
+    }
+
+    /// Makes the cut and writes its set, where the trace has room left behind the marks of what was drained.
+    fn write_set<L: Sink, F: Folder>(
+        &mut self,
+        alloc: Global,
+        start: &Start,
+        store: Store,
+        log: &mut L,
+        disk: &mut F,
+        trace: &mut Trace,
+    ) -> (PutOutcome, Result<(), Stop>)
+        requires ready { CanBegin start.now }
+        requires held { CanBeHeld (state_of start.now) }
+        requires arrived { full_arrive (state_of start.now) ≡ state_of start.now }
+        requires room { 0 < trace.old.room }
+        requires below { self.old.tally.greatest < 2 ^ 64 - 2 }
+        requires work { self.old.tally.work + 1 < 2 ^ 64 }
+        requires request { self.old.lines.request + 1 < 2 ^ 64 }
+        requires drained { self.old.lines.drained ≡ 0 }
+        requires fits { FitsFolder store (F.seen disk.old) }
+        requires next { next_generation store ≡ suc self.old.tally.greatest }
+        requires none { self.old.store ≡ None }
+        requires above { HasNoLater self.old.tally.greatest (F.seen disk.old) }
+
+        ensures ok { OnOk result.1 ((g : Plain) (upcoming : Upcoming) (sink : Sunk) (had : Option (List ℕ))
+            (first : F) →
+            (before : IsUnderWay self.old.schedule g (state_of start.now) upcoming self.old trace.old sink
+            (sunk had (L.seen log.old).taken) (F.seen first) (F.seen disk.old))
+            → before.running.requests.phase ≡ Requested []
+            → (after : IsUnderWay self.old.schedule g (state_of start.now) upcoming self.new trace.new sink
+            (sunk had (L.seen log.new).taken) (F.seen first) (F.seen disk.new))
+            × IsSettled after.running.requests trace.new) }
+        ensures kept { OnOk result.1 (IsKept self.new (F.seen disk.new)) }
+        ensures err { OnErr result.1 ((g : Plain) (upcoming : Upcoming) (sink : Sunk) (had : Option (List ℕ))
+            (first : F) →
+            (before : IsUnderWay self.old.schedule g (state_of start.now) upcoming self.old trace.old sink
+            (sunk had (L.seen log.old).taken) (F.seen first) (F.seen disk.old))
+            → before.running.requests.phase ≡ Requested []
+            → IsBrokenOff self.old.schedule g (state_of start.now) upcoming trace.new sink
+            (sunk had (L.seen log.new).taken) (F.seen first) (F.seen disk.new)) }
+        ensures size { length trace.new.records + trace.new.room ≡ length trace.old.records + trace.old.room }
+        ensures room { trace.new.room ≤ trace.old.room }
+        ensures schedule { self.new.schedule ≡ self.old.schedule }
+        ensures cause { IsFaultOf result.1 Stop.Sink (L.seen log.old).faults (L.seen log.new).faults }
+        ensures later { (L.seen log.old).faults ≤ (L.seen log.new).faults }
+    {
         let generation = store.next();
-        self.mark(Record::Cut { generation }, trace);
-        self.mark_bytes(start, trace);
+        self.mark_cut(generation, start, trace);
         if trace.room() == 0 {
             return (PutOutcome::Memory, Ok(()));
         }
-        match put(alloc, start, store, disk) {
-            Ok(store) => {
-                self.store = Some(store);
-                let told = self.conclude(alloc, Record::Complete { generation }, log, trace);
-                (PutOutcome::Put(generation), told)
-            }
-            Err(cause) => {
-                let told = self.conclude(alloc, Record::Refused { cause }, log, trace);
-                (outcome_of(cause), told)
-            }
+        let written = put(alloc, start, store, disk);
+        let told = told_of(generation, &written);
+        self.store = written.ok();
+        (
+            outcome_of(told),
+            self.settle(alloc, start, told, log, trace),
+        )
+    }
+
+    /// Puts the cut on the trace and, as far as this has room, the marks of what was drained.
+    fn mark_cut(&mut self, generation: u64, start: &Start, trace: &mut Trace)
+        requires ready { CanBegin start.now }
+        requires room { 0 < trace.old.room }
+        requires work { self.old.tally.work + 1 < 2 ^ 64 }
+        requires request { self.old.lines.request + 1 < 2 ^ 64 }
+        requires drained { self.old.lines.drained ≡ 0 }
+        ensures checkpointer { self.new ≡ record self.old {
+          tally = tally_after self.old.tally (Record.Cut generation);
+          lines = after_all self.old.lines (take (trace.old.room - 1)
+              (marks_of Pass.Drain (state_of start.now)));
+        } }
+        ensures trace { trace.new ≡ with_marks (with_record trace.old (Record.Cut generation))
+            (marks_of Pass.Drain (state_of start.now)) }
+        ensures drained { self.new.lines.drained + trace.new.room * 2 ^ 32 ≤ 2 ^ 64 }
+    {
+        self.mark(Record::Cut { generation }, trace);
+        // What there is room for bounds the bytes that the marks count.
+        prove!(trace.room() <= u32::MAX);
+        self.mark_all(start, Pass::Drain, trace);
+    }
+
+    /// Puts the marks of what is refilled on the trace, as far as it has room, and the outcome behind them
+    /// where it has more.
+    fn settle<L: Sink>(
+        &mut self,
+        alloc: Global,
+        start: &Start,
+        outcome: Record,
+        log: &mut L,
+        trace: &mut Trace,
+    ) -> Result<(), Stop>
+        requires ready { CanBegin start.now }
+        requires spellable { IsTrue (is_spellable outcome) }
+        requires work { self.old.tally.work + 1 < 2 ^ 64 }
+        requires request { self.old.lines.request + 1 < 2 ^ 64 }
+        requires drained { self.old.lines.drained + trace.old.room * 2 ^ 32 ≤ 2 ^ 64 }
+        ensures settled { Settles (state_of start.now) outcome result self.old self.new trace.old trace.new
+            (L.seen log.old).taken (L.seen log.new).taken }
+        ensures size { length trace.new.records + trace.new.room ≡ length trace.old.records + trace.old.room }
+        ensures room { trace.new.room ≤ trace.old.room }
+        ensures schedule { self.new.schedule ≡ self.old.schedule }
+        ensures cause { IsFaultOf result Stop.Sink (L.seen log.old).faults (L.seen log.new).faults }
+        ensures later { (L.seen log.old).faults ≤ (L.seen log.new).faults }
+    {
+        self.mark_all(start, Pass::Refill, trace);
+        if trace.room() == 0 {
+            return Ok(());
         }
+        self.conclude(alloc, outcome, log, trace)
     }
 
     /// The store, which is opened again where there is none.
@@ -228,11 +325,24 @@ fn put<F: Folder>(alloc: Global, start: &Start, store: Store, disk: &mut F) -> R
     }
 }
 
-/// How the writing of a set ended that is refused for this cause.
-fn outcome_of(cause: Cause) -> PutOutcome {
-    match cause {
-        Cause::DiskFault => PutOutcome::DiskFault,
-        Cause::Memory | Cause::Unsupported { .. } => PutOutcome::Memory,
+/// What is told of a set that was put, or refused.
+fn told_of(generation: u64, put: &Result<Store, Cause>) -> Record
+    ensures { result ≡ told_of generation put.now }
+{
+    match put {
+        Ok(_) => Record::Complete { generation },
+        Err(cause) => Record::Refused { cause: *cause },
+    }
+}
+
+/// How the writing of a set ended of which this is told.
+fn outcome_of(told: Record) -> PutOutcome {
+    match told {
+        Record::Complete { generation } => PutOutcome::Put(generation),
+        Record::Refused {
+            cause: Cause::DiskFault,
+        } => PutOutcome::DiskFault,
+        _ => PutOutcome::Memory,
     }
 }
 

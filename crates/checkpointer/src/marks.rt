@@ -1,7 +1,7 @@
 ghost use Rattle.std.specs.Prelude.{◌≡◌, ℕ, ◌+◌, ◌*◌, ◌-◌, ◌^◌, ◌<◌, ◌≤◌, length, take, IsTrue};
 ghost use Rattle.trace_log.specs.Spelling.{is_spellable};
-ghost use Rattle.trace_log.specs.LogText.{after_all};
-ghost use Rattle.trace_log.specs.Requests.{tally_after, cut_marks};
+ghost use Rattle.trace_log.specs.LogText.{after, after_all};
+ghost use Rattle.trace_log.specs.Requests.{tally_after};
 ghost use Rattle.trace_log.specs.Trace.{with_record};
 ghost use Rattle.staged_cut.specs.HandedOn.{state_of, CanBegin};
 ghost use Rattle.checkpointer.specs.Marks.{mark_of, marks_of, with_marks};
@@ -43,27 +43,9 @@ impl Checkpointer {
         trace.append(mark);
     }
 
-    /// Puts the marks between a cut and its outcome on the trace, as far as it has room: of each direction how
-    /// many bytes were drained, and how many are refilled.
-    pub(crate) fn mark_bytes(&mut self, start: &Start, trace: &mut Trace)
-        requires ready { CanBegin start.now }
-        requires work { self.old.tally.work + 1 < 2 ^ 64 }
-        requires request { self.old.lines.request + 1 < 2 ^ 64 }
-        requires drained { self.old.lines.drained ≡ 0 }
-        ensures checkpointer { self.new ≡ record self.old {
-          lines = after_all self.old.lines (take trace.old.room (cut_marks (state_of start.now)));
-        } }
-        ensures trace { trace.new ≡ with_marks trace.old (cut_marks (state_of start.now)) }
-        ensures drained { self.new.lines.drained ≤ 2 ^ 64 }
-    {
-        // What there is room for bounds the bytes that the marks count.
-        prove!(trace.room() <= u32::MAX);
-        self.mark_all(start, Pass::Drain, trace);
-        self.mark_all(start, Pass::Refill, trace);
-    }
-
-    /// Puts the marks of one kind on the trace, as far as it has room.
-    fn mark_all(&mut self, start: &Start, passes: Pass, trace: &mut Trace)
+    /// Puts the marks of one kind on the trace, as far as it has room: of each direction how many bytes were
+    /// drained, or are refilled.
+    pub(crate) fn mark_all(&mut self, start: &Start, passes: Pass, trace: &mut Trace)
         requires ready { CanBegin start.now }
         requires work { self.old.tally.work + 1 < 2 ^ 64 }
         requires request { self.old.lines.request + 1 < 2 ^ 64 }
@@ -82,9 +64,25 @@ impl Checkpointer {
             if trace.room() == 0 {
                 return;
             }
-            let mark = mark_of(passes, *dir, direction.left.len() as u32);
-            self.mark(mark, trace);
-            self.lines.pass(&mark);
+            self.mark_pass(mark_of(passes, *dir, direction.left.len() as u32), trace);
         }
+    }
+
+    /// Puts a mark on the trace behind which the lines of the log go on.
+    fn mark_pass(&mut self, mark: Record, trace: &mut Trace)
+        requires room { 0 < trace.old.room }
+        requires spellable { IsTrue (is_spellable mark) }
+        requires work { self.old.tally.work + 1 < 2 ^ 64 }
+        requires request { self.old.lines.request + 1 < 2 ^ 64 }
+        requires drained { self.old.lines.drained + 2 ^ 32 ≤ 2 ^ 128 }
+        ensures checkpointer { self.new ≡ record self.old {
+          tally = tally_after self.old.tally mark;
+          lines = after self.old.lines mark;
+        } }
+        ensures trace { trace.new ≡ with_record trace.old mark }
+        ensures more { self.new.lines.drained ≤ self.old.lines.drained + 2 ^ 32 }
+    {
+        self.mark(mark, trace);
+        self.lines.pass(&mark);
     }
 }
