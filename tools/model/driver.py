@@ -95,17 +95,18 @@ class Keeper:
         return False
 
     def _checkpoint(self, machine: Machine) -> None:
-        """What is on its way arrives; a cut, what is drained, the set, and the mark and line of its end, as far as the
-        trace has room."""
+        """What is on its way arrives; a cut, what is drained, the set, what is refilled, and the mark and line of its
+        end, as far as the trace has room."""
         if not self._append_all(arrivals(machine)):
             return
         self.trace.append(mark(Kind.CUT, self.generation + 1))
         self.generation += 1
         unread = _unread(machine)
-        marks = [moved(kind, *one) for kind in (Kind.DRAINED, Kind.REFILLED) for one in unread]
-        if not self._append_all(iter(marks)):
+        if not self._append_all(moved(Kind.DRAINED, *one) for one in unread):
             return
         self.store.put_set(images(machine))
+        if not self._append_all(moved(Kind.REFILLED, *one) for one in unread):
+            return
         self.trace.append(mark(Kind.COMPLETE, self.generation))
         drained = sum(count for _, count in unread)
         self.lines.append(f"checkpoint {self.requests} complete: generation {self.generation}, drained {drained}")

@@ -59,13 +59,15 @@ class Marks(unittest.TestCase):
 
     def test_as_far_as_there_is_room(self) -> None:
         whole = launched(self.guest, "--every 4", self.data)
+        complete = launched(self.guest, "--every 4 --records 9", self.data)
+        self.assertEqual(len(complete.sets), 3)
+        self.assertEqual(lines(complete), [lines(whole)[0], "budget spent: 9 records"])
         for room in range(4, 9):
             found = launched(self.guest, f"--every 4 --records {room}", self.data)
-            self.assertEqual((found.trace, found.sets), (whole.trace[: 16 * room], {}), room)
+            self.assertEqual(found.trace, whole.trace[: 16 * room], room)
             self.assertEqual(lines(found), [f"budget spent: {room} records"])
-        found = launched(self.guest, "--every 4 --records 9", self.data)
-        self.assertEqual(len(found.sets), 3)
-        self.assertEqual(lines(found), [lines(whole)[0], "budget spent: 9 records"])
+            # The eighth record is the mark of what is refilled, before which the set is written.
+            self.assertEqual(found.sets, complete.sets if room == 8 else {}, room)
 
     def test_a_restart_reads_what_waited(self) -> None:
         left = launched(self.guest, "--every 4 --records 9", self.data).sets
@@ -82,7 +84,8 @@ class Marks(unittest.TestCase):
         sent = [(1, 0, 2), (1, 1, 3), (4, 0, 1)]
         shut = [mark(Kind.CUT, 1), *(all_of(Kind.DRAINED, *one) for one in sent)]
         self.assertEqual(records(found)[13:], [*shut, *(all_of(Kind.REFILLED, *one) for one in sent[:2])])
-        self.assertEqual(found.sets, {})
+        self.assertEqual(found.sets, launched(guest, "--every 10 --records 21").sets)
+        self.assertEqual(launched(guest, "--every 10 --records 17").sets, {})
         self.assertIn("generation 1, drained 6", lines(launched(guest, "--every 10"))[0])
 
 
