@@ -2,6 +2,7 @@ pub mod ProgramWords
 pub mod ProgramLists
 pub mod Forms
 pub mod Walks
+pub mod Added
 pub mod Defaults
 pub mod OneJob
 pub mod JobFacts

@@ -1,14 +1,14 @@
-ghost use Rattle.std.specs.Prelude.{◌≡◌, ◌<◌, ◌^◌, ℕ, true, false, List, [], ◌∷◌, map, Some, None, IfOk, IfErr, string_bytes};
+ghost use Rattle.std.specs.Prelude.{◌≡◌, ◌<◌, ◌^◌, ℕ, true, false, List, ◌++◌, map, Some, None, IfOk, OnOk, IfErr, string_bytes};
 ghost use Rattle.std.specs.Fmt.{decimal};
 ghost use Rattle.clap.specs.Matches.{found_of};
 ghost use Rattle.clap.specs.Simple.{app_of, matches_of};
 ghost use Rattle.clap.specs.Takes.{takes};
-ghost use Rattle.clap.specs.Walk.{first_of, rows_of};
+ghost use Rattle.clap.specs.Walk.{first_of, rows_of, texts};
 ghost use Rattle.job_words.specs.declared.word_fault.WordFault.TheVariants.{Memory};
 ghost use Rattle.option_words.specs.declared.option_key.Form.TheVariants as form;
 ghost use Rattle.option_words.specs.Options.{Setting, AreSettings, words_of_all};
 ghost use Rattle.job_words.specs.Jobs.{IsRestartOf, IsRingOf};
-ghost use Rattle.job_words.specs.Parsed.{plain_app, restart_app, ring_app, with_option, with_run, AreOptions, IsNumber};
+ghost use Rattle.job_words.specs.Parsed.{heard, heard_at, option_rule, plain_app, restart_app, ring_app, rule_at, with_rules, AreOptions, IsNumber};
 ghost use Rattle.option_words.specs.Reading.{texts_of};
 
 use crate::job::{RestartJob, RingJob};
@@ -17,6 +17,20 @@ use clap::error::ErrorKind;
 use clap::{Arg, ArgMatches, Command};
 use option_words::decimal_in;
 use std::alloc::{AllocError, Global};
+
+/// The options of a restart, each with what it is where it isn't given.
+const RESTART_OPTIONS: [(&str, &[&str]); 7] = [
+    ("nodes", &["16"]),
+    ("workers", &["0"]),
+    ("every", &[]),
+    ("records", &["1000000"]),
+    ("shift", &["0"]),
+    ("pid-base", &["2000"]),
+    ("port-base", &["30000"]),
+];
+
+/// The options of a ring, likewise.
+const RING_OPTIONS: [(&str, &[&str]); 2] = [("workers", &["0"]), ("every", &["1000"])];
 
 /// The restart of the words of its options.
 pub(crate) fn restart_of(alloc: Global, words: &[String]) -> Result<RestartJob, WordFault>
@@ -55,27 +69,26 @@ pub(crate) fn ring_of(alloc: Global, processes: u32, words: &[String]) -> Result
 fn restart_command<'a>(alloc: Global) -> Result<Command<'a>, AllocError>
     ensures { IfOk result (λ command. app_of command ≡ restart_app) }
 {
-    let command = with_run(alloc, plain(alloc, "restart"))?;
-    let command = with_default(alloc, command, "shift", "0")?;
-    let command = with_default(alloc, command, "pid-base", "2000")?;
-    with_default(alloc, command, "port-base", "30000")
-}
-
-/// The options of a restart that tell how it runs.
-fn with_run<'a>(alloc: Global, command: Command<'a>) -> Result<Command<'a>, AllocError>
-    ensures { IfOk result (λ longer. app_of longer ≡ with_run (app_of command.entry)) }
-{
-    let command = with_default(alloc, command, "nodes", "16")?;
-    let command = with_default(alloc, command, "workers", "0")?;
-    let command = with_option(alloc, command, "every")?;
-    with_default(alloc, command, "records", "1000000")
+    command_with(alloc, "restart", &RESTART_OPTIONS)
 }
 
 fn ring_command<'a>(alloc: Global) -> Result<Command<'a>, AllocError>
     ensures { IfOk result (λ command. app_of command ≡ ring_app) }
 {
-    let command = with_default(alloc, plain(alloc, "ring"), "workers", "0")?;
-    with_default(alloc, command, "every", "1000")
+    command_with(alloc, "ring", &RING_OPTIONS)
+}
+
+/// A command of these options, whose first word is an argument.
+fn command_with<'a>(
+    alloc: Global,
+    name: &'a str,
+    options: &[(&'a str, &'a [&'a str])],
+) -> Result<Command<'a>, AllocError>
+    ensures { IfOk result (λ command. app_of command ≡ with_rules (plain_app name.entry.now) (map rule_at options.now)) }
+{
+    let mut args = Vec::new(alloc);
+    add_args(alloc, &mut args, options)?;
+    plain(alloc, name).args(args)
 }
 
 /// A command whose first word is an argument, without a flag for help.
@@ -87,27 +100,24 @@ fn plain<'a>(alloc: Global, name: &'a str) -> Command<'a>
         .disable_help_flag(true)
 }
 
-/// One more option, without a default.
-fn with_option<'a>(
+/// Puts an argument for each option behind those that there are.
+fn add_args<'a>(
     alloc: Global,
-    command: Command<'a>,
-    name: &'a str,
-) -> Result<Command<'a>, AllocError>
-    ensures { IfOk result (λ longer. app_of longer ≡ with_option (app_of command.entry) name.entry.now []) }
+    args: &mut Vec<Arg<'a>>,
+    options: &[(&'a str, &'a [&'a str])],
+) -> Result<(), AllocError>
+    ensures { OnOk result (map heard args.new.items ≡ map heard args.old.items ++ map heard_at options.now) }
 {
-    command.arg(Arg::new(alloc, name).long(name))
+    for (name, defaults) in options {
+        args.push(arg_of(alloc, name, defaults))?;
+    }
+    Ok(())
 }
 
-/// One more option, with what it is where it isn't given.
-fn with_default<'a>(
-    alloc: Global,
-    command: Command<'a>,
-    name: &'a str,
-    default: &'a str,
-) -> Result<Command<'a>, AllocError>
-    ensures { IfOk result (λ longer. app_of longer ≡ with_option (app_of command.entry) name.entry.now (default.entry.now ∷ [])) }
+fn arg_of<'a>(alloc: Global, name: &'a str, defaults: &'a [&'a str]) -> Arg<'a>
+    ensures { heard result ≡ (option_rule name.entry.now (texts defaults.entry.now), false) }
 {
-    command.arg(Arg::new(alloc, name).long(name).default_value(default))
+    Arg::new(alloc, name).long(name).default_values(defaults)
 }
 
 /// What the parse finds. For words that the command takes it fails for want of memory alone.
