@@ -43,8 +43,8 @@ returns-then-room-eq0-clause-ended g c =
     let on = goes_on_if (ended (plain_of l.self.computation)) (sym c.lives.ensures ∙ c.if-not-lives.false) in
     at_full _ (plain_of c.args.self.now.computation) (plain_of l.self.computation) going.upcoming l.trace _ c.args.trace.now.room l.self.checkpointer _ _ _ going.under (sym c.room.ensures ∙ c.if-room-eq0.true) (l.invariant.size ∙ c.room-room.ensures) on
 
-pub returns-in_default-choose-clause-ended : goal.returns-in_default-choose-clause-ended
-returns-in_default-choose-clause-ended g c =
+pub returns-in_default-clause-ended : goal.returns-in_default-clause-ended
+returns-in_default-clause-ended g c =
     let l = c.loop-record in
     let going = l.invariant.going in
     let h = plain_of l.self.computation in
@@ -80,14 +80,14 @@ loop-record-preserved g c =
     let some : 0 < l.trace.room = let room = c.room.ensures in let not_none = c.if-room-eq0.false in omega arith in
     let chosen = chosen_so s.checkpointer.schedule (plain_of s.computation) l.self l.rounds l.trace _ _ _ _ going c.choose.new.self c.choose.result c.in-Some.choice some c.in-Some.is (c.choose.ensures.due going.upcoming going.come) in
     record {
-      going = c.in-Ok-step.ensures.ok s.checkpointer.schedule (plain_of s.computation) (g.O.Sink.seen c.args.out.now).taken (g.L.Sink.seen c.args.log.now).taken c.args.disk.now chosen;
-      ready = c.in-Ok-step.ensures.ready;
-      told = c.in-Ok-step.ensures.told;
+      going = c.in-Ok.ensures.ok s.checkpointer.schedule (plain_of s.computation) (g.O.Sink.seen c.args.out.now).taken (g.L.Sink.seen c.args.log.now).taken c.args.disk.now chosen;
+      ready = c.in-Ok.ensures.ready;
+      told = c.in-Ok.ensures.told;
       scheduled = c.step.ensures.schedule ∙ l.invariant.scheduled;
-      kept = λ some_every. c.in-Ok-step.ensures.kept (λ none. some_every (ap (λ (x : Schedule). x.every) c.step.ensures.schedule ∙ none));
+      kept = λ some_every. c.in-Ok.ensures.kept (λ none. some_every (ap (λ (x : Schedule). x.every) c.step.ensures.schedule ∙ none));
       untouched = λ none. c.step.ensures.untouched (ap (λ (x : Schedule). x.every) l.invariant.scheduled ∙ none) ∙ l.invariant.untouched none;
-      size = let same = c.in-Ok-step.ensures.size in let whole = l.invariant.size in omega arith;
-      left = let less = c.in-Ok-step.ensures.less in let left = l.invariant.left in omega arith;
+      size = let same = c.in-Ok.ensures.size in let whole = l.invariant.size in omega arith;
+      left = let less = c.in-Ok.ensures.less in let left = l.invariant.left in omega arith;
       later = let first = l.invariant.later in let second = c.step.ensures.later in omega arith;
       log_later = let first = l.invariant.log_later in let second = c.step.ensures.log_later in omega arith;
     }
@@ -100,8 +100,8 @@ returns-then-lives-clause-ended g c =
     let none : l.trace.room ≡ 0 = let left = l.invariant.left in let over = c.loop-record-test.false in omega arith in
     at_full _ (plain_of c.args.self.now.computation) (plain_of l.self.computation) going.upcoming l.trace _ c.args.trace.now.room l.self.checkpointer _ _ _ going.under none (l.invariant.size ∙ c.room-room.ensures) on
 
-pub returns-clause-ended : goal.returns-clause-ended
-returns-clause-ended g c =
+pub returns-else-lives-clause-ended : goal.returns-else-lives-clause-ended
+returns-else-lives-clause-ended g c =
     let l = c.loop-record in
     let going = l.invariant.going in
     let over = ended_if (ended (plain_of l.self.computation)) (sym c.lives-2.ensures ∙ c.if-lives.false) in
