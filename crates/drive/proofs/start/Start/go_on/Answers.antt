@@ -50,7 +50,7 @@ returns-in_default-clause-ended g c =
     let h = plain_of l.self.computation in
     let some : 0 < l.trace.room = let room = c.room.ensures in let not_none = c.if-room-eq0.false in omega arith in
     let on = goes_on_if (ended h) (sym c.lives.ensures ∙ c.if-not-lives.false) in
-    let nothing = none_left l.rounds h going.upcoming going.come (c.in_default-choose.ensures.due going.upcoming going.come) in
+    let nothing = none_left l.rounds h going.upcoming going.come (c.in_default.ensures.due going.upcoming going.come) in
     let still = stands_still h l.invariant.ready.valid on nothing in
     at_rest _ (plain_of c.args.self.now.computation) h going.upcoming l.trace _ c.args.trace.now.room l.self.checkpointer _ _ _ going.under (is_free _ _ _ _ l.trace _ _ _ _ going some) some (l.invariant.size ∙ c.room-room.ensures) still.0 still.1
 
