@@ -14,8 +14,9 @@ each, by one program and by jobs of several:
   where there isn't so much memory the run ends with `memory`;
 - a limit of the size of files: the run is ended by a signal, or, where the caller ignores that, has its
   checkpoints refused;
-- a trace with no room for a checkpoint's outcome, of which then neither the log nor the trace tells, whether
-  its marks of bytes in channels fit or not; a restart goes on from the set before;
+- a trace with no room for a checkpoint's outcome, of which then neither the log nor the trace tells: a
+  restart goes on from its set where the marks of what was drained left room for a record, else from the set
+  before;
 - what is made in the folder is its owner's alone, and links there are not followed.
 
 Usage: tools/at_the_edge.py [DMTCP [TRIAL..]]
@@ -42,7 +43,8 @@ from typing import Any
 
 from built import built_program
 from jobs import (
-    COUNT, HELLO, LONGEST_RUN, PIPELINE, SERVER, SETS, SHELL, Folder, Job, Progress, Wrong, check, outcomes_in,
+    COUNT, HELLO, LONGEST_RUN, PIPELINE, SERVER, SETS, SHELL, Folder, Job, Progress, Wrong, check,
+    generation_of, outcomes_in,
 )
 from model.trace import Kind, Record
 
@@ -282,16 +284,19 @@ def try_no_room_for_an_outcome(edge: Edge) -> None:
     records = edge.records() or []
     cut, outcome = longest_outcome(records)
     lines = [found.line for found in outcomes_in(records[:cut])]
-    for room in sorted({cut + 1, (cut + 1 + outcome) // 2, outcome}):
+    all_drained = (cut + 1 + outcome) // 2  # the room that the last `Drained` fills, or the cut where there is none
+    for room in sorted({cut + 1, all_drained, outcome}):
         edge.begin(case.job)
         progress, told = Progress(edge, case.job, edge.console), edge.run(case.launch(room))
         wanted = [*lines, f"budget spent: {room} records"]
         check((told.status, told.log) == (SPENT, wanted), f"with {room} records status {told.status}: {told.log}")
         check(edge.records() == records[:room], f"with {room} records the trace is another")
         check(usual.console.startswith(told.console), f"with {room} records the console is another")
-        progress.note(told, [])
+        progress.note(told, records[:room])
+        is_written = room > all_drained
         had_set, after = progress.can_restart(), edge.run(["restart"])
-        check(had_set == bool(lines), f"with {room} records generation {progress.complete} counts")
+        check((had_set, progress.complete == generation_of(records[cut])) == (bool(lines) or is_written, is_written),
+              f"with {room} records generation {progress.complete} counts")
         if had_set:
             progress.check_end(after)
         check(had_set or (after.status, after.log) == (NO_SET, ["no set"]), f"a restart's log is {after.log}")
