@@ -26,6 +26,7 @@ DEFINES = re.compile(r"(?:abbrev |unfoldable )(?:pub )?\S|pub (?:record|data) \S
 MODULE = re.compile(r"module _\b")
 IMPORT = re.compile(r"(?:unfoldable )?(?:pub |ghost )?use Rattle\.([\w.]+?)(?:\.\{(.*)\}| as (\w+));?$")
 NAME = re.compile(r"[A-Za-z_][\w'-]*(?:\.[A-Za-z_][\w'-]*)*")
+HANDED_ON = re.compile(r"\w+\.(specs|proofs)\.Of([A-Z]\w*)\.")
 
 Definition = collections.namedtuple("Definition", "crate path name lines")
 
@@ -53,6 +54,14 @@ def first_sentence(lines):
     return re.split(r"(?<=[^.])\.(?: |$)", text)[0].rstrip(".:") or "no head"
 
 
+def home_of(place):
+    """Returns the place itself of one that a library hands on: `plain_process.specs.OfElf32.Rules` is `elf32.specs.Rules`."""
+    while found := HANDED_ON.match(place):
+        name = re.sub("(?<=[^_])(?=[A-Z])", "_", found[2]).lower()
+        place = f"{name}.{found[1]}.{place[found.end():]}"
+    return place
+
+
 def imports_of(lines):
     """Returns for each name that a file brings in the module that has it and its name there, None for a module."""
     found = {}
@@ -61,6 +70,7 @@ def imports_of(lines):
         if match is None:
             continue
         place, names, alias = match.groups()
+        place = home_of(place)
         if alias:
             found[alias] = (place, None)
         for item in filter(None, (it.strip() for it in (names or "").split(","))):

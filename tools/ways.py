@@ -1,11 +1,13 @@
 #!/usr/bin/env python3
-"""Counts the ways through crates.txt from each crate down to the lowest ones, which `rt ci` follows before it proves anything.
+"""Counts the ways through crates.txt from each crate down to the lowest ones, which `rt ci` follows before it proves
+anything, and the files that it reads along them where it makes a sum of each library (docs/PROOFS.md, "What the checks
+cost").
 
     tools/ways.py [--most N]
 
-It writes how many ways there are, and the N names (10 where none is told) of a library in a crate's line without which
-most of them were not there, each where another library of the same line stands on it and can hand on what the crate
-needs. Behind it stands how many ways were left.
+It writes how many ways and files there are, and the N names (10 where none is told) of a library in a crate's line without
+which most files were not read, each where another library of the same line stands on it and can hand it on. Behind it stands
+how many files and ways were left.
 """
 
 import argparse
@@ -13,6 +15,7 @@ import functools
 from pathlib import Path
 
 TOP = Path(__file__).resolve().parent.parent
+READ = ["src", "specs", "proofs"]  # the folders of a crate of which a sum is made
 
 
 def libraries():
@@ -22,14 +25,31 @@ def libraries():
     return {crate: [it for it in below if it in named] for crate, below in named.items()}
 
 
-def ways(crates):
-    """Returns how many ways lead down from all crates together, each crate's own place among them."""
+def files_of(crates):
+    """Returns how many files each crate has of which a sum is made."""
+    folder = TOP / "crates"
+    return {crate: sum(it.is_file() for part in READ for it in (folder / crate / part).rglob("*")) for crate in crates}
+
+
+def sum_over_ways(crates, weight, ends):
+    """Returns what the crates at the ends of all ways from some crates down weigh, each crate's own place among them."""
 
     @functools.cache
     def down(crate):
-        return 1 + sum(map(down, crates[crate]))
+        return weight(crate) + sum(map(down, crates[crate]))
 
-    return sum(map(down, crates))
+    return sum(map(down, ends))
+
+
+def ways(crates):
+    """Returns how many ways lead down from all crates together."""
+    return sum_over_ways(crates, lambda crate: 1, crates)
+
+
+def reads(crates, files):
+    """Returns how many files are read for the sums of all libraries."""
+    made = [it for it in crates if not (TOP / "crates" / it / "src" / "main.rt").exists()]
+    return sum_over_ways(crates, files.__getitem__, made)
 
 
 def below(crates):
@@ -42,22 +62,24 @@ def below(crates):
     return {crate: of(crate) for crate in crates}
 
 
-def savings(crates):
-    """Yields for each name that could be left out how many ways were left, the crate and the library."""
+def savings(crates, files):
+    """Yields for each name that could be left out how many files and ways were left, the crate and the library."""
     lower = below(crates)
     for crate, used in crates.items():
         for one in used:
             if any(one in lower[it] for it in used):
-                yield ways({**crates, crate: [it for it in used if it != one]}), crate, one
+                rest = {**crates, crate: [it for it in used if it != one]}
+                yield reads(rest, files), ways(rest), crate, one
 
 
 def main():
     parser = argparse.ArgumentParser(description=__doc__, formatter_class=argparse.RawDescriptionHelpFormatter)
     parser.add_argument("--most", type=int, default=10, metavar="N")
     crates = libraries()
-    print(f"{len(crates)} crates, {ways(crates):,} ways")
-    for left, crate, one in sorted(savings(crates))[: parser.parse_args().most]:
-        print(f"{crate} names {one}: without it {left:,}")
+    files = files_of(crates)
+    print(f"{len(crates)} crates, {ways(crates):,} ways, {reads(crates, files):,} files read for sums")
+    for left, rest, crate, one in sorted(savings(crates, files))[: parser.parse_args().most]:
+        print(f"{crate} names {one}: without it {left:,} files, {rest:,} ways")
 
 
 if __name__ == "__main__":

@@ -1,1 +1,2 @@
 pub mod Requests
+pub use Rattle.sys_abi.specs as OfSysAbi

@@ -14,3 +14,4 @@ pub mod request;
 
 pub use delivery::{At, Delivered, Delivering, Given, IdleThread};
 pub use request::{Request, is_local, request_of};
+pub use sys_abi;

@@ -17,7 +17,7 @@ use Rattle.plain_machine.specs.declared.kernel.PlainKernel.{PlainKernel}
 use Rattle.plain_machine.specs.Kernel.{is_live}
 use Rattle.plain_machine.specs.Valid.{FitsLife}
 use Rattle.plain_machine.proofs.ThreadKeys.{same_len}
-use Rattle.guest_proc.specs.Guests.{GuestPart}
+use Rattle.staged_cut.specs.OfGuestProc.Guests.{GuestPart}
 use Rattle.image_process.specs.declared.process_image.ProcImage.{ProcImage}
 use Rattle.image_process.specs.declared.thread_image.ThreadImage.{ThreadImage}
 use Rattle.image_process.specs.ProcessFits.{threads_of}

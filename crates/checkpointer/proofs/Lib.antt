@@ -13,3 +13,4 @@ pub mod FilesOfProcesses
 pub mod SpelledStates
 pub mod Holding
 pub mod RestoredStates
+pub use Rattle.staged_cut.proofs.OfGuestProc

@@ -14,7 +14,7 @@ use Rattle.sys_abi.specs.declared.identity.VPid.{VPid}
 use Rattle.sys_abi.specs.Orders.{vpid_cmp}
 use Rattle.sys_abi.proofs.OrderLaws.{vpid_total, vpid_exact}
 use Rattle.plain_process.specs.declared.user_part.UserPart.{UserPart}
-use Rattle.guest_proc.specs.Guests.{GuestPart}
+use Rattle.staged_cut.specs.OfGuestProc.Guests.{GuestPart}
 use Rattle.image_process.specs.declared.process_image.ProcImage.{ProcImage}
 use Rattle.image_process.specs.ProcessImages.{pid_at, tids_at}
 use Rattle.image_process.proofs.ProcessFiles.{image_of}

@@ -15,7 +15,7 @@ use Rattle.plain_machine.specs.Tests.{full_arrive}
 use Rattle.sys_abi.specs.Lives.{lives}
 use Rattle.shared_items.specs.declared.shared.ProcessEntry.{ProcessEntry}
 use Rattle.trace_log.specs.Requests.{CanBeHeld}
-use Rattle.guest_proc.specs.Guests.{GuestPart}
+use Rattle.staged_cut.specs.OfGuestProc.Guests.{GuestPart}
 use Rattle.image_process.specs.declared.process_image.ProcImage.{ProcImage}
 use Rattle.image_process.specs.ProcessImages.{SpellsProcess, pid_at, tids_at}
 use Rattle.image_process.specs.UserParts.{user_of}

@@ -11,7 +11,7 @@ use Rattle.image_process.specs.declared.process_image.ProcImage.{ProcImage}
 use Rattle.image_process.specs.ProcessImages.{SpellsProcess}
 use Rattle.image_process.specs.UserParts.{user_of}
 use Rattle.plain_process.specs.Valid.{IsUser}
-use Rattle.guest_proc.specs.Guests.{GuestPart}
+use Rattle.staged_cut.specs.OfGuestProc.Guests.{GuestPart}
 
 pub record IsFileOf (guest : GuestPart) (text : List ℕ) : Type 0 where
   pub image : ProcImage

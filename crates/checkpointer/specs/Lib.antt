@@ -10,3 +10,4 @@ pub mod Images
 pub mod HandedOn
 pub mod StopVariants
 pub mod DidVariants
+pub use Rattle.staged_cut.specs.OfGuestProc

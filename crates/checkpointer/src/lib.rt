@@ -2,10 +2,10 @@
 //! of sets, and the computation that a set stands for.
 //!
 //! A [`Checkpointer`] is told of each record of work, and serves the request that it may have made. It has
-//! all bytes arrive that are missing, makes the cut, holds the computation with its channels drained
-//! (`staged_cut`), writes the files of [`images`] as a set, lets the computation go on, and puts the outcome on
-//! the trace and its line on the log; or the request lapses, where nobody lives, or is refused. [`restored`]
-//! is the way back.
+//! all bytes arrive that are missing, holds the computation with its channels drained (`staged_cut`), puts
+//! the cut and the marks of what was drained on the trace, writes the files of [`images`] as a set, puts the
+//! marks of what is refilled and the outcome on the trace and the outcome's line on the log, and lets the
+//! computation go on; or the request lapses, where nobody lives, or is refused. [`restored`] is the way back.
 //!
 //! Proved, for every computation of any number of processes, all sinks and folders, also where these fail:
 //! the trace goes on being a run of the plain machine in the order of the rounds, requests are answered as
@@ -24,5 +24,5 @@ pub mod unsupported;
 pub use checkpointer::Checkpointer;
 pub use restoring::restored;
 pub use set_files::images;
-pub use staged_cut::{Computation, Did, Next, Stop, Wrapped};
+pub use staged_cut::{Computation, Did, Next, Stop, Wrapped, guest_proc};
 pub use unsupported::{Unsupported, first_unsupported};

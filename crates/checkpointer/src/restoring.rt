@@ -5,11 +5,11 @@ ghost use Rattle.image_codec.specs.Sets.{SpellsFiles, IsStateOf};
 ghost use Rattle.staged_cut.specs.HandedOn.{state_of, CanBegin};
 ghost use Rattle.checkpointer.specs.Images.{IsWithin, guest_entry};
 
-use guest_proc::Guest;
 use id_maps::ByPid;
 use image_codec::{ProcImage, restored_kernel};
 use rebuild::Decoded;
 use staged_cut::Start;
+use staged_cut::guest_proc::Guest;
 use std::alloc::{AllocError, Global};
 use views::list_of::ListOf;
 

@@ -10,11 +10,11 @@ ghost use Rattle.staged_cut.specs.HandedOn.{state_of, CanBegin};
 ghost use Rattle.checkpointer.specs.Images.{AreFilesOf, HasFile, IsFileOf};
 ghost use Rattle.checkpointer.specs.Sets.{SpellsState};
 
-use guest_proc::Guest;
 use id_maps::ByPid;
 use image_codec::{SetBytes, shared_image, write_process, write_shared};
 use plain_machine::PlainKernel;
 use staged_cut::Start;
+use staged_cut::guest_proc::Guest;
 use std::alloc::{AllocError, Global};
 use views::list_of::ListOf;
 

@@ -33,7 +33,7 @@ use Rattle.host_tables.specs.Descriptions.{address_of, seen_desc, seen_object, I
 use Rattle.host_tables.specs.Network.{SameListener, IsSilent, seen_channel}
 use Rattle.host_tables.specs.Stands.{Given, Stands}
 use Rattle.host_tables.proofs.LookUps.{some_value}
-use Rattle.wrap_names.proofs.Callers.{mapped_some}
+use Rattle.cut_stages.proofs.OfWrapNames.Callers.{mapped_some}
 use Rattle.leader_vote.specs.Agents.{names_end, waits_in}
 
 either_false : (a b : Bool) → a ≡ false → b ≡ false → (a || b) ≡ false

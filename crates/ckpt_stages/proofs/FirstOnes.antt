@@ -46,8 +46,8 @@ use Rattle.host_tables.specs.Descriptions.{seen_desc, seen_object}
 use Rattle.host_tables.specs.Stands.{Given, Stands}
 use Rattle.host_tables.specs.Systems.{given_of}
 use Rattle.host_tables.proofs.LookUps.{some_value, at_slot}
-use Rattle.wrap_names.specs.Wrapping.{IsWrapped}
-use Rattle.wrap_names.proofs.Callers.{sound}
+use Rattle.cut_stages.specs.OfWrapNames.Wrapping.{IsWrapped}
+use Rattle.cut_stages.proofs.OfWrapNames.Callers.{sound}
 use Rattle.leader_vote.specs.Voters.{Virts}
 use Rattle.leader_vote.proofs.Walks.{count_of, next_is, walked, none_left, fewer_left}
 use Rattle.ckpt_stages.specs.Faults.{Found, unsupported_at, FindsUnsupported}

@@ -41,7 +41,7 @@ use Rattle.wire_net.specs.Reserves.{Reserve}
 use Rattle.host_tables.specs.declared.system.System.{System}
 use Rattle.host_tables.specs.Systems.{given_of}
 use Rattle.host_tables.proofs.LookUps.{some_value, lives_of}
-use Rattle.wrap_names.proofs.Callers.{sound}
+use Rattle.cut_stages.proofs.OfWrapNames.Callers.{sound}
 use Rattle.leader_vote.specs.Owners.{Owners}
 use Rattle.leader_vote.specs.Voters.{Voters, voter, all_voted}
 use Rattle.ckpt_stages.specs.Suspensions.{IsSuspended}

@@ -21,7 +21,7 @@ use Rattle.host_tables.specs.declared.system.System.{System}
 use Rattle.host_tables.specs.Stands.{Stands}
 use Rattle.host_tables.specs.Systems.{given_of}
 use Rattle.host_tables.proofs.LookUps.{some_value, lives_of}
-use Rattle.wrap_names.specs.Wrapping.{IsWrapped}
+use Rattle.cut_stages.specs.OfWrapNames.Wrapping.{IsWrapped}
 use Rattle.seen_kernel.specs.Descriptions.{HasNoDatagrams}
 use Rattle.leader_vote.specs.Owners.{Owners, with_owners}
 use Rattle.leader_vote.specs.Voters.{Voters, HasVoters}

@@ -20,7 +20,7 @@ use Rattle.wire_net.specs.contracts.cut_room.DirNotes as dir_notes
 use Rattle.wire_net.specs.Networks.{Network, coded_network}
 use Rattle.wire_net.specs.Noted.{CanMove}
 use Rattle.host_tables.specs.Numbers.{Pids}
-use Rattle.wrap_names.specs.Codes.{kernel_code}
+use Rattle.cut_stages.specs.OfWrapNames.Codes.{kernel_code}
 
 -- pids are the real numbers of the agents
 pub record Draining : Type 0 where

@@ -3,3 +3,4 @@ pub mod Suspensions
 pub mod Faults
 pub mod Kinds
 pub mod HandedOn
+pub use Rattle.cut_stages.specs.OfWrapNames

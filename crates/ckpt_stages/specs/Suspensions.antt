@@ -24,7 +24,7 @@ use Rattle.wire_net.specs.declared.agents.AgentEnd.{AgentEnd}
 use Rattle.wire_net.specs.CutRooms.{RoomView}
 use Rattle.wire_net.specs.Reserves.{Reserve, reserve}
 use Rattle.host_tables.specs.declared.system.System.{System}
-use Rattle.wrap_names.specs.Codes.{kernel_code}
+use Rattle.cut_stages.specs.OfWrapNames.Codes.{kernel_code}
 use Rattle.leader_vote.specs.Owners.{Owners, KeepsOwners}
 use Rattle.leader_vote.specs.Voters.{Voters, Virts, voter, HasVoters}
 use Rattle.leader_vote.specs.Directions.{AreDirs, standing_of}

@@ -1,7 +1,7 @@
 //! The first descriptor that no image of a checkpoint holds: an end of a datagram pair, or an event counter.
 ghost use Rattle.std.specs.Prelude.{◌≡◌, Some};
 ghost use Rattle.plain_machine.specs.declared.kernel.PlainKernel.{PlainKernel};
-ghost use Rattle.wrap_names.specs.Wrapping.{IsWrapped};
+ghost use Rattle.cut_stages.specs.OfWrapNames.Wrapping.{IsWrapped};
 ghost use Rattle.ckpt_stages.specs.Faults.{FindsUnsupported};
 ghost use Rattle.ckpt_stages.specs.Kinds as words;
 

@@ -1,7 +1,7 @@
 //! The suspension of all processes, and the election of leaders.
 ghost use Rattle.std.specs.Prelude.{◌≡◌, true, None, IfOk, IfErr};
 ghost use Rattle.leader_vote.specs.Voters as voting;
-ghost use Rattle.wrap_names.specs.Wrapping.{IsWrapped};
+ghost use Rattle.cut_stages.specs.OfWrapNames.Wrapping.{IsWrapped};
 ghost use Rattle.seen_kernel.specs.Descriptions.{HasNoDatagrams};
 ghost use Rattle.ckpt_stages.specs.Suspensions as words;
 ghost use Rattle.ckpt_stages.specs.Faults as faults;
@@ -12,6 +12,7 @@ use crate::first_unsupported::first_unsupported;
 use crate::reserving::{Reserved, reserve_all};
 use barrier_core::Barrier;
 use cut_stages::base::{Base, put_back, vote_by};
+use cut_stages::wrap_names::stood::Stood;
 use host_tables::System;
 use id_maps::{ByDesc, ByPid};
 use leader_vote::voters::{all_voted, has_voted, mark_voter};
@@ -19,7 +20,6 @@ use std::alloc::Global;
 use std::marker::Model;
 use sys_abi::{Dir, VPid};
 use wire_net::{AgentEnd, CutRoom, Room};
-use wrap_names::stood::Stood;
 
 /// A system whose processes are suspended. A contract sees the kernel part for which it stood then, with the
 /// next number, the barrier, and which of its live processes have voted.

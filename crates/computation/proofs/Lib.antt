@@ -15,3 +15,4 @@ mod AnswerBytes
 mod Twins
 mod ShownBytes
 pub mod MissingWalk
+pub use Rattle.guest_proc.proofs as OfGuestProc

@@ -10,8 +10,8 @@ use Rattle.std.specs.BTreeMap as tree
 use Rattle.std.specs.BTreeMap.{BTreeMap}
 use Rattle.std.specs.BTreeMap.Range.{range_contains, entries_between}
 use Rattle.std.specs.Map.Iter.{TakesFirst, deref_pair}
-use Rattle.views.proofs.TreeMaps.{view}
-use Rattle.views.proofs.NextKeys.{next-by}
+use Rattle.sys_abi.proofs.OfViews.TreeMaps.{view}
+use Rattle.sys_abi.proofs.OfViews.NextKeys.{next-by}
 use Rattle.sys_abi.specs.declared.identity.ConnId.{ConnId}
 use Rattle.sys_abi.specs.Orders.{conn_cmp}
 use Rattle.sys_abi.proofs.OrderLaws.{conn_total}

@@ -5,8 +5,8 @@ use Rattle.std.specs.Ordering.{eq_by_cmp}
 use Rattle.std.specs.Cmp.{IsTotalOrder}
 use Rattle.std.specs.FinMap as map
 use Rattle.std.specs.BTreeMap.{BTreeMap}
-use Rattle.views.proofs.TreeMaps.{view}
-use Rattle.views.proofs.MapLaws.{get-retain, same_key}
+use Rattle.sys_abi.proofs.OfViews.TreeMaps.{view}
+use Rattle.sys_abi.proofs.OfViews.MapLaws.{get-retain, same_key}
 
 same_either_way : {A : Type 0} (b : Bool) (x : A) → cond b x x ≡ x
 same_either_way true x = refl

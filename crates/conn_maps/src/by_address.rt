@@ -9,7 +9,7 @@ use std::collections::BTreeMap;
 use std::collections::btree_map::{Iter, Keys, Values};
 use std::marker::Model;
 use sys_abi::VirtAddr;
-use views::duplicate::{Duplicate, duplicate_tree};
+use sys_abi::views::duplicate::{Duplicate, duplicate_tree};
 
 /// A map from internet addresses, which contracts see as a finite map in the order of `VirtAddr`.
 #[derive(Drop)]

@@ -11,7 +11,7 @@ use std::collections::btree_map::{Iter, Keys, Values};
 use std::marker::Model;
 use std::ops::Bound;
 use sys_abi::ConnId;
-use views::duplicate::{Duplicate, duplicate_tree};
+use sys_abi::views::duplicate::{Duplicate, duplicate_tree};
 
 /// A map from channels, which contracts see as a finite map in the order of `ConnId`.
 #[derive(Drop)]

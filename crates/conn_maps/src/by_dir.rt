@@ -9,7 +9,7 @@ use std::collections::BTreeMap;
 use std::collections::btree_map::{Iter, Keys, Values};
 use std::marker::Model;
 use sys_abi::Dir;
-use views::duplicate::{Duplicate, duplicate_tree};
+use sys_abi::views::duplicate::{Duplicate, duplicate_tree};
 
 /// A map from directions of channels, which contracts see as a finite map in the order of `Dir`.
 #[derive(Drop)]

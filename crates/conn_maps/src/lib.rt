@@ -13,3 +13,5 @@ pub mod by_dir;
 pub use by_address::ByAddress;
 pub use by_conn::ByConn;
 pub use by_dir::ByDir;
+pub use sys_abi;
+pub use sys_abi::views;

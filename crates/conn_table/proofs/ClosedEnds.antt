@@ -3,10 +3,10 @@ use Rattle.std.proofs.Common.{◌≡◌, ℕ, Bool, true, false, refl, sym, ap, 
 use Rattle.std.specs.Prelude.{Option, Some, None, if◌then◌else◌}
 use Rattle.std.specs.Option.{option_map, option_map_or}
 use Rattle.std.specs.FinMap as map
-use Rattle.views.proofs.MapLaws.{true_false, remove_insert}
-use Rattle.sys_abi.specs.declared.identity.ConnId.{ConnId}
-use Rattle.sys_abi.specs.Orders.{conn_cmp}
-use Rattle.sys_abi.proofs.OrderLaws.{conn_total, conn_exact}
+use Rattle.id_maps.proofs.OfViews.MapLaws.{true_false, remove_insert}
+use Rattle.id_maps.specs.OfSysAbi.declared.identity.ConnId.{ConnId}
+use Rattle.id_maps.specs.OfSysAbi.Orders.{conn_cmp}
+use Rattle.id_maps.proofs.OfSysAbi.OrderLaws.{conn_total, conn_exact}
 use Rattle.conn_table.specs.declared.conn.Conn.{Conn}
 use Rattle.conn_table.specs.Conns.{is_open, without_end, put_back, after_end, with_closed, stays_open}
 

@@ -5,7 +5,7 @@ use Rattle.std.specs.Cmp.{nat_cmp_total}
 use Rattle.std.specs.Option.{option_map, option_map_or}
 use Rattle.std.specs.FinMap as map
 use Rattle.std.specs.FinMap.{nat_cmp-IsAntisymmetric}
-use Rattle.views.proofs.MapLaws.{true_false, remove_insert}
+use Rattle.id_maps.proofs.OfViews.MapLaws.{true_false, remove_insert}
 use Rattle.conn_table.specs.declared.pairs.DatagramPair.{DatagramPair}
 use Rattle.conn_table.specs.Pairs.{Pairs, is_open, without_end, put_back, after_close, with_closed, stays_open}
 

@@ -6,7 +6,7 @@ use Rattle.std.specs.Prelude.{Option, Some, None, is_some}
 use Rattle.std.specs.Cmp.{nat_cmp_total}
 use Rattle.std.specs.FinMap as map
 use Rattle.std.specs.FinMap.{nat_cmp-IsAntisymmetric}
-use Rattle.views.proofs.MapLaws.{true_false, same_or_other}
+use Rattle.id_maps.proofs.OfViews.MapLaws.{true_false, same_or_other}
 use Rattle.conn_table.specs.declared.pairs.DatagramPair.{DatagramPair}
 use Rattle.conn_table.specs.Pairs.{Pairs}
 use Rattle.conn_table.specs.Openings.{AreTaken, IsLowestNumber}

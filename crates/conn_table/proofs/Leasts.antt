@@ -5,8 +5,8 @@ use Rattle.std.specs.Ordering.{is_lt, ordering_reverse}
 use Rattle.std.specs.Cmp.{IsTotalOrder}
 use Rattle.std.proofs.lemmas.List.Elements.{All-nil, All-cons, All-push, All-same, All-append, All-weaker}
 use Rattle.std.proofs.lemmas.List.{take_more, take_all}
-use Rattle.views.proofs.MapLaws.{true_false}
-use Rattle.sys_abi.proofs.OrderLaws.{slot_total}
+use Rattle.id_maps.proofs.OfViews.MapLaws.{true_false}
+use Rattle.id_maps.proofs.OfSysAbi.OrderLaws.{slot_total}
 use Rattle.conn_table.specs.Unsupported.{Row, is_unsupported, slot_of, comes_before, IsAfter, IsNotBefore, IsSupported, IsFirstLeast, IsLeastUnsupported, lesser_of, lesser}
 
 less : (r : Ordering) → is_lt r ≡ true → r ≡ Less

@@ -7,7 +7,7 @@ use Rattle.std.specs.Cmp.{nat_cmp_total}
 use Rattle.std.specs.Option.{option_map_or}
 use Rattle.std.specs.FinMap as map
 use Rattle.std.specs.FinMap.{nat_cmp-IsAntisymmetric}
-use Rattle.views.proofs.MapLaws.{insert_same}
+use Rattle.id_maps.proofs.OfViews.MapLaws.{insert_same}
 use Rattle.conn_table.specs.declared.pairs.DatagramPair.{DatagramPair}
 use Rattle.conn_table.specs.Messages.{at_pair}
 use Rattle.conn_table.specs.Pairs.{Pairs}

@@ -11,9 +11,9 @@ use Rattle.std.specs.Option.{option_map, option_map_or}
 use Rattle.std.specs.List.{list_any}
 use Rattle.std.specs.Ordering.{eq_by_cmp}
 use Rattle.std.specs.FinMap as map
-use Rattle.sys_abi.specs.declared.identity.ConnId.{ConnId}
-use Rattle.sys_abi.specs.declared.identity.VirtAddr.{VirtAddr}
-use Rattle.sys_abi.specs.Orders.{conn_cmp, desc_cmp, address_cmp}
+use Rattle.id_maps.specs.OfSysAbi.declared.identity.ConnId.{ConnId}
+use Rattle.id_maps.specs.OfSysAbi.declared.identity.VirtAddr.{VirtAddr}
+use Rattle.id_maps.specs.OfSysAbi.Orders.{conn_cmp, desc_cmp, address_cmp}
 pub use Rattle.id_maps.specs.HandedOn.{is_above}
 use Rattle.conn_table.specs.declared.conn.Conn.{Conn}
 

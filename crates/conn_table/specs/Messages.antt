@@ -7,7 +7,7 @@
 use Rattle.std.specs.Prelude.{◌==◌, ℕ, List, [], ◌∷◌, ◌++◌, drop, slice_get, Option, if◌then◌else◌}
 use Rattle.std.specs.Option.{option_map_or}
 use Rattle.std.specs.FinMap as map
-use Rattle.views.specs.Numbers.{Byte}
+use Rattle.id_maps.specs.OfViews.Numbers.{Byte}
 use Rattle.conn_table.specs.declared.pairs.DatagramPair.{DatagramPair}
 use Rattle.conn_table.specs.Pairs.{Pairs, end_of}
 

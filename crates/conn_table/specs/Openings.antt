@@ -4,7 +4,7 @@
 --     IsLowestNumber m number     no pair has the number, and some pair each one below it
 use Rattle.std.specs.Prelude.{◌≡◌, ℕ, ◌<◌, true, [], None, IsSome}
 use Rattle.std.specs.FinMap as map
-use Rattle.sys_abi.specs.declared.identity.DescId.{DescId}
+use Rattle.id_maps.specs.OfSysAbi.declared.identity.DescId.{DescId}
 use Rattle.conn_table.specs.declared.pairs.DatagramEnd.{DatagramEnd}
 use Rattle.conn_table.specs.declared.pairs.DatagramPair.{DatagramPair}
 use Rattle.conn_table.specs.Pairs.{Pairs}

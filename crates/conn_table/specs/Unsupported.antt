@@ -7,12 +7,12 @@
 --     IsLeastUnsupported rows found   found is the first unsupported row before which no unsupported one comes, or there is none
 use Rattle.std.specs.Prelude.{◌≡◌, Bool, true, false, List, ◌∷◌, ◌++◌, All, Option, Some, None, if◌then◌else◌}
 use Rattle.std.specs.Ordering.{is_lt}
-use Rattle.sys_abi.specs.declared.identity.VPid.{VPid}
-use Rattle.sys_abi.specs.declared.identity.Fd.{Fd}
-use Rattle.sys_abi.specs.declared.identity.Slot.{Slot}
-use Rattle.sys_abi.specs.declared.record.Kind.{Kind}
-use Rattle.sys_abi.specs.declared.record.Kind.TheVariants.{Datagram, Counter}
-use Rattle.sys_abi.specs.Orders.{slot_cmp}
+use Rattle.id_maps.specs.OfSysAbi.declared.identity.VPid.{VPid}
+use Rattle.id_maps.specs.OfSysAbi.declared.identity.Fd.{Fd}
+use Rattle.id_maps.specs.OfSysAbi.declared.identity.Slot.{Slot}
+use Rattle.id_maps.specs.OfSysAbi.declared.record.Kind.{Kind}
+use Rattle.id_maps.specs.OfSysAbi.declared.record.Kind.TheVariants.{Datagram, Counter}
+use Rattle.id_maps.specs.OfSysAbi.Orders.{slot_cmp}
 
 abbrev pub Row : Type 0
 Row = VPid × Fd × Kind

@@ -5,8 +5,8 @@ ghost use Rattle.conn_table.specs.Pairs as words;
 
 use crate::inbox::Inbox;
 use crate::pairs::{DatagramEnd, DatagramPair, DatagramPairs};
+use id_maps::views::number_map::NumberMap;
 use std::alloc::Global;
-use views::number_map::NumberMap;
 
 impl DatagramPairs {
     /// Closes the end of a side, 0 or else 1, if the pair is there: what waits to be read there is gone, and

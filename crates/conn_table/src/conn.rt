@@ -1,7 +1,7 @@
 ghost use Rattle.std.specs.Prelude.{◌≡◌, ◌<◌};
 ghost use Rattle.conn_table.specs.Conns as conns;
 
-use sys_abi::{ConnId, VirtAddr};
+use id_maps::sys_abi::{ConnId, VirtAddr};
 
 /// A channel without its bytes. Side 0 of an internet connection is the client's, side 0 of a pipe writes.
 #[derive(Clone, Copy, Debug, PartialEq, Eq)]

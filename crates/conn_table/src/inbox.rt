@@ -1,9 +1,9 @@
 ghost use Rattle.std.specs.Prelude.{◌≡◌, [], ◌∷◌, ◌++◌, length, drop, slice_get, OnOk, OnErr};
 
+use id_maps::views::list_of::ListOf;
 use std::alloc::{AllocError, Global};
 use std::collections::VecDeque;
 use std::marker::Model;
-use views::list_of::ListOf;
 
 /// The messages that wait at an end of a datagram pair, oldest first.
 #[derive(Drop)]

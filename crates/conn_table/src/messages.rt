@@ -5,10 +5,10 @@ ghost use Rattle.conn_table.specs.Messages as words;
 ghost use Rattle.conn_table.specs.Pairs.{end_of};
 
 use crate::pairs::{DatagramEnd, DatagramPair, DatagramPairs};
+use id_maps::sys_abi::DescId;
+use id_maps::views::list_of::ListOf;
+use id_maps::views::number_map::NumberMap;
 use std::alloc::AllocError;
-use sys_abi::DescId;
-use views::list_of::ListOf;
-use views::number_map::NumberMap;
 
 impl DatagramPairs {
     /// The description of the end of a side, 0 or else 1, if the pair is there.

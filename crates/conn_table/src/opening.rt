@@ -5,9 +5,9 @@ ghost use Rattle.conn_table.specs.Openings as words;
 
 use crate::inbox::Inbox;
 use crate::pairs::{DatagramEnd, DatagramPair, DatagramPairs};
+use id_maps::sys_abi::DescId;
+use id_maps::views::number_map::NumberMap;
 use std::alloc::{AllocError, Global};
-use sys_abi::DescId;
-use views::number_map::NumberMap;
 
 impl DatagramPairs {
     /// The lowest number that no pair has, None where 2^32 - 1 pairs have one each, which no machine has the

@@ -2,10 +2,10 @@ ghost use Rattle.std.specs.Prelude.{◌≡◌};
 ghost use Rattle.std.specs.FinMap as map;
 
 use crate::inbox::Inbox;
+use id_maps::sys_abi::DescId;
+use id_maps::views::number_map::NumberMap;
 use std::alloc::Global;
 use std::marker::Model;
-use sys_abi::DescId;
-use views::number_map::NumberMap;
 
 /// An end of a datagram pair (`man 2 socketpair`): its description, whether it is open, and what waits to be
 /// read there.

@@ -3,16 +3,16 @@ ghost use Rattle.std.specs.Option.{option_copied};
 ghost use Rattle.std.specs.List.{list_any};
 ghost use Rattle.std.specs.Ordering.{eq_by_cmp};
 ghost use Rattle.std.specs.FinMap as map;
-ghost use Rattle.sys_abi.specs.Orders.{address_cmp};
+ghost use Rattle.id_maps.specs.OfSysAbi.Orders.{address_cmp};
 ghost use Rattle.conn_table.specs.Conns as conns;
 ghost use Rattle.conn_table.specs.Unsupported as unsupported;
 
 use crate::conn::Conn;
 use crate::conn_fault::ConnFault;
 use crate::unsupported::least_unsupported;
+use id_maps::sys_abi::{ConnId, DescId, Fd, Kind, Maker, VPid, VirtAddr};
 use id_maps::{ByConn, ByDesc, ByPid};
 use std::alloc::{AllocError, Global};
-use sys_abi::{ConnId, DescId, Fd, Kind, Maker, VPid, VirtAddr};
 
 /// The channels, the addresses of sockets and listeners, and the makers of all processes. A socket that is
 /// not bound has the address of its host with the port 0.

@@ -1,7 +1,7 @@
 ghost use Rattle.std.specs.Prelude.{◌≡◌};
 ghost use Rattle.conn_table.specs.Unsupported as unsupported;
 
-use sys_abi::{Fd, Kind, Slot, VPid};
+use id_maps::sys_abi::{Fd, Kind, Slot, VPid};
 
 /// The unsupported row of the least process and descriptor, the first such where several have the same.
 pub(crate) fn least_unsupported(rows: &[(VPid, Fd, Kind)]) -> Option<(VPid, Fd, Kind)>

@@ -10,3 +10,4 @@ pub mod Rounds
 pub mod Moves
 pub mod Led
 pub mod GoingOn
+pub use Rattle.wrap_names.proofs as OfWrapNames

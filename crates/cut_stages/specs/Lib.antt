@@ -3,3 +3,4 @@ pub mod Holdings
 pub mod Rounds
 pub mod Drains
 pub mod Resumptions
+pub use Rattle.wrap_names.specs as OfWrapNames

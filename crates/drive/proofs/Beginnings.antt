@@ -18,7 +18,7 @@ use Rattle.disk_folder.proofs.Stretches.{told_then}
 use Rattle.plain_machine.specs.declared.kernel.PlainKernel.{PlainKernel}
 use Rattle.plain_machine.specs.declared.plain.Plain.{Plain}
 use Rattle.plain_machine.specs.Valid.{IsValid}
-use Rattle.guest_proc.specs.Guests.{GuestPart}
+use Rattle.checkpointer.specs.OfGuestProc.Guests.{GuestPart}
 use Rattle.image_codec.specs.KernelParts.{inserted}
 use Rattle.image_codec.proofs.Inserted.{inserted-append}
 use Rattle.image_codec.proofs.MadeMaps.{each_made}

@@ -8,7 +8,7 @@ use Rattle.plain_process.specs.declared.user_part.ThreadPart.{ThreadPart}
 use Rattle.std.specs.Cmp.{nat_cmp_total}
 use Rattle.std.proofs.lemmas.List.{length-append}
 use Rattle.views.proofs.MapValues.{EachEntry, each_entry}
-use Rattle.guest_proc.proofs.Images.{above, lt_true, key_there, one_more_entry, fewer_left, all_entries}
+use Rattle.checkpointer.proofs.OfGuestProc.Images.{above, lt_true, key_there, one_more_entry, fewer_left, all_entries}
 
 -- those up to this number are queued
 pub record IsQueued (threads : map.FinMap nat_cmp ThreadPart) (last : ℕ) (queue : List ℕ) : Type 0 where

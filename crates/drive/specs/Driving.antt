@@ -13,7 +13,7 @@ use Rattle.disk_folder.specs.SeenFolder.{SeenFolder}
 use Rattle.plain_machine.specs.declared.kernel.PlainKernel.{PlainKernel}
 use Rattle.plain_machine.specs.declared.plain.Plain.{Plain}
 use Rattle.plain_machine.specs.Valid.{IsValid}
-use Rattle.guest_proc.specs.Guests.{GuestPart}
+use Rattle.checkpointer.specs.OfGuestProc.Guests.{GuestPart}
 use Rattle.image_store.specs.StoreStates.{Known, FitsFolder, next_generation}
 use Rattle.trace_log.specs.declared.requests.Schedule.{Schedule}
 use Rattle.drive.specs.declared.loop_end.LoopEnd.{LoopEnd}

@@ -5,7 +5,7 @@ ghost use Rattle.plain_tables.specs.Tables.{pid};
 ghost use Rattle.sys_abi.specs.declared.record.Record.{Record};
 ghost use Rattle.plain_process.specs.Steps.{UserStep};
 ghost use Rattle.plain_machine.specs.Records.{stands};
-ghost use Rattle.guest_proc.specs.Guests.{ran_at};
+ghost use Rattle.checkpointer.specs.OfGuestProc.Guests.{ran_at};
 ghost use Rattle.checkpointer.specs.HandedOn.{plain_of, user_at, IsDid, IsReady, IsTold};
 ghost use Rattle.checkpointer.specs.HandedOn.{StandsAt};
 ghost use Rattle.edge_io.specs.Sunk.{sunk};
@@ -13,9 +13,9 @@ ghost use Rattle.trace_log.specs.Turns.{Place, Upcoming, threads_in, turn_of, fi
 ghost use Rattle.drive.specs.Scheduling.{place_of, place_in, chosen, CanTake, CanTurn, IsCome, IsPast, IsToldOf, Notes, Spoils};
 
 use crate::queue::Queue;
+use checkpointer::guest_proc::Ran;
 use checkpointer::{Computation, Did, Next, Stop};
 use edge_io::Sink;
-use guest_proc::Ran;
 use std::alloc::{AllocError, Global};
 use sys_abi::{Dir, Tid, VPid};
 use trace_log::Trace;

@@ -5,3 +5,4 @@ pub mod HeaderRules
 pub mod PageCounts
 pub mod ProgramPages
 pub mod WholeFile
+pub use Rattle.views.proofs as OfViews

@@ -6,3 +6,4 @@ pub mod ProgramHeaders
 pub mod Programs
 pub mod Ranges
 pub mod Rules
+pub use Rattle.views.specs as OfViews

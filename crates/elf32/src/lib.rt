@@ -17,6 +17,7 @@
 pub use fault::{ElfFault, ElfReason};
 pub use program::{Program, Segment};
 pub use reader::read_elf;
+pub use views;
 
 pub mod fault;
 mod fields;

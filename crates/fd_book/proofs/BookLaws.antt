@@ -7,15 +7,15 @@ use Rattle.std.specs.Ordering.{eq_by_cmp}
 use Rattle.std.specs.FinMap as map
 use Rattle.std.specs.FinMap.{FinMap}
 use Rattle.std.proofs.lemmas.Bool.Decides.{nat_tests}
-use Rattle.views.specs.Maps.{map_values}
-use Rattle.views.proofs.MapLaws.{true_false, key_tied, other_key, same_or_other, get_insert_same, get_insert_other, get_remove_same, get_remove_other, insert_same, insert_remove, values-empty}
-use Rattle.views.proofs.MapValues.{get-map_values, map_values-insert, map_values-remove, some_among-values}
-use Rattle.sys_abi.specs.declared.identity.DescId.{DescId}
-use Rattle.sys_abi.specs.Orders.{desc_cmp}
-use Rattle.sys_abi.proofs.OrderLaws.{desc_total, desc_exact}
+use Rattle.fd_tables.specs.OfViews.Maps.{map_values}
+use Rattle.fd_tables.proofs.OfViews.MapLaws.{true_false, key_tied, other_key, same_or_other, get_insert_same, get_insert_other, get_remove_same, get_remove_other, insert_same, insert_remove, values-empty}
+use Rattle.fd_tables.proofs.OfViews.MapValues.{get-map_values, map_values-insert, map_values-remove, some_among-values}
+use Rattle.fd_tables.specs.OfSysAbi.declared.identity.DescId.{DescId}
+use Rattle.fd_tables.specs.OfSysAbi.Orders.{desc_cmp}
+use Rattle.fd_tables.proofs.OfSysAbi.OrderLaws.{desc_total, desc_exact}
 use Rattle.fd_tables.specs.declared.real_slot.RealSlot.{RealSlot}
 use Rattle.fd_tables.specs.declared.description.Desc.{Desc}
-use Rattle.sys_abi.specs.declared.descriptor.Descriptor.{Descriptor}
+use Rattle.fd_tables.specs.OfSysAbi.declared.descriptor.Descriptor.{Descriptor}
 use Rattle.fd_tables.specs.declared.open.Open.{Open}
 use Rattle.fd_tables.specs.Orders.{real_slot_cmp}
 use Rattle.fd_book.specs.Books.{Books, is_held, lost, held_of}

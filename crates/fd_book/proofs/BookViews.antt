@@ -3,11 +3,11 @@ use Rattle.std.proofs.Common.{◌≡◌, ◌+◌, ◌-◌, ◌≤◌, ℕ, Bool,
 use Rattle.std.specs.Prelude.{Option, Some, None, is_some, IsSome, Result, Ok, Err, OnOk}
 use Rattle.std.specs.Option.{option_map, unwrap_or}
 use Rattle.std.specs.FinMap as map
-use Rattle.views.proofs.MapLaws.{true_false, insert_remove, get_remove_same}
-use Rattle.sys_abi.specs.declared.identity.DescId.{DescId}
+use Rattle.fd_tables.proofs.OfViews.MapLaws.{true_false, insert_remove, get_remove_same}
+use Rattle.fd_tables.specs.OfSysAbi.declared.identity.DescId.{DescId}
 use Rattle.fd_tables.specs.declared.real_slot.RealSlot.{RealSlot}
 use Rattle.fd_tables.specs.declared.description.Desc.{Desc}
-use Rattle.sys_abi.specs.declared.descriptor.Descriptor.{Descriptor}
+use Rattle.fd_tables.specs.OfSysAbi.declared.descriptor.Descriptor.{Descriptor}
 use Rattle.fd_tables.specs.declared.open.Open.{Open}
 use Rattle.fd_book.specs.Books.{Books, is_held, with_descriptor, without_descriptor, lost_without, after_close, lost_by_close, changed_or_same, with_changed, new_or_same, with_new}
 use Rattle.fd_tables.specs.Counts.{after_retain, after_release, lost_by_release}

@@ -3,12 +3,12 @@ use Rattle.std.proofs.Common.{◌≡◌, ◌≢◌, ◌+◌, ◌<◌, ◌≤◌,
 use Rattle.std.specs.Prelude.{Option, Some, None, is_some, IsSome, count_by}
 use Rattle.std.specs.FinMap as map
 use Rattle.std.proofs.lemmas.List.{get_or_past}
-use Rattle.views.proofs.MapLaws.{same_or_other, get_insert_same, get_insert_other}
-use Rattle.sys_abi.specs.declared.identity.RealPid.{RealPid}
-use Rattle.sys_abi.specs.declared.identity.DescId.{DescId}
-use Rattle.sys_abi.proofs.OrderLaws.{desc_total, desc_exact, real_pid_total, real_pid_exact}
+use Rattle.fd_tables.proofs.OfViews.MapLaws.{same_or_other, get_insert_same, get_insert_other}
+use Rattle.fd_tables.specs.OfSysAbi.declared.identity.RealPid.{RealPid}
+use Rattle.fd_tables.specs.OfSysAbi.declared.identity.DescId.{DescId}
+use Rattle.fd_tables.proofs.OfSysAbi.OrderLaws.{desc_total, desc_exact, real_pid_total, real_pid_exact}
 use Rattle.fd_tables.specs.declared.real_slot.RealSlot.{RealSlot}
-use Rattle.sys_abi.specs.declared.descriptor.Descriptor.{Descriptor}
+use Rattle.fd_tables.specs.OfSysAbi.declared.descriptor.Descriptor.{Descriptor}
 use Rattle.fd_tables.specs.declared.open.Open.{Open}
 use Rattle.fd_tables.specs.Slots.{slot}
 use Rattle.fd_tables.specs.Numbers.{NoneOpen}

@@ -5,12 +5,12 @@ use Rattle.std.specs.Option.{option_map, unwrap_or}
 use Rattle.std.specs.List.{list_any}
 use Rattle.std.specs.FinMap as map
 use Rattle.std.specs.FinMap.{FinMap}
-use Rattle.views.specs.Maps.{map_values}
-use Rattle.views.proofs.MapLaws.{true_false}
-use Rattle.views.proofs.MapValues.{get-map_values}
-use Rattle.sys_abi.specs.declared.identity.RealPid.{RealPid}
-use Rattle.sys_abi.specs.Orders.{desc_cmp}
-use Rattle.sys_abi.proofs.OrderLaws.{desc_total, desc_exact}
+use Rattle.fd_tables.specs.OfViews.Maps.{map_values}
+use Rattle.fd_tables.proofs.OfViews.MapLaws.{true_false}
+use Rattle.fd_tables.proofs.OfViews.MapValues.{get-map_values}
+use Rattle.fd_tables.specs.OfSysAbi.declared.identity.RealPid.{RealPid}
+use Rattle.fd_tables.specs.OfSysAbi.Orders.{desc_cmp}
+use Rattle.fd_tables.proofs.OfSysAbi.OrderLaws.{desc_total, desc_exact}
 use Rattle.fd_tables.specs.declared.description.Desc.{Desc}
 use Rattle.fd_tables.specs.declared.open.Open.{Open}
 use Rattle.fd_tables.specs.Parts.{disowned}

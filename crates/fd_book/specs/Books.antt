@@ -13,13 +13,13 @@ use Rattle.std.specs.List.{list_any}
 use Rattle.std.specs.FinMap as map
 use Rattle.std.specs.FinMap.{FinMap}
 use Rattle.std.specs.Coded.{Coded, code_by, coded×}
-use Rattle.sys_abi.specs.declared.identity.DescId.{DescId}
-use Rattle.sys_abi.specs.Orders.{desc_cmp, coded_desc}
+use Rattle.fd_tables.specs.OfSysAbi.declared.identity.DescId.{DescId}
+use Rattle.fd_tables.specs.OfSysAbi.Orders.{desc_cmp, coded_desc}
 use Rattle.fd_tables.specs.declared.real_slot.RealSlot.{RealSlot}
 use Rattle.fd_tables.specs.declared.description.Desc.{Desc}
-use Rattle.sys_abi.specs.declared.descriptor.Descriptor.{Descriptor}
+use Rattle.fd_tables.specs.OfSysAbi.declared.descriptor.Descriptor.{Descriptor}
 use Rattle.fd_tables.specs.contracts.description.Desc as desc
-use Rattle.sys_abi.specs.contracts.descriptor.Descriptor as descriptor
+use Rattle.fd_tables.specs.OfSysAbi.contracts.descriptor.Descriptor as descriptor
 use Rattle.fd_tables.specs.Orders.{real_slot_cmp, coded_real_slot}
 use Rattle.fd_tables.specs.Slots.{refers_to, AreInRange}
 

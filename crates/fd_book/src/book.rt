@@ -1,14 +1,14 @@
 ghost use Rattle.std.specs.Prelude.{◌≡◌};
 ghost use Rattle.std.specs.FinMap as map;
-ghost use Rattle.views.specs.Maps.{map_values};
+ghost use Rattle.fd_tables.specs.OfViews.Maps.{map_values};
 ghost use Rattle.fd_book.specs.Books.{with_changed, with_cloexec};
 ghost use Rattle.fd_tables.specs.Parts.{with_object, with_flags, with_owner, disowned};
 ghost use Rattle.fd_tables.specs.Slots.{slot};
 
+use fd_tables::sys_abi::{DescId, Descriptor, Fd, RealPid};
 use fd_tables::{Desc, Descriptions, Object, Open, Tables};
 use std::alloc::Global;
 use std::marker::Model;
-use sys_abi::{DescId, Descriptor, Fd, RealPid};
 
 /// The descriptors of all processes and the open descriptions that they refer to.
 #[derive(Drop)]
@@ -23,7 +23,7 @@ pub struct Book {
 impl Model for Book {
     ghost use Rattle.fd_book.specs.Books.{Books, coded_books};
     ghost use Rattle.fd_book.specs.Counted.{IsBook, desc_of};
-    ghost use Rattle.views.specs.Maps.{map_values};
+    ghost use Rattle.fd_tables.specs.OfViews.Maps.{map_values};
 
     ghost Value = { Books };
 

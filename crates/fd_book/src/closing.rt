@@ -8,8 +8,8 @@ ghost use Rattle.fd_tables.specs.Numbers.{NoneOpen, IsLowestOpen};
 
 use crate::book::Book;
 use crate::book_fault::BookFault;
+use fd_tables::sys_abi::{DescId, Descriptor, Fd, RealPid};
 use std::alloc::AllocError;
-use sys_abi::{DescId, Descriptor, Fd, RealPid};
 
 impl Book {
     /// Closes the descriptor, and tells the description that lost its last one by that, which is gone

@@ -1,15 +1,15 @@
 ghost use Rattle.std.specs.Prelude.{◌≡◌, ◌≢◌, ◌↔◌, false, ◌<◌, Some, None, Err, IsSome, IsTrue, IfOk, OnOk, OnErr};
 ghost use Rattle.std.specs.FinMap as map;
-ghost use Rattle.sys_abi.specs.declared.descriptor.Descriptor.{Descriptor};
+ghost use Rattle.fd_tables.specs.OfSysAbi.declared.descriptor.Descriptor.{Descriptor};
 ghost use Rattle.fd_tables.specs.Slots.{slot};
 ghost use Rattle.fd_book.specs.Books.{is_held, with_descriptor, with_new, after_close, lost_by_close};
 ghost use Rattle.fd_tables.specs.Numbers.{AllUsed, IsLowestFree};
 
 use crate::book::Book;
 use crate::book_fault::BookFault;
+use fd_tables::sys_abi::{DescId, Descriptor, Fd, RealPid};
 use fd_tables::{Desc, Open};
 use std::alloc::AllocError;
-use sys_abi::{DescId, Descriptor, Fd, RealPid};
 
 impl Book {
     /// Makes a description, and a descriptor of it at the lowest free number.

@@ -3,8 +3,8 @@ ghost use Rattle.std.specs.Option.{option_copied};
 ghost use Rattle.std.specs.List.{list_any};
 ghost use Rattle.std.specs.List.Sorted.{IsStrictlySortedBy};
 ghost use Rattle.std.specs.FinMap as map;
-ghost use Rattle.sys_abi.specs.declared.identity.RealPid.{RealPid};
-ghost use Rattle.sys_abi.specs.Orders.{real_pid_cmp};
+ghost use Rattle.fd_tables.specs.OfSysAbi.declared.identity.RealPid.{RealPid};
+ghost use Rattle.fd_tables.specs.OfSysAbi.Orders.{real_pid_cmp};
 ghost use Rattle.fd_tables.specs.Slots.{slot, IsHolder};
 ghost use Rattle.fd_tables.specs.Parts.{is_after, is_of_file};
 ghost use Rattle.fd_book.specs.Books.{is_held, IsWhole};
@@ -12,8 +12,8 @@ ghost use Rattle.fd_tables.specs.Numbers.{NoneOpen, IsLowestOpen, free_below, fi
 
 use crate::book::Book;
 use fd_tables::Desc;
+use fd_tables::sys_abi::{DescId, Fd, RealPid};
 use std::alloc::{AllocError, Global};
-use sys_abi::{DescId, Fd, RealPid};
 
 impl Book {
     /// What is always true of a book. It does nothing.

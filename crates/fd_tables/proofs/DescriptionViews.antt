@@ -14,9 +14,9 @@ use Rattle.std.specs.BTreeMap.Range.{range_contains, entries_between}
 use Rattle.std.specs.Map.{keys_of}
 use Rattle.std.specs.Map.Iter.{TakesFirst, deref_pair}
 use Rattle.slab.specs.Slab.{Slab, get, Updates, ContainsKey}
-use Rattle.views.proofs.TreeMaps.{view, get-view, keys-view}
-use Rattle.views.proofs.MapLaws.{true_false, remove_absent}
-use Rattle.views.proofs.MapValues.{keys-map_values}
+use Rattle.sys_abi.proofs.OfViews.TreeMaps.{view, get-view, keys-view}
+use Rattle.sys_abi.proofs.OfViews.MapLaws.{true_false, remove_absent}
+use Rattle.sys_abi.proofs.OfViews.MapValues.{keys-map_values}
 use Rattle.sys_abi.specs.declared.identity.DescId.{DescId}
 use Rattle.sys_abi.specs.Orders.{desc_cmp}
 use Rattle.sys_abi.proofs.OrderLaws.{desc_total, desc_exact}
@@ -25,7 +25,7 @@ use Rattle.fd_tables.specs.Parts.{is_after, bound_above}
 use Rattle.fd_tables.specs.Descriptions.{kept_at, descriptions_of, IsIndex}
 use Rattle.fd_tables.proofs.IndexLaws.{get-descriptions_of, found_none, not_indexed, add_seen, add_good, set_seen, take_seen, take_good}
 use Rattle.fd_tables.proofs.TableViews.{nothing_there}
-use Rattle.views.proofs.NextKeys.{next-by}
+use Rattle.sys_abi.proofs.OfViews.NextKeys.{next-by}
 
 abbrev pub Index : Type 0
 Index = BTreeMap DescId ℕ

@@ -10,9 +10,9 @@ use Rattle.std.specs.FinMap.{FinMap}
 use Rattle.std.specs.BTreeMap as tree
 use Rattle.std.specs.Map.{keys_of}
 use Rattle.slab.proofs.SlabLemmas.{Contains-cons, Contains-cons_cases}
-use Rattle.views.proofs.TreeMaps.{view, entries-view}
-use Rattle.views.proofs.MapLaws.{true_false, key_tied, same_key}
-use Rattle.views.proofs.MapValues.{EachEntry, each_entry, at_entry}
+use Rattle.sys_abi.proofs.OfViews.TreeMaps.{view, entries-view}
+use Rattle.sys_abi.proofs.OfViews.MapLaws.{true_false, key_tied, same_key}
+use Rattle.sys_abi.proofs.OfViews.MapValues.{EachEntry, each_entry, at_entry}
 use Rattle.sys_abi.specs.declared.identity.RealPid.{RealPid}
 use Rattle.sys_abi.specs.declared.identity.DescId.{DescId}
 use Rattle.sys_abi.specs.Orders.{desc_cmp, real_pid_cmp}

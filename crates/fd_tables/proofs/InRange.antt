@@ -9,7 +9,7 @@ use Rattle.std.specs.Ordering.{eq_by_cmp}
 use Rattle.std.specs.FinMap as map
 use Rattle.std.specs.FinMap.{FinMap}
 use Rattle.std.proofs.lemmas.Option.{none-some}
-use Rattle.views.proofs.MapLaws.{same_or_other, other_key, get_insert_other}
+use Rattle.sys_abi.proofs.OfViews.MapLaws.{same_or_other, other_key, get_insert_other}
 use Rattle.sys_abi.specs.declared.identity.RealPid.{RealPid}
 use Rattle.sys_abi.proofs.OrderLaws.{real_pid_total, real_pid_exact}
 use Rattle.fd_tables.specs.declared.real_slot.RealSlot.{RealSlot}

@@ -9,3 +9,5 @@ pub mod DescriptionViews
 pub mod RetainLaws
 pub mod Holders
 pub mod SlabLaws
+pub use Rattle.sys_abi.proofs.OfViews
+pub use Rattle.sys_abi.proofs as OfSysAbi

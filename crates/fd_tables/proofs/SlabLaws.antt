@@ -7,8 +7,8 @@ use Rattle.std.specs.FinMap as map
 use Rattle.std.specs.FinMap.{FinMap}
 use Rattle.std.specs.Borrow.{MutBor}
 use Rattle.slab.specs.Slab.{Slab, get, CalledAt, RetainsFrom}
-use Rattle.views.specs.Maps.{map_values}
-use Rattle.views.proofs.MapValues.{get-map_values, entries-map_values}
+use Rattle.sys_abi.specs.OfViews.Maps.{map_values}
+use Rattle.sys_abi.proofs.OfViews.MapValues.{get-map_values, entries-map_values}
 use Rattle.sys_abi.specs.declared.identity.RealPid.{RealPid}
 use Rattle.sys_abi.specs.Orders.{desc_cmp}
 use Rattle.sys_abi.proofs.OrderLaws.{desc_total, desc_exact}

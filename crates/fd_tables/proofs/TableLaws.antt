@@ -6,7 +6,7 @@ use Rattle.std.specs.Ordering.{eq_by_cmp}
 use Rattle.std.specs.FinMap as map
 use Rattle.std.specs.FinMap.{FinMap, find, is_sorted}
 use Rattle.std.specs.FinMap.Entries.{below_all}
-use Rattle.views.proofs.MapLaws.{key_tied, other_key, same_or_other}
+use Rattle.sys_abi.proofs.OfViews.MapLaws.{key_tied, other_key, same_or_other}
 use Rattle.sys_abi.specs.declared.identity.RealPid.{RealPid}
 use Rattle.fd_tables.specs.declared.real_slot.RealSlot.{RealSlot}
 use Rattle.sys_abi.specs.declared.descriptor.Descriptor.{Descriptor}
@@ -15,8 +15,8 @@ use Rattle.fd_tables.specs.Slots.{slot}
 use Rattle.fd_tables.specs.Tables.{at_place, entries_from, all_entries, descriptors_of}
 use Rattle.fd_tables.proofs.OrderLaws.{real_slot_total, real_slot_exact}
 use Rattle.fd_tables.proofs.Places.{past_places}
-use Rattle.views.proofs.MapValues.{find_below}
-use Rattle.views.proofs.Passes.{first, second}
+use Rattle.sys_abi.proofs.OfViews.MapValues.{find_below}
+use Rattle.sys_abi.proofs.OfViews.Passes.{first, second}
 use Rattle.sys_abi.specs.Orders.{real_pid_cmp}
 use Rattle.sys_abi.proofs.OrderLaws.{real_pid_total, real_pid_exact}
 

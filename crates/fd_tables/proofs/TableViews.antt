@@ -7,8 +7,8 @@ use Rattle.std.specs.FinMap as map
 use Rattle.std.specs.FinMap.{FinMap}
 use Rattle.std.specs.BTreeMap as tree
 use Rattle.std.specs.BTreeMap.{BTreeMap}
-use Rattle.views.proofs.TreeMaps.{view, get-view, entries-empty}
-use Rattle.views.proofs.MapLaws.{true_false, get_inserted, get_beside_inserted, remove_absent, get_removed, get_beside_removed, same_or_other}
+use Rattle.sys_abi.proofs.OfViews.TreeMaps.{view, get-view, entries-empty}
+use Rattle.sys_abi.proofs.OfViews.MapLaws.{true_false, get_inserted, get_beside_inserted, remove_absent, get_removed, get_beside_removed, same_or_other}
 use Rattle.sys_abi.specs.declared.identity.RealPid.{RealPid}
 use Rattle.fd_tables.specs.declared.real_slot.RealSlot.{RealSlot}
 use Rattle.sys_abi.specs.declared.descriptor.Descriptor.{Descriptor}

@@ -8,7 +8,7 @@ use Rattle.std.specs.FinMap.{FinMap}
 use Rattle.slab.specs.Slab.{Slab, get, ContainsKey}
 use Rattle.sys_abi.specs.declared.identity.DescId.{DescId}
 use Rattle.sys_abi.specs.Orders.{desc_cmp}
-use Rattle.views.specs.Maps.{map_values}
+use Rattle.sys_abi.specs.OfViews.Maps.{map_values}
 use Rattle.fd_tables.specs.declared.description.Object.TheVariants.{Console}
 use Rattle.fd_tables.specs.declared.open.Open.{Open}
 

@@ -5,3 +5,5 @@ pub mod Numbers
 pub mod Tables
 pub mod Descriptions
 pub mod Counts
+pub use Rattle.sys_abi.specs.OfViews
+pub use Rattle.sys_abi.specs as OfSysAbi

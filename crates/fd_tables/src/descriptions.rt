@@ -2,7 +2,7 @@ ghost use Rattle.std.specs.Prelude.{◌≡◌, ◌+◌, ◌^◌, ◌<◌, true, 
 ghost use Rattle.std.specs.Option.{option_copied, option_map};
 ghost use Rattle.std.specs.List.{list_any};
 ghost use Rattle.std.specs.FinMap as map;
-ghost use Rattle.views.specs.Maps.{map_values};
+ghost use Rattle.sys_abi.specs.OfViews.Maps.{map_values};
 ghost use Rattle.sys_abi.specs.Orders.{desc_cmp};
 ghost use Rattle.sys_abi.specs.declared.identity.DescId.{DescId};
 ghost use Rattle.sys_abi.specs.declared.descriptor.Descriptor.{Descriptor};

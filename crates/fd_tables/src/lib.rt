@@ -22,4 +22,5 @@ pub use description::{Desc, Object};
 pub use descriptions::Descriptions;
 pub use open::Open;
 pub use real_slot::RealSlot;
+pub use sys_abi;
 pub use tables::Tables;

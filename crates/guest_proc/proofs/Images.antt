@@ -6,7 +6,7 @@ use Rattle.std.specs.FinMap as map
 use Rattle.plain_process.specs.declared.user_part.UserPart.{UserPart}
 use Rattle.image_process.specs.declared.process_image.ProcImage.{ProcImage}
 use Rattle.image_process.specs.UserParts.{page_entry, thread_entry, user_of}
-use Rattle.process_memory.specs.MemoryParts.{MemoryPart}
+use Rattle.thread_group.specs.OfProcessMemory.MemoryParts.{MemoryPart}
 use Rattle.thread_group.specs.Groups.{GroupPart, joined}
 use Rattle.image_process.proofs.EntryLists.{from_own_entries}
 pub use Rattle.image_process.proofs.EntryLists.{above, key_there, one_more_entry, fewer_left, all_entries}

@@ -16,7 +16,7 @@ use Rattle.plain_process.specs.Buffers.{lent}
 use Rattle.plain_process.specs.Put.{added_thread, put, put_fault}
 use Rattle.plain_process.specs.Local.{local_settled, local_lent, local_row}
 use Rattle.thread_group.specs.declared.local_answer.LocalAnswer.{LocalAnswer}
-use Rattle.process_memory.specs.declared.local_fault.LocalFault.TheVariants.{Refused, Memory}
+use Rattle.thread_group.specs.OfProcessMemory.declared.local_fault.LocalFault.TheVariants.{Refused, Memory}
 use Rattle.guest_proc.specs.Guests.{GuestPart, with_user}
 use Rattle.thread_group.specs.Local.{MakesCall, answer_told}
 

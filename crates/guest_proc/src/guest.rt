@@ -9,17 +9,17 @@ ghost use Rattle.plain_process.specs.Valid.{IsByte, IsUser};
 ghost use Rattle.image_process.specs.ProcessImages.{SpellsProcess};
 ghost use Rattle.image_process.specs.ProcessFits.{HasImage};
 ghost use Rattle.image_process.specs.UserParts.{user_of, page_entry, thread_entry};
-ghost use Rattle.process_memory.specs.Lending.{IsFrontOf};
+ghost use Rattle.thread_group.specs.OfProcessMemory.Lending.{IsFrontOf};
 ghost use Rattle.guest_proc.specs.Guests.{HasThread};
 
 use call_table::{Given, Request};
 use elf32::Program;
 use image_process::ProcImage;
-use process_memory::{LendFault, ProcessMemory};
 use std::alloc::{AllocError, Global};
 use std::marker::Model;
 use sys_abi::{Tid, Transfer, VPid};
 use thread_group::ThreadGroup;
+use thread_group::process_memory::{LendFault, ProcessMemory};
 
 /// A process's own part, ready to run.
 pub struct Guest {

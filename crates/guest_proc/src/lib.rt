@@ -30,5 +30,5 @@ mod runs;
 mod thread_end;
 
 pub use guest::Guest;
-pub use process_memory::LendFault;
 pub use ran::Ran;
+pub use thread_group::process_memory::LendFault;

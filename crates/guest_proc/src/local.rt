@@ -12,11 +12,11 @@ ghost use Rattle.guest_proc.specs.Guests.{HasThread, with_user};
 use crate::guest::Guest;
 use call_table::Request;
 use plain_process::handlers::{action_bytes, mask_bytes};
-use process_memory::LocalFault;
 use std::alloc::{AllocError, Global};
 use sys_abi::errors::EFAULT;
 use sys_abi::{Errno, Reply, Tid};
 use thread_group::LocalAnswer;
+use thread_group::process_memory::LocalFault;
 
 impl Guest {
     /// Whether each buffer of the call is readable or writable as it needs.

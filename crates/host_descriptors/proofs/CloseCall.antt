@@ -23,10 +23,10 @@ use Rattle.fd_tables.specs.declared.real_slot.RealSlot.{RealSlot}
 use Rattle.fd_book.specs.Books as books
 use Rattle.fd_tables.specs.Slots as slots
 use Rattle.fd_book.specs.Books.{Books}
-use Rattle.plain_tables.specs.Tables.{slot, is_held}
-use Rattle.plain_machine.specs.declared.kernel.PlainKernel.{PlainKernel}
-use Rattle.plain_machine.specs.Closing.{let_go, without_description, released, released_by, without_descriptor, closed_by, close_fd}
-use Rattle.plain_machine.specs.Kernels.{IsKernel}
+use Rattle.host_tables.specs.OfPlainTables.Tables.{slot, is_held}
+use Rattle.host_tables.specs.OfPlainMachine.declared.kernel.PlainKernel.{PlainKernel}
+use Rattle.host_tables.specs.OfPlainMachine.Closing.{let_go, without_description, released, released_by, without_descriptor, closed_by, close_fd}
+use Rattle.host_tables.specs.OfPlainMachine.Kernels.{IsKernel}
 use Rattle.host_tables.specs.declared.kernel.Kernel.{Kernel}
 use Rattle.host_tables.specs.Datagrams.{told_end, IsOpenEnd}
 use Rattle.host_tables.specs.Descriptions.{seen_object, seen_desc, IsTold, SameDescriptions}

@@ -11,13 +11,13 @@ use Rattle.views.proofs.Seen.{agree_real}
 use Rattle.sys_abi.specs.declared.identity.ConnId.{ConnId}
 use Rattle.sys_abi.specs.declared.identity.Dir.{Dir}
 use Rattle.sys_abi.proofs.OrderLaws.{conn_total, conn_exact}
-use Rattle.plain_tables.specs.declared.channel.Channel as plain
-use Rattle.plain_tables.specs.declared.channel.Direction as plain_direction
-use Rattle.plain_tables.specs.Closing.{with_closed, with_end, without_reader, silenced, closed_channels, closed_channels_by, closed_directions, closed_directions_by, pending_channels, pending_directions}
-use Rattle.plain_tables.specs.Objects.{dir, end_of}
-use Rattle.plain_tables.specs.Tables.{Channels, Directions, changed_at, changed_by}
-use Rattle.plain_machine.specs.declared.kernel.PlainKernel.{PlainKernel}
-use Rattle.plain_machine.specs.Channels.{with_direction, close_side, close_pending}
+use Rattle.host_tables.specs.OfPlainTables.declared.channel.Channel as plain
+use Rattle.host_tables.specs.OfPlainTables.declared.channel.Direction as plain_direction
+use Rattle.host_tables.specs.OfPlainTables.Closing.{with_closed, with_end, without_reader, silenced, closed_channels, closed_channels_by, closed_directions, closed_directions_by, pending_channels, pending_directions}
+use Rattle.host_tables.specs.OfPlainTables.Objects.{dir, end_of}
+use Rattle.host_tables.specs.OfPlainTables.Tables.{Channels, Directions, changed_at, changed_by}
+use Rattle.host_tables.specs.OfPlainMachine.declared.kernel.PlainKernel.{PlainKernel}
+use Rattle.host_tables.specs.OfPlainMachine.Channels.{with_direction, close_side, close_pending}
 use Rattle.wire_channels.specs.declared.channel.Channel.{Channel}
 use Rattle.wire_channels.specs.Directions.{Direction, after_end, after_stop_reading}
 use Rattle.wire_channels.specs.Channels as channels

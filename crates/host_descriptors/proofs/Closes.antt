@@ -14,11 +14,11 @@ use Rattle.sys_abi.specs.declared.identity.VPid.{VPid}
 use Rattle.sys_abi.specs.declared.identity.RealPid.{RealPid}
 use Rattle.fd_tables.specs.Slots as slots
 use Rattle.plain_process.specs.Attempts.{Try, Fails, and_then, need}
-use Rattle.plain_machine.specs.declared.kernel.PlainKernel.{PlainKernel}
-use Rattle.plain_machine.specs.Attempts.{Served, replied}
-use Rattle.plain_machine.specs.Closing.{close_fd}
-use Rattle.plain_machine.specs.Kernel.{Held, held}
-use Rattle.plain_machine.specs.Rows.Descriptors.{is_cloexec_at_most, moved_to, dup3_row, close_row}
+use Rattle.host_tables.specs.OfPlainMachine.declared.kernel.PlainKernel.{PlainKernel}
+use Rattle.host_tables.specs.OfPlainMachine.Attempts.{Served, replied}
+use Rattle.host_tables.specs.OfPlainMachine.Closing.{close_fd}
+use Rattle.host_tables.specs.OfPlainMachine.Kernel.{Held, held}
+use Rattle.host_tables.specs.OfPlainMachine.Rows.Descriptors.{is_cloexec_at_most, moved_to, dup3_row, close_row}
 use Rattle.host_tables.specs.declared.kernel.Kernel.{Kernel}
 use Rattle.host_tables.specs.declared.attempt.Attempt.{Attempt}
 use Rattle.host_tables.specs.declared.attempt.Attempt.TheVariants as answer

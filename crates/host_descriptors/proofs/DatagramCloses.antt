@@ -16,8 +16,8 @@ use Rattle.conn_table.specs.Pairs.{Pairs, end_of, is_open, without_end, put_back
 use Rattle.fd_tables.specs.declared.description.Desc.{Desc}
 use Rattle.fd_tables.specs.declared.description.Object as real_object
 use Rattle.fd_tables.specs.declared.description.Object.TheVariants as object
-use Rattle.plain_tables.specs.declared.description.Object.TheVariants as plain
-use Rattle.plain_tables.specs.Tables.{Inboxes}
+use Rattle.host_tables.specs.OfPlainTables.declared.description.Object.TheVariants as plain
+use Rattle.host_tables.specs.OfPlainTables.Tables.{Inboxes}
 use Rattle.host_tables.specs.Datagrams.{RealDescriptions, peer_of, told_end, IsOpenEnd, inbox_of, SameInboxes}
 use Rattle.host_tables.specs.Descriptions.{Names, Addresses, IsTold}
 use Rattle.host_tables.proofs.DescriptionChanges.{IsStillTold}

@@ -13,10 +13,10 @@ use Rattle.fd_tables.specs.Slots as slots
 use Rattle.fd_book.specs.Books.{Books, IsWhole}
 use Rattle.fd_tables.specs.Numbers.{AllUsed, IsLowestFree}
 use Rattle.plain_process.specs.Attempts.{Try, Fails, Gives, and_then}
-use Rattle.plain_machine.specs.declared.kernel.PlainKernel.{PlainKernel}
-use Rattle.plain_machine.specs.Attempts.{Served, replied}
-use Rattle.plain_machine.specs.Kernel.{held, free_from, with_descriptor}
-use Rattle.plain_machine.specs.Rows.Descriptors.{dup_from, dup_row}
+use Rattle.host_tables.specs.OfPlainMachine.declared.kernel.PlainKernel.{PlainKernel}
+use Rattle.host_tables.specs.OfPlainMachine.Attempts.{Served, replied}
+use Rattle.host_tables.specs.OfPlainMachine.Kernel.{held, free_from, with_descriptor}
+use Rattle.host_tables.specs.OfPlainMachine.Rows.Descriptors.{dup_from, dup_row}
 use Rattle.host_tables.specs.declared.kernel.Kernel.{Kernel}
 use Rattle.host_tables.specs.declared.attempt.Attempt.{Attempt}
 use Rattle.host_tables.specs.declared.attempt.Attempt.TheVariants as answer

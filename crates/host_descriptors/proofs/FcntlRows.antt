@@ -12,13 +12,13 @@ use Rattle.sys_abi.specs.declared.identity.VPid.{VPid}
 use Rattle.sys_abi.specs.declared.identity.RealPid.{RealPid}
 use Rattle.fd_tables.specs.Slots as slots
 use Rattle.plain_process.specs.Attempts.{Try, Fails, and_then, need}
-use Rattle.plain_machine.specs.declared.kernel.PlainKernel.{PlainKernel}
+use Rattle.host_tables.specs.OfPlainMachine.declared.kernel.PlainKernel.{PlainKernel}
 use Rattle.plain_process.specs.declared.commands.FcntlCommand.{FcntlCommand}
-use Rattle.plain_machine.specs.Attempts.{replied}
+use Rattle.host_tables.specs.OfPlainMachine.Attempts.{replied}
 use Rattle.plain_process.specs.Commands.{fcntl_command}
-use Rattle.plain_machine.specs.Kernel as plain
-use Rattle.plain_machine.specs.Kernel.{held}
-use Rattle.plain_machine.specs.Rows.Descriptors.{dup_from, dup_above, with_owner, may_own, set_owner, fcntl_by, fcntl_row}
+use Rattle.host_tables.specs.OfPlainMachine.Kernel as plain
+use Rattle.host_tables.specs.OfPlainMachine.Kernel.{held}
+use Rattle.host_tables.specs.OfPlainMachine.Rows.Descriptors.{dup_from, dup_above, with_owner, may_own, set_owner, fcntl_by, fcntl_row}
 use Rattle.host_tables.specs.declared.kernel.Kernel.{Kernel}
 use Rattle.host_tables.specs.declared.attempt.Attempt.{Attempt}
 use Rattle.host_tables.specs.declared.attempt.Attempt.TheVariants as answer

@@ -15,12 +15,12 @@ use Rattle.views.proofs.MapValues.{get-retained, none_among-values, some_among-v
 use Rattle.sys_abi.specs.Names.{name_cmp}
 use Rattle.sys_abi.proofs.OrderLaws.{name_total, name_exact}
 use Rattle.fd_tables.specs.Parts.{is_of_file}
-use Rattle.vfs_files.specs.FileTable.{FileTable, after_forget}
-use Rattle.vfs_files.specs.Keeping.{IsWhole}
-use Rattle.vfs_files.specs.Names.{IsNameOf, without_file}
-use Rattle.plain_tables.specs.Closing.{without_unkept}
-use Rattle.plain_tables.specs.Objects.{has_name}
-use Rattle.plain_machine.specs.declared.kernel.PlainKernel.{PlainKernel}
+use Rattle.host_tables.specs.OfVfsFiles.FileTable.{FileTable, after_forget}
+use Rattle.host_tables.specs.OfVfsFiles.Keeping.{IsWhole}
+use Rattle.host_tables.specs.OfVfsFiles.Names.{IsNameOf, without_file}
+use Rattle.host_tables.specs.OfPlainTables.Closing.{without_unkept}
+use Rattle.host_tables.specs.OfPlainTables.Objects.{has_name}
+use Rattle.host_tables.specs.OfPlainMachine.declared.kernel.PlainKernel.{PlainKernel}
 use Rattle.host_tables.specs.declared.kernel.Kernel.{Kernel}
 use Rattle.host_tables.specs.Stands.{Given, Stands}
 use Rattle.host_tables.proofs.DescriptionChanges.{same_open}

@@ -20,14 +20,14 @@ use Rattle.fd_tables.specs.declared.real_slot.RealSlot.{RealSlot}
 use Rattle.fd_book.specs.Books as books
 use Rattle.fd_tables.specs.Slots as slots
 use Rattle.fd_book.specs.Books.{Books, IsWhole}
-use Rattle.plain_tables.specs.declared.channel.Listening.{Listening}
-use Rattle.plain_tables.specs.declared.description.Object as plain
-use Rattle.plain_tables.specs.declared.description.Object.TheVariants.{Console, File, Stream, Socket, Listener, Datagram, Counter}
-use Rattle.plain_machine.specs.declared.kernel.PlainKernel.{PlainKernel}
-use Rattle.plain_machine.specs.Channels.{close_queue, without_listener, close_listener}
-use Rattle.plain_machine.specs.Closing.{let_go, close_fd}
-use Rattle.plain_machine.specs.Kernel.{with_descriptor}
-use Rattle.plain_machine.specs.Kernels.{IsKernel}
+use Rattle.host_tables.specs.OfPlainTables.declared.channel.Listening.{Listening}
+use Rattle.host_tables.specs.OfPlainTables.declared.description.Object as plain
+use Rattle.host_tables.specs.OfPlainTables.declared.description.Object.TheVariants.{Console, File, Stream, Socket, Listener, Datagram, Counter}
+use Rattle.host_tables.specs.OfPlainMachine.declared.kernel.PlainKernel.{PlainKernel}
+use Rattle.host_tables.specs.OfPlainMachine.Channels.{close_queue, without_listener, close_listener}
+use Rattle.host_tables.specs.OfPlainMachine.Closing.{let_go, close_fd}
+use Rattle.host_tables.specs.OfPlainMachine.Kernel.{with_descriptor}
+use Rattle.host_tables.specs.OfPlainMachine.Kernels.{IsKernel}
 use Rattle.host_tables.specs.declared.kernel.Kernel.{Kernel}
 use Rattle.host_tables.specs.Descriptions.{seen_object}
 use Rattle.host_tables.specs.Stands.{Given, Stands}

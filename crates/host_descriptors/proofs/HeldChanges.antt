@@ -19,9 +19,9 @@ use Rattle.fd_book.specs.Books as books
 use Rattle.fd_tables.specs.Parts as parts
 use Rattle.fd_tables.specs.Slots as slots
 use Rattle.fd_book.specs.Books.{Books, IsWhole}
-use Rattle.plain_machine.specs.declared.kernel.PlainKernel.{PlainKernel}
-use Rattle.plain_machine.specs.Kernel.{with_descriptor, with_description, is_neighbour}
-use Rattle.plain_machine.specs.Rows.Descriptors.{with_flags, with_owner, may_own}
+use Rattle.host_tables.specs.OfPlainMachine.declared.kernel.PlainKernel.{PlainKernel}
+use Rattle.host_tables.specs.OfPlainMachine.Kernel.{with_descriptor, with_description, is_neighbour}
+use Rattle.host_tables.specs.OfPlainMachine.Rows.Descriptors.{with_flags, with_owner, may_own}
 use Rattle.host_tables.specs.declared.kernel.Kernel.{Kernel}
 use Rattle.host_tables.specs.Datagrams.{inbox_of}
 use Rattle.host_tables.specs.Descriptions.{IsTold, seen_desc}

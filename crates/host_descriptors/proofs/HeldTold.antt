@@ -14,8 +14,8 @@ use Rattle.fd_tables.specs.declared.description.Desc.{Desc}
 use Rattle.fd_tables.specs.Slots as slots
 use Rattle.fd_book.specs.Books.{IsWhole}
 use Rattle.plain_process.specs.Attempts.{Try, Fails, Gives, and_then}
-use Rattle.plain_machine.specs.declared.kernel.PlainKernel.{PlainKernel}
-use Rattle.plain_machine.specs.Kernel.{Held, held}
+use Rattle.host_tables.specs.OfPlainMachine.declared.kernel.PlainKernel.{PlainKernel}
+use Rattle.host_tables.specs.OfPlainMachine.Kernel.{Held, held}
 use Rattle.host_tables.specs.declared.kernel.Kernel.{Kernel}
 use Rattle.host_tables.specs.Descriptions.{seen_desc}
 use Rattle.host_tables.specs.Stands.{Given, Stands}

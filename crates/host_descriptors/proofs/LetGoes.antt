@@ -8,9 +8,9 @@ use Rattle.sys_abi.specs.declared.identity.ConnId.{ConnId}
 use Rattle.sys_abi.specs.declared.identity.RealAddr.{RealAddr}
 use Rattle.sys_abi.specs.declared.identity.VirtAddr.{VirtAddr}
 use Rattle.fd_tables.specs.declared.description.Object.TheVariants as object
-use Rattle.plain_tables.specs.declared.channel.Listening.{Listening}
-use Rattle.plain_machine.specs.declared.kernel.PlainKernel.{PlainKernel}
-use Rattle.plain_machine.specs.Channels.{close_pending, close_queue, without_listener, close_listener}
+use Rattle.host_tables.specs.OfPlainTables.declared.channel.Listening.{Listening}
+use Rattle.host_tables.specs.OfPlainMachine.declared.kernel.PlainKernel.{PlainKernel}
+use Rattle.host_tables.specs.OfPlainMachine.Channels.{close_pending, close_queue, without_listener, close_listener}
 use Rattle.wire_channels.specs.declared.listener.Listener.{Listener}
 use Rattle.wire_channels.specs.Channels as channels
 use Rattle.host_tables.specs.HandedOn.{waiting_at}

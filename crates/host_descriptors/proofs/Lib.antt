@@ -12,3 +12,4 @@ pub mod CloseCall
 pub mod ObjectsAt
 pub mod FinishedCloses
 pub mod LetGoes
+pub use Rattle.host_tables.proofs as OfHostTables

@@ -17,11 +17,11 @@ use Rattle.sys_abi.specs.declared.identity.ConnId.{ConnId}
 use Rattle.sys_abi.specs.declared.identity.Dir.{Dir}
 use Rattle.sys_abi.proofs.OrderLaws.{conn_total, conn_exact, dir_total, dir_exact}
 use Rattle.conn_table.specs.declared.conn.Conn.{Conn}
-use Rattle.plain_tables.specs.declared.channel.Channel as plain
-use Rattle.plain_tables.specs.Closing.{with_closed}
-use Rattle.plain_tables.specs.Objects.{dir}
-use Rattle.plain_tables.specs.Tables.{Channels, Directions}
-use Rattle.plain_machine.specs.declared.kernel.PlainKernel.{PlainKernel}
+use Rattle.host_tables.specs.OfPlainTables.declared.channel.Channel as plain
+use Rattle.host_tables.specs.OfPlainTables.Closing.{with_closed}
+use Rattle.host_tables.specs.OfPlainTables.Objects.{dir}
+use Rattle.host_tables.specs.OfPlainTables.Tables.{Channels, Directions}
+use Rattle.host_tables.specs.OfPlainMachine.declared.kernel.PlainKernel.{PlainKernel}
 use Rattle.wire_channels.specs.declared.channel.Channel.{Channel}
 use Rattle.wire_channels.specs.Channels as channels
 use Rattle.host_tables.specs.HandedOn.{Network}

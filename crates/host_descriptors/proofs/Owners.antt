@@ -7,10 +7,10 @@ use Rattle.std.proofs.lemmas.Bool.{eqb-true}
 use Rattle.sys_abi.specs.declared.identity.VPid.{VPid}
 use Rattle.sys_abi.specs.declared.identity.RealPid.{RealPid}
 use Rattle.fd_tables.specs.Slots as slots
-use Rattle.plain_tables.specs.Tables.{FIRST_PID, slot, pid, lives_in}
-use Rattle.plain_tables.specs.Valid.Descriptions.{IsOwner}
-use Rattle.plain_machine.specs.declared.kernel.PlainKernel.{PlainKernel}
-use Rattle.plain_machine.specs.Kernels.{IsKernel}
+use Rattle.host_tables.specs.OfPlainTables.Tables.{FIRST_PID, slot, pid, lives_in}
+use Rattle.host_tables.specs.OfPlainTables.Valid.Descriptions.{IsOwner}
+use Rattle.host_tables.specs.OfPlainMachine.declared.kernel.PlainKernel.{PlainKernel}
+use Rattle.host_tables.specs.OfPlainMachine.Kernels.{IsKernel}
 use Rattle.host_tables.specs.declared.kernel.Kernel.{Kernel}
 use Rattle.host_tables.specs.Descriptions.{seen_desc}
 use Rattle.host_tables.specs.Numbers.{real, number_of, IsKnown}

@@ -7,7 +7,7 @@ use Rattle.std.specs.FinMap as map
 use Rattle.sys_abi.specs.declared.identity.RealPid.{RealPid}
 use Rattle.fd_tables.specs.declared.real_slot.RealSlot.{RealSlot}
 use Rattle.fd_book.specs.Books.{Books}
-use Rattle.plain_machine.specs.Kernel as plain
+use Rattle.host_tables.specs.OfPlainMachine.Kernel as plain
 use Rattle.host_tables.specs.declared.kernel.Kernel.{Kernel}
 use Rattle.host_tables.specs.Descriptions.{seen_desc}
 use Rattle.host_tables.specs.Stands.{Given}

@@ -1,7 +1,7 @@
 ghost use Rattle.std.specs.Prelude.{◌≡◌, None, Some, IfSome, IfNone, option_map, option_and_then};
 ghost use Rattle.std.specs.FinMap as map;
 ghost use Rattle.fd_tables.specs.Slots as slots;
-ghost use Rattle.plain_machine.specs.Closing as plain;
+ghost use Rattle.host_tables.specs.OfPlainMachine.Closing as plain;
 ghost use Rattle.host_tables.specs.Serves.{Through};
 ghost use Rattle.host_tables.specs.Stands.{Stands};
 ghost use Rattle.host_descriptors.specs.LetGo.{HasLetGo, IsToldClose, closed_of};

@@ -4,8 +4,8 @@ ghost use Rattle.views.specs.Numbers.{Byte};
 ghost use Rattle.views.specs.Limits.{DESCRIPTOR_LIMIT};
 ghost use Rattle.fd_tables.specs.Slots as slots;
 ghost use Rattle.plain_process.specs.Attempts.{and_then};
-ghost use Rattle.plain_machine.specs.Kernel.{held};
-ghost use Rattle.plain_machine.specs.Rows.Descriptors as rows;
+ghost use Rattle.host_tables.specs.OfPlainMachine.Kernel.{held};
+ghost use Rattle.host_tables.specs.OfPlainMachine.Rows.Descriptors as rows;
 ghost use Rattle.host_tables.specs.Serves.{Through, Serves, ByNumber, same};
 ghost use Rattle.host_descriptors.specs.LetGo.{IsToldClose};
 
@@ -17,7 +17,7 @@ use sys_abi::errors::{EBADF, EMFILE};
 use sys_abi::{Errno, Fd, RealPid};
 
 /// dup (`man 2 dup`).
-#[tactic(auto, unfolding(plain_machine::specs::Rows::Descriptors::dup_row))]
+#[tactic(auto, unfolding(host_tables::specs::HandedOn::dup_row))]
 pub fn dup(kernel: &mut Kernel, who: RealPid, fd: u32) -> RowResult
     ensures ok { IfOk result (λ a. Through kernel.old who (λ g k p. (x : List Byte)
         → Serves ByNumber same g kernel.old kernel.new x x a (rows.dup_row k p fd))) }

@@ -1,17 +1,17 @@
 //! What goes with a description that is gone.
 ghost use Rattle.std.specs.Prelude.{◌≡◌, ◌<◌, None, []};
 ghost use Rattle.std.specs.FinMap as map;
-ghost use Rattle.plain_tables.specs.Closing.{without_unkept};
-ghost use Rattle.plain_tables.specs.Objects.{has_name};
-ghost use Rattle.plain_machine.specs.declared.kernel.PlainKernel.{PlainKernel};
-ghost use Rattle.plain_machine.specs.Channels.{close_side};
+ghost use Rattle.host_tables.specs.OfPlainTables.Closing.{without_unkept};
+ghost use Rattle.host_tables.specs.OfPlainTables.Objects.{has_name};
+ghost use Rattle.host_tables.specs.OfPlainMachine.declared.kernel.PlainKernel.{PlainKernel};
+ghost use Rattle.host_tables.specs.OfPlainMachine.Channels.{close_side};
 ghost use Rattle.host_tables.specs.Stands.{Given, Stands};
 ghost use Rattle.host_descriptors.specs.LetGo.{HasLetGo};
 
 use fd_book::Object;
 use host_tables::Kernel;
+use host_tables::vfs_files::Files;
 use sys_abi::ConnId;
-use vfs_files::Files;
 
 /// What the object names goes with its description, which is not there any more. Takes no memory.
 pub fn let_go(kernel: &mut Kernel, object: Object)

@@ -7,10 +7,10 @@ use Rattle.views.specs.Numbers.{Byte}
 use Rattle.plain_process.specs.Attempts.{Try, Fails, NotReady, Gives, and_then}
 use Rattle.plain_machine.specs.declared.kernel.PlainKernel.{PlainKernel}
 use Rattle.plain_machine.specs.Attempts.{Served, replied}
-use Rattle.host_tables.specs.declared.kernel.Kernel.{Kernel}
-use Rattle.host_tables.specs.declared.attempt.Attempt.TheVariants as answer
-use Rattle.host_tables.specs.Serves.{Serves, ByNumber, same}
-use Rattle.host_tables.specs.Stands.{Given, Stands}
+use Rattle.host_descriptors.specs.OfHostTables.declared.kernel.Kernel.{Kernel}
+use Rattle.host_descriptors.specs.OfHostTables.declared.attempt.Attempt.TheVariants as answer
+use Rattle.host_descriptors.specs.OfHostTables.Serves.{Serves, ByNumber, same}
+use Rattle.host_descriptors.specs.OfHostTables.Stands.{Given, Stands}
 
 pub and_then_twice : {A B C : Type 0} (m : Try A) (f : A → Try B) (h : B → Try C)
     → and_then (and_then m f) h ≡ and_then m (λ a. and_then (f a) h)

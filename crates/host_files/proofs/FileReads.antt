@@ -9,10 +9,10 @@ use Rattle.plain_machine.specs.Attempts.{Served}
 use Rattle.plain_machine.specs.Kernel.{Held}
 use Rattle.plain_machine.specs.Transfers.Answers.{gave}
 use Rattle.plain_machine.specs.Transfers.Files.{bytes_from, read_room, moved_behind, read_file}
-use Rattle.host_tables.specs.declared.kernel.Kernel.{Kernel}
-use Rattle.host_tables.specs.declared.attempt.Attempt.TheVariants as answer
-use Rattle.host_tables.specs.Serves.{Serves, ByNumber, same, bytes_or}
-use Rattle.host_tables.specs.Stands.{Given, Stands}
+use Rattle.host_descriptors.specs.OfHostTables.declared.kernel.Kernel.{Kernel}
+use Rattle.host_descriptors.specs.OfHostTables.declared.attempt.Attempt.TheVariants as answer
+use Rattle.host_descriptors.specs.OfHostTables.Serves.{Serves, ByNumber, same, bytes_or}
+use Rattle.host_descriptors.specs.OfHostTables.Stands.{Given, Stands}
 
 module _ (g : Given) (real : Kernel) (k : PlainKernel) (st : Stands g None real k) (h : Held)
     (number offset count : ℕ) where

@@ -20,9 +20,9 @@ use Rattle.plain_machine.specs.Attempts.{Served, replied}
 use Rattle.plain_machine.specs.Kernel.{Held}
 use Rattle.plain_machine.specs.Rows.Files.{OFFSET_LIMIT, with_file_bytes}
 use Rattle.plain_machine.specs.Transfers.Files.{total_bytes, with_piece, write_place, moved_behind, write_piece, write_file}
-use Rattle.host_tables.specs.declared.kernel.Kernel.{Kernel}
-use Rattle.host_tables.specs.Stands.{Given, Stands}
-use Rattle.host_tables.proofs.Frames.{files_kept}
+use Rattle.host_descriptors.specs.OfHostTables.declared.kernel.Kernel.{Kernel}
+use Rattle.host_descriptors.specs.OfHostTables.Stands.{Given, Stands}
+use Rattle.host_descriptors.proofs.OfHostTables.Frames.{files_kept}
 use Rattle.host_files.proofs.Sizes.{written_is, too_big_is}
 
 module _ (g : Given) (real : Kernel) (k : PlainKernel) (st : Stands g None real k) (h : Held) (number : ℕ) where

@@ -9,3 +9,4 @@ pub mod Refusals
 pub mod Undone
 pub mod Openings
 pub mod OpenedFiles
+pub use Rattle.host_descriptors.proofs as OfHostDescriptors

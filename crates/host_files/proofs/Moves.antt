@@ -12,10 +12,10 @@ use Rattle.fd_book.specs.Books.{Books}
 use Rattle.plain_machine.specs.declared.kernel.PlainKernel.{PlainKernel}
 use Rattle.plain_machine.specs.Rows.Files.{file_size}
 use Rattle.plain_machine.specs.Transfers.Files.{moved_behind}
-use Rattle.host_tables.specs.declared.kernel.Kernel.{Kernel}
-use Rattle.host_tables.specs.Datagrams.{inbox_of}
-use Rattle.host_tables.specs.Stands.{Given, Stands}
-use Rattle.host_tables.proofs.DescriptionChanges.{description_changed}
+use Rattle.host_descriptors.specs.OfHostTables.declared.kernel.Kernel.{Kernel}
+use Rattle.host_descriptors.specs.OfHostTables.Datagrams.{inbox_of}
+use Rattle.host_descriptors.specs.OfHostTables.Stands.{Given, Stands}
+use Rattle.host_descriptors.proofs.OfHostTables.DescriptionChanges.{description_changed}
 use Rattle.host_descriptors.specs.declared.held.Held.{Held}
 use Rattle.host_descriptors.specs.Held.{seen_held}
 use Rattle.host_files.specs.Sizes.{size_in}

@@ -26,12 +26,12 @@ use Rattle.plain_machine.specs.Kernels.{IsKernel}
 use Rattle.plain_machine.specs.Making.{desc_id}
 use Rattle.plain_machine.specs.Rows.Files.{with_file_bytes, opened_number, with_opened, status_flags, with_open_file}
 use Rattle.plain_machine.specs.Start.{with_file}
-use Rattle.host_tables.specs.declared.kernel.Kernel.{Kernel}
-use Rattle.host_tables.specs.Stands.{Given, Stands}
-use Rattle.host_tables.proofs.DescriptionChanges.{description_new}
-use Rattle.host_tables.proofs.Frames.{files_kept}
-use Rattle.host_tables.proofs.MakerChanges.{made_kept}
-use Rattle.host_tables.proofs.SlotChanges.{put_kept}
+use Rattle.host_descriptors.specs.OfHostTables.declared.kernel.Kernel.{Kernel}
+use Rattle.host_descriptors.specs.OfHostTables.Stands.{Given, Stands}
+use Rattle.host_descriptors.proofs.OfHostTables.DescriptionChanges.{description_new}
+use Rattle.host_descriptors.proofs.OfHostTables.Frames.{files_kept}
+use Rattle.host_descriptors.proofs.OfHostTables.MakerChanges.{made_kept}
+use Rattle.host_descriptors.proofs.OfHostTables.SlotChanges.{put_kept}
 use Rattle.host_files.specs.Opening.{file_at_start, emptied, IsOpened}
 use Rattle.host_files.proofs.Moves.{no_end}
 

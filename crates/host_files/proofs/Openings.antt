@@ -16,7 +16,7 @@ use Rattle.plain_machine.specs.Attempts.{Served, replied}
 use Rattle.plain_machine.specs.Kernel.{free_from, made_of, has_numbers}
 use Rattle.plain_machine.specs.Making.{desc_id}
 use Rattle.plain_machine.specs.Rows.Files.{path_of, may_open, opened_number, with_opened, with_open_file, open_at, openat_row}
-use Rattle.host_tables.specs.Requests.{next_desc}
+use Rattle.host_descriptors.specs.OfHostTables.Requests.{next_desc}
 use Rattle.host_files.specs.Opening.{opening_at}
 use Rattle.host_files.specs.Paths.{open_path}
 use Rattle.host_files.proofs.Answered.{and_then_twice}

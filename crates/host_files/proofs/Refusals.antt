@@ -17,9 +17,9 @@ use Rattle.vfs_files.specs.FileTable.{FileTable, is_full, refusal_by, refusal_at
 use Rattle.plain_process.specs.Attempts.{Try, Fails, Gives, and_then, need, refuse_if}
 use Rattle.plain_machine.specs.declared.kernel.PlainKernel.{PlainKernel}
 use Rattle.plain_machine.specs.Rows.Files.{LAST_FILE, may_open}
-use Rattle.host_tables.specs.declared.attempt.Attempt.{Attempt}
-use Rattle.host_tables.specs.declared.attempt.Attempt.TheVariants as answer
-use Rattle.host_tables.specs.Stands.{SameFiles}
+use Rattle.host_descriptors.specs.OfHostTables.declared.attempt.Attempt.{Attempt}
+use Rattle.host_descriptors.specs.OfHostTables.declared.attempt.Attempt.TheVariants as answer
+use Rattle.host_descriptors.specs.OfHostTables.Stands.{SameFiles}
 use Rattle.host_files.specs.Opening.{IsRefusal}
 
 -- what is answered for want of memory is no row's error

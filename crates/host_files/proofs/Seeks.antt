@@ -18,9 +18,9 @@ use Rattle.plain_machine.specs.Attempts.{Served, replied}
 use Rattle.plain_machine.specs.Kernel as plain
 use Rattle.plain_machine.specs.Kernel.{held, with_object}
 use Rattle.plain_machine.specs.Rows.Files.{seek_start, place_moved, file_size, seek, lseek_row}
-use Rattle.host_tables.specs.declared.kernel.Kernel.{Kernel}
-use Rattle.host_tables.specs.Descriptions.{Names, seen_object}
-use Rattle.host_tables.specs.Stands.{Given, Stands}
+use Rattle.host_descriptors.specs.OfHostTables.declared.kernel.Kernel.{Kernel}
+use Rattle.host_descriptors.specs.OfHostTables.Descriptions.{Names, seen_object}
+use Rattle.host_descriptors.specs.OfHostTables.Stands.{Given, Stands}
 use Rattle.host_descriptors.specs.declared.held.Held.{Held}
 use Rattle.host_descriptors.specs.Held.{held_in, seen_held}
 use Rattle.host_descriptors.proofs.FcntlRows.{past_held}

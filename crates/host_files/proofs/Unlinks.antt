@@ -19,9 +19,9 @@ use Rattle.plain_machine.specs.declared.kernel.PlainKernel.{PlainKernel}
 use Rattle.plain_machine.specs.Attempts.{Served, replied}
 use Rattle.plain_machine.specs.Kernels.{IsKernel}
 use Rattle.plain_machine.specs.Rows.Files.{path_of, without_name, unlinkat_row}
-use Rattle.host_tables.specs.declared.kernel.Kernel.{Kernel}
-use Rattle.host_tables.specs.Stands.{Given, Stands}
-use Rattle.host_tables.proofs.Frames.{files_kept}
+use Rattle.host_descriptors.specs.OfHostTables.declared.kernel.Kernel.{Kernel}
+use Rattle.host_descriptors.specs.OfHostTables.Stands.{Given, Stands}
+use Rattle.host_descriptors.proofs.OfHostTables.Frames.{files_kept}
 use Rattle.host_files.specs.Paths.{unlink_path}
 use Rattle.host_files.proofs.Answered.{and_then_twice}
 

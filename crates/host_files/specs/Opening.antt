@@ -22,8 +22,8 @@ use Rattle.plain_machine.specs.declared.kernel.PlainKernel.{PlainKernel}
 use Rattle.plain_machine.specs.Attempts.{Served}
 use Rattle.plain_machine.specs.Kernel.{free_from}
 use Rattle.plain_machine.specs.Rows.Files.{open_at}
-use Rattle.host_tables.specs.declared.attempt.Attempt.{Attempt}
-use Rattle.host_tables.specs.declared.attempt.Attempt.TheVariants.{Fails}
+use Rattle.host_descriptors.specs.OfHostTables.declared.attempt.Attempt.{Attempt}
+use Rattle.host_descriptors.specs.OfHostTables.declared.attempt.Attempt.TheVariants.{Fails}
 
 abbrev pub file_at_start : ℕ → Flags → Desc
 file_at_start number flags = record { object = File number 0; flags = flags; owner = None }

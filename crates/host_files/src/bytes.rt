@@ -8,13 +8,13 @@ ghost use Rattle.sys_abi.specs.Flags.{has_flag};
 ghost use Rattle.fd_tables.specs.declared.description.Object.TheVariants.{File};
 ghost use Rattle.plain_machine.specs.declared.kernel.PlainKernel.{PlainKernel};
 ghost use Rattle.plain_machine.specs.Transfers.Files as words;
-ghost use Rattle.host_tables.specs.Serves.{Serves, ByNumber, same, bytes_or};
-ghost use Rattle.host_tables.specs.Stands.{Given, Stands};
+ghost use Rattle.host_descriptors.specs.OfHostTables.Serves.{Serves, ByNumber, same, bytes_or};
+ghost use Rattle.host_descriptors.specs.OfHostTables.Stands.{Given, Stands};
 ghost use Rattle.host_descriptors.specs.Held.{seen_held};
 
 use crate::offsets::move_to;
 use host_descriptors::Held;
-use host_tables::{Attempt, Kernel, RowResult};
+use host_descriptors::host_tables::{Attempt, Kernel, RowResult};
 use std::alloc::AllocError;
 use sys_abi::errors::{EBADF, EFBIG, ENOSPC};
 use sys_abi::flags::O_APPEND;

@@ -4,13 +4,13 @@ ghost use Rattle.sys_abi.specs.declared.identity.VPid.{VPid};
 ghost use Rattle.plain_machine.specs.declared.kernel.PlainKernel.{PlainKernel};
 ghost use Rattle.plain_machine.specs.Kernels.{IsKernel};
 ghost use Rattle.plain_machine.specs.Rows.Files as rows;
-ghost use Rattle.host_tables.specs.Serves.{Serves, ByNumber, same};
-ghost use Rattle.host_tables.specs.Stands.{Given, Stands};
+ghost use Rattle.host_descriptors.specs.OfHostTables.Serves.{Serves, ByNumber, same};
+ghost use Rattle.host_descriptors.specs.OfHostTables.Stands.{Given, Stands};
 
 use crate::paths::unlink_end;
 use fd_book::Object;
+use host_descriptors::host_tables::{Attempt, Kernel};
 use host_descriptors::let_go;
-use host_tables::{Attempt, Kernel};
 use sys_abi::errors::ENOENT;
 use sys_abi::{Errno, Transfer};
 

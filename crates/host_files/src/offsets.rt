@@ -7,14 +7,14 @@ ghost use Rattle.plain_tables.specs.declared.description.Object.TheVariants as p
 ghost use Rattle.plain_machine.specs.declared.kernel.PlainKernel.{PlainKernel};
 ghost use Rattle.plain_machine.specs.Rows.Files as rows;
 ghost use Rattle.plain_machine.specs.Transfers.Files.{moved_behind};
-ghost use Rattle.host_tables.specs.Serves.{Through, Serves, ByNumber, same};
-ghost use Rattle.host_tables.specs.Stands.{Given, Stands};
+ghost use Rattle.host_descriptors.specs.OfHostTables.Serves.{Through, Serves, ByNumber, same};
+ghost use Rattle.host_descriptors.specs.OfHostTables.Stands.{Given, Stands};
 ghost use Rattle.host_descriptors.specs.Held.{seen_held};
 ghost use Rattle.host_files.specs.Sizes.{size_in};
 
 use fd_book::Object;
+use host_descriptors::host_tables::{Attempt, Kernel};
 use host_descriptors::{Held, held_at};
-use host_tables::{Attempt, Kernel};
 use sys_abi::errors::{EBADF, EINVAL, ESPIPE};
 use sys_abi::{Errno, RealPid};
 use vfs_files::Files;

@@ -4,14 +4,14 @@ ghost use Rattle.std.specs.FinMap as map;
 ghost use Rattle.views.specs.Numbers.{Byte};
 ghost use Rattle.plain_machine.specs.Rows.Files as rows;
 ghost use Rattle.vfs_files.specs.FileTable.{open_refusal};
-ghost use Rattle.host_tables.specs.Conditions.{IsNewDesc};
-ghost use Rattle.host_tables.specs.Requests.{next_desc};
-ghost use Rattle.host_tables.specs.Serves.{Through, Serves, ByNumber, same};
+ghost use Rattle.host_descriptors.specs.OfHostTables.Conditions.{IsNewDesc};
+ghost use Rattle.host_descriptors.specs.OfHostTables.Requests.{next_desc};
+ghost use Rattle.host_descriptors.specs.OfHostTables.Serves.{Through, Serves, ByNumber, same};
 ghost use Rattle.host_files.specs.Opening.{file_at_start, IsOpened, opening_at, IsRefusal};
 
 use crate::paths::open_end;
 use fd_book::{BookFault, Desc, Object};
-use host_tables::{Attempt, Kernel, RowResult};
+use host_descriptors::host_tables::{Attempt, Kernel, RowResult};
 use std::alloc::AllocError;
 use sys_abi::errors::{EEXIST, EMFILE, ENFILE, ENOENT, ENOSPC};
 use sys_abi::flags::{O_CLOEXEC, O_TRUNC};

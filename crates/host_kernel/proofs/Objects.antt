@@ -6,8 +6,8 @@ use Rattle.plain_tables.specs.declared.description.Object as plain
 use Rattle.host_tables.specs.declared.kernel.Kernel.{Kernel}
 use Rattle.host_tables.specs.Descriptions.{seen_object}
 use Rattle.host_tables.specs.Stands.{Given}
-use Rattle.host_descriptors.specs.declared.held.Held.{Held}
-use Rattle.host_descriptors.specs.Held.{seen_held}
+use Rattle.host_files.specs.OfHostDescriptors.declared.held.Held.{Held}
+use Rattle.host_files.specs.OfHostDescriptors.Held.{seen_held}
 
 pub for_object : (g : Given) (real : Kernel) (h : Held) (P : plain.Object → Type 0) (o : real_object.Object)
     → h.description.object ≡ o → P (seen_object g.names real.datagrams h.desc o)

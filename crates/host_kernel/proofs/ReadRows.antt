@@ -26,10 +26,10 @@ use Rattle.host_tables.specs.declared.attempt.Attempt.TheVariants as answer
 use Rattle.host_tables.specs.Serves.{Serves, ByNumber, same}
 use Rattle.host_tables.specs.Stands.{Given, Stands}
 use Rattle.host_tables.proofs.Replies.{refused}
-use Rattle.host_descriptors.specs.declared.held.Held.{Held}
-use Rattle.host_descriptors.specs.Held.{held_in, seen_held}
-use Rattle.host_descriptors.proofs.HeldChanges.{there_of}
-use Rattle.host_descriptors.proofs.HeldTold.{row_told, row_bad}
+use Rattle.host_files.specs.OfHostDescriptors.declared.held.Held.{Held}
+use Rattle.host_files.specs.OfHostDescriptors.Held.{held_in, seen_held}
+use Rattle.host_files.proofs.OfHostDescriptors.HeldChanges.{there_of}
+use Rattle.host_files.proofs.OfHostDescriptors.HeldTold.{row_told, row_bad}
 use Rattle.host_kernel.specs.Access.{unready}
 use Rattle.host_kernel.proofs.Accesses.{tested, denied, passed, unready_row, never_denied, never_ready, waits_as}
 

@@ -7,12 +7,12 @@ ghost use Rattle.plain_machine.specs.Rows.Read as rows;
 ghost use Rattle.plain_machine.specs.Transfers.Answers as answers;
 ghost use Rattle.host_tables.specs.Serves.{Through, Serves, ByNumber, same};
 ghost use Rattle.host_tables.specs.Stands.{Given, Stands};
-ghost use Rattle.host_descriptors.specs.Held.{seen_held};
+ghost use Rattle.host_files.specs.OfHostDescriptors.Held.{seen_held};
 
 use crate::access::{is_nonblocking, may_read, not_ready};
 use crate::messages::{has_message, peer_at, read_message};
 use fd_book::Object;
-use host_descriptors::{Held, held_at};
+use host_files::host_descriptors::{Held, held_at};
 use host_files::read_file;
 use host_streams::{is_counted, is_receivable, read_counter, read_stream};
 use host_tables::{Attempt, Kernel};

@@ -9,13 +9,13 @@ ghost use Rattle.host_tables.specs.Conditions.{IsAsking};
 ghost use Rattle.host_tables.specs.Numbers.{real};
 ghost use Rattle.host_tables.specs.Serves.{Through, Serves, ByNumber, same};
 ghost use Rattle.host_tables.specs.Stands.{Given, Stands};
-ghost use Rattle.host_descriptors.specs.Held.{seen_held};
+ghost use Rattle.host_files.specs.OfHostDescriptors.Held.{seen_held};
 ghost use Rattle.host_kernel.specs.Access.{MayTake};
 
 use crate::access::{is_nonblocking, may_write, not_ready};
 use crate::messages::{peer_at, takes_message, write_message};
 use fd_book::Object;
-use host_descriptors::{Held, held_at};
+use host_files::host_descriptors::{Held, held_at};
 use host_files::write_file;
 use host_streams::{broken_pipe, is_sendable, takes_more, write_counter, write_stream};
 use host_tables::{Attempt, Kernel, RowResult};

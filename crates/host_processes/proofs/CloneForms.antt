@@ -14,12 +14,12 @@ use Rattle.plain_process.specs.Attempts.{Try}
 use Rattle.plain_machine.specs.declared.kernel.PlainKernel.{PlainKernel}
 use Rattle.plain_machine.specs.Attempts.{Served}
 use Rattle.plain_machine.specs.Rows.Clone.{LAST_ID, clone_by, clone_row}
-use Rattle.host_tables.specs.declared.kernel.Kernel.{Kernel}
-use Rattle.host_tables.specs.declared.attempt.Attempt.{Attempt}
-use Rattle.host_tables.specs.declared.attempt.Attempt.TheVariants as answer
-use Rattle.host_tables.specs.Requests.{AreBelow}
-use Rattle.host_tables.specs.Serves.{Through, Serves, ByPid, silent}
-use Rattle.host_tables.specs.Stands.{Given}
+use Rattle.host_descriptors.specs.OfHostTables.declared.kernel.Kernel.{Kernel}
+use Rattle.host_descriptors.specs.OfHostTables.declared.attempt.Attempt.{Attempt}
+use Rattle.host_descriptors.specs.OfHostTables.declared.attempt.Attempt.TheVariants as answer
+use Rattle.host_descriptors.specs.OfHostTables.Requests.{AreBelow}
+use Rattle.host_descriptors.specs.OfHostTables.Serves.{Through, Serves, ByPid, silent}
+use Rattle.host_descriptors.specs.OfHostTables.Stands.{Given}
 use Rattle.host_processes.specs.Forks.{paired_with}
 
 module _ (old new : Kernel) (who : RealPid) (flags : Flags) where

@@ -21,15 +21,15 @@ use Rattle.plain_machine.specs.Attempts.{Served}
 use Rattle.plain_machine.specs.Kernel.{thread_count}
 use Rattle.plain_machine.specs.Kernels.{IsKernel}
 use Rattle.plain_machine.specs.Rows.Clone.{LAST_ID, cloned, clone_thread, forked, clone_process}
-use Rattle.host_tables.specs.declared.kernel.Kernel.{Kernel}
-use Rattle.host_tables.specs.declared.attempt.Attempt.{Attempt}
-use Rattle.host_tables.specs.declared.attempt.Attempt.TheVariants as answer
-use Rattle.host_tables.specs.Numbers.{real}
-use Rattle.host_tables.specs.Requests.{AreBelow}
-use Rattle.host_tables.specs.Serves.{Serves, ByPid, silent}
-use Rattle.host_tables.specs.Stands.{Given, Stands}
-use Rattle.host_tables.proofs.MorePairs.{real_here}
-use Rattle.host_tables.proofs.ProcessChanges.{same_count}
+use Rattle.host_descriptors.specs.OfHostTables.declared.kernel.Kernel.{Kernel}
+use Rattle.host_descriptors.specs.OfHostTables.declared.attempt.Attempt.{Attempt}
+use Rattle.host_descriptors.specs.OfHostTables.declared.attempt.Attempt.TheVariants as answer
+use Rattle.host_descriptors.specs.OfHostTables.Numbers.{real}
+use Rattle.host_descriptors.specs.OfHostTables.Requests.{AreBelow}
+use Rattle.host_descriptors.specs.OfHostTables.Serves.{Serves, ByPid, silent}
+use Rattle.host_descriptors.specs.OfHostTables.Stands.{Given, Stands}
+use Rattle.host_descriptors.proofs.OfHostTables.MorePairs.{real_here}
+use Rattle.host_descriptors.proofs.OfHostTables.ProcessChanges.{same_count}
 use Rattle.host_processes.specs.Forks.{HasShared, paired_with}
 use Rattle.host_processes.proofs.Forked.{forked_kept}
 use Rattle.host_processes.proofs.MoreThreads.{same_thread_count, threaded_kept}

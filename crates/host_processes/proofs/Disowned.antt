@@ -20,14 +20,14 @@ use Rattle.plain_tables.specs.Tables.{FIRST_PID, Descriptions, Inboxes}
 use Rattle.plain_machine.specs.declared.kernel.PlainKernel.{PlainKernel}
 use Rattle.plain_machine.specs.Ends as ends
 use Rattle.virt_ids.specs.Pairs.{AreInverse}
-use Rattle.host_tables.specs.declared.kernel.Kernel.{Kernel}
-use Rattle.host_tables.specs.Datagrams.{RealDescriptions, SameInboxes, inbox_of}
-use Rattle.host_tables.specs.Descriptions.{Names, Addresses, IsTold, seen_desc, SameDescriptions}
-use Rattle.host_tables.specs.Numbers.{Pids, Virts, number_of, IsKnown}
-use Rattle.host_tables.specs.Stands.{Given, Stands}
-use Rattle.host_tables.proofs.Frames.{book_kept}
-use Rattle.host_tables.proofs.LookUps.{some_value}
-use Rattle.host_tables.proofs.Waits.{same_parent}
+use Rattle.host_descriptors.specs.OfHostTables.declared.kernel.Kernel.{Kernel}
+use Rattle.host_descriptors.specs.OfHostTables.Datagrams.{RealDescriptions, SameInboxes, inbox_of}
+use Rattle.host_descriptors.specs.OfHostTables.Descriptions.{Names, Addresses, IsTold, seen_desc, SameDescriptions}
+use Rattle.host_descriptors.specs.OfHostTables.Numbers.{Pids, Virts, number_of, IsKnown}
+use Rattle.host_descriptors.specs.OfHostTables.Stands.{Given, Stands}
+use Rattle.host_descriptors.proofs.OfHostTables.Frames.{book_kept}
+use Rattle.host_descriptors.proofs.OfHostTables.LookUps.{some_value}
+use Rattle.host_descriptors.proofs.OfHostTables.Waits.{same_parent}
 
 abbrev pub without_real_owner : RealPid → RealDescriptions → RealDescriptions
 without_real_owner who descriptions = map_values (disowned who) descriptions

@@ -22,13 +22,13 @@ use Rattle.plain_machine.specs.Ends.{exit_status, after_end, thread_ended}
 use Rattle.plain_machine.specs.Kernel.{thread_count, at_process}
 use Rattle.plain_machine.specs.Kernels.{IsKernel}
 use Rattle.plain_machine.specs.Rows.End.{exit_group_row, exit_row}
-use Rattle.host_tables.specs.declared.kernel.Kernel.{Kernel}
-use Rattle.host_tables.specs.declared.attempt.Attempt.{Attempt}
-use Rattle.host_tables.specs.declared.attempt.Attempt.TheVariants as answer
-use Rattle.host_tables.specs.Processes.{SameProcess}
-use Rattle.host_tables.specs.Serves.{Through, Serves, ByNumber, same}
-use Rattle.host_tables.specs.Stands.{Given, Stands}
-use Rattle.host_tables.proofs.ProcessChanges.{same_threads}
+use Rattle.host_descriptors.specs.OfHostTables.declared.kernel.Kernel.{Kernel}
+use Rattle.host_descriptors.specs.OfHostTables.declared.attempt.Attempt.{Attempt}
+use Rattle.host_descriptors.specs.OfHostTables.declared.attempt.Attempt.TheVariants as answer
+use Rattle.host_descriptors.specs.OfHostTables.Processes.{SameProcess}
+use Rattle.host_descriptors.specs.OfHostTables.Serves.{Through, Serves, ByNumber, same}
+use Rattle.host_descriptors.specs.OfHostTables.Stands.{Given, Stands}
+use Rattle.host_descriptors.proofs.OfHostTables.ProcessChanges.{same_threads}
 
 pub group_served : (g : Given) (old new : Kernel) (k : PlainKernel) (p : VPid) (code : ℕ) (x : List Byte)
     → Stands g None new (after_end k p (exit_status code))

@@ -29,13 +29,13 @@ use Rattle.plain_tables.proofs.Orphans.{orphan_threads, look_up, orphan_was}
 use Rattle.plain_machine.specs.declared.kernel.PlainKernel.{PlainKernel}
 use Rattle.plain_machine.specs.Ends.{without_children, with_zombie}
 use Rattle.virt_ids.specs.Pairs.{AreInverse}
-use Rattle.host_tables.specs.declared.kernel.Kernel.{Kernel}
-use Rattle.host_tables.specs.Numbers.{Pids, Virts, AreNumbered, to_real_thread, to_virt_thread}
-use Rattle.host_tables.specs.Processes.{IsSame, SameProcess, SameProcesses}
-use Rattle.host_tables.specs.Stands.{Given, Stands}
-use Rattle.host_tables.proofs.Frames.{procs_kept}
-use Rattle.host_tables.proofs.ProcessChanges.{HasNoMore}
-use Rattle.host_tables.proofs.Waits.{same_parent}
+use Rattle.host_descriptors.specs.OfHostTables.declared.kernel.Kernel.{Kernel}
+use Rattle.host_descriptors.specs.OfHostTables.Numbers.{Pids, Virts, AreNumbered, to_real_thread, to_virt_thread}
+use Rattle.host_descriptors.specs.OfHostTables.Processes.{IsSame, SameProcess, SameProcesses}
+use Rattle.host_descriptors.specs.OfHostTables.Stands.{Given, Stands}
+use Rattle.host_descriptors.proofs.OfHostTables.Frames.{procs_kept}
+use Rattle.host_descriptors.proofs.OfHostTables.ProcessChanges.{HasNoMore}
+use Rattle.host_descriptors.proofs.OfHostTables.Waits.{same_parent}
 use Rattle.host_processes.proofs.Raised.{changed_now, changed}
 
 pub record AreFewer (processes' processes : Processes) (makers' makers : Makers) : Type 0 where

@@ -16,15 +16,15 @@ use Rattle.plain_machine.specs.declared.kernel.PlainKernel.{PlainKernel}
 use Rattle.plain_machine.specs.Ends.{after_fork}
 use Rattle.plain_machine.specs.Kernel.{host_of}
 use Rattle.plain_machine.specs.Kernels.{IsKernel}
-use Rattle.host_tables.specs.declared.kernel.Kernel.{Kernel}
-use Rattle.host_tables.specs.Datagrams.{SameInboxes}
-use Rattle.host_tables.specs.Descriptions.{SameDescriptions}
-use Rattle.host_tables.specs.Numbers.{AreNumbered}
-use Rattle.host_tables.specs.Requests.{AreBelow}
-use Rattle.host_tables.specs.Stands.{Given, Stands, with_number}
-use Rattle.host_tables.proofs.GrownTopics.{SameDescriptions-grows}
-use Rattle.host_tables.proofs.LookUps.{some_value}
-use Rattle.host_tables.proofs.MorePairs.{real_here}
+use Rattle.host_descriptors.specs.OfHostTables.declared.kernel.Kernel.{Kernel}
+use Rattle.host_descriptors.specs.OfHostTables.Datagrams.{SameInboxes}
+use Rattle.host_descriptors.specs.OfHostTables.Descriptions.{SameDescriptions}
+use Rattle.host_descriptors.specs.OfHostTables.Numbers.{AreNumbered}
+use Rattle.host_descriptors.specs.OfHostTables.Requests.{AreBelow}
+use Rattle.host_descriptors.specs.OfHostTables.Stands.{Given, Stands, with_number}
+use Rattle.host_descriptors.proofs.OfHostTables.GrownTopics.{SameDescriptions-grows}
+use Rattle.host_descriptors.proofs.OfHostTables.LookUps.{some_value}
+use Rattle.host_descriptors.proofs.OfHostTables.MorePairs.{real_here}
 use Rattle.host_processes.specs.Forks.{HasShared}
 use Rattle.host_processes.proofs.MoreNumbers.{AreNumbered-child}
 use Rattle.host_processes.proofs.MoreProcesses.{SameProcesses-child}

@@ -25,11 +25,11 @@ use Rattle.plain_machine.specs.Kernel.{is_live, without_process, after_raise_for
 use Rattle.plain_machine.specs.Ends.{closed_below, without_owner, without_children, with_zombie, left_to, left_by, after_end}
 use Rattle.plain_machine.specs.Kernels.{IsKernel}
 use Rattle.plain_machine.proofs.WholeClosing.{whole_closed_below, closed_below_closes}
-use Rattle.host_tables.specs.declared.kernel.Kernel.{Kernel}
-use Rattle.host_tables.specs.Numbers.{IsNumberOf}
-use Rattle.host_tables.specs.Serves.{Through}
-use Rattle.host_tables.specs.Stands.{Given, Stands}
-use Rattle.host_tables.proofs.LookUps.{some_value, process_of, lives_of}
+use Rattle.host_descriptors.specs.OfHostTables.declared.kernel.Kernel.{Kernel}
+use Rattle.host_descriptors.specs.OfHostTables.Numbers.{IsNumberOf}
+use Rattle.host_descriptors.specs.OfHostTables.Serves.{Through}
+use Rattle.host_descriptors.specs.OfHostTables.Stands.{Given, Stands}
+use Rattle.host_descriptors.proofs.OfHostTables.LookUps.{some_value, process_of, lives_of}
 use Rattle.host_processes.proofs.Raised.{changed_now, raised_for_process}
 use Rattle.host_processes.proofs.Reaped.{reaped_kept}
 use Rattle.host_processes.specs.Leaves.{after_leave}

@@ -21,3 +21,4 @@ pub mod FewerProcesses
 pub mod Left
 pub mod ExitRows
 pub mod HandedOn
+pub use Rattle.host_descriptors.proofs.OfHostTables

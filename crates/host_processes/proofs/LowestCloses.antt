@@ -22,11 +22,11 @@ use Rattle.plain_machine.specs.Closing.{closed_by, close_fd}
 use Rattle.plain_machine.specs.Ends.{closed_below}
 use Rattle.plain_machine.specs.Kernels.{IsKernel}
 use Rattle.plain_machine.proofs.WholeClosing.{none_below, whole_closed_below}
-use Rattle.host_tables.specs.declared.kernel.Kernel.{Kernel}
-use Rattle.host_tables.specs.Processes.{RealDescriptors}
-use Rattle.host_tables.specs.Serves.{Through}
-use Rattle.host_tables.specs.Stands.{Given, Stands}
-use Rattle.host_tables.proofs.LookUps.{some_value, at_slot}
+use Rattle.host_descriptors.specs.OfHostTables.declared.kernel.Kernel.{Kernel}
+use Rattle.host_descriptors.specs.OfHostTables.Processes.{RealDescriptors}
+use Rattle.host_descriptors.specs.OfHostTables.Serves.{Through}
+use Rattle.host_descriptors.specs.OfHostTables.Stands.{Given, Stands}
+use Rattle.host_descriptors.proofs.OfHostTables.LookUps.{some_value, at_slot}
 
 module _ (k : PlainKernel) (p : VPid) where
   -- a number that is not open

@@ -18,8 +18,8 @@ use Rattle.sys_abi.proofs.OrderLaws.{vpid_total, vpid_exact}
 use Rattle.plain_tables.specs.declared.process.Process.{Process}
 use Rattle.plain_tables.specs.Ends.{child_process}
 use Rattle.plain_tables.specs.Tables.{Processes, Makers, pid, same_host, with_thread_entry}
-use Rattle.host_tables.specs.Numbers.{Pids, node_of, AreNumbered}
-use Rattle.host_tables.proofs.LookUps.{some_value}
+use Rattle.host_descriptors.specs.OfHostTables.Numbers.{Pids, node_of, AreNumbered}
+use Rattle.host_descriptors.proofs.OfHostTables.LookUps.{some_value}
 
 -- what is there stays there
 kept_some : {X : Type 0} (o o' : Option X) → ((x : X) → o ≡ Some x → o' ≡ Some x) → IsSome o → IsSome o'

@@ -21,11 +21,11 @@ use Rattle.virt_ids.specs.Pairs.{AreInverse}
 use Rattle.plain_tables.specs.declared.process.Process.{Process}
 use Rattle.plain_tables.specs.Ends.{child_process}
 use Rattle.plain_tables.specs.Tables.{Processes, pid, with_thread_entry}
-use Rattle.host_tables.specs.Numbers.{Pids, Virts, to_real, to_virt, number_on, to_real_thread, to_virt_thread}
-use Rattle.host_tables.specs.Processes.{IsSame, SameProcess, SameProcesses}
-use Rattle.host_tables.proofs.GrownTopics.{SameProcess-grows, SameProcesses-grows}
-use Rattle.host_tables.proofs.MorePairs.{pids', virts', more_pairs, real_here, real_kept, virt_kept}
-use Rattle.host_tables.proofs.Ways.{lead_process, lead_thread}
+use Rattle.host_descriptors.specs.OfHostTables.Numbers.{Pids, Virts, to_real, to_virt, number_on, to_real_thread, to_virt_thread}
+use Rattle.host_descriptors.specs.OfHostTables.Processes.{IsSame, SameProcess, SameProcesses}
+use Rattle.host_descriptors.proofs.OfHostTables.GrownTopics.{SameProcess-grows, SameProcesses-grows}
+use Rattle.host_descriptors.proofs.OfHostTables.MorePairs.{pids', virts', more_pairs, real_here, real_kept, virt_kept}
+use Rattle.host_descriptors.proofs.OfHostTables.Ways.{lead_process, lead_thread}
 
 own_number : (node n : ℕ) → (if node == node then Some n else None) ≡ Some n
 own_number node n = ap (λ b. if b then Some n else None) (eq-eqb node node refl)

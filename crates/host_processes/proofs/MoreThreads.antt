@@ -19,15 +19,15 @@ use Rattle.plain_tables.specs.Tables.{Processes, changed_by, changed_at, with_th
 use Rattle.plain_machine.specs.declared.kernel.PlainKernel.{PlainKernel}
 use Rattle.plain_machine.specs.Kernel.{thread_count, with_next_thread}
 use Rattle.plain_machine.specs.Kernels.{IsKernel}
-use Rattle.host_tables.specs.declared.kernel.Kernel.{Kernel}
-use Rattle.host_tables.specs.Numbers.{AreNumbered}
-use Rattle.host_tables.specs.Processes.{SameProcess, SameProcesses}
-use Rattle.host_tables.specs.Requests.{AreBelow}
-use Rattle.host_tables.specs.Stands.{Given, Stands, with_number}
-use Rattle.host_tables.proofs.GrownTopics.{SameDescriptors-grows, SameDescriptions-grows}
-use Rattle.host_tables.proofs.LookUps.{real_process_of}
-use Rattle.host_tables.proofs.MorePairs.{real_here}
-use Rattle.host_tables.proofs.ProcessChanges as changes
+use Rattle.host_descriptors.specs.OfHostTables.declared.kernel.Kernel.{Kernel}
+use Rattle.host_descriptors.specs.OfHostTables.Numbers.{AreNumbered}
+use Rattle.host_descriptors.specs.OfHostTables.Processes.{SameProcess, SameProcesses}
+use Rattle.host_descriptors.specs.OfHostTables.Requests.{AreBelow}
+use Rattle.host_descriptors.specs.OfHostTables.Stands.{Given, Stands, with_number}
+use Rattle.host_descriptors.proofs.OfHostTables.GrownTopics.{SameDescriptors-grows, SameDescriptions-grows}
+use Rattle.host_descriptors.proofs.OfHostTables.LookUps.{real_process_of}
+use Rattle.host_descriptors.proofs.OfHostTables.MorePairs.{real_here}
+use Rattle.host_descriptors.proofs.OfHostTables.ProcessChanges as changes
 use Rattle.host_processes.proofs.MoreNumbers.{AreNumbered-thread}
 use Rattle.host_processes.proofs.MoreProcesses.{SameProcesses-thread}
 use Rattle.host_processes.proofs.NewNumbers.{its_process, born, unpaired_v, unpaired_r, paired_more, pairs_kept, numbered_more}

@@ -20,12 +20,12 @@ use Rattle.plain_tables.specs.Tables.{slot, is_live_process}
 use Rattle.plain_machine.specs.declared.kernel.PlainKernel.{PlainKernel}
 use Rattle.plain_machine.specs.Kernel.{host_of, is_live}
 use Rattle.plain_machine.specs.Kernels.{IsKernel}
-use Rattle.host_tables.specs.declared.kernel.Kernel.{Kernel}
-use Rattle.host_tables.specs.Numbers.{real, node_of, ArePaired, AreNumbered}
-use Rattle.host_tables.specs.Requests.{AreBelow}
-use Rattle.host_tables.specs.Stands.{Given, Stands}
-use Rattle.host_tables.proofs.LookUps.{some_value, lives_of}
-use Rattle.host_tables.proofs.MorePairs.{new_virt, new_real, real_kept, ArePaired-more}
+use Rattle.host_descriptors.specs.OfHostTables.declared.kernel.Kernel.{Kernel}
+use Rattle.host_descriptors.specs.OfHostTables.Numbers.{real, node_of, ArePaired, AreNumbered}
+use Rattle.host_descriptors.specs.OfHostTables.Requests.{AreBelow}
+use Rattle.host_descriptors.specs.OfHostTables.Stands.{Given, Stands}
+use Rattle.host_descriptors.proofs.OfHostTables.LookUps.{some_value, lives_of}
+use Rattle.host_descriptors.proofs.OfHostTables.MorePairs.{new_virt, new_real, real_kept, ArePaired-more}
 use Rattle.host_processes.proofs.MoreNumbers.{AreNumbered-grows}
 
 live_there : (o : Option Process) → is_live_process o ≡ true → is_some o ≡ true

@@ -17,12 +17,12 @@ use Rattle.plain_machine.specs.declared.kernel.PlainKernel.{PlainKernel}
 use Rattle.plain_machine.specs.Kernel.{is_live}
 use Rattle.plain_machine.specs.Kernels.{IsKernel}
 use Rattle.plain_machine.specs.Rows.Numbers.{parent_in}
-use Rattle.host_tables.specs.declared.kernel.Kernel.{Kernel}
-use Rattle.host_tables.specs.Numbers.{real, IsNumberOf}
-use Rattle.host_tables.specs.Processes.{SameProcess}
-use Rattle.host_tables.specs.Serves.{ByPidOr, ByPidUnless}
-use Rattle.host_tables.specs.Stands.{Given, Stands}
-use Rattle.host_tables.proofs.Neighbours.{there_by, neighbours_node}
+use Rattle.host_descriptors.specs.OfHostTables.declared.kernel.Kernel.{Kernel}
+use Rattle.host_descriptors.specs.OfHostTables.Numbers.{real, IsNumberOf}
+use Rattle.host_descriptors.specs.OfHostTables.Processes.{SameProcess}
+use Rattle.host_descriptors.specs.OfHostTables.Serves.{ByPidOr, ByPidUnless}
+use Rattle.host_descriptors.specs.OfHostTables.Stands.{Given, Stands}
+use Rattle.host_descriptors.proofs.OfHostTables.Neighbours.{there_by, neighbours_node}
 use Rattle.host_processes.specs.Parents.{parent_value}
 
 above : (n : ℕ) → 1 ≤ n → n ≡ 0 → ⊥

@@ -27,14 +27,14 @@ use Rattle.plain_tables.specs.Tables.{changed_by, changed_at, signals_of, raised
 use Rattle.plain_machine.specs.declared.kernel.PlainKernel.{PlainKernel}
 use Rattle.plain_machine.specs.Attempts.{replied}
 use Rattle.plain_machine.specs.Kernel.{after_raise, after_raise_for_all}
-use Rattle.host_tables.specs.declared.kernel.Kernel.{Kernel}
-use Rattle.host_tables.specs.Numbers.{to_real_thread, to_virt_thread}
-use Rattle.host_tables.specs.Processes.{IsSame, SameProcess}
-use Rattle.host_tables.specs.Serves.{Serves, ByNumber, same}
-use Rattle.host_tables.specs.Stands.{Given, Stands}
-use Rattle.host_tables.proofs.LookUps.{some_value, process_of}
-use Rattle.host_tables.proofs.ProcessChanges.{HasNoMore, process_changed}
-use Rattle.host_tables.proofs.Ways.{lead_thread}
+use Rattle.host_descriptors.specs.OfHostTables.declared.kernel.Kernel.{Kernel}
+use Rattle.host_descriptors.specs.OfHostTables.Numbers.{to_real_thread, to_virt_thread}
+use Rattle.host_descriptors.specs.OfHostTables.Processes.{IsSame, SameProcess}
+use Rattle.host_descriptors.specs.OfHostTables.Serves.{Serves, ByNumber, same}
+use Rattle.host_descriptors.specs.OfHostTables.Stands.{Given, Stands}
+use Rattle.host_descriptors.proofs.OfHostTables.LookUps.{some_value, process_of}
+use Rattle.host_descriptors.proofs.OfHostTables.ProcessChanges.{HasNoMore, process_changed}
+use Rattle.host_descriptors.proofs.OfHostTables.Ways.{lead_thread}
 use Rattle.host_processes.specs.Raises.{answer_by, raise_answer, with_raised}
 
 at_key_is : {K X : Type 0} {R : K → K → Ordering} (m : map.FinMap R X) (at : K) (f : X → X) (x : X)

@@ -14,11 +14,11 @@ use Rattle.plain_tables.specs.declared.waiting.Waiting.TheVariants as plain
 use Rattle.plain_machine.specs.Kernels.{IsKernel}
 use Rattle.plain_machine.specs.Rows.Wait.{ANY_CHILD, child_of_number}
 use Rattle.plain_tables.specs.Waits as waits
-use Rattle.host_tables.specs.declared.kernel.Kernel.{Kernel}
-use Rattle.host_tables.specs.Numbers.{Pids}
-use Rattle.host_tables.specs.Requests.{neighbour_of}
-use Rattle.host_tables.specs.Stands.{Given, Stands}
-use Rattle.host_tables.proofs.Waits.{SameWait}
+use Rattle.host_descriptors.specs.OfHostTables.declared.kernel.Kernel.{Kernel}
+use Rattle.host_descriptors.specs.OfHostTables.Numbers.{Pids}
+use Rattle.host_descriptors.specs.OfHostTables.Requests.{neighbour_of}
+use Rattle.host_descriptors.specs.OfHostTables.Stands.{Given, Stands}
+use Rattle.host_descriptors.proofs.OfHostTables.Waits.{SameWait}
 use Rattle.host_processes.specs.Waits.{is_answered}
 use Rattle.host_processes.proofs.Waited.{stranger}
 use Rattle.host_processes.proofs.WaitRow.{any_is, one_is, same_any, same_one}

@@ -16,12 +16,12 @@ use Rattle.sys_abi.proofs.OrderLaws.{vpid_total, vpid_exact, real_pid_total, rea
 use Rattle.plain_tables.specs.Tables.{Processes, Makers, same_host}
 use Rattle.plain_machine.specs.declared.kernel.PlainKernel.{PlainKernel}
 use Rattle.plain_machine.specs.Kernel.{without_process}
-use Rattle.host_tables.specs.declared.kernel.Kernel.{Kernel}
-use Rattle.host_tables.specs.Numbers.{Pids, AreNumbered, to_real, to_virt}
-use Rattle.host_tables.specs.Processes.{SameProcess}
-use Rattle.host_tables.specs.Stands.{Given, Stands}
-use Rattle.host_tables.proofs.Frames.{procs_kept}
-use Rattle.host_tables.proofs.Ways.{lead_process}
+use Rattle.host_descriptors.specs.OfHostTables.declared.kernel.Kernel.{Kernel}
+use Rattle.host_descriptors.specs.OfHostTables.Numbers.{Pids, AreNumbered, to_real, to_virt}
+use Rattle.host_descriptors.specs.OfHostTables.Processes.{SameProcess}
+use Rattle.host_descriptors.specs.OfHostTables.Stands.{Given, Stands}
+use Rattle.host_descriptors.proofs.OfHostTables.Frames.{procs_kept}
+use Rattle.host_descriptors.proofs.OfHostTables.Ways.{lead_process}
 
 module _ {X : Type 0} (m : FinMap vpid_cmp X) (q : VPid) where
   was : (u : VPid) (x : X) → map.get (map.remove m q) u ≡ Some x → map.get m u ≡ Some x

@@ -22,16 +22,16 @@ use Rattle.plain_machine.specs.Attempts.{Served, replied}
 use Rattle.plain_machine.specs.Kernel.{is_neighbour, has_thread, after_raise, after_raise_for_all}
 use Rattle.plain_machine.specs.Kernels.{IsKernel}
 use Rattle.plain_machine.specs.Rows.Send.{is_above_zero, may_be_sent, kill_row, tgkill_row}
-use Rattle.host_tables.specs.declared.kernel.Kernel.{Kernel}
-use Rattle.host_tables.specs.declared.attempt.Attempt.TheVariants as answer
-use Rattle.host_tables.specs.Numbers.{to_real_thread}
-use Rattle.host_tables.specs.Processes.{SameProcess}
-use Rattle.host_tables.specs.Requests.{neighbour_of}
-use Rattle.host_tables.specs.Serves.{Serves, ByNumber, same}
-use Rattle.host_tables.specs.Stands.{Given, Stands}
-use Rattle.host_tables.proofs.LookUps.{some_value, process_of, real_process_of}
-use Rattle.host_tables.proofs.Neighbours.{together_by, neighbours_node, neighbour_some, neighbour_none, neighbour_host}
-use Rattle.host_tables.proofs.Replies.{refused}
+use Rattle.host_descriptors.specs.OfHostTables.declared.kernel.Kernel.{Kernel}
+use Rattle.host_descriptors.specs.OfHostTables.declared.attempt.Attempt.TheVariants as answer
+use Rattle.host_descriptors.specs.OfHostTables.Numbers.{to_real_thread}
+use Rattle.host_descriptors.specs.OfHostTables.Processes.{SameProcess}
+use Rattle.host_descriptors.specs.OfHostTables.Requests.{neighbour_of}
+use Rattle.host_descriptors.specs.OfHostTables.Serves.{Serves, ByNumber, same}
+use Rattle.host_descriptors.specs.OfHostTables.Stands.{Given, Stands}
+use Rattle.host_descriptors.proofs.OfHostTables.LookUps.{some_value, process_of, real_process_of}
+use Rattle.host_descriptors.proofs.OfHostTables.Neighbours.{together_by, neighbours_node, neighbour_some, neighbour_none, neighbour_host}
+use Rattle.host_descriptors.proofs.OfHostTables.Replies.{refused}
 use Rattle.host_processes.specs.Raises.{raise_answer, with_raised}
 use Rattle.host_processes.proofs.Raised.{raises, raised_for_process, raised_for_thread, sent}
 

@@ -24,10 +24,10 @@ use Rattle.virt_ids.specs.Pairs.{AreInverse}
 use Rattle.plain_tables.specs.Ends.{shared_at, shared_below}
 use Rattle.plain_tables.specs.Tables.{Descriptors, pid, slot}
 use Rattle.plain_tables.proofs.SharedDescriptors.{shared_kept}
-use Rattle.host_tables.specs.Numbers.{Pids, Virts}
-use Rattle.host_tables.specs.Processes.{SameDescriptors}
-use Rattle.host_tables.proofs.LookUps.{at_slot}
-use Rattle.host_tables.proofs.MorePairs.{pids', virts', real_here, virt_here, real_was, real_none, virt_none}
+use Rattle.host_descriptors.specs.OfHostTables.Numbers.{Pids, Virts}
+use Rattle.host_descriptors.specs.OfHostTables.Processes.{SameDescriptors}
+use Rattle.host_descriptors.proofs.OfHostTables.LookUps.{at_slot}
+use Rattle.host_descriptors.proofs.OfHostTables.MorePairs.{pids', virts', real_here, virt_here, real_was, real_none, virt_none}
 use Rattle.host_processes.specs.Forks.{HasShared}
 
 -- the plain side

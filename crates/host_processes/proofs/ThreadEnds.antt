@@ -23,15 +23,15 @@ use Rattle.plain_machine.specs.Attempts.{replied}
 use Rattle.plain_machine.specs.Ends.{exit_status, after_end, thread_ended}
 use Rattle.plain_machine.specs.Kernel.{thread_count, at_process}
 use Rattle.plain_machine.specs.Rows.End.{exit_row}
-use Rattle.host_tables.specs.declared.kernel.Kernel.{Kernel}
-use Rattle.host_tables.specs.declared.attempt.Attempt.TheVariants as answer
-use Rattle.host_tables.specs.Numbers.{real, to_real_thread, to_virt_thread, number_on}
-use Rattle.host_tables.specs.Processes.{IsSame, SameProcess}
-use Rattle.host_tables.specs.Serves.{Serves, ByNumber, same}
-use Rattle.host_tables.specs.Stands.{Given, Stands}
-use Rattle.host_tables.proofs.LookUps.{process_of}
-use Rattle.host_tables.proofs.ProcessChanges.{HasNoMore, same_threads}
-use Rattle.host_tables.proofs.Ways.{lead_thread}
+use Rattle.host_descriptors.specs.OfHostTables.declared.kernel.Kernel.{Kernel}
+use Rattle.host_descriptors.specs.OfHostTables.declared.attempt.Attempt.TheVariants as answer
+use Rattle.host_descriptors.specs.OfHostTables.Numbers.{real, to_real_thread, to_virt_thread, number_on}
+use Rattle.host_descriptors.specs.OfHostTables.Processes.{IsSame, SameProcess}
+use Rattle.host_descriptors.specs.OfHostTables.Serves.{Serves, ByNumber, same}
+use Rattle.host_descriptors.specs.OfHostTables.Stands.{Given, Stands}
+use Rattle.host_descriptors.proofs.OfHostTables.LookUps.{process_of}
+use Rattle.host_descriptors.proofs.OfHostTables.ProcessChanges.{HasNoMore, same_threads}
+use Rattle.host_descriptors.proofs.OfHostTables.Ways.{lead_thread}
 use Rattle.host_processes.proofs.Raised.{changed}
 
 fewer : (x : Process) (t : ℕ) → HasNoMore (without_thread_entry t x) x

@@ -21,15 +21,15 @@ use Rattle.plain_machine.specs.Attempts.{Served}
 use Rattle.plain_machine.specs.Kernels.{IsKernel}
 use Rattle.plain_machine.specs.Rows.Wait.{ANY_CHILD, may_be_asked, child_of_number, wait4_by, wait4_row}
 use Rattle.plain_tables.specs.Waits as waits
-use Rattle.host_tables.specs.declared.kernel.Kernel.{Kernel}
-use Rattle.host_tables.specs.declared.attempt.Attempt.{Attempt}
-use Rattle.host_tables.specs.declared.attempt.Attempt.TheVariants as answer
-use Rattle.host_tables.specs.Requests.{neighbour_of}
-use Rattle.host_tables.specs.Serves.{Serves, ByPidOr, same}
-use Rattle.host_tables.specs.Stands.{Given, Stands}
-use Rattle.host_tables.proofs.Neighbours.{neighbour_some}
-use Rattle.host_tables.proofs.Replies.{refused}
-use Rattle.host_tables.proofs.Waits.{SameWait, same_wait_by, same_wait_any}
+use Rattle.host_descriptors.specs.OfHostTables.declared.kernel.Kernel.{Kernel}
+use Rattle.host_descriptors.specs.OfHostTables.declared.attempt.Attempt.{Attempt}
+use Rattle.host_descriptors.specs.OfHostTables.declared.attempt.Attempt.TheVariants as answer
+use Rattle.host_descriptors.specs.OfHostTables.Requests.{neighbour_of}
+use Rattle.host_descriptors.specs.OfHostTables.Serves.{Serves, ByPidOr, same}
+use Rattle.host_descriptors.specs.OfHostTables.Stands.{Given, Stands}
+use Rattle.host_descriptors.proofs.OfHostTables.Neighbours.{neighbour_some}
+use Rattle.host_descriptors.proofs.OfHostTables.Replies.{refused}
+use Rattle.host_descriptors.proofs.OfHostTables.Waits.{SameWait, same_wait_by, same_wait_any}
 use Rattle.host_processes.specs.Waits.{wait_answer, wait_bytes, with_waited}
 use Rattle.host_processes.proofs.Waited.{found_child, stranger, waited_kept}
 

@@ -31,14 +31,14 @@ use Rattle.plain_machine.specs.Kernels.{IsKernel}
 use Rattle.plain_machine.specs.Rows.Wait.{WNOHANG, wait4_by}
 use Rattle.plain_tables.specs.Waits as waits
 use Rattle.plain_machine.proofs.Leasts.{status_at, finding, finds-wait_any}
-use Rattle.host_tables.specs.declared.kernel.Kernel.{Kernel}
-use Rattle.host_tables.specs.declared.attempt.Attempt.TheVariants as answer
-use Rattle.host_tables.specs.Requests.{neighbour_of}
-use Rattle.host_tables.specs.Serves.{Serves, ByPidOr, same}
-use Rattle.host_tables.specs.Stands.{Given, Stands}
-use Rattle.host_tables.proofs.LookUps.{some_value}
-use Rattle.host_tables.proofs.Neighbours.{there_by, together_by, neighbours_node}
-use Rattle.host_tables.proofs.Waits.{SameWait}
+use Rattle.host_descriptors.specs.OfHostTables.declared.kernel.Kernel.{Kernel}
+use Rattle.host_descriptors.specs.OfHostTables.declared.attempt.Attempt.TheVariants as answer
+use Rattle.host_descriptors.specs.OfHostTables.Requests.{neighbour_of}
+use Rattle.host_descriptors.specs.OfHostTables.Serves.{Serves, ByPidOr, same}
+use Rattle.host_descriptors.specs.OfHostTables.Stands.{Given, Stands}
+use Rattle.host_descriptors.proofs.OfHostTables.LookUps.{some_value}
+use Rattle.host_descriptors.proofs.OfHostTables.Neighbours.{there_by, together_by, neighbours_node}
+use Rattle.host_descriptors.proofs.OfHostTables.Waits.{SameWait}
 use Rattle.host_processes.specs.Waits.{wait_answer, wait_bytes, with_waited}
 use Rattle.host_processes.proofs.Parents.{not_nobody, told_number, parent_of}
 use Rattle.host_processes.proofs.Reaped.{reaped_kept}

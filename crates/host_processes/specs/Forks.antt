@@ -9,11 +9,11 @@ use Rattle.sys_abi.specs.declared.identity.RealPid.{RealPid}
 use Rattle.fd_tables.specs.declared.real_slot.RealSlot.{RealSlot}
 use Rattle.fd_tables.specs.Slots.{slot}
 use Rattle.fd_book.specs.Books.{Books}
-use Rattle.host_tables.specs.declared.attempt.Attempt.{Attempt}
-use Rattle.host_tables.specs.declared.attempt.Attempt.TheVariants as answer
-use Rattle.host_tables.specs.Numbers.{real}
-use Rattle.host_tables.specs.Serves.{After}
-use Rattle.host_tables.specs.Stands.{with_number}
+use Rattle.host_descriptors.specs.OfHostTables.declared.attempt.Attempt.{Attempt}
+use Rattle.host_descriptors.specs.OfHostTables.declared.attempt.Attempt.TheVariants as answer
+use Rattle.host_descriptors.specs.OfHostTables.Numbers.{real}
+use Rattle.host_descriptors.specs.OfHostTables.Serves.{After}
+use Rattle.host_descriptors.specs.OfHostTables.Stands.{with_number}
 
 pub record HasShared (child parent : RealPid) (old new : Books) : Type 0 where
   pub same : (fd : ℕ) → map.get new.descriptors (slot child fd) ≡ map.get old.descriptors (slot parent fd)

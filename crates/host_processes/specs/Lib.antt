@@ -4,3 +4,4 @@ pub mod Waits
 pub mod Forks
 pub mod Leaves
 pub mod HandedOn
+pub use Rattle.host_descriptors.specs.OfHostTables

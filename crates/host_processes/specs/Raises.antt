@@ -5,9 +5,9 @@ use Rattle.std.specs.Prelude.{ℕ, Bool, Option, if◌then◌else◌}
 use Rattle.sys_abi.specs.declared.identity.RealPid.{RealPid}
 use Rattle.sys_abi.specs.declared.errors.TheConstants.{ESRCH}
 use Rattle.proc_book.specs.Procs.{can_raise, after_raise}
-use Rattle.host_tables.specs.declared.attempt.Attempt.{Attempt}
-use Rattle.host_tables.specs.declared.attempt.Attempt.TheVariants.{Gives, Fails}
-use Rattle.host_tables.specs.declared.kernel.Kernel.{Kernel}
+use Rattle.host_descriptors.specs.OfHostTables.declared.attempt.Attempt.{Attempt}
+use Rattle.host_descriptors.specs.OfHostTables.declared.attempt.Attempt.TheVariants.{Gives, Fails}
+use Rattle.host_descriptors.specs.OfHostTables.declared.kernel.Kernel.{Kernel}
 
 abbrev pub answer_by : Bool → Attempt
 answer_by lives = if lives then Gives 0 else Fails (record { 0 = ESRCH })

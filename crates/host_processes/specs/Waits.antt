@@ -11,9 +11,9 @@ use Rattle.proc_book.specs.declared.waiting.Waiting.TheVariants as found
 use Rattle.proc_book.specs.Procs.{after_wait}
 use Rattle.plain_process.specs.Memory.{low_bytes}
 use Rattle.plain_machine.specs.Rows.Wait.{WNOHANG}
-use Rattle.host_tables.specs.declared.attempt.Attempt.{Attempt}
-use Rattle.host_tables.specs.declared.attempt.Attempt.TheVariants.{Gives, Fails, NotReady}
-use Rattle.host_tables.specs.declared.kernel.Kernel.{Kernel}
+use Rattle.host_descriptors.specs.OfHostTables.declared.attempt.Attempt.{Attempt}
+use Rattle.host_descriptors.specs.OfHostTables.declared.attempt.Attempt.TheVariants.{Gives, Fails, NotReady}
+use Rattle.host_descriptors.specs.OfHostTables.declared.kernel.Kernel.{Kernel}
 
 abbrev pub wait_answer : ℕ → Waiting → Attempt
 wait_answer options found.NoChild = Fails (record { 0 = ECHILD })

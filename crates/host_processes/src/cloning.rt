@@ -5,13 +5,13 @@ ghost use Rattle.proc_book.specs.Ends.{is_live_at};
 ghost use Rattle.proc_book.specs.Procs.{next_of};
 ghost use Rattle.plain_machine.specs.Rows.Clone as rows;
 ghost use Rattle.plain_machine.specs.Rows.Clone.{LAST_ID};
-ghost use Rattle.host_tables.specs.Conditions.{IsSound};
-ghost use Rattle.host_tables.specs.Requests.{AreBelow};
-ghost use Rattle.host_tables.specs.Serves.{Through, Serves, ByPid, silent};
+ghost use Rattle.host_descriptors.specs.OfHostTables.Conditions.{IsSound};
+ghost use Rattle.host_descriptors.specs.OfHostTables.Requests.{AreBelow};
+ghost use Rattle.host_descriptors.specs.OfHostTables.Serves.{Through, Serves, ByPid, silent};
 ghost use Rattle.host_processes.specs.Forks.{paired_with, IsNext};
 
 use crate::forking::start_child;
-use host_tables::{Attempt, Kernel, RowResult};
+use host_descriptors::host_tables::{Attempt, Kernel, RowResult};
 use proc_book::ProcFault;
 use std::alloc::AllocError;
 use sys_abi::errors::{EAGAIN, EINVAL};

@@ -4,11 +4,11 @@ ghost use Rattle.std.specs.FinMap as map;
 ghost use Rattle.views.specs.Numbers.{Byte, ThreadNumber};
 ghost use Rattle.proc_book.specs.Procs.{threads_at};
 ghost use Rattle.plain_machine.specs.Rows.End as rows;
-ghost use Rattle.host_tables.specs.declared.attempt.Attempt.TheVariants.{Gives};
-ghost use Rattle.host_tables.specs.Numbers.{real};
-ghost use Rattle.host_tables.specs.Serves.{Through, Serves, ByNumber, same};
+ghost use Rattle.host_descriptors.specs.OfHostTables.declared.attempt.Attempt.TheVariants.{Gives};
+ghost use Rattle.host_descriptors.specs.OfHostTables.Numbers.{real};
+ghost use Rattle.host_descriptors.specs.OfHostTables.Serves.{Through, Serves, ByNumber, same};
 
-use host_tables::Kernel;
+use host_descriptors::host_tables::Kernel;
 use sys_abi::RealPid;
 
 /// exit (`man 2 exit`) of a thread whose process has others: the thread is gone, and the call gives 0.

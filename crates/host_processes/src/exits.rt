@@ -4,12 +4,12 @@ ghost use Rattle.std.specs.FinMap as map;
 ghost use Rattle.views.specs.Numbers.{Byte, ThreadNumber};
 ghost use Rattle.proc_book.specs.Ends.{is_live_at};
 ghost use Rattle.plain_machine.specs.Rows.End as rows;
-ghost use Rattle.host_tables.specs.Numbers.{real};
-ghost use Rattle.host_tables.specs.Serves.{Through, Serves, ByNumber, same};
+ghost use Rattle.host_descriptors.specs.OfHostTables.Numbers.{real};
+ghost use Rattle.host_descriptors.specs.OfHostTables.Serves.{Through, Serves, ByNumber, same};
 
 use crate::exit_thread;
 use crate::process_ends::end_process;
-use host_tables::{Attempt, Kernel};
+use host_descriptors::host_tables::{Attempt, Kernel};
 use plain_machine::end::exit_status;
 use sys_abi::RealPid;
 

@@ -3,11 +3,11 @@ ghost use Rattle.std.specs.Prelude.{◌≡◌, List};
 ghost use Rattle.views.specs.Numbers.{Byte};
 ghost use Rattle.plain_tables.specs.Tables.{NOBODY};
 ghost use Rattle.plain_machine.specs.Rows.Numbers as rows;
-ghost use Rattle.host_tables.specs.declared.kernel.Kernel.{Kernel};
-ghost use Rattle.host_tables.specs.Serves.{Through, Serves, ByPid, ByPidOr, same};
+ghost use Rattle.host_descriptors.specs.OfHostTables.declared.kernel.Kernel.{Kernel};
+ghost use Rattle.host_descriptors.specs.OfHostTables.Serves.{Through, Serves, ByPid, ByPidOr, same};
 ghost use Rattle.host_processes.specs.Parents.{parent_value};
 
-use host_tables::{Attempt, Kernel};
+use host_descriptors::host_tables::{Attempt, Kernel};
 use sys_abi::RealPid;
 
 /// getpid (`man 2 getpid`).

@@ -7,13 +7,13 @@ ghost use Rattle.proc_book.specs.Ends.{is_live_at};
 ghost use Rattle.plain_machine.specs.Closing.{close_fd};
 ghost use Rattle.plain_machine.specs.Ends as plain;
 ghost use Rattle.host_descriptors.specs.LetGo.{IsToldClose};
-ghost use Rattle.host_tables.specs.Serves.{Through};
-ghost use Rattle.host_tables.specs.Stands.{Stands};
+ghost use Rattle.host_descriptors.specs.OfHostTables.Serves.{Through};
+ghost use Rattle.host_descriptors.specs.OfHostTables.Stands.{Stands};
 ghost use Rattle.host_processes.specs.Leaves.{after_leave};
 
 use fd_book::Book;
+use host_descriptors::host_tables::Kernel;
 use host_descriptors::{Closed, close_one};
-use host_tables::Kernel;
 use plain_machine::end::DESCRIPTOR_LIMIT;
 use sys_abi::{Fd, RealPid};
 

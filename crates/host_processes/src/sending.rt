@@ -3,12 +3,12 @@ ghost use Rattle.std.specs.Prelude.{◌≡◌, ◌&&◌, List};
 ghost use Rattle.views.specs.Numbers.{Byte};
 ghost use Rattle.sys_abi.specs.declared.identity.RealPid.{RealPid};
 ghost use Rattle.plain_machine.specs.Rows.Send as rows;
-ghost use Rattle.host_tables.specs.Numbers.{to_real_thread};
-ghost use Rattle.host_tables.specs.Requests.{neighbour_of};
-ghost use Rattle.host_tables.specs.Serves.{Through, Serves, ByNumber, same};
+ghost use Rattle.host_descriptors.specs.OfHostTables.Numbers.{to_real_thread};
+ghost use Rattle.host_descriptors.specs.OfHostTables.Requests.{neighbour_of};
+ghost use Rattle.host_descriptors.specs.OfHostTables.Serves.{Through, Serves, ByNumber, same};
 ghost use Rattle.host_processes.specs.Raises.{raise_answer, with_raised};
 
-use host_tables::{Attempt, Kernel};
+use host_descriptors::host_tables::{Attempt, Kernel};
 use sys_abi::errors::{EINVAL, ESRCH};
 use sys_abi::{Errno, RealPid, Signal};
 

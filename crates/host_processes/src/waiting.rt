@@ -3,12 +3,12 @@ ghost use Rattle.std.specs.Prelude.{◌≡◌};
 ghost use Rattle.proc_book.specs.Procs.{wait_for};
 ghost use Rattle.plain_machine.specs.Rows.Wait as rows;
 ghost use Rattle.plain_tables.specs.Waits as waits;
-ghost use Rattle.host_tables.specs.Requests.{neighbour_of};
-ghost use Rattle.host_tables.specs.Serves.{Through, Serves, ByPidOr, same};
+ghost use Rattle.host_descriptors.specs.OfHostTables.Requests.{neighbour_of};
+ghost use Rattle.host_descriptors.specs.OfHostTables.Serves.{Through, Serves, ByPidOr, same};
 ghost use Rattle.host_processes.specs.Waits as words;
 ghost use Rattle.host_processes.specs.Waits.{wait_answer, wait_bytes, with_waited};
 
-use host_tables::{Attempt, Kernel};
+use host_descriptors::host_tables::{Attempt, Kernel};
 use proc_book::{ProcFault, Waiting};
 use sys_abi::errors::{ECHILD, EINVAL};
 use sys_abi::transfer::Transfer;

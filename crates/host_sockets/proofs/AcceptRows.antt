@@ -17,13 +17,13 @@ use Rattle.plain_machine.specs.Attempts.{Served}
 use Rattle.plain_machine.specs.Kernels.{IsKernel}
 use Rattle.plain_machine.specs.Rows.Connections as rows
 use Rattle.plain_machine.specs.SocketWords.{is_settled}
-use Rattle.host_tables.specs.declared.attempt.Attempt.{Attempt}
-use Rattle.host_tables.specs.declared.attempt.Attempt.TheVariants as answer
-use Rattle.host_tables.specs.declared.kernel.Kernel.{Kernel}
-use Rattle.host_tables.specs.Requests.{next_desc, leads_to_pipe}
-use Rattle.host_tables.specs.Serves as serves
-use Rattle.host_tables.specs.Serves.{Serves, ByNumber}
-use Rattle.host_tables.specs.Stands.{Given, Stands}
+use Rattle.host_descriptors.specs.OfHostTables.declared.attempt.Attempt.{Attempt}
+use Rattle.host_descriptors.specs.OfHostTables.declared.attempt.Attempt.TheVariants as answer
+use Rattle.host_descriptors.specs.OfHostTables.declared.kernel.Kernel.{Kernel}
+use Rattle.host_descriptors.specs.OfHostTables.Requests.{next_desc, leads_to_pipe}
+use Rattle.host_descriptors.specs.OfHostTables.Serves as serves
+use Rattle.host_descriptors.specs.OfHostTables.Serves.{Serves, ByNumber}
+use Rattle.host_descriptors.specs.OfHostTables.Stands.{Given, Stands}
 use Rattle.host_sockets.specs.declared.accepting.Accepting.{Accepting}
 use Rattle.host_sockets.specs.Changes.{Takes}
 use Rattle.host_sockets.specs.Tests.{accepting_in}

@@ -22,10 +22,10 @@ use Rattle.plain_machine.specs.Kernels.{IsKernel}
 use Rattle.plain_machine.specs.Rows.Connections as rows
 use Rattle.plain_machine.specs.SocketWords.{next_description}
 use Rattle.wire_channels.specs.declared.listener.Listener.{Listener}
-use Rattle.host_tables.specs.declared.kernel.Kernel.{Kernel}
-use Rattle.host_tables.specs.Network.{SameListener}
-use Rattle.host_tables.specs.Requests.{next_desc, leads_to_pipe}
-use Rattle.host_tables.specs.Stands.{Given, Stands}
+use Rattle.host_descriptors.specs.OfHostTables.declared.kernel.Kernel.{Kernel}
+use Rattle.host_descriptors.specs.OfHostTables.Network.{SameListener}
+use Rattle.host_descriptors.specs.OfHostTables.Requests.{next_desc, leads_to_pipe}
+use Rattle.host_descriptors.specs.OfHostTables.Stands.{Given, Stands}
 use Rattle.host_sockets.specs.declared.accepting.Accepting.{Accepting}
 use Rattle.host_sockets.specs.Tests.{first_in, if_waiting, accepting_in}
 use Rattle.host_sockets.proofs.Tries.{SameTry, same_then, same_skip, same_unready}

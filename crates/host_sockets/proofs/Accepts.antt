@@ -30,17 +30,17 @@ use Rattle.wire_channels.specs.Listeners as listeners
 use Rattle.wire_channels.specs.declared.net_fault.NetFault.{NetFault}
 use Rattle.wire_channels.specs.declared.net_fault.NetFault.TheVariants as fault
 use Rattle.wire_net.specs.Networks.{Network, accept_answer}
-use Rattle.host_tables.specs.declared.attempt.Attempt.{Attempt}
-use Rattle.host_tables.specs.declared.attempt.Attempt.TheVariants as answer
-use Rattle.host_tables.specs.declared.kernel.Kernel.{Kernel}
-use Rattle.host_tables.specs.Network.{SameListener}
-use Rattle.host_tables.specs.Serves.{Serves, ByNumber, same}
-use Rattle.host_tables.specs.Stands.{Given, Stands}
-use Rattle.host_tables.proofs.DescriptionChanges.{description_new}
-use Rattle.host_tables.proofs.ListenerChanges.{listener_put}
-use Rattle.host_tables.proofs.LookUps.{some_value, free_none, free_some}
-use Rattle.host_tables.proofs.MakerChanges.{made_kept}
-use Rattle.host_tables.proofs.SlotChanges.{put_kept}
+use Rattle.host_descriptors.specs.OfHostTables.declared.attempt.Attempt.{Attempt}
+use Rattle.host_descriptors.specs.OfHostTables.declared.attempt.Attempt.TheVariants as answer
+use Rattle.host_descriptors.specs.OfHostTables.declared.kernel.Kernel.{Kernel}
+use Rattle.host_descriptors.specs.OfHostTables.Network.{SameListener}
+use Rattle.host_descriptors.specs.OfHostTables.Serves.{Serves, ByNumber, same}
+use Rattle.host_descriptors.specs.OfHostTables.Stands.{Given, Stands}
+use Rattle.host_descriptors.proofs.OfHostTables.DescriptionChanges.{description_new}
+use Rattle.host_descriptors.proofs.OfHostTables.ListenerChanges.{listener_put}
+use Rattle.host_descriptors.proofs.OfHostTables.LookUps.{some_value, free_none, free_some}
+use Rattle.host_descriptors.proofs.OfHostTables.MakerChanges.{made_kept}
+use Rattle.host_descriptors.proofs.OfHostTables.SlotChanges.{put_kept}
 use Rattle.host_sockets.specs.declared.accepting.Accepting.{Accepting}
 use Rattle.host_sockets.specs.Changes.{taken_stream, with_accepted, Takes}
 use Rattle.host_sockets.specs.Tests.{first_in}

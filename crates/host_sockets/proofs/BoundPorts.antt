@@ -9,7 +9,7 @@ use Rattle.plain_process.specs.Attempts.{Try, Gives, and_then, need, found}
 use Rattle.plain_machine.specs.declared.kernel.PlainKernel.{PlainKernel}
 use Rattle.plain_machine.specs.Addresses.{address_at, automatic_port}
 use Rattle.plain_machine.specs.SocketWords.{bound_or}
-use Rattle.host_tables.specs.Requests.{has_port}
+use Rattle.host_descriptors.specs.OfHostTables.Requests.{has_port}
 use Rattle.host_sockets.proofs.Tries.{SameTry}
 
 abbrev pub IsBound : PlainKernel → VirtAddr → ℕ → VirtAddr → Unit {0} → Type 0

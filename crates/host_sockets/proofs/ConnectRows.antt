@@ -19,12 +19,12 @@ use Rattle.plain_machine.specs.Attempts.{Served, replied}
 use Rattle.plain_machine.specs.Kernel as plain
 use Rattle.plain_machine.specs.Rows.Connections as rows
 use Rattle.plain_machine.specs.SocketWords.{is_settled}
-use Rattle.host_tables.specs.declared.attempt.Attempt.{Attempt}
-use Rattle.host_tables.specs.declared.attempt.Attempt.TheVariants as answer
-use Rattle.host_tables.specs.declared.kernel.Kernel.{Kernel}
-use Rattle.host_tables.specs.Requests.{next_conn, leads_to_pipe, IfHeld, ConnectNames}
-use Rattle.host_tables.specs.Serves.{After, Serves, ByNumber, with_connection}
-use Rattle.host_tables.specs.Stands.{Given, Stands}
+use Rattle.host_descriptors.specs.OfHostTables.declared.attempt.Attempt.{Attempt}
+use Rattle.host_descriptors.specs.OfHostTables.declared.attempt.Attempt.TheVariants as answer
+use Rattle.host_descriptors.specs.OfHostTables.declared.kernel.Kernel.{Kernel}
+use Rattle.host_descriptors.specs.OfHostTables.Requests.{next_conn, leads_to_pipe, IfHeld, ConnectNames}
+use Rattle.host_descriptors.specs.OfHostTables.Serves.{After, Serves, ByNumber, with_connection}
+use Rattle.host_descriptors.specs.OfHostTables.Stands.{Given, Stands}
 use Rattle.host_sockets.specs.declared.connecting.Connecting.{Connecting}
 use Rattle.host_sockets.specs.Changes.{with_connected}
 use Rattle.host_sockets.specs.Tests.{connecting_in}

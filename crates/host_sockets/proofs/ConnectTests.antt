@@ -32,12 +32,12 @@ use Rattle.wire_channels.specs.declared.limits.TheConstants as limits
 use Rattle.wire_channels.specs.declared.net_fault.NetFault.TheVariants as fault
 use Rattle.wire_channels.specs.declared.listener.Listener.{Listener}
 use Rattle.wire_net.specs.Networks.{connect_refusal, connect_refusal_at}
-use Rattle.host_tables.specs.declared.kernel.Kernel.{Kernel}
-use Rattle.host_tables.specs.Descriptions.{address_of, seen_object}
-use Rattle.host_tables.specs.Network.{SameListener}
-use Rattle.host_tables.specs.Requests.{next_conn, IfHeld, ConnectNames, leads_to_pipe}
-use Rattle.host_tables.specs.Stands.{Given, Stands}
-use Rattle.host_tables.proofs.ChannelChanges.{same_channels}
+use Rattle.host_descriptors.specs.OfHostTables.declared.kernel.Kernel.{Kernel}
+use Rattle.host_descriptors.specs.OfHostTables.Descriptions.{address_of, seen_object}
+use Rattle.host_descriptors.specs.OfHostTables.Network.{SameListener}
+use Rattle.host_descriptors.specs.OfHostTables.Requests.{next_conn, IfHeld, ConnectNames, leads_to_pipe}
+use Rattle.host_descriptors.specs.OfHostTables.Stands.{Given, Stands}
+use Rattle.host_descriptors.proofs.OfHostTables.ChannelChanges.{same_channels}
 use Rattle.host_descriptors.specs.declared.held.Held.{Held}
 use Rattle.host_sockets.specs.declared.connecting.Connecting.{Connecting}
 use Rattle.host_sockets.specs.Tests.{may_connect, place_of, if_room, connecting_in}

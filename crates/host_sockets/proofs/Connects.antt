@@ -24,16 +24,16 @@ use Rattle.plain_machine.specs.SocketWords as words
 use Rattle.wire_channels.specs.declared.listener.Listener.{Listener}
 use Rattle.wire_channels.specs.Channels as channels
 use Rattle.wire_channels.specs.Listeners as listeners
-use Rattle.host_tables.specs.declared.kernel.Kernel.{Kernel}
-use Rattle.host_tables.specs.Datagrams.{inbox_of}
-use Rattle.host_tables.specs.Network.{SameListener}
-use Rattle.host_tables.specs.Serves.{INTERNET}
-use Rattle.host_tables.specs.Stands.{Given, Stands, open_conn, with_conn}
-use Rattle.host_tables.proofs.ChannelChanges.{channel_made}
-use Rattle.host_tables.proofs.DescriptionChanges.{description_changed}
-use Rattle.host_tables.proofs.ListenerChanges.{listener_put}
-use Rattle.host_tables.proofs.LookUps.{some_value}
-use Rattle.host_tables.proofs.MakerChanges.{made_kept}
+use Rattle.host_descriptors.specs.OfHostTables.declared.kernel.Kernel.{Kernel}
+use Rattle.host_descriptors.specs.OfHostTables.Datagrams.{inbox_of}
+use Rattle.host_descriptors.specs.OfHostTables.Network.{SameListener}
+use Rattle.host_descriptors.specs.OfHostTables.Serves.{INTERNET}
+use Rattle.host_descriptors.specs.OfHostTables.Stands.{Given, Stands, open_conn, with_conn}
+use Rattle.host_descriptors.proofs.OfHostTables.ChannelChanges.{channel_made}
+use Rattle.host_descriptors.proofs.OfHostTables.DescriptionChanges.{description_changed}
+use Rattle.host_descriptors.proofs.OfHostTables.ListenerChanges.{listener_put}
+use Rattle.host_descriptors.proofs.OfHostTables.LookUps.{some_value}
+use Rattle.host_descriptors.proofs.OfHostTables.MakerChanges.{made_kept}
 use Rattle.host_descriptors.specs.Held.{seen_held}
 use Rattle.host_descriptors.proofs.HeldChanges.{held_by}
 use Rattle.host_sockets.specs.declared.connecting.Connecting.{Connecting}

@@ -20,10 +20,10 @@ use Rattle.plain_tables.specs.Tables.{Descriptors, slot}
 use Rattle.plain_process.specs.Attempts.{Fails, Gives, need, found}
 use Rattle.plain_machine.specs.declared.kernel.PlainKernel.{PlainKernel}
 use Rattle.plain_machine.specs.Kernel.{free_among, free_from}
-use Rattle.host_tables.specs.declared.kernel.Kernel.{Kernel}
-use Rattle.host_tables.specs.Processes.{RealDescriptors}
-use Rattle.host_tables.specs.Stands.{Given, Stands}
-use Rattle.host_tables.proofs.LookUps.{at_slot, free_none}
+use Rattle.host_descriptors.specs.OfHostTables.declared.kernel.Kernel.{Kernel}
+use Rattle.host_descriptors.specs.OfHostTables.Processes.{RealDescriptors}
+use Rattle.host_descriptors.specs.OfHostTables.Stands.{Given, Stands}
+use Rattle.host_descriptors.proofs.OfHostTables.LookUps.{at_slot, free_none}
 use Rattle.host_sockets.proofs.Tries.{SameTry}
 
 -- the count

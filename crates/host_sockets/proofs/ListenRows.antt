@@ -19,13 +19,13 @@ use Rattle.plain_machine.specs.Kernel as plain
 use Rattle.plain_machine.specs.Kernels.{IsKernel}
 use Rattle.plain_machine.specs.Rows.Sockets as rows
 use Rattle.wire_channels.specs.Listeners.{IsNextPort}
-use Rattle.host_tables.specs.declared.attempt.Attempt.{Attempt}
-use Rattle.host_tables.specs.declared.attempt.Attempt.TheVariants as answer
-use Rattle.host_tables.specs.declared.kernel.Kernel.{Kernel}
-use Rattle.host_tables.specs.Descriptions.{address_of, seen_object, seen_desc}
-use Rattle.host_tables.specs.Requests.{has_port, leads_to_pipe, IfHeld, AreListened}
-use Rattle.host_tables.specs.Serves.{After, Serves, ByPort, listened_at, with_listening}
-use Rattle.host_tables.specs.Stands.{Given, Stands, with_place, with_name}
+use Rattle.host_descriptors.specs.OfHostTables.declared.attempt.Attempt.{Attempt}
+use Rattle.host_descriptors.specs.OfHostTables.declared.attempt.Attempt.TheVariants as answer
+use Rattle.host_descriptors.specs.OfHostTables.declared.kernel.Kernel.{Kernel}
+use Rattle.host_descriptors.specs.OfHostTables.Descriptions.{address_of, seen_object, seen_desc}
+use Rattle.host_descriptors.specs.OfHostTables.Requests.{has_port, leads_to_pipe, IfHeld, AreListened}
+use Rattle.host_descriptors.specs.OfHostTables.Serves.{After, Serves, ByPort, listened_at, with_listening}
+use Rattle.host_descriptors.specs.OfHostTables.Stands.{Given, Stands, with_place, with_name}
 use Rattle.host_descriptors.specs.declared.held.Held.{Held}
 use Rattle.host_descriptors.specs.Held.{seen_held}
 use Rattle.host_descriptors.proofs.HeldChanges.{held_by}

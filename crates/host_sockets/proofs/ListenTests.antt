@@ -20,11 +20,11 @@ use Rattle.plain_machine.specs.Attempts.{Served, replied}
 use Rattle.plain_machine.specs.Kernel as plain
 use Rattle.plain_machine.specs.Rows.Sockets as rows
 use Rattle.plain_machine.specs.SocketWords.{socket_at, bound_or}
-use Rattle.host_tables.specs.declared.kernel.Kernel.{Kernel}
-use Rattle.host_tables.specs.Descriptions.{seen_object, address_of}
-use Rattle.host_tables.specs.Requests.{has_port, IfSocket, IfHeld, leads_to_pipe}
-use Rattle.host_tables.specs.Serves.{listened_at}
-use Rattle.host_tables.specs.Stands.{Given, Stands}
+use Rattle.host_descriptors.specs.OfHostTables.declared.kernel.Kernel.{Kernel}
+use Rattle.host_descriptors.specs.OfHostTables.Descriptions.{seen_object, address_of}
+use Rattle.host_descriptors.specs.OfHostTables.Requests.{has_port, IfSocket, IfHeld, leads_to_pipe}
+use Rattle.host_descriptors.specs.OfHostTables.Serves.{listened_at}
+use Rattle.host_descriptors.specs.OfHostTables.Stands.{Given, Stands}
 use Rattle.host_descriptors.specs.declared.held.Held.{Held}
 use Rattle.host_sockets.specs.Tests.{may_listen, listening_in}
 use Rattle.host_sockets.proofs.Tries.{SameTry, same_then, same_gives}

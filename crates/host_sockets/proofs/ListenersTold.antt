@@ -31,9 +31,9 @@ use Rattle.plain_machine.specs.Kernel as plain
 use Rattle.plain_machine.specs.Kernels.{IsKernel}
 use Rattle.plain_machine.specs.SocketWords as words
 use Rattle.virt_ids.specs.Changes.{at_key}
-use Rattle.host_tables.specs.declared.kernel.Kernel.{Kernel}
-use Rattle.host_tables.specs.Descriptions.{address_of, seen_object, seen_desc, IsTold}
-use Rattle.host_tables.specs.Stands.{Given, Stands}
+use Rattle.host_descriptors.specs.OfHostTables.declared.kernel.Kernel.{Kernel}
+use Rattle.host_descriptors.specs.OfHostTables.Descriptions.{address_of, seen_object, seen_desc, IsTold}
+use Rattle.host_descriptors.specs.OfHostTables.Stands.{Given, Stands}
 use Rattle.host_descriptors.specs.declared.held.Held.{Held}
 use Rattle.host_descriptors.proofs.HeldChanges.{held_by}
 use Rattle.host_sockets.specs.Tests.{listens_at}

@@ -27,15 +27,15 @@ use Rattle.plain_machine.specs.Rows.Sockets as rows
 use Rattle.virt_ids.proofs.PairLaws.{AreInverse-insert}
 use Rattle.wire_channels.specs.declared.listener.Listener.{Listener}
 use Rattle.wire_channels.specs.Listeners as listeners
-use Rattle.host_tables.specs.declared.kernel.Kernel.{Kernel}
-use Rattle.host_tables.specs.Datagrams.{inbox_of}
-use Rattle.host_tables.specs.Descriptions.{Names, Addresses, address_of, nowhere, seen_desc, IsTold}
-use Rattle.host_tables.specs.Network.{Ports, SameListener, SameListeners}
-use Rattle.host_tables.specs.Numbers.{node_of}
-use Rattle.host_tables.specs.Stands.{Given, Stands, with_place, with_name}
-use Rattle.host_tables.proofs.DescriptionChanges.{IsStillTold, SameDescriptions-put, SameInboxes-put}
-use Rattle.host_tables.proofs.ListenerChanges.{SameDirections-listeners}
-use Rattle.host_tables.proofs.Ways.{lead_place}
+use Rattle.host_descriptors.specs.OfHostTables.declared.kernel.Kernel.{Kernel}
+use Rattle.host_descriptors.specs.OfHostTables.Datagrams.{inbox_of}
+use Rattle.host_descriptors.specs.OfHostTables.Descriptions.{Names, Addresses, address_of, nowhere, seen_desc, IsTold}
+use Rattle.host_descriptors.specs.OfHostTables.Network.{Ports, SameListener, SameListeners}
+use Rattle.host_descriptors.specs.OfHostTables.Numbers.{node_of}
+use Rattle.host_descriptors.specs.OfHostTables.Stands.{Given, Stands, with_place, with_name}
+use Rattle.host_descriptors.proofs.OfHostTables.DescriptionChanges.{IsStillTold, SameDescriptions-put, SameInboxes-put}
+use Rattle.host_descriptors.proofs.OfHostTables.ListenerChanges.{SameDirections-listeners}
+use Rattle.host_descriptors.proofs.OfHostTables.Ways.{lead_place}
 use Rattle.host_descriptors.specs.declared.held.Held.{Held}
 use Rattle.host_descriptors.specs.Held.{seen_held}
 use Rattle.host_sockets.specs.Changes.{with_listener}

@@ -33,13 +33,13 @@ use Rattle.plain_machine.specs.SocketWords.{bound_or}
 use Rattle.plain_machine.proofs.SocketTests.{MayUse, bound_is}
 use Rattle.plain_machine.proofs.WholeSockets.{socket_addressed}
 use Rattle.wire_channels.specs.Listeners.{IsNextPort}
-use Rattle.host_tables.specs.declared.kernel.Kernel.{Kernel}
-use Rattle.host_tables.specs.Network.{SameListener}
-use Rattle.host_tables.specs.Numbers.{node_of}
-use Rattle.host_tables.specs.Requests.{AreListened}
-use Rattle.host_tables.specs.Stands.{Given, Stands}
-use Rattle.host_tables.proofs.LookUps.{some_value}
-use Rattle.host_tables.proofs.Neighbours.{there_by}
+use Rattle.host_descriptors.specs.OfHostTables.declared.kernel.Kernel.{Kernel}
+use Rattle.host_descriptors.specs.OfHostTables.Network.{SameListener}
+use Rattle.host_descriptors.specs.OfHostTables.Numbers.{node_of}
+use Rattle.host_descriptors.specs.OfHostTables.Requests.{AreListened}
+use Rattle.host_descriptors.specs.OfHostTables.Stands.{Given, Stands}
+use Rattle.host_descriptors.proofs.OfHostTables.LookUps.{some_value}
+use Rattle.host_descriptors.proofs.OfHostTables.Neighbours.{there_by}
 
 pub record IsNewPlace (g : Given) (real : Kernel) (k : PlainKernel) (a : VirtAddr)
     (at : RealAddr) : Type 0 where

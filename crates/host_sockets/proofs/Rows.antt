@@ -5,10 +5,10 @@ use Rattle.sys_abi.specs.declared.reply.Errno.{Errno}
 use Rattle.views.specs.Numbers.{Byte}
 use Rattle.plain_process.specs.Attempts.{Try, Fails, NotReady, and_then}
 use Rattle.plain_machine.specs.Attempts.{Served}
-use Rattle.host_tables.specs.declared.attempt.Attempt.TheVariants as answer
-use Rattle.host_tables.specs.declared.kernel.Kernel.{Kernel}
-use Rattle.host_tables.specs.Serves.{ValueRelation, After, Serves}
-use Rattle.host_tables.specs.Stands.{Given}
+use Rattle.host_descriptors.specs.OfHostTables.declared.attempt.Attempt.TheVariants as answer
+use Rattle.host_descriptors.specs.OfHostTables.declared.kernel.Kernel.{Kernel}
+use Rattle.host_descriptors.specs.OfHostTables.Serves.{ValueRelation, After, Serves}
+use Rattle.host_descriptors.specs.OfHostTables.Stands.{Given}
 use Rattle.host_sockets.proofs.Tries.{SameTry, as_fails, as_waits}
 
 module _ (V : ValueRelation) (after : After) (g : Given) (real : Kernel) (x : List Byte) {A B : Type 0}

@@ -18,11 +18,11 @@ use Rattle.plain_process.specs.Attempts.{Fails, Gives, found}
 use Rattle.plain_machine.specs.declared.kernel.PlainKernel.{PlainKernel}
 use Rattle.plain_machine.specs.Kernel as plain
 use Rattle.plain_machine.specs.SocketWords as words
-use Rattle.host_tables.specs.declared.kernel.Kernel.{Kernel}
-use Rattle.host_tables.specs.Descriptions.{seen_object, seen_desc}
-use Rattle.host_tables.specs.Requests.{is_pipe_end, holds_pipe, leads_to_pipe}
-use Rattle.host_tables.specs.Stands.{Given, Stands}
-use Rattle.host_tables.proofs.LookUps.{at_slot, held_none, held_some}
+use Rattle.host_descriptors.specs.OfHostTables.declared.kernel.Kernel.{Kernel}
+use Rattle.host_descriptors.specs.OfHostTables.Descriptions.{seen_object, seen_desc}
+use Rattle.host_descriptors.specs.OfHostTables.Requests.{is_pipe_end, holds_pipe, leads_to_pipe}
+use Rattle.host_descriptors.specs.OfHostTables.Stands.{Given, Stands}
+use Rattle.host_descriptors.proofs.OfHostTables.LookUps.{at_slot, held_none, held_some}
 use Rattle.host_descriptors.specs.declared.held.Held.{Held}
 use Rattle.host_descriptors.specs.Held.{held_in, seen_held}
 use Rattle.host_descriptors.proofs.HeldChanges.{held_by, none_held}

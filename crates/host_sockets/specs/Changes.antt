@@ -18,9 +18,9 @@ use Rattle.virt_ids.specs.Changes.{at_key}
 use Rattle.wire_channels.specs.Channels as channels
 use Rattle.wire_channels.specs.Listeners as listeners
 use Rattle.host_descriptors.specs.declared.held.Held.{Held}
-use Rattle.host_tables.specs.declared.attempt.Attempt.{Attempt}
-use Rattle.host_tables.specs.declared.attempt.Attempt.TheVariants.{Gives, Fails, NotReady}
-use Rattle.host_tables.specs.declared.kernel.Kernel.{Kernel}
+use Rattle.host_descriptors.specs.OfHostTables.declared.attempt.Attempt.{Attempt}
+use Rattle.host_descriptors.specs.OfHostTables.declared.attempt.Attempt.TheVariants.{Gives, Fails, NotReady}
+use Rattle.host_descriptors.specs.OfHostTables.declared.kernel.Kernel.{Kernel}
 use Rattle.host_sockets.specs.declared.accepting.Accepting.{Accepting}
 use Rattle.host_sockets.specs.declared.connecting.Connecting.{Connecting}
 

@@ -26,7 +26,7 @@ use Rattle.wire_channels.specs.declared.net_fault.NetFault.{NetFault}
 use Rattle.wire_net.specs.Networks.{Network, connect_refusal}
 use Rattle.host_descriptors.specs.declared.held.Held.{Held}
 use Rattle.host_descriptors.specs.Held.{held_in}
-use Rattle.host_tables.specs.declared.kernel.Kernel.{Kernel}
+use Rattle.host_descriptors.specs.OfHostTables.declared.kernel.Kernel.{Kernel}
 use Rattle.host_sockets.specs.declared.accepting.Accepting.{Accepting}
 use Rattle.host_sockets.specs.declared.connecting.Connecting.{Connecting}
 

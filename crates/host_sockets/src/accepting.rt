@@ -3,15 +3,15 @@ ghost use Rattle.std.specs.Prelude.{◌≡◌, List, None, Some, IfOk, IfSome, O
 ghost use Rattle.std.specs.FinMap as map;
 ghost use Rattle.views.specs.Numbers.{Byte};
 ghost use Rattle.plain_machine.specs.Rows.Connections as rows;
-ghost use Rattle.host_tables.specs.Conditions.{IsNewDesc};
-ghost use Rattle.host_tables.specs.Requests.{next_desc, leads_to_pipe};
-ghost use Rattle.host_tables.specs.Serves.{Through, Serves, ByNumber, same};
+ghost use Rattle.host_descriptors.specs.OfHostTables.Conditions.{IsNewDesc};
+ghost use Rattle.host_descriptors.specs.OfHostTables.Requests.{next_desc, leads_to_pipe};
+ghost use Rattle.host_descriptors.specs.OfHostTables.Serves.{Through, Serves, ByNumber, same};
 ghost use Rattle.host_sockets.specs.Tests as words;
 ghost use Rattle.host_sockets.specs.Changes.{Takes};
 
 use crate::look_ups::{is_nonblocking, socket_at};
 use fd_book::{BookFault, Desc, Object};
-use host_tables::{Attempt, Kernel, RowResult};
+use host_descriptors::host_tables::{Attempt, Kernel, RowResult};
 use std::alloc::AllocError;
 use sys_abi::errors::{EAGAIN, EINVAL, EMFILE, ENFILE};
 use sys_abi::flags::O_RDWR;

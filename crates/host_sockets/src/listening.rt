@@ -6,15 +6,15 @@ ghost use Rattle.plain_machine.specs.Kernel.{held};
 ghost use Rattle.plain_machine.specs.Rows.Sockets as rows;
 ghost use Rattle.wire_channels.specs.Listeners as listeners;
 ghost use Rattle.wire_channels.specs.declared.net_fault.NetFault.TheVariants as fault;
-ghost use Rattle.host_tables.specs.Requests.{has_port, leads_to_pipe, IfHeld, AreListened};
-ghost use Rattle.host_tables.specs.Serves.{Through, Serves, ByPort, listened_at, with_listening};
+ghost use Rattle.host_descriptors.specs.OfHostTables.Requests.{has_port, leads_to_pipe, IfHeld, AreListened};
+ghost use Rattle.host_descriptors.specs.OfHostTables.Serves.{Through, Serves, ByPort, listened_at, with_listening};
 ghost use Rattle.host_sockets.specs.Tests as words;
 ghost use Rattle.host_sockets.specs.Changes.{with_listener};
 
 use crate::look_ups::socket_at;
 use fd_book::Object;
 use host_descriptors::Held;
-use host_tables::{Attempt, Kernel, RowResult};
+use host_descriptors::host_tables::{Attempt, Kernel, RowResult};
 use std::alloc::AllocError;
 use sys_abi::errors::{EADDRINUSE, EINVAL, EOPNOTSUPP};
 use sys_abi::{Errno, RealAddr, RealPid};

@@ -18,12 +18,12 @@ use Rattle.proc_book.specs.Procs.{ProcTable, can_raise, after_raise}
 use Rattle.plain_machine.specs.declared.kernel.PlainKernel.{PlainKernel}
 use Rattle.plain_machine.specs.Kernel as plain
 use Rattle.plain_machine.specs.Transfers.Answers.{broken_pipe}
-use Rattle.host_tables.specs.declared.attempt.Attempt.TheVariants as answer
-use Rattle.host_tables.specs.declared.kernel.Kernel.{Kernel}
-use Rattle.host_tables.specs.Conditions.{IsAsking}
-use Rattle.host_tables.specs.Numbers.{real, number_on, to_real_thread}
-use Rattle.host_tables.specs.Serves.{Serves, ByNumber, same}
-use Rattle.host_tables.specs.Stands.{Given, Stands}
+use Rattle.host_processes.specs.OfHostTables.declared.attempt.Attempt.TheVariants as answer
+use Rattle.host_processes.specs.OfHostTables.declared.kernel.Kernel.{Kernel}
+use Rattle.host_processes.specs.OfHostTables.Conditions.{IsAsking}
+use Rattle.host_processes.specs.OfHostTables.Numbers.{real, number_on, to_real_thread}
+use Rattle.host_processes.specs.OfHostTables.Serves.{Serves, ByNumber, same}
+use Rattle.host_processes.specs.OfHostTables.Stands.{Given, Stands}
 use Rattle.host_processes.proofs.Raised.{changed_now, raised_for_thread}
 
 lives_by : (o : Option Process) (t : ℕ) → option_map_or procs.is_live o false ≡ true

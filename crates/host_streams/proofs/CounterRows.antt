@@ -24,12 +24,12 @@ use Rattle.plain_machine.specs.Transfers.Answers.{gave}
 use Rattle.plain_machine.specs.Transfers.Counters.{COUNTER_SIZE, number_added, may_add, read_counter, write_counter}
 use Rattle.host_processes.specs.HandedOn.{Held}
 use Rattle.host_processes.specs.HandedOn.{seen_held}
-use Rattle.host_tables.specs.declared.attempt.Attempt.TheVariants as answer
-use Rattle.host_tables.specs.declared.kernel.Kernel.{Kernel}
-use Rattle.host_tables.specs.Datagrams.{inbox_of}
-use Rattle.host_tables.specs.Serves.{Serves, ByNumber, same}
-use Rattle.host_tables.specs.Stands.{Given, Stands}
-use Rattle.host_tables.proofs.DescriptionChanges.{description_changed}
+use Rattle.host_processes.specs.OfHostTables.declared.attempt.Attempt.TheVariants as answer
+use Rattle.host_processes.specs.OfHostTables.declared.kernel.Kernel.{Kernel}
+use Rattle.host_processes.specs.OfHostTables.Datagrams.{inbox_of}
+use Rattle.host_processes.specs.OfHostTables.Serves.{Serves, ByNumber, same}
+use Rattle.host_processes.specs.OfHostTables.Stands.{Given, Stands}
+use Rattle.host_processes.proofs.OfHostTables.DescriptionChanges.{description_changed}
 
 -- the bytes of a value
 pub value_bytes : (value : ℕ) → to_le_bytes w64 value ≡ low_bytes COUNTER_SIZE value

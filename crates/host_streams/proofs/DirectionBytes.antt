@@ -9,7 +9,7 @@ use Rattle.plain_machine.specs.Transfers.Streams.{without_front, with_sent}
 use Rattle.wire_channels.specs.Directions.{Direction, standing, after_receive, after_send}
 use Rattle.wire_net.specs.Whereabouts.{stream}
 use Rattle.wire_net.proofs.Streams.{stream-send}
-use Rattle.host_tables.proofs.DirectionChanges.{IsSeen, KeepsSilence}
+use Rattle.host_processes.proofs.OfHostTables.DirectionChanges.{IsSeen, KeepsSilence}
 
 pub receives_silently : (n : ℕ) → KeepsSilence (after_receive n)
 receives_silently n = record { ended = λ y is. is; unread = λ y is. is }

@@ -10,3 +10,5 @@ pub mod PipeLookUps
 pub mod SocketRows
 pub mod CounterRows
 pub mod HandedOn
+pub use Rattle.host_processes.proofs.OfHostTables
+pub use Rattle.host_processes.proofs as OfHostProcesses

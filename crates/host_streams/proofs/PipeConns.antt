@@ -23,10 +23,10 @@ use Rattle.plain_machine.specs.Kernels.{IsKernel}
 use Rattle.plain_machine.specs.SocketWords.{is_pipe, is_pipe_channel}
 use Rattle.plain_machine.specs.Transfers.Answers.{may_read}
 use Rattle.wire_channels.specs.declared.channel.Channel.{Channel}
-use Rattle.host_tables.specs.declared.kernel.Kernel.{Kernel}
-use Rattle.host_tables.specs.Descriptions.{seen_desc, seen_object}
-use Rattle.host_tables.specs.Network.{seen_channel, is_pipe_conn}
-use Rattle.host_tables.specs.Stands.{Given, Stands}
+use Rattle.host_processes.specs.OfHostTables.declared.kernel.Kernel.{Kernel}
+use Rattle.host_processes.specs.OfHostTables.Descriptions.{seen_desc, seen_object}
+use Rattle.host_processes.specs.OfHostTables.Network.{seen_channel, is_pipe_conn}
+use Rattle.host_processes.specs.OfHostTables.Stands.{Given, Stands}
 
 -- a channel that is there is a pipe where the table says so
 pipe_by : (o : Option Channel) (q : Option Conn) (channel : plain.Channel)

@@ -18,11 +18,11 @@ use Rattle.host_processes.specs.HandedOn.{Held}
 use Rattle.host_processes.specs.HandedOn.{held_in}
 use Rattle.host_processes.proofs.HandedOn.{there_of, none_held, held_by}
 use Rattle.host_processes.proofs.HandedOn.{held_told}
-use Rattle.host_tables.specs.declared.kernel.Kernel.{Kernel}
-use Rattle.host_tables.specs.Descriptions.{seen_desc, seen_object}
-use Rattle.host_tables.specs.Stands.{Given, Stands}
-use Rattle.host_tables.proofs.LookUps.{held_none}
-use Rattle.host_tables.specs.Requests.{is_pipe_end, holds_pipe, leads_to_pipe}
+use Rattle.host_processes.specs.OfHostTables.declared.kernel.Kernel.{Kernel}
+use Rattle.host_processes.specs.OfHostTables.Descriptions.{seen_desc, seen_object}
+use Rattle.host_processes.specs.OfHostTables.Stands.{Given, Stands}
+use Rattle.host_processes.proofs.OfHostTables.LookUps.{held_none}
+use Rattle.host_processes.specs.OfHostTables.Requests.{is_pipe_end, holds_pipe, leads_to_pipe}
 use Rattle.host_streams.specs.PipeEnds.{is_pipe_object, is_pipe_of}
 use Rattle.host_streams.proofs.PipeConns.{pipe_told}
 

@@ -29,13 +29,13 @@ use Rattle.wire_channels.specs.Answers.{received_on}
 use Rattle.wire_channels.specs.Channels as channels
 use Rattle.wire_channels.specs.Directions.{Direction, standing, receive_answer, after_receive}
 use Rattle.host_processes.proofs.HandedOn.{plain_of}
-use Rattle.host_tables.specs.declared.attempt.Attempt.{Attempt}
-use Rattle.host_tables.specs.declared.attempt.Attempt.TheVariants as answer
-use Rattle.host_tables.specs.declared.kernel.Kernel.{Kernel}
-use Rattle.host_tables.specs.Network.{SameDirection}
-use Rattle.host_tables.specs.Serves.{Serves, ByNumber, same, bytes_or}
-use Rattle.host_tables.specs.Stands.{Given, Stands}
-use Rattle.host_tables.proofs.DirectionChanges.{IsSeen, seen_direction, direction_put}
+use Rattle.host_processes.specs.OfHostTables.declared.attempt.Attempt.{Attempt}
+use Rattle.host_processes.specs.OfHostTables.declared.attempt.Attempt.TheVariants as answer
+use Rattle.host_processes.specs.OfHostTables.declared.kernel.Kernel.{Kernel}
+use Rattle.host_processes.specs.OfHostTables.Network.{SameDirection}
+use Rattle.host_processes.specs.OfHostTables.Serves.{Serves, ByNumber, same, bytes_or}
+use Rattle.host_processes.specs.OfHostTables.Stands.{Given, Stands}
+use Rattle.host_processes.proofs.OfHostTables.DirectionChanges.{IsSeen, seen_direction, direction_put}
 use Rattle.host_streams.proofs.DirectionBytes.{receives_silently, taken_is, received_kept, standing_is}
 
 pub not_equal : (a b : ℕ) → (a ≡ b → ⊥) → (a == b) ≡ false

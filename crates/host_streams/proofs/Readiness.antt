@@ -19,9 +19,9 @@ use Rattle.wire_channels.specs.Channels as channels
 use Rattle.wire_channels.specs.Directions.{Direction, standing}
 use Rattle.wire_net.specs.Networks.{Network}
 use Rattle.host_processes.proofs.HandedOn.{plain_of}
-use Rattle.host_tables.specs.declared.kernel.Kernel.{Kernel}
-use Rattle.host_tables.specs.Stands.{Given, Stands}
-use Rattle.host_tables.proofs.DirectionChanges.{IsSeen, seen_direction}
+use Rattle.host_processes.specs.OfHostTables.declared.kernel.Kernel.{Kernel}
+use Rattle.host_processes.specs.OfHostTables.Stands.{Given, Stands}
+use Rattle.host_processes.proofs.OfHostTables.DirectionChanges.{IsSeen, seen_direction}
 use Rattle.host_streams.specs.Lanes.{is_broken_at, can_receive, can_send}
 use Rattle.host_streams.proofs.DirectionBytes.{standing_is}
 use Rattle.host_streams.proofs.ReadRows.{no_direction}

@@ -15,8 +15,8 @@ use Rattle.wire_channels.specs.declared.channel.Channel.{Channel}
 use Rattle.wire_channels.specs.Directions.{Direction, after_end, after_stop_reading}
 use Rattle.wire_channels.specs.Channels as channels
 use Rattle.host_processes.proofs.HandedOn.{ended_kept, unread_kept, plain_of}
-use Rattle.host_tables.specs.declared.kernel.Kernel.{Kernel}
-use Rattle.host_tables.specs.Stands.{Given, Stands}
+use Rattle.host_processes.specs.OfHostTables.declared.kernel.Kernel.{Kernel}
+use Rattle.host_processes.specs.OfHostTables.Stands.{Given, Stands}
 use Rattle.host_streams.proofs.ReadRows.{no_direction}
 
 -- a change of a direction that is not there

@@ -21,7 +21,7 @@ use Rattle.plain_machine.specs.Attempts.{Served, replied}
 use Rattle.plain_machine.specs.Kernel.{Held}
 use Rattle.plain_machine.specs.Rows.Sockets.{setsockopt_row, shut, shut_object, shutdown_row}
 use Rattle.plain_machine.specs.SocketWords.{socket_at}
-use Rattle.host_tables.specs.Descriptions.{Names, seen_object}
+use Rattle.host_processes.specs.OfHostTables.Descriptions.{Names, seen_object}
 use Rattle.host_streams.proofs.ReadRows.{not_equal}
 
 module _ (k : PlainKernel) (p : VPid) (fd : ℕ) where

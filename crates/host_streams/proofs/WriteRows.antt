@@ -29,12 +29,12 @@ use Rattle.wire_channels.specs.Answers.{send_answer_on}
 use Rattle.wire_channels.specs.Channels as channels
 use Rattle.wire_channels.specs.Directions.{Direction, room, send_answer, after_send}
 use Rattle.host_processes.proofs.HandedOn.{plain_of}
-use Rattle.host_tables.specs.declared.attempt.Attempt.{Attempt}
-use Rattle.host_tables.specs.declared.attempt.Attempt.TheVariants as answer
-use Rattle.host_tables.specs.declared.kernel.Kernel.{Kernel}
-use Rattle.host_tables.specs.Serves.{Serves, ByNumber, same}
-use Rattle.host_tables.specs.Stands.{Given, Stands}
-use Rattle.host_tables.proofs.DirectionChanges.{IsSeen, seen_direction, direction_put}
+use Rattle.host_processes.specs.OfHostTables.declared.attempt.Attempt.{Attempt}
+use Rattle.host_processes.specs.OfHostTables.declared.attempt.Attempt.TheVariants as answer
+use Rattle.host_processes.specs.OfHostTables.declared.kernel.Kernel.{Kernel}
+use Rattle.host_processes.specs.OfHostTables.Serves.{Serves, ByNumber, same}
+use Rattle.host_processes.specs.OfHostTables.Stands.{Given, Stands}
+use Rattle.host_processes.proofs.OfHostTables.DirectionChanges.{IsSeen, seen_direction, direction_put}
 use Rattle.host_streams.proofs.DirectionBytes.{sends_silently, sent_kept, standing_is}
 use Rattle.host_streams.proofs.ReadRows.{not_equal}
 

@@ -14,7 +14,7 @@ use Rattle.fd_tables.specs.declared.description.Object.TheVariants as real
 use Rattle.fd_tables.specs.declared.real_slot.RealSlot.{RealSlot}
 use Rattle.host_processes.specs.HandedOn.{Held}
 use Rattle.host_processes.specs.HandedOn.{held_in}
-use Rattle.host_tables.specs.Network.{Conns, is_pipe_conn}
+use Rattle.host_processes.specs.OfHostTables.Network.{Conns, is_pipe_conn}
 
 abbrev pub is_pipe_object : Conns → real_object.Object → Bool
 is_pipe_object conns (real.Stream conn side) = is_pipe_conn (map.get conns conn)

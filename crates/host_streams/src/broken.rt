@@ -3,11 +3,11 @@ ghost use Rattle.std.specs.Prelude.{◌≡◌, List, Some};
 ghost use Rattle.std.specs.FinMap as map;
 ghost use Rattle.views.specs.Numbers.{ThreadNumber, Byte};
 ghost use Rattle.plain_machine.specs.Transfers.Answers as words;
-ghost use Rattle.host_tables.specs.Conditions.{IsAsking};
-ghost use Rattle.host_tables.specs.Numbers.{real};
-ghost use Rattle.host_tables.specs.Serves.{Through, Serves, ByNumber, same};
+ghost use Rattle.host_processes.specs.OfHostTables.Conditions.{IsAsking};
+ghost use Rattle.host_processes.specs.OfHostTables.Numbers.{real};
+ghost use Rattle.host_processes.specs.OfHostTables.Serves.{Through, Serves, ByNumber, same};
 
-use host_tables::{Attempt, Kernel};
+use host_processes::host_tables::{Attempt, Kernel};
 use sys_abi::errors::EPIPE;
 use sys_abi::signals::SIGPIPE;
 use sys_abi::{Errno, RealPid, Signal};

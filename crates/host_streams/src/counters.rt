@@ -7,13 +7,13 @@ ghost use Rattle.plain_machine.specs.declared.kernel.PlainKernel.{PlainKernel};
 ghost use Rattle.plain_machine.specs.Kernel.{with_object};
 ghost use Rattle.plain_machine.specs.Transfers.Counters as words;
 ghost use Rattle.plain_tables.specs.declared.description.Object.TheVariants.{Counter};
-ghost use Rattle.host_tables.specs.Serves.{Serves, ByNumber, same};
-ghost use Rattle.host_tables.specs.Stands.{Given, Stands};
+ghost use Rattle.host_processes.specs.OfHostTables.Serves.{Serves, ByNumber, same};
+ghost use Rattle.host_processes.specs.OfHostTables.Stands.{Given, Stands};
 ghost use Rattle.host_processes.specs.HandedOn.{seen_held};
 
 use fd_book::Object;
 use host_processes::Held;
-use host_tables::{Attempt, Kernel};
+use host_processes::host_tables::{Attempt, Kernel};
 use sys_abi::errors::EINVAL;
 use sys_abi::{Errno, Transfer};
 

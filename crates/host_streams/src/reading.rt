@@ -4,12 +4,12 @@ ghost use Rattle.plain_machine.specs.declared.kernel.PlainKernel.{PlainKernel};
 ghost use Rattle.plain_machine.specs.Channels.{direction_at};
 ghost use Rattle.plain_machine.specs.Transfers.Streams as streams;
 ghost use Rattle.plain_tables.specs.Objects.{dir};
-ghost use Rattle.host_tables.specs.Serves.{Serves, ByNumber, same};
-ghost use Rattle.host_tables.specs.Stands.{Given, Stands};
+ghost use Rattle.host_processes.specs.OfHostTables.Serves.{Serves, ByNumber, same};
+ghost use Rattle.host_processes.specs.OfHostTables.Stands.{Given, Stands};
 ghost use Rattle.host_streams.specs.Lanes as words;
 
 use crate::lanes::{is_broken_at, received_at, standing_at};
-use host_tables::{Attempt, Kernel};
+use host_processes::host_tables::{Attempt, Kernel};
 use plain_transfers::moving::across;
 use sys_abi::errors::ENOTCONN;
 use sys_abi::{ConnId, Dir, Errno, Transfer};

@@ -15,14 +15,14 @@ use Rattle.sys_abi.specs.declared.identity.VirtAddr.{VirtAddr}
 use Rattle.sys_abi.specs.Orders.{conn_cmp}
 use Rattle.sys_abi.proofs.OrderLaws.{conn_total, conn_exact, dir_total, dir_exact}
 use Rattle.conn_table.specs.declared.conn.Conn.{Conn}
-use Rattle.plain_tables.specs.declared.channel.Channel as plain
-use Rattle.plain_tables.specs.Objects.{dir}
-use Rattle.plain_tables.specs.Tables.{Channels, Directions}
+use Rattle.plain_machine.specs.OfPlainTables.declared.channel.Channel as plain
+use Rattle.plain_machine.specs.OfPlainTables.Objects.{dir}
+use Rattle.plain_machine.specs.OfPlainTables.Tables.{Channels, Directions}
 use Rattle.plain_machine.specs.declared.kernel.PlainKernel.{PlainKernel}
 use Rattle.plain_machine.specs.Channels.{open_channel, empty_direction, with_channel}
-use Rattle.wire_channels.specs.declared.channel.Channel.{Channel}
-use Rattle.wire_channels.specs.Directions.{unused}
-use Rattle.wire_channels.specs.Channels as channels
+use Rattle.wire_net.specs.OfWireChannels.declared.channel.Channel.{Channel}
+use Rattle.wire_net.specs.OfWireChannels.Directions.{unused}
+use Rattle.wire_net.specs.OfWireChannels.Channels as channels
 use Rattle.wire_net.specs.Networks.{Network}
 use Rattle.host_tables.specs.declared.kernel.Kernel.{Kernel}
 use Rattle.host_tables.specs.Network.{Conns, kind_of, seen_channel, SameChannels, SameDirection, SameDirections}

@@ -19,9 +19,9 @@ use Rattle.fd_tables.specs.declared.description.Desc.{Desc}
 use Rattle.fd_tables.specs.declared.description.Object as real_object
 use Rattle.fd_tables.specs.declared.description.Object.TheVariants as object
 use Rattle.fd_tables.specs.Parts as parts
-use Rattle.plain_tables.specs.declared.description.Description.{Description}
-use Rattle.plain_tables.specs.Objects.{is_file, has_open}
-use Rattle.plain_tables.specs.Tables.{Descriptions, Inboxes}
+use Rattle.plain_machine.specs.OfPlainTables.declared.description.Description.{Description}
+use Rattle.plain_machine.specs.OfPlainTables.Objects.{is_file, has_open}
+use Rattle.plain_machine.specs.OfPlainTables.Tables.{Descriptions, Inboxes}
 use Rattle.plain_machine.specs.declared.kernel.PlainKernel.{PlainKernel}
 use Rattle.plain_machine.specs.Kernel.{with_description}
 use Rattle.host_tables.specs.declared.kernel.Kernel.{Kernel}

@@ -15,16 +15,16 @@ use Rattle.sys_abi.specs.declared.identity.ConnId.{ConnId}
 use Rattle.sys_abi.specs.declared.identity.Dir.{Dir}
 use Rattle.sys_abi.specs.Orders.{dir_cmp}
 use Rattle.sys_abi.proofs.OrderLaws.{conn_total, conn_exact, dir_total, dir_exact}
-use Rattle.plain_tables.specs.declared.channel.Direction as plain_direction
-use Rattle.plain_tables.specs.Tables.{Channels, Directions}
+use Rattle.plain_machine.specs.OfPlainTables.declared.channel.Direction as plain_direction
+use Rattle.plain_machine.specs.OfPlainTables.Tables.{Channels, Directions}
 use Rattle.plain_machine.specs.declared.kernel.PlainKernel.{PlainKernel}
 use Rattle.plain_machine.specs.Channels.{with_direction}
-use Rattle.wire_channels.specs.declared.channel.Channel.{Channel}
-use Rattle.wire_channels.specs.Directions.{Direction}
-use Rattle.wire_channels.specs.Channels as channels
+use Rattle.wire_net.specs.OfWireChannels.declared.channel.Channel.{Channel}
+use Rattle.wire_net.specs.OfWireChannels.Directions.{Direction}
+use Rattle.wire_net.specs.OfWireChannels.Channels as channels
 use Rattle.wire_net.specs.Networks.{Network}
 use Rattle.wire_net.specs.Whereabouts.{Held, placed, stream, stream_on, reverse, whereabouts}
-use Rattle.wire_channels.proofs.OneDirection.{direction_changed, direction_beside}
+use Rattle.wire_net.proofs.OfWireChannels.OneDirection.{direction_changed, direction_beside}
 use Rattle.host_tables.specs.declared.kernel.Kernel.{Kernel}
 use Rattle.host_tables.specs.Network.{Conns, seen_channel, SameChannels, SameDirection, SameDirections, IsSilent}
 use Rattle.host_tables.specs.Stands.{Given, Stands}

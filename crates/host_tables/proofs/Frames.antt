@@ -7,7 +7,7 @@ use Rattle.proc_book.specs.Procs.{ProcTable}
 use Rattle.vfs_files.specs.FileTable.{FileTable}
 use Rattle.wire_net.specs.Networks.{Network}
 use Rattle.conn_table.specs.Pairs.{Pairs}
-use Rattle.plain_tables.specs.Tables as plain
+use Rattle.plain_machine.specs.OfPlainTables.Tables as plain
 use Rattle.plain_machine.specs.declared.kernel.PlainKernel.{PlainKernel}
 use Rattle.host_tables.specs.declared.kernel.Kernel.{Kernel}
 use Rattle.host_tables.specs.Numbers.{ArePaired, AreNumbered}

@@ -26,9 +26,9 @@ use Rattle.fd_tables.specs.Slots as slots
 use Rattle.fd_tables.proofs.OrderLaws.{real_slot_total, real_slot_exact}
 use Rattle.proc_book.specs.declared.process.Process as real_process
 use Rattle.proc_book.specs.Ends as procs
-use Rattle.virt_ids.specs.Pairs.{AreInverse}
-use Rattle.plain_tables.specs.declared.process.Process.{Process}
-use Rattle.plain_tables.specs.Tables.{NOBODY, Processes, Descriptors, Descriptions, pid, slot}
+use Rattle.proc_book.specs.OfVirtIds.Pairs.{AreInverse}
+use Rattle.plain_machine.specs.OfPlainTables.declared.process.Process.{Process}
+use Rattle.plain_machine.specs.OfPlainTables.Tables.{NOBODY, Processes, Descriptors, Descriptions, pid, slot}
 use Rattle.host_tables.specs.Numbers.{Pids, Virts, real, to_real, to_virt, number_on, to_real_thread, to_virt_thread, IsNumberOf, number_of, IsKnown}
 use Rattle.host_tables.specs.Processes.{IsSame, SameProcess, SameProcesses, RealDescriptors, SameDescriptors, to_slot, from_slot}
 use Rattle.host_tables.specs.Datagrams.{RealDescriptions}

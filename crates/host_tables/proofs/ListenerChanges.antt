@@ -10,14 +10,14 @@ use Rattle.sys_abi.specs.declared.identity.Dir.{Dir}
 use Rattle.sys_abi.specs.declared.identity.RealAddr.{RealAddr}
 use Rattle.sys_abi.specs.declared.identity.VirtAddr.{VirtAddr}
 use Rattle.sys_abi.proofs.OrderLaws.{address_total, address_exact, real_address_total, real_address_exact}
-use Rattle.plain_tables.specs.declared.channel.Direction as plain_direction
-use Rattle.plain_tables.specs.declared.channel.Listening.{Listening}
-use Rattle.plain_tables.specs.Tables.{Directions, Listeners}
+use Rattle.plain_machine.specs.OfPlainTables.declared.channel.Direction as plain_direction
+use Rattle.plain_machine.specs.OfPlainTables.declared.channel.Listening.{Listening}
+use Rattle.plain_machine.specs.OfPlainTables.Tables.{Directions, Listeners}
 use Rattle.plain_machine.specs.declared.kernel.PlainKernel.{PlainKernel}
-use Rattle.wire_channels.specs.declared.listener.Listener.{Listener}
-use Rattle.wire_channels.specs.Channels as channels
-use Rattle.wire_channels.specs.Directions.{Direction}
-use Rattle.wire_channels.specs.Listeners as listeners
+use Rattle.wire_net.specs.OfWireChannels.declared.listener.Listener.{Listener}
+use Rattle.wire_net.specs.OfWireChannels.Channels as channels
+use Rattle.wire_net.specs.OfWireChannels.Directions.{Direction}
+use Rattle.wire_net.specs.OfWireChannels.Listeners as listeners
 use Rattle.wire_net.specs.Networks.{Network}
 use Rattle.host_tables.specs.declared.kernel.Kernel.{Kernel}
 use Rattle.host_tables.specs.Descriptions.{Stage}

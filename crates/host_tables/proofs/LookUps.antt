@@ -22,9 +22,9 @@ use Rattle.fd_tables.specs.Slots as slots
 use Rattle.fd_tables.specs.Numbers.{AllUsed, IsLowestFree}
 use Rattle.proc_book.specs.declared.process.Process as real_process
 use Rattle.proc_book.specs.Ends.{is_live_at}
-use Rattle.plain_tables.specs.declared.process.Process.{Process}
-use Rattle.plain_tables.specs.Tables.{Descriptors, slot, is_live_process}
-use Rattle.plain_process.specs.Attempts.{Try, Fails, Gives, and_then, found}
+use Rattle.plain_machine.specs.OfPlainTables.declared.process.Process.{Process}
+use Rattle.plain_machine.specs.OfPlainTables.Tables.{Descriptors, slot, is_live_process}
+use Rattle.plain_machine.specs.OfPlainProcess.Attempts.{Try, Fails, Gives, and_then, found}
 use Rattle.plain_machine.specs.declared.kernel.PlainKernel.{PlainKernel}
 use Rattle.plain_machine.specs.Kernel.{Held, held, free_among, free_from, is_live}
 use Rattle.host_tables.specs.declared.kernel.Kernel.{Kernel}

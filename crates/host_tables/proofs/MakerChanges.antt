@@ -10,7 +10,7 @@ use Rattle.views.proofs.MapLaws.{same_or_other, get_insert_same, get_insert_othe
 use Rattle.sys_abi.specs.declared.identity.VPid.{VPid}
 use Rattle.sys_abi.specs.declared.maker.Maker.{Maker}
 use Rattle.sys_abi.proofs.OrderLaws.{vpid_total, vpid_exact}
-use Rattle.plain_tables.specs.Tables.{Processes, Makers, same_host, made_more, changed_at, changed_by}
+use Rattle.plain_machine.specs.OfPlainTables.Tables.{Processes, Makers, same_host, made_more, changed_at, changed_by}
 use Rattle.plain_machine.specs.declared.kernel.PlainKernel.{PlainKernel}
 use Rattle.plain_machine.specs.Kernel.{numbered}
 use Rattle.host_tables.specs.declared.kernel.Kernel.{Kernel}

@@ -13,9 +13,9 @@ use Rattle.std.proofs.lemmas.List.{get_or-set_same, get_or-set_other, length-set
 use Rattle.views.proofs.MapLaws.{same_or_other, get_insert_same, get_insert_other}
 use Rattle.sys_abi.specs.declared.identity.RealPid.{RealPid}
 use Rattle.sys_abi.proofs.OrderLaws.{real_pid_total, real_pid_exact}
-use Rattle.virt_ids.specs.Pairs.{AreInverse}
-use Rattle.virt_ids.proofs.PairLaws.{AreInverse-insert}
-use Rattle.plain_tables.specs.Tables.{FIRST_PID}
+use Rattle.proc_book.specs.OfVirtIds.Pairs.{AreInverse}
+use Rattle.proc_book.proofs.OfVirtIds.PairLaws.{AreInverse-insert}
+use Rattle.plain_machine.specs.OfPlainTables.Tables.{FIRST_PID}
 use Rattle.host_tables.specs.Numbers.{Pids, Virts, real, IsHandedOut, ArePaired}
 
 -- a pair whose sides are new

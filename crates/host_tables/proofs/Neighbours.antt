@@ -13,8 +13,8 @@ use Rattle.sys_abi.specs.declared.maker.Maker.{Maker}
 use Rattle.sys_abi.specs.declared.identity.VPid.{VPid}
 use Rattle.sys_abi.specs.declared.identity.RealPid.{RealPid}
 use Rattle.proc_book.specs.Ends.{is_live_at}
-use Rattle.plain_tables.specs.declared.process.Process.{Process}
-use Rattle.plain_tables.specs.Tables.{pid, same_host, is_live_process}
+use Rattle.plain_machine.specs.OfPlainTables.declared.process.Process.{Process}
+use Rattle.plain_machine.specs.OfPlainTables.Tables.{pid, same_host, is_live_process}
 use Rattle.plain_machine.specs.declared.kernel.PlainKernel.{PlainKernel}
 use Rattle.plain_machine.specs.Kernel.{is_live, is_neighbour}
 use Rattle.host_tables.specs.declared.kernel.Kernel.{Kernel}

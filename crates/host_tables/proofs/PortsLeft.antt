@@ -4,9 +4,9 @@ use Rattle.std.proofs.Common.{ℕ, List, arith}
 use Rattle.std.specs.FinMap as map
 use Rattle.views.proofs.SeenLengths.{same_len}
 use Rattle.sys_abi.proofs.OrderLaws.{address_total, address_exact, real_address_total, real_address_exact}
-use Rattle.wire_channels.specs.Listeners as listeners
+use Rattle.wire_net.specs.OfWireChannels.Listeners as listeners
 use Rattle.wire_net.proofs.PortsInUse.{all_ports-many}
-use Rattle.plain_tables.proofs.FewListeners.{few_listeners}
+use Rattle.plain_machine.proofs.OfPlainTables.FewListeners.{few_listeners}
 use Rattle.plain_machine.specs.declared.kernel.PlainKernel.{PlainKernel}
 use Rattle.plain_machine.specs.Kernels.{IsKernel}
 use Rattle.host_tables.specs.Descriptions.{Addresses}

@@ -3,7 +3,7 @@
 --     refused       a row that fails, where nothing has changed
 use Rattle.std.proofs.Common.{◌≡◌, ℕ, List, None, refl, sym, subst}
 use Rattle.views.specs.Numbers.{Byte}
-use Rattle.plain_process.specs.Attempts.{Try, Fails}
+use Rattle.plain_machine.specs.OfPlainProcess.Attempts.{Try, Fails}
 use Rattle.plain_machine.specs.declared.kernel.PlainKernel.{PlainKernel}
 use Rattle.plain_machine.specs.Attempts.{Served, replied}
 use Rattle.host_tables.specs.declared.kernel.Kernel.{Kernel}

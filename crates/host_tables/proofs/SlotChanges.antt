@@ -12,8 +12,8 @@ use Rattle.sys_abi.proofs.OrderLaws.{slot_total, slot_exact}
 use Rattle.fd_book.specs.Books as books
 use Rattle.fd_tables.specs.Slots as slots
 use Rattle.fd_tables.proofs.OrderLaws.{real_slot_total, real_slot_exact}
-use Rattle.virt_ids.specs.Pairs.{AreInverse}
-use Rattle.plain_tables.specs.Tables.{Descriptors, slot, is_held, refers_to}
+use Rattle.proc_book.specs.OfVirtIds.Pairs.{AreInverse}
+use Rattle.plain_machine.specs.OfPlainTables.Tables.{Descriptors, slot, is_held, refers_to}
 use Rattle.plain_machine.specs.declared.kernel.PlainKernel.{PlainKernel}
 use Rattle.plain_machine.specs.Kernel.{with_descriptor}
 use Rattle.plain_machine.specs.Closing.{without_descriptor}

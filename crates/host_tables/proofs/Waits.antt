@@ -31,15 +31,15 @@ use Rattle.proc_book.specs.Processes as procs
 use Rattle.proc_book.specs.Ends as ends
 use Rattle.proc_book.specs.Procs as table
 use Rattle.proc_book.proofs.Leasts as real_leasts
-use Rattle.plain_tables.specs.declared.process.Process.{Process}
-use Rattle.plain_tables.specs.Tables.{FIRST_PID, NOBODY, Processes, Makers, pid, same_host}
-use Rattle.plain_tables.specs.Ends.{is_child_of}
-use Rattle.plain_tables.specs.Valid.Processes.{IsParent, HasParent, AreParents}
-use Rattle.plain_tables.specs.declared.waiting.Waiting.{Waiting}
-use Rattle.plain_tables.specs.declared.waiting.Waiting.TheVariants as plain
-use Rattle.plain_tables.specs.Waits as waits
+use Rattle.plain_machine.specs.OfPlainTables.declared.process.Process.{Process}
+use Rattle.plain_machine.specs.OfPlainTables.Tables.{FIRST_PID, NOBODY, Processes, Makers, pid, same_host}
+use Rattle.plain_machine.specs.OfPlainTables.Ends.{is_child_of}
+use Rattle.plain_machine.specs.OfPlainTables.Valid.Processes.{IsParent, HasParent, AreParents}
+use Rattle.plain_machine.specs.OfPlainTables.declared.waiting.Waiting.{Waiting}
+use Rattle.plain_machine.specs.OfPlainTables.declared.waiting.Waiting.TheVariants as plain
+use Rattle.plain_machine.specs.OfPlainTables.Waits as waits
 use Rattle.plain_machine.proofs.Leasts as plain_leasts
-use Rattle.virt_ids.specs.Pairs.{AreInverse}
+use Rattle.proc_book.specs.OfVirtIds.Pairs.{AreInverse}
 use Rattle.host_tables.specs.Numbers.{Pids, Virts, IsNumberOf, AreNumbered, node_of, to_real, to_virt}
 use Rattle.host_tables.specs.Processes.{SameProcess, SameProcesses}
 use Rattle.host_tables.proofs.Ways.{lead_process}

@@ -13,8 +13,8 @@ use Rattle.sys_abi.specs.declared.identity.RealPid.{RealPid}
 use Rattle.sys_abi.specs.declared.identity.Slot.{Slot}
 use Rattle.fd_tables.specs.declared.real_slot.RealSlot.{RealSlot}
 use Rattle.fd_tables.specs.Slots as slots
-use Rattle.virt_ids.specs.Pairs.{AreInverse}
-use Rattle.plain_tables.specs.Tables.{pid, slot}
+use Rattle.proc_book.specs.OfVirtIds.Pairs.{AreInverse}
+use Rattle.plain_machine.specs.OfPlainTables.Tables.{pid, slot}
 use Rattle.host_tables.specs.Numbers.{Pids, Virts, real, to_real, to_virt, number_on, to_real_thread, to_virt_thread}
 use Rattle.host_tables.specs.Processes.{to_slot, from_slot}
 use Rattle.host_tables.specs.Descriptions.{Addresses}

@@ -25,7 +25,7 @@ use Rattle.host_tables.specs.declared.request.PairIds.{PairIds}
 use Rattle.host_tables.specs.declared.request.RealRequest.{RealRequest}
 use Rattle.host_tables.specs.declared.request.RealRequest.TheVariants.{Eventfd2, Openat, Pipe2, Socket, Socketpair, Accept, Connect, Clone}
 use Rattle.conn_table.specs.Pairs.{Pairs}
-use Rattle.wire_channels.specs.Listeners.{Listeners}
+use Rattle.wire_net.specs.OfWireChannels.Listeners.{Listeners}
 
 -- what an object names is there; a side is 0 or 1
 abbrev pub IsThere : Contents → Listeners → Pairs → Object → Type 0

@@ -15,7 +15,7 @@ use Rattle.conn_table.specs.Pairs.{Pairs, end_of, is_open}
 use Rattle.fd_tables.specs.declared.description.Desc.{Desc}
 use Rattle.fd_tables.specs.declared.description.Object.{Object}
 use Rattle.fd_tables.specs.declared.description.Object.TheVariants as real_object
-use Rattle.plain_tables.specs.Tables.{Inboxes}
+use Rattle.plain_machine.specs.OfPlainTables.Tables.{Inboxes}
 
 abbrev pub RealDescriptions : Type 0
 RealDescriptions = FinMap desc_cmp Desc

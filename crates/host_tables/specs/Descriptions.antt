@@ -14,10 +14,10 @@ use Rattle.sys_abi.specs.Orders.{desc_cmp, address_cmp}
 use Rattle.fd_tables.specs.declared.description.Desc.{Desc}
 use Rattle.fd_tables.specs.declared.description.Object.{Object}
 use Rattle.fd_tables.specs.declared.description.Object.TheVariants as real_object
-use Rattle.plain_tables.specs.declared.description.Description.{Description}
-use Rattle.plain_tables.specs.declared.description.Object as plain
-use Rattle.plain_tables.specs.declared.description.Object.TheVariants.{Console, File, Stream, Socket, Listener, Datagram, Counter}
-use Rattle.plain_tables.specs.Tables.{Descriptions}
+use Rattle.plain_machine.specs.OfPlainTables.declared.description.Description.{Description}
+use Rattle.plain_machine.specs.OfPlainTables.declared.description.Object as plain
+use Rattle.plain_machine.specs.OfPlainTables.declared.description.Object.TheVariants.{Console, File, Stream, Socket, Listener, Datagram, Counter}
+use Rattle.plain_machine.specs.OfPlainTables.Tables.{Descriptions}
 use Rattle.wire_net.specs.Whereabouts.{Agents}
 use Rattle.conn_table.specs.Pairs.{Pairs}
 use Rattle.host_tables.specs.Numbers.{Virts, number_of, IsKnown}

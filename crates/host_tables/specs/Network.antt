@@ -13,20 +13,20 @@ use Rattle.sys_abi.specs.declared.identity.RealAddr.{RealAddr}
 use Rattle.sys_abi.specs.declared.identity.VirtAddr.{VirtAddr}
 use Rattle.sys_abi.specs.Orders.{conn_cmp, real_address_cmp}
 use Rattle.conn_table.specs.declared.conn.Conn.{Conn}
-use Rattle.virt_ids.specs.Pairs.{AreInverse}
-use Rattle.plain_tables.specs.declared.channel.Channel as plain
-use Rattle.plain_tables.specs.declared.channel.ChannelEnd.{ChannelEnd}
-use Rattle.plain_tables.specs.declared.channel.ChannelKind.{ChannelKind}
-use Rattle.plain_tables.specs.declared.channel.ChannelKind.TheVariants.{Pair, Internet, Pipe}
-use Rattle.plain_tables.specs.declared.channel.Direction as plain_direction
-use Rattle.plain_tables.specs.declared.channel.Listening.{Listening}
-use Rattle.plain_tables.specs.Tables.{Channels, Directions, Listeners}
+use Rattle.proc_book.specs.OfVirtIds.Pairs.{AreInverse}
+use Rattle.plain_machine.specs.OfPlainTables.declared.channel.Channel as plain
+use Rattle.plain_machine.specs.OfPlainTables.declared.channel.ChannelEnd.{ChannelEnd}
+use Rattle.plain_machine.specs.OfPlainTables.declared.channel.ChannelKind.{ChannelKind}
+use Rattle.plain_machine.specs.OfPlainTables.declared.channel.ChannelKind.TheVariants.{Pair, Internet, Pipe}
+use Rattle.plain_machine.specs.OfPlainTables.declared.channel.Direction as plain_direction
+use Rattle.plain_machine.specs.OfPlainTables.declared.channel.Listening.{Listening}
+use Rattle.plain_machine.specs.OfPlainTables.Tables.{Channels, Directions, Listeners}
 use Rattle.plain_machine.specs.SocketWords.{is_pipe}
-use Rattle.wire_channels.specs.declared.channel.Channel.{Channel}
-use Rattle.wire_channels.specs.declared.listener.Listener.{Listener}
-use Rattle.wire_channels.specs.Directions.{Direction}
-use Rattle.wire_channels.specs.Channels as channels
-use Rattle.wire_channels.specs.Listeners as listeners
+use Rattle.wire_net.specs.OfWireChannels.declared.channel.Channel.{Channel}
+use Rattle.wire_net.specs.OfWireChannels.declared.listener.Listener.{Listener}
+use Rattle.wire_net.specs.OfWireChannels.Directions.{Direction}
+use Rattle.wire_net.specs.OfWireChannels.Channels as channels
+use Rattle.wire_net.specs.OfWireChannels.Listeners as listeners
 use Rattle.wire_net.specs.Networks.{Network}
 use Rattle.wire_net.specs.Whereabouts.{whereabouts}
 use Rattle.host_tables.specs.Numbers.{node_of}

@@ -17,9 +17,9 @@ use Rattle.sys_abi.specs.declared.identity.VPid.{VPid}
 use Rattle.sys_abi.specs.declared.identity.RealPid.{RealPid}
 use Rattle.sys_abi.specs.declared.maker.Maker.{Maker}
 use Rattle.sys_abi.specs.Orders.{real_pid_cmp}
-use Rattle.virt_ids.specs.Pairs.{AreInverse}
-use Rattle.plain_tables.specs.declared.process.Process.{Process}
-use Rattle.plain_tables.specs.Tables.{FIRST_PID, Processes, Makers, pid, same_host}
+use Rattle.proc_book.specs.OfVirtIds.Pairs.{AreInverse}
+use Rattle.plain_machine.specs.OfPlainTables.declared.process.Process.{Process}
+use Rattle.plain_machine.specs.OfPlainTables.Tables.{FIRST_PID, Processes, Makers, pid, same_host}
 use Rattle.plain_machine.specs.Rows.Clone.{LAST_ID}
 
 abbrev pub Pids : Type 0

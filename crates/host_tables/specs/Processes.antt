@@ -13,8 +13,8 @@ use Rattle.fd_tables.specs.Orders.{real_slot_cmp}
 use Rattle.fd_tables.specs.Slots as slots
 use Rattle.proc_book.specs.declared.process.Process as real_process
 use Rattle.proc_book.specs.Ends as procs
-use Rattle.plain_tables.specs.declared.process.Process.{Process}
-use Rattle.plain_tables.specs.Tables.{NOBODY, Processes, Descriptors, slot}
+use Rattle.plain_machine.specs.OfPlainTables.declared.process.Process.{Process}
+use Rattle.plain_machine.specs.OfPlainTables.Tables.{NOBODY, Processes, Descriptors, slot}
 use Rattle.host_tables.specs.Numbers.{Pids, Virts, IsNumberOf, to_real, to_virt, to_real_thread, to_virt_thread}
 
 abbrev pub IsSame : {A B X : Type 0} → A → B → X → X → Type 0

@@ -17,10 +17,10 @@ use Rattle.sys_abi.specs.declared.reply.Errno.{Errno}
 use Rattle.sys_abi.specs.declared.errors.TheConstants.{EINVAL, EAFNOSUPPORT}
 use Rattle.call_table.specs.declared.request.Request.{Request}
 use Rattle.call_table.specs.declared.request.Request.TheVariants as plain
-use Rattle.plain_tables.specs.declared.description.Object.{Object}
-use Rattle.plain_tables.specs.declared.description.Object.TheVariants as object
-use Rattle.plain_tables.specs.Tables.{pid, same_host}
-use Rattle.plain_process.specs.Attempts.{Try, Gives}
+use Rattle.plain_machine.specs.OfPlainTables.declared.description.Object.{Object}
+use Rattle.plain_machine.specs.OfPlainTables.declared.description.Object.TheVariants as object
+use Rattle.plain_machine.specs.OfPlainTables.Tables.{pid, same_host}
+use Rattle.plain_machine.specs.OfPlainProcess.Attempts.{Try, Gives}
 use Rattle.plain_machine.specs.declared.kernel.PlainKernel.{PlainKernel}
 use Rattle.plain_machine.specs.Addresses.{AF_INET, ADDRESS_SIZE, Endpoint, endpoint_of, named_host, address_at, automatic_port}
 use Rattle.plain_machine.specs.Kernel.{Held, held, made_of, has_numbers}

@@ -17,14 +17,14 @@ use Rattle.sys_abi.specs.declared.identity.VirtAddr.{VirtAddr}
 use Rattle.sys_abi.specs.declared.errors.TheConstants.{EADDRINUSE}
 use Rattle.sys_abi.specs.declared.reply.Reply.{Reply}
 use Rattle.sys_abi.specs.declared.reply.Reply.TheVariants.{Value, Error}
-use Rattle.plain_tables.specs.Tables.{NOBODY}
-use Rattle.plain_process.specs.Attempts.{Try, Fails, NotReady, Gives, ◌>>=◌}
+use Rattle.plain_machine.specs.OfPlainTables.Tables.{NOBODY}
+use Rattle.plain_machine.specs.OfPlainProcess.Attempts.{Try, Fails, NotReady, Gives, ◌>>=◌}
 use Rattle.plain_machine.specs.declared.kernel.PlainKernel.{PlainKernel}
-use Rattle.plain_process.specs.declared.commands.FcntlCommand.{FcntlCommand}
-use Rattle.plain_process.specs.declared.commands.FcntlCommand.TheVariants.{GetOwn}
+use Rattle.plain_machine.specs.OfPlainProcess.declared.commands.FcntlCommand.{FcntlCommand}
+use Rattle.plain_machine.specs.OfPlainProcess.declared.commands.FcntlCommand.TheVariants.{GetOwn}
 use Rattle.plain_machine.specs.Addresses.{endpoint_of, address_at}
 use Rattle.plain_machine.specs.Attempts.{Served}
-use Rattle.plain_process.specs.Commands.{fcntl_command}
+use Rattle.plain_machine.specs.OfPlainProcess.Commands.{fcntl_command}
 use Rattle.plain_machine.specs.Kernel.{Held, host_of}
 use Rattle.plain_machine.specs.Kernels.{IsKernel}
 use Rattle.plain_machine.specs.Rows.Channels.{STREAMS}

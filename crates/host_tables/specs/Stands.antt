@@ -12,7 +12,7 @@ use Rattle.sys_abi.specs.declared.identity.RealAddr.{RealAddr}
 use Rattle.sys_abi.specs.declared.identity.VirtAddr.{VirtAddr}
 use Rattle.conn_table.specs.declared.conn.Conn.{Conn}
 use Rattle.vfs_files.specs.FileTable.{FileTable}
-use Rattle.plain_tables.specs.Tables as plain
+use Rattle.plain_machine.specs.OfPlainTables.Tables as plain
 use Rattle.plain_machine.specs.declared.kernel.PlainKernel.{PlainKernel}
 use Rattle.host_tables.specs.declared.kernel.Kernel.{Kernel}
 use Rattle.host_tables.specs.Numbers.{Pids, Virts, ArePaired, AreNumbered}

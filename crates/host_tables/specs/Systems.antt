@@ -13,11 +13,11 @@ use Rattle.sys_abi.specs.declared.identity.RealPid.{RealPid}
 use Rattle.sys_abi.specs.declared.identity.RealAddr.{RealAddr}
 use Rattle.sys_abi.specs.declared.identity.VirtAddr.{VirtAddr}
 use Rattle.conn_table.specs.declared.conn.Conn.{Conn}
-use Rattle.plain_tables.specs.declared.description.Description.{Description}
-use Rattle.plain_tables.specs.declared.description.Object.{Object}
-use Rattle.plain_tables.specs.declared.description.Object.TheVariants.{Socket, Listener}
-use Rattle.plain_tables.specs.Tables.{pid, has_thread_in}
-use Rattle.plain_process.specs.Attempts.{Try, Fails, NotReady, Gives}
+use Rattle.plain_machine.specs.OfPlainTables.declared.description.Description.{Description}
+use Rattle.plain_machine.specs.OfPlainTables.declared.description.Object.{Object}
+use Rattle.plain_machine.specs.OfPlainTables.declared.description.Object.TheVariants.{Socket, Listener}
+use Rattle.plain_machine.specs.OfPlainTables.Tables.{pid, has_thread_in}
+use Rattle.plain_machine.specs.OfPlainProcess.Attempts.{Try, Fails, NotReady, Gives}
 use Rattle.plain_machine.specs.declared.kernel.PlainKernel.{PlainKernel}
 use Rattle.plain_machine.specs.Attempts.{Served}
 use Rattle.plain_machine.specs.Kernels.{IsKernel}

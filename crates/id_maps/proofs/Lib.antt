@@ -1,0 +1,2 @@
+pub use Rattle.conn_maps.proofs.OfViews
+pub use Rattle.conn_maps.proofs.OfSysAbi

@@ -4,10 +4,10 @@
 use Rattle.std.specs.Prelude.{◌≡◌, Option, OnSome}
 use Rattle.std.specs.Borrow.{Fml, RattleType, MutBor, LendsSo}
 use Rattle.std.specs.FinMap as map
-use Rattle.sys_abi.specs.declared.identity.VPid.{VPid}
-use Rattle.sys_abi.specs.declared.identity.Slot.{Slot}
-use Rattle.sys_abi.specs.declared.identity.DescId.{DescId}
-use Rattle.sys_abi.specs.Orders.{vpid_cmp, slot_cmp, desc_cmp}
+use Rattle.conn_maps.specs.OfSysAbi.declared.identity.VPid.{VPid}
+use Rattle.conn_maps.specs.OfSysAbi.declared.identity.Slot.{Slot}
+use Rattle.conn_maps.specs.OfSysAbi.declared.identity.DescId.{DescId}
+use Rattle.conn_maps.specs.OfSysAbi.Orders.{vpid_cmp, slot_cmp, desc_cmp}
 use Rattle.id_maps.specs.contracts.by_pid.ByPid as by_pid
 use Rattle.id_maps.specs.contracts.by_slot.BySlot as by_slot
 use Rattle.id_maps.specs.contracts.by_desc.ByDesc as by_desc

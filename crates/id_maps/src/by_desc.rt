@@ -5,12 +5,12 @@ ghost use Rattle.std.specs.FinMap as map;
 ghost use Rattle.std.specs.Map.Calls.{CalledAtPair, RetainsPairs};
 ghost use Rattle.id_maps.specs.LentValues.{LendsByDesc};
 
+use conn_maps::sys_abi::DescId;
+use conn_maps::views::duplicate::{Duplicate, duplicate_tree};
 use std::alloc::{AllocError, Global};
 use std::collections::BTreeMap;
 use std::collections::btree_map::{Iter, Keys, Values};
 use std::marker::Model;
-use sys_abi::DescId;
-use views::duplicate::{Duplicate, duplicate_tree};
 
 /// A map from open descriptions, which contracts see as a finite map in the order of `DescId`.
 #[derive(Drop)]
@@ -20,7 +20,7 @@ pub struct ByDesc<V> {
 
 impl<V> Model for ByDesc<V> {
     ghost use Rattle.std.specs.FinMap as map;
-    ghost use Rattle.sys_abi.specs.Orders.{desc_cmp, coded_desc};
+    ghost use Rattle.conn_maps.specs.OfSysAbi.Orders.{desc_cmp, coded_desc};
 
     ghost Value = { map.FinMap desc_cmp V };
 

@@ -1,14 +1,14 @@
 ghost use Rattle.std.specs.Prelude.{◌≡◌, ◌↔◌, is_some, IsTrue, IfOk, OnOk, OnErr};
 ghost use Rattle.std.specs.Option.{option_copied};
 ghost use Rattle.std.specs.FinMap as map;
-ghost use Rattle.sys_abi.specs.Names.{by_name};
+ghost use Rattle.conn_maps.specs.OfSysAbi.Names.{by_name};
 
+use conn_maps::views::duplicate::{Duplicate, duplicate_items};
+use conn_maps::views::list_of::ListOf;
 use std::alloc::{AllocError, Global};
 use std::collections::BTreeMap;
 use std::collections::btree_map::{Iter, Values};
 use std::marker::Model;
-use views::duplicate::{Duplicate, duplicate_items};
-use views::list_of::ListOf;
 
 /// A map from byte strings, which contracts see as a finite map in the order of their bytes.
 #[derive(Drop)]
@@ -19,7 +19,7 @@ pub struct ByName<V> {
 impl<V> Model for ByName<V> {
     ghost use Rattle.std.specs.FinMap as map;
     ghost use Rattle.std.specs.Coded.{coded_ℕ, coded_list};
-    ghost use Rattle.sys_abi.specs.Names.{name_cmp, by_name};
+    ghost use Rattle.conn_maps.specs.OfSysAbi.Names.{name_cmp, by_name};
 
     ghost Value = { map.FinMap name_cmp V };
 

@@ -5,12 +5,12 @@ ghost use Rattle.std.specs.FinMap as map;
 ghost use Rattle.std.specs.Map.Calls.{CalledAtPair, RetainsPairs};
 ghost use Rattle.id_maps.specs.LentValues.{LendsByPid};
 
+use conn_maps::sys_abi::VPid;
+use conn_maps::views::duplicate::{Duplicate, duplicate_tree};
 use std::alloc::{AllocError, Global};
 use std::collections::BTreeMap;
 use std::collections::btree_map::{Iter, Keys, Values};
 use std::marker::Model;
-use sys_abi::VPid;
-use views::duplicate::{Duplicate, duplicate_tree};
 
 /// A map from processes, which contracts see as a finite map in the order of `VPid`.
 #[derive(Drop)]
@@ -20,7 +20,7 @@ pub struct ByPid<V> {
 
 impl<V> Model for ByPid<V> {
     ghost use Rattle.std.specs.FinMap as map;
-    ghost use Rattle.sys_abi.specs.Orders.{vpid_cmp, coded_vpid};
+    ghost use Rattle.conn_maps.specs.OfSysAbi.Orders.{vpid_cmp, coded_vpid};
 
     ghost Value = { map.FinMap vpid_cmp V };
 

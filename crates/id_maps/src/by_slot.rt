@@ -4,12 +4,12 @@ ghost use Rattle.std.specs.Borrow.{sem};
 ghost use Rattle.std.specs.FinMap as map;
 ghost use Rattle.id_maps.specs.LentValues.{LendsBySlot};
 
+use conn_maps::sys_abi::Slot;
+use conn_maps::views::duplicate::{Duplicate, duplicate_tree};
 use std::alloc::{AllocError, Global};
 use std::collections::BTreeMap;
 use std::collections::btree_map::{Iter, Keys, Values};
 use std::marker::Model;
-use sys_abi::Slot;
-use views::duplicate::{Duplicate, duplicate_tree};
 
 /// A map from descriptors of processes, which contracts see as a finite map in the order of `Slot`.
 #[derive(Drop)]
@@ -19,7 +19,7 @@ pub struct BySlot<V> {
 
 impl<V> Model for BySlot<V> {
     ghost use Rattle.std.specs.FinMap as map;
-    ghost use Rattle.sys_abi.specs.Orders.{slot_cmp, coded_slot};
+    ghost use Rattle.conn_maps.specs.OfSysAbi.Orders.{slot_cmp, coded_slot};
 
     ghost Value = { map.FinMap slot_cmp V };
 

@@ -15,4 +15,4 @@ pub use by_desc::ByDesc;
 pub use by_name::ByName;
 pub use by_pid::ByPid;
 pub use by_slot::BySlot;
-pub use conn_maps::{ByAddress, ByConn, ByDir};
+pub use conn_maps::{ByAddress, ByConn, ByDir, sys_abi, views};

@@ -8,22 +8,22 @@ use Rattle.std.specs.List.{list_all}
 use Rattle.std.specs.FinMap as map
 use Rattle.std.proofs.lemmas.Bool.Decides.{nat_tests}
 use Rattle.std.proofs.lemmas.List.Elements.{All-from_recursion, All-head, All-tail, All-append, All-take}
-use Rattle.sys_abi.specs.declared.identity.VirtAddr.{VirtAddr}
-use Rattle.sys_abi.specs.declared.errors.TheConstants.{ENOTCONN}
-use Rattle.call_table.specs.declared.request.Request.{Request}
+use Rattle.plain_tables.specs.OfSysAbi.declared.identity.VirtAddr.{VirtAddr}
+use Rattle.plain_tables.specs.OfSysAbi.declared.errors.TheConstants.{ENOTCONN}
+use Rattle.plain_tables.specs.OfCallTable.declared.request.Request.{Request}
 use Rattle.plain_machine.specs.declared.kernel.PlainKernel.{PlainKernel}
 use Rattle.plain_tables.specs.declared.channel.Channel.{Channel}
 use Rattle.plain_tables.specs.declared.description.Object.{Object}
 use Rattle.plain_tables.specs.declared.description.Object.TheVariants.{Stream, Socket, Listener, Datagram}
 use Rattle.plain_tables.specs.Objects.{end_of, bound_at}
-use Rattle.plain_process.specs.declared.memory.Right.{Right}
-use Rattle.plain_process.specs.declared.memory.Right.TheVariants.{Read as ToRead}
-use Rattle.plain_process.specs.declared.buffers.Source.TheVariants.{Bytes}
-use Rattle.plain_process.specs.Memory.{Memory, byte_at, bytes_at, followed_by, little_endian, low_bytes}
-use Rattle.plain_process.specs.Buffers.{span, reads_of, bytes_of, given_of, length_place, length_at, size_of, address_spans, fills_of, filled_spans, can_write, written_spans, lent}
-use Rattle.plain_process.specs.Put.{CanTake}
-use Rattle.plain_process.specs.Valid.{IsByte}
-use Rattle.plain_process.proofs.MemoryBounds.{low_bytes_are}
+use Rattle.plain_tables.specs.OfPlainProcess.declared.memory.Right.{Right}
+use Rattle.plain_tables.specs.OfPlainProcess.declared.memory.Right.TheVariants.{Read as ToRead}
+use Rattle.plain_tables.specs.OfPlainProcess.declared.buffers.Source.TheVariants.{Bytes}
+use Rattle.plain_tables.specs.OfPlainProcess.Memory.{Memory, byte_at, bytes_at, followed_by, little_endian, low_bytes}
+use Rattle.plain_tables.specs.OfPlainProcess.Buffers.{span, reads_of, bytes_of, given_of, length_place, length_at, size_of, address_spans, fills_of, filled_spans, can_write, written_spans, lent}
+use Rattle.plain_tables.specs.OfPlainProcess.Put.{CanTake}
+use Rattle.plain_tables.specs.OfPlainProcess.Valid.{IsByte}
+use Rattle.plain_tables.proofs.OfPlainProcess.MemoryBounds.{low_bytes_are}
 use Rattle.plain_machine.specs.Addresses.{Endpoint, endpoint_of, is_own_name, is_host_name, named_host, address_bytes, unbound_bytes, pair_bytes, cut_to}
 use Rattle.plain_machine.specs.SocketWords.{shown_as, end_name}
 use Rattle.plain_machine.specs.Rows.Sockets.{own_name, peer_name}

@@ -3,16 +3,16 @@
 use Rattle.std.proofs.Common.{◌≡◌, ℕ, ◌<◌, true, List, refl, sym, ◌∙◌, arith}
 use Rattle.std.specs.Prelude.{Option, Some, None}
 use Rattle.std.specs.FinMap as map
-use Rattle.views.proofs.MapLaws.{true_false}
-use Rattle.sys_abi.specs.declared.identity.VPid.{VPid}
-use Rattle.sys_abi.specs.declared.reply.Reply.{Reply}
-use Rattle.call_table.specs.declared.request.Request.{Request}
+use Rattle.plain_tables.proofs.OfViews.MapLaws.{true_false}
+use Rattle.plain_tables.specs.OfSysAbi.declared.identity.VPid.{VPid}
+use Rattle.plain_tables.specs.OfSysAbi.declared.reply.Reply.{Reply}
+use Rattle.plain_tables.specs.OfCallTable.declared.request.Request.{Request}
 use Rattle.plain_machine.specs.declared.plain.Plain.{Plain}
 use Rattle.plain_tables.specs.declared.process.Process.{Process}
 use Rattle.plain_tables.specs.Tables.{is_live_process, thread_count_in}
-use Rattle.plain_process.specs.declared.user_part.UserPart.{UserPart}
-use Rattle.plain_process.specs.Put.{added_thread}
-use Rattle.plain_process.specs.Valid.{CanAddAs}
+use Rattle.plain_tables.specs.OfPlainProcess.declared.user_part.UserPart.{UserPart}
+use Rattle.plain_tables.specs.OfPlainProcess.Put.{added_thread}
+use Rattle.plain_tables.specs.OfPlainProcess.Valid.{CanAddAs}
 use Rattle.plain_machine.specs.Kernel.{is_live, thread_count}
 use Rattle.plain_machine.specs.Laws.{StandsAsked, ServeAdds}
 use Rattle.plain_machine.specs.RowLaws.{MayAdd}

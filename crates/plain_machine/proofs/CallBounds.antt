@@ -5,24 +5,24 @@ use Rattle.std.specs.Prelude.{◌==◌, Option, Some, None}
 use Rattle.std.specs.Option.{option_map}
 use Rattle.std.specs.List.{list_all}
 use Rattle.std.proofs.Math.Nat.{min-le_right}
-use Rattle.call_table.specs.declared.request.Request.{Request}
-use Rattle.call_table.specs.declared.request.Request.TheVariants.{Unlinkat, Openat, Write, Clone, Futex, RtSigaction, RtSigprocmask, Bind, Accept, Connect, Getsockname, Getpeername}
-use Rattle.sys_abi.specs.declared.transfer.TheConstants.{TRANSFER_LIMIT}
-use Rattle.sys_abi.specs.declared.flags.TheConstants.{CLONE_PARENT_SETTID, CLONE_CHILD_SETTID}
-use Rattle.sys_abi.specs.declared.cloning.CloneForm.{CloneForm}
-use Rattle.sys_abi.specs.declared.cloning.CloneForm.TheVariants.{Fork, Thread}
-use Rattle.sys_abi.specs.Clones.{clone_form}
-use Rattle.sys_abi.specs.Flags.{has_flag}
-use Rattle.plain_process.specs.declared.buffers.Span.{Span}
-use Rattle.plain_process.specs.declared.buffers.Source.{Source}
-use Rattle.plain_process.specs.declared.buffers.Source.TheVariants.{Nothing, Bytes, Text}
-use Rattle.plain_process.specs.Memory.{Memory, byte_at}
-use Rattle.plain_process.specs.declared.memory.Right.TheVariants.{Read as ToRead}
-use Rattle.plain_process.specs.Buffers.{reads_of, bytes_of, given_of, text_from, text_at, PATH_LIMIT, if_writable, can_write, size_of, span_if, clone_fills, fills_of, filled_spans, writes_of, written_spans, lent, span, is_wait}
-use Rattle.plain_process.specs.Put.{CanTake}
-use Rattle.plain_process.specs.Valid.{IsFrame, Each}
-use Rattle.plain_process.proofs.Giving.{Giving, gives, nothing, where_, either, then_, mapped}
-use Rattle.plain_process.proofs.MemoryBounds.{bytes_read}
+use Rattle.plain_tables.specs.OfCallTable.declared.request.Request.{Request}
+use Rattle.plain_tables.specs.OfCallTable.declared.request.Request.TheVariants.{Unlinkat, Openat, Write, Clone, Futex, RtSigaction, RtSigprocmask, Bind, Accept, Connect, Getsockname, Getpeername}
+use Rattle.plain_tables.specs.OfSysAbi.declared.transfer.TheConstants.{TRANSFER_LIMIT}
+use Rattle.plain_tables.specs.OfSysAbi.declared.flags.TheConstants.{CLONE_PARENT_SETTID, CLONE_CHILD_SETTID}
+use Rattle.plain_tables.specs.OfSysAbi.declared.cloning.CloneForm.{CloneForm}
+use Rattle.plain_tables.specs.OfSysAbi.declared.cloning.CloneForm.TheVariants.{Fork, Thread}
+use Rattle.plain_tables.specs.OfSysAbi.Clones.{clone_form}
+use Rattle.plain_tables.specs.OfSysAbi.Flags.{has_flag}
+use Rattle.plain_tables.specs.OfPlainProcess.declared.buffers.Span.{Span}
+use Rattle.plain_tables.specs.OfPlainProcess.declared.buffers.Source.{Source}
+use Rattle.plain_tables.specs.OfPlainProcess.declared.buffers.Source.TheVariants.{Nothing, Bytes, Text}
+use Rattle.plain_tables.specs.OfPlainProcess.Memory.{Memory, byte_at}
+use Rattle.plain_tables.specs.OfPlainProcess.declared.memory.Right.TheVariants.{Read as ToRead}
+use Rattle.plain_tables.specs.OfPlainProcess.Buffers.{reads_of, bytes_of, given_of, text_from, text_at, PATH_LIMIT, if_writable, can_write, size_of, span_if, clone_fills, fills_of, filled_spans, writes_of, written_spans, lent, span, is_wait}
+use Rattle.plain_tables.specs.OfPlainProcess.Put.{CanTake}
+use Rattle.plain_tables.specs.OfPlainProcess.Valid.{IsFrame, Each}
+use Rattle.plain_tables.proofs.OfPlainProcess.Giving.{Giving, gives, nothing, where_, either, then_, mapped}
+use Rattle.plain_tables.proofs.OfPlainProcess.MemoryBounds.{bytes_read}
 use Rattle.plain_machine.proofs.MemoryPages.{FitsSpans, fits_taken}
 
 -- what a call reads

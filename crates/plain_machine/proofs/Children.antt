@@ -6,21 +6,21 @@ use Rattle.std.specs.List.{list_all}
 use Rattle.std.specs.Ordering.{nat_cmp}
 use Rattle.std.specs.FinMap as map
 use Rattle.std.proofs.lemmas.List.Elements.{All-nil}
-use Rattle.views.proofs.MapLaws.{true_false}
-use Rattle.sys_abi.specs.declared.flags.TheConstants.{CLONE_CHILD_CLEARTID, CLONE_PARENT_SETTID, CLONE_CHILD_SETTID}
-use Rattle.sys_abi.specs.declared.reply.Reply.{Reply}
-use Rattle.call_table.specs.declared.request.Request.{Request}
-use Rattle.call_table.specs.declared.request.Request.TheVariants.{Clone}
-use Rattle.sys_abi.specs.Flags.{has_flag}
-use Rattle.plain_process.specs.declared.buffers.Span.{Span}
-use Rattle.plain_process.specs.declared.user_part.UserPart.{UserPart}
-use Rattle.plain_process.specs.declared.user_part.ThreadPart.{ThreadPart}
-use Rattle.plain_process.specs.Buffers.{span, span_if, writes_of, written_spans, can_write}
-use Rattle.plain_process.specs.Memory.{Memory, low_bytes, with_bytes}
-use Rattle.plain_process.specs.Put.{made_by, CanTake}
-use Rattle.plain_process.specs.Threads.{after_call, child_thread, child_memory, child_by, child_of}
-use Rattle.plain_process.specs.Valid.{IsWord, IsThread, IsUser, IsRequest}
-use Rattle.plain_process.proofs.MemoryBounds.{IsMemory, kept_by_bytes, low_bytes_are}
+use Rattle.plain_tables.proofs.OfViews.MapLaws.{true_false}
+use Rattle.plain_tables.specs.OfSysAbi.declared.flags.TheConstants.{CLONE_CHILD_CLEARTID, CLONE_PARENT_SETTID, CLONE_CHILD_SETTID}
+use Rattle.plain_tables.specs.OfSysAbi.declared.reply.Reply.{Reply}
+use Rattle.plain_tables.specs.OfCallTable.declared.request.Request.{Request}
+use Rattle.plain_tables.specs.OfCallTable.declared.request.Request.TheVariants.{Clone}
+use Rattle.plain_tables.specs.OfSysAbi.Flags.{has_flag}
+use Rattle.plain_tables.specs.OfPlainProcess.declared.buffers.Span.{Span}
+use Rattle.plain_tables.specs.OfPlainProcess.declared.user_part.UserPart.{UserPart}
+use Rattle.plain_tables.specs.OfPlainProcess.declared.user_part.ThreadPart.{ThreadPart}
+use Rattle.plain_tables.specs.OfPlainProcess.Buffers.{span, span_if, writes_of, written_spans, can_write}
+use Rattle.plain_tables.specs.OfPlainProcess.Memory.{Memory, low_bytes, with_bytes}
+use Rattle.plain_tables.specs.OfPlainProcess.Put.{made_by, CanTake}
+use Rattle.plain_tables.specs.OfPlainProcess.Threads.{after_call, child_thread, child_memory, child_by, child_of}
+use Rattle.plain_tables.specs.OfPlainProcess.Valid.{IsWord, IsThread, IsUser, IsRequest}
+use Rattle.plain_tables.proofs.OfPlainProcess.MemoryBounds.{IsMemory, kept_by_bytes, low_bytes_are}
 use Rattle.plain_machine.specs.RowLaws.{with_one}
 use Rattle.plain_machine.proofs.Entries.{no_entry}
 use Rattle.plain_machine.proofs.MemoryPages.{KeepsPages, kept_pages, spans_keep_pages, fits_taken}

@@ -2,14 +2,14 @@
 --     console_write, console_is_ready
 use Rattle.std.proofs.Common.{◌≡◌, ℕ, Bool, true, false, List, refl, sym, subst}
 use Rattle.std.specs.Prelude.{not}
-use Rattle.views.proofs.MapLaws.{true_false}
-use Rattle.sys_abi.specs.declared.identity.VPid.{VPid}
-use Rattle.sys_abi.specs.declared.errors.TheConstants.{EBADF}
+use Rattle.plain_tables.proofs.OfViews.MapLaws.{true_false}
+use Rattle.plain_tables.specs.OfSysAbi.declared.identity.VPid.{VPid}
+use Rattle.plain_tables.specs.OfSysAbi.declared.errors.TheConstants.{EBADF}
 use Rattle.plain_machine.specs.declared.kernel.PlainKernel.{PlainKernel}
 use Rattle.plain_tables.specs.declared.description.Object.{Object}
 use Rattle.plain_tables.specs.declared.description.Object.TheVariants.{Console}
 use Rattle.plain_tables.specs.Tables.{may_write}
-use Rattle.plain_process.specs.Attempts.{Try, Fails, NotReady, Gives, and_then, need}
+use Rattle.plain_tables.specs.OfPlainProcess.Attempts.{Try, Fails, NotReady, Gives, and_then, need}
 use Rattle.plain_machine.specs.Kernel.{Held, held, description_at}
 use Rattle.plain_machine.specs.Rows.Write.{is_writable, write_object, write_access, write_row, is_write_ready}
 use Rattle.plain_machine.specs.Serve.{is_console, is_on_console}

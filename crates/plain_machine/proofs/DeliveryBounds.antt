@@ -7,28 +7,28 @@ use Rattle.std.proofs.lemmas.Bool.Decides.{nat_tests}
 use Rattle.std.proofs.lemmas.Nat.{or_lt}
 use Rattle.std.proofs.lemmas.Option.{slice_get_within, get_or_from_slice_get}
 use Rattle.std.proofs.lemmas.List.Elements.{All-push}
-use Rattle.views.specs.Limits.{CONTEXT_LIMIT}
-use Rattle.views.proofs.MapLaws.{true_false}
-use Rattle.sys_abi.specs.Signals.{has_signal, bit_of}
-use Rattle.sys_abi.specs.declared.signals.TheConstants.{SIGKILL, SIGSEGV}
-use Rattle.sys_abi.specs.declared.flags.TheConstants.{SA_NODEFER}
-use Rattle.plain_process.specs.declared.regs.Regs.{Regs}
-use Rattle.plain_process.specs.declared.user_part.UserPart.{UserPart}
-use Rattle.plain_process.specs.declared.user_part.ThreadPart.{ThreadPart}
-use Rattle.plain_process.specs.declared.user_part.SignalAction.{SignalAction}
-use Rattle.plain_process.specs.declared.user_part.Context.{Context}
-use Rattle.plain_process.specs.Registers.{RA, SP, A0, A1, A2, reg, with_reg, at_pc, next_pc}
-use Rattle.plain_process.specs.Steps.{user_step, with_thread}
-use Rattle.plain_process.specs.Start.{default_action}
-use Rattle.plain_process.specs.Deliveries.{Delivery, Enters, Ignores, Kills, action_on, is_ignored, interrupted, RETURN_ADDRESS, handler_regs, handler_mask, entered, with_entered, handled, traps_with, deliver_to, deliver}
-use Rattle.plain_process.specs.Valid.{IsWord, IsRegs, IsThread, IsAction, IsUser}
+use Rattle.plain_tables.specs.OfViews.Limits.{CONTEXT_LIMIT}
+use Rattle.plain_tables.proofs.OfViews.MapLaws.{true_false}
+use Rattle.plain_tables.specs.OfSysAbi.Signals.{has_signal, bit_of}
+use Rattle.plain_tables.specs.OfSysAbi.declared.signals.TheConstants.{SIGKILL, SIGSEGV}
+use Rattle.plain_tables.specs.OfSysAbi.declared.flags.TheConstants.{SA_NODEFER}
+use Rattle.plain_tables.specs.OfPlainProcess.declared.regs.Regs.{Regs}
+use Rattle.plain_tables.specs.OfPlainProcess.declared.user_part.UserPart.{UserPart}
+use Rattle.plain_tables.specs.OfPlainProcess.declared.user_part.ThreadPart.{ThreadPart}
+use Rattle.plain_tables.specs.OfPlainProcess.declared.user_part.SignalAction.{SignalAction}
+use Rattle.plain_tables.specs.OfPlainProcess.declared.user_part.Context.{Context}
+use Rattle.plain_tables.specs.OfPlainProcess.Registers.{RA, SP, A0, A1, A2, reg, with_reg, at_pc, next_pc}
+use Rattle.plain_tables.specs.OfPlainProcess.Steps.{user_step, with_thread}
+use Rattle.plain_tables.specs.OfPlainProcess.Start.{default_action}
+use Rattle.plain_tables.specs.OfPlainProcess.Deliveries.{Delivery, Enters, Ignores, Kills, action_on, is_ignored, interrupted, RETURN_ADDRESS, handler_regs, handler_mask, entered, with_entered, handled, traps_with, deliver_to, deliver}
+use Rattle.plain_tables.specs.OfPlainProcess.Valid.{IsWord, IsRegs, IsThread, IsAction, IsUser}
 use Rattle.plain_machine.specs.Laws.{DeliveryKeepsUser}
 use Rattle.plain_machine.proofs.SignalBounds.{bit_small}
 use Rattle.plain_machine.proofs.MemoryPages.{kept_pages}
 use Rattle.plain_machine.proofs.WordBounds.{either_word}
 use Rattle.plain_machine.proofs.EffectBounds.{reg_word, regs_at, regs_with, next_word}
 use Rattle.plain_machine.proofs.UserParts.{Follows, then_follows, memory_of, thread_follows, no_waiter_follows}
-use Rattle.sys_abi.specs.Flags.{has_flag}
+use Rattle.plain_tables.specs.OfSysAbi.Flags.{has_flag}
 
 -- what the process does on a signal
 default_is : IsAction default_action

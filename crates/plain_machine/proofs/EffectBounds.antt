@@ -6,18 +6,18 @@ use Rattle.std.proofs.lemmas.List.{length-set, get_or-set_other}
 use Rattle.std.proofs.lemmas.Bool.Decides.{nat_tests}
 use Rattle.std.proofs.lemmas.Nat.{or_lt, xor_lt, and_le_l}
 use Rattle.std.proofs.Math.Nat.{div-le_self, mod-le}
-use Rattle.plain_process.specs.declared.instruction.Insn.{Insn}
-use Rattle.plain_process.specs.declared.instruction.Op.{Op}
-use Rattle.plain_process.specs.declared.instruction.Op.TheVariants.{Lui, Auipc, Jal, Jalr, Beq, Bne, Blt, Bge, Bltu, Bgeu, Lb, Lh, Lw, Lbu, Lhu, Sb, Sh, Sw, Addi, Slti, Sltiu, Xori, Ori, Andi, Slli, Srli, Srai, Add, Sub, Sll, Slt, Sltu, Xor, Srl, Sra, Or, And, Mul, Mulh, Mulhsu, Mulhu, Div, Divu, Rem, Remu, Fence, Ecall, Ebreak}
-use Rattle.plain_process.specs.declared.regs.Regs.{Regs}
-use Rattle.plain_process.specs.Memory.{Memory, load, fetch}
-use Rattle.plain_process.specs.Registers.{reg, with_reg, at_pc, next_pc}
-use Rattle.plain_process.specs.Instructions.{Effect, Next, Calls, Traps, ILLEGAL, BREAKPOINT, MISALIGNED, FAULT, writes, jumps, branches, loads, stores, signed, word, same, sign_extended, effect_by, effect, bits, immediate, insn_of, encoding, decoded, Format, R, I, S, B, U, J, Shift, Whole}
-use Rattle.plain_process.specs.Steps.{effect_at, effect_of_word, effect_of_insn}
-use Rattle.plain_process.specs.Valid.{IsWord, IsRegs}
-use Rattle.plain_process.proofs.Giving.{Giving, mapped}
+use Rattle.plain_tables.specs.OfPlainProcess.declared.instruction.Insn.{Insn}
+use Rattle.plain_tables.specs.OfPlainProcess.declared.instruction.Op.{Op}
+use Rattle.plain_tables.specs.OfPlainProcess.declared.instruction.Op.TheVariants.{Lui, Auipc, Jal, Jalr, Beq, Bne, Blt, Bge, Bltu, Bgeu, Lb, Lh, Lw, Lbu, Lhu, Sb, Sh, Sw, Addi, Slti, Sltiu, Xori, Ori, Andi, Slli, Srli, Srai, Add, Sub, Sll, Slt, Sltu, Xor, Srl, Sra, Or, And, Mul, Mulh, Mulhsu, Mulhu, Div, Divu, Rem, Remu, Fence, Ecall, Ebreak}
+use Rattle.plain_tables.specs.OfPlainProcess.declared.regs.Regs.{Regs}
+use Rattle.plain_tables.specs.OfPlainProcess.Memory.{Memory, load, fetch}
+use Rattle.plain_tables.specs.OfPlainProcess.Registers.{reg, with_reg, at_pc, next_pc}
+use Rattle.plain_tables.specs.OfPlainProcess.Instructions.{Effect, Next, Calls, Traps, ILLEGAL, BREAKPOINT, MISALIGNED, FAULT, writes, jumps, branches, loads, stores, signed, word, same, sign_extended, effect_by, effect, bits, immediate, insn_of, encoding, decoded, Format, R, I, S, B, U, J, Shift, Whole}
+use Rattle.plain_tables.specs.OfPlainProcess.Steps.{effect_at, effect_of_word, effect_of_insn}
+use Rattle.plain_tables.specs.OfPlainProcess.Valid.{IsWord, IsRegs}
+use Rattle.plain_tables.proofs.OfPlainProcess.Giving.{Giving, mapped}
 use Rattle.plain_machine.proofs.WordBounds.{shifted_word, product_high, signed_small, unsigned_high, quotient_word, remainder_word, either_word, flag_word, signed_back, extended_word, extended_byte, extended_half}
-use Rattle.plain_process.proofs.MemoryBounds.{IsMemory, word_read, kept_by_store}
+use Rattle.plain_tables.proofs.OfPlainProcess.MemoryBounds.{IsMemory, word_read, kept_by_store}
 use Rattle.plain_machine.proofs.MemoryPages.{KeepsPages, kept_pages, store_keeps}
 
 pub record IsAfter (before : Memory) (x : Regs) (m : Memory) : Type 0 where

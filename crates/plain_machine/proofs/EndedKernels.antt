@@ -4,15 +4,15 @@ use Rattle.std.proofs.Common.{◌≡◌, ◌≢◌, ℕ, ◌<◌, ◌≤◌, Boo
 use Rattle.std.specs.Prelude.{◌&&◌, not, Option, Some, None, is_some, option_map}
 use Rattle.std.specs.Ordering.{nat_cmp}
 use Rattle.std.specs.FinMap as map
-use Rattle.views.specs.Limits.{DESCRIPTOR_LIMIT}
-use Rattle.views.specs.Maps.{option_filter}
-use Rattle.views.proofs.MapLaws.{get_insert_same, get_remove_same, get_remove_other, true_false}
-use Rattle.sys_abi.specs.declared.identity.VPid.{VPid}
-use Rattle.sys_abi.specs.declared.signals.TheConstants.{SIGCHLD}
-use Rattle.sys_abi.specs.declared.life.Life.{Life}
-use Rattle.sys_abi.specs.declared.life.Life.TheVariants.{Live, Zombie}
-use Rattle.sys_abi.specs.Lives.{lives}
-use Rattle.sys_abi.proofs.OrderLaws.{vpid_total, vpid_exact}
+use Rattle.plain_tables.specs.OfViews.Limits.{DESCRIPTOR_LIMIT}
+use Rattle.plain_tables.specs.OfViews.Maps.{option_filter}
+use Rattle.plain_tables.proofs.OfViews.MapLaws.{get_insert_same, get_remove_same, get_remove_other, true_false}
+use Rattle.plain_tables.specs.OfSysAbi.declared.identity.VPid.{VPid}
+use Rattle.plain_tables.specs.OfSysAbi.declared.signals.TheConstants.{SIGCHLD}
+use Rattle.plain_tables.specs.OfSysAbi.declared.life.Life.{Life}
+use Rattle.plain_tables.specs.OfSysAbi.declared.life.Life.TheVariants.{Live, Zombie}
+use Rattle.plain_tables.specs.OfSysAbi.Lives.{lives}
+use Rattle.plain_tables.proofs.OfSysAbi.OrderLaws.{vpid_total, vpid_exact}
 use Rattle.plain_machine.specs.declared.kernel.PlainKernel.{PlainKernel}
 use Rattle.plain_tables.specs.declared.process.Process.{Process}
 use Rattle.plain_tables.specs.Tables.{NOBODY, Processes, pid, is_live_process, has_thread_in, changed_by, changed_at, raised_for_all}

@@ -5,25 +5,25 @@ use Rattle.std.specs.Prelude.{◌==◌, min, nat_le, Option, Some, option_and_th
 use Rattle.std.specs.Ordering.{eq_by_cmp}
 use Rattle.std.specs.FinMap as map
 use Rattle.std.proofs.lemmas.List.{take-append-drop, take_min, length-take, append-nil}
-use Rattle.views.specs.Limits.{DIRECTION_LIMIT, MESSAGE_LIMIT}
-use Rattle.views.proofs.MapLaws.{get_insert_same, get_insert_other, same_key, key_tied, true_false}
-use Rattle.sys_abi.specs.declared.identity.VPid.{VPid}
-use Rattle.sys_abi.specs.declared.identity.DescId.{DescId}
-use Rattle.sys_abi.specs.declared.identity.Dir.{Dir}
-use Rattle.sys_abi.specs.declared.errors.TheConstants.{EBADF, EINVAL, ENOTCONN, EPIPE, EFBIG, ENOSPC, EMSGSIZE, ECONNREFUSED}
-use Rattle.sys_abi.specs.declared.transfer.TheConstants.{TRANSFER_LIMIT}
-use Rattle.sys_abi.specs.Orders.{dir_cmp}
-use Rattle.sys_abi.proofs.OrderLaws.{dir_total, dir_exact}
+use Rattle.plain_tables.specs.OfViews.Limits.{DIRECTION_LIMIT, MESSAGE_LIMIT}
+use Rattle.plain_tables.proofs.OfViews.MapLaws.{get_insert_same, get_insert_other, same_key, key_tied, true_false}
+use Rattle.plain_tables.specs.OfSysAbi.declared.identity.VPid.{VPid}
+use Rattle.plain_tables.specs.OfSysAbi.declared.identity.DescId.{DescId}
+use Rattle.plain_tables.specs.OfSysAbi.declared.identity.Dir.{Dir}
+use Rattle.plain_tables.specs.OfSysAbi.declared.errors.TheConstants.{EBADF, EINVAL, ENOTCONN, EPIPE, EFBIG, ENOSPC, EMSGSIZE, ECONNREFUSED}
+use Rattle.plain_tables.specs.OfSysAbi.declared.transfer.TheConstants.{TRANSFER_LIMIT}
+use Rattle.plain_tables.specs.OfSysAbi.Orders.{dir_cmp}
+use Rattle.plain_tables.proofs.OfSysAbi.OrderLaws.{dir_total, dir_exact}
 use Rattle.plain_machine.specs.declared.kernel.PlainKernel.{PlainKernel}
 use Rattle.plain_tables.specs.declared.channel.Direction.{Direction}
 use Rattle.plain_tables.specs.declared.description.Description.{Description}
-use Rattle.sys_abi.specs.declared.descriptor.Descriptor.{Descriptor}
+use Rattle.plain_tables.specs.OfSysAbi.declared.descriptor.Descriptor.{Descriptor}
 use Rattle.plain_tables.specs.declared.description.Object.{Object}
 use Rattle.plain_tables.specs.declared.description.Object.TheVariants.{Console, File, Stream, Socket, Listener, Datagram, Counter}
 use Rattle.plain_tables.specs.Objects.{dir}
 use Rattle.plain_tables.specs.Tables.{may_write}
-use Rattle.plain_process.specs.Attempts.{Gives, need, found}
-use Rattle.plain_process.specs.Memory.{low_bytes}
+use Rattle.plain_tables.specs.OfPlainProcess.Attempts.{Gives, need, found}
+use Rattle.plain_tables.specs.OfPlainProcess.Memory.{low_bytes}
 use Rattle.plain_machine.specs.Attempts.{Served, replied}
 use Rattle.plain_machine.specs.Channels.{direction_at, with_direction}
 use Rattle.plain_machine.specs.Kernel.{Held, held, description_at, after_raise, with_object}

@@ -3,7 +3,7 @@
 use Rattle.std.proofs.Common.{◌≡◌, ℕ, ◌+◌, ◌-◌, ◌<◌, ap, arith, cond}
 use Rattle.std.specs.Prelude.{suc, Some, None, is_some}
 use Rattle.std.specs.FinMap as map
-use Rattle.sys_abi.specs.declared.identity.VPid.{VPid}
+use Rattle.plain_tables.specs.OfSysAbi.declared.identity.VPid.{VPid}
 use Rattle.plain_tables.specs.Tables.{Descriptors, slot}
 use Rattle.plain_machine.specs.Kernel.{free_among}
 

@@ -8,25 +8,25 @@ use Rattle.std.proofs.lemmas.Nat.{or_lt}
 use Rattle.std.proofs.lemmas.Option.{slice_get_within, get_or_from_slice_get}
 use Rattle.std.proofs.lemmas.List.{length-set}
 use Rattle.std.proofs.lemmas.List.Elements.{All-append, All-set, All-take, All-drop}
-use Rattle.call_table.specs.declared.request.Request.TheVariants.{RtSigaction, RtSigprocmask, RtSigreturn}
-use Rattle.sys_abi.specs.declared.errors.TheConstants.{EINVAL}
-use Rattle.sys_abi.specs.declared.signals.TheConstants.{SIGKILL, SIGSTOP}
-use Rattle.sys_abi.specs.Signals.{is_signal, bit_of, without_signal, blockable}
-use Rattle.plain_process.specs.declared.user_part.UserPart.{UserPart}
-use Rattle.plain_process.specs.declared.user_part.ThreadPart.{ThreadPart}
-use Rattle.plain_process.specs.declared.user_part.SignalAction.{SignalAction}
-use Rattle.plain_process.specs.declared.user_part.Context.{Context}
-use Rattle.plain_process.specs.declared.buffers.Span.{Span}
-use Rattle.plain_process.specs.Memory.{little_endian, low_bytes}
-use Rattle.plain_process.specs.Attempts.{need, found}
-use Rattle.plain_process.specs.Steps.{with_thread}
-use Rattle.plain_process.specs.Buffers.{span, writes_of, fills_of, written_spans, filled_spans, can_write}
-use Rattle.plain_process.specs.Put.{CanTake}
-use Rattle.plain_process.specs.Deliveries.{action_on}
-use Rattle.plain_process.specs.Rows.Handlers.{word_in, is_uncatchable, action_in, action_bytes, with_action, sigaction_row, mask_by, with_mask, sigprocmask_row, last_context, returned, sigreturn_row}
-use Rattle.plain_process.specs.Valid.{IsWord, IsByte, IsRegs, IsThread, IsAction, IsUser}
+use Rattle.plain_tables.specs.OfCallTable.declared.request.Request.TheVariants.{RtSigaction, RtSigprocmask, RtSigreturn}
+use Rattle.plain_tables.specs.OfSysAbi.declared.errors.TheConstants.{EINVAL}
+use Rattle.plain_tables.specs.OfSysAbi.declared.signals.TheConstants.{SIGKILL, SIGSTOP}
+use Rattle.plain_tables.specs.OfSysAbi.Signals.{is_signal, bit_of, without_signal, blockable}
+use Rattle.plain_tables.specs.OfPlainProcess.declared.user_part.UserPart.{UserPart}
+use Rattle.plain_tables.specs.OfPlainProcess.declared.user_part.ThreadPart.{ThreadPart}
+use Rattle.plain_tables.specs.OfPlainProcess.declared.user_part.SignalAction.{SignalAction}
+use Rattle.plain_tables.specs.OfPlainProcess.declared.user_part.Context.{Context}
+use Rattle.plain_tables.specs.OfPlainProcess.declared.buffers.Span.{Span}
+use Rattle.plain_tables.specs.OfPlainProcess.Memory.{little_endian, low_bytes}
+use Rattle.plain_tables.specs.OfPlainProcess.Attempts.{need, found}
+use Rattle.plain_tables.specs.OfPlainProcess.Steps.{with_thread}
+use Rattle.plain_tables.specs.OfPlainProcess.Buffers.{span, writes_of, fills_of, written_spans, filled_spans, can_write}
+use Rattle.plain_tables.specs.OfPlainProcess.Put.{CanTake}
+use Rattle.plain_tables.specs.OfPlainProcess.Deliveries.{action_on}
+use Rattle.plain_tables.specs.OfPlainProcess.Rows.Handlers.{word_in, is_uncatchable, action_in, action_bytes, with_action, sigaction_row, mask_by, with_mask, sigprocmask_row, last_context, returned, sigreturn_row}
+use Rattle.plain_tables.specs.OfPlainProcess.Valid.{IsWord, IsByte, IsRegs, IsThread, IsAction, IsUser}
 use Rattle.plain_machine.proofs.SignalBounds.{without_small}
-use Rattle.plain_process.proofs.MemoryBounds.{low_bytes_are}
+use Rattle.plain_tables.proofs.OfPlainProcess.MemoryBounds.{low_bytes_are}
 use Rattle.plain_machine.proofs.MemoryPages.{FitsSpans, fits_taken, kept_pages}
 use Rattle.plain_machine.proofs.WordBounds.{either_word}
 use Rattle.plain_machine.proofs.Trying.{Trying, succeeds, after}

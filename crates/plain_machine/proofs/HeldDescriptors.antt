@@ -3,15 +3,15 @@
 use Rattle.std.proofs.Common.{◌≡◌, ℕ, ◌+◌, ◌-◌, ◌<◌, ◌≤◌, true, false, refl, arith}
 use Rattle.std.specs.Prelude.{zero, suc, Option, Some, None, is_some}
 use Rattle.std.specs.FinMap as map
-use Rattle.views.specs.Limits.{DESCRIPTOR_LIMIT}
-use Rattle.views.proofs.MapLaws.{true_false}
-use Rattle.sys_abi.specs.declared.identity.VPid.{VPid}
-use Rattle.sys_abi.specs.declared.errors.TheConstants.{EBADF, EMFILE}
+use Rattle.plain_tables.specs.OfViews.Limits.{DESCRIPTOR_LIMIT}
+use Rattle.plain_tables.proofs.OfViews.MapLaws.{true_false}
+use Rattle.plain_tables.specs.OfSysAbi.declared.identity.VPid.{VPid}
+use Rattle.plain_tables.specs.OfSysAbi.declared.errors.TheConstants.{EBADF, EMFILE}
 use Rattle.plain_machine.specs.declared.kernel.PlainKernel.{PlainKernel}
 use Rattle.plain_tables.specs.Tables.{Descriptors, Descriptions, slot}
-use Rattle.plain_process.specs.Attempts.{Gives, found}
+use Rattle.plain_tables.specs.OfPlainProcess.Attempts.{Gives, found}
 use Rattle.plain_machine.specs.Kernel.{Held, held, free_among, free_from}
-use Rattle.plain_process.proofs.Giving.{Giving, gives, nothing, either}
+use Rattle.plain_tables.proofs.OfPlainProcess.Giving.{Giving, gives, nothing, either}
 use Rattle.plain_machine.proofs.Trying.{Trying, succeeds, after}
 use Rattle.plain_machine.proofs.LocalReplies.{was_found}
 use Rattle.plain_machine.proofs.Prompt.{is_prompt, prompt_then, prompt_found}

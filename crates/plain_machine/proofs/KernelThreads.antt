@@ -5,20 +5,20 @@ use Rattle.std.proofs.Common.{◌≡◌, ℕ, Bool, true, false, cond, refl, sym
 use Rattle.std.specs.Prelude.{◌==◌, not, bit_and, Option, Some, None, is_some, unwrap_or}
 use Rattle.std.specs.FinMap as map
 use Rattle.std.proofs.lemmas.Nat.{and_le_l}
-use Rattle.views.proofs.MapLaws.{true_false}
-use Rattle.sys_abi.specs.declared.identity.VPid.{VPid}
-use Rattle.sys_abi.specs.Signals.{bit_of, has_signal, without_signal}
+use Rattle.plain_tables.proofs.OfViews.MapLaws.{true_false}
+use Rattle.plain_tables.specs.OfSysAbi.declared.identity.VPid.{VPid}
+use Rattle.plain_tables.specs.OfSysAbi.Signals.{bit_of, has_signal, without_signal}
 use Rattle.plain_machine.specs.declared.plain.Plain.{Plain}
 use Rattle.plain_machine.specs.declared.kernel.PlainKernel.{PlainKernel}
 use Rattle.plain_tables.specs.declared.process.Process.{Process}
-use Rattle.plain_process.specs.declared.user_part.UserPart.{UserPart}
+use Rattle.plain_tables.specs.OfPlainProcess.declared.user_part.UserPart.{UserPart}
 use Rattle.plain_tables.specs.Tables.{is_live_process, signals_of, with_signals, taken_from, has_thread_in}
 use Rattle.plain_machine.specs.Kernel.{is_live, at_process, after_take, has_thread}
 use Rattle.plain_machine.specs.Valid.{IsKernel, IsValid}
-use Rattle.plain_process.specs.Valid.{IsUser, Each}
+use Rattle.plain_tables.specs.OfPlainProcess.Valid.{IsUser, Each}
 use Rattle.plain_machine.proofs.ThreadKeys.{same_there}
 use Rattle.plain_machine.proofs.ChangedProcesses.{changed_test}
-use Rattle.sys_abi.specs.Lives.{lives}
+use Rattle.plain_tables.specs.OfSysAbi.Lives.{lives}
 
 pub record SameProcesses (before after : PlainKernel) : Type 0 where
   pub live : (q : VPid) → is_live after q ≡ is_live before q

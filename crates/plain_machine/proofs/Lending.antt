@@ -5,15 +5,15 @@ use Rattle.std.specs.Prelude.{◌==◌, Option, Some, None, All}
 use Rattle.std.specs.Option.{option_map}
 use Rattle.std.specs.List.{list_all}
 use Rattle.std.proofs.lemmas.List.Elements.{All-nil, All-cons}
-use Rattle.call_table.specs.declared.request.Request.{Request}
-use Rattle.plain_process.specs.declared.memory.Right.TheVariants.{Read as ToRead}
-use Rattle.plain_process.specs.declared.buffers.Source.{Source}
-use Rattle.plain_process.specs.declared.buffers.Source.TheVariants.{Nothing, Bytes, Text}
-use Rattle.plain_process.specs.Memory.{Memory, byte_at}
-use Rattle.plain_process.specs.Buffers.{reads_of, bytes_of, given_of, text_from, text_at, PATH_LIMIT, if_writable, can_write, written_spans, lent}
-use Rattle.plain_process.specs.Valid.{IsByte, IsFrame, Each}
-use Rattle.plain_process.proofs.Giving.{Giving, gives, nothing, where_, either, then_, mapped}
-use Rattle.plain_process.proofs.MemoryBounds.{byte_read, bytes_read}
+use Rattle.plain_tables.specs.OfCallTable.declared.request.Request.{Request}
+use Rattle.plain_tables.specs.OfPlainProcess.declared.memory.Right.TheVariants.{Read as ToRead}
+use Rattle.plain_tables.specs.OfPlainProcess.declared.buffers.Source.{Source}
+use Rattle.plain_tables.specs.OfPlainProcess.declared.buffers.Source.TheVariants.{Nothing, Bytes, Text}
+use Rattle.plain_tables.specs.OfPlainProcess.Memory.{Memory, byte_at}
+use Rattle.plain_tables.specs.OfPlainProcess.Buffers.{reads_of, bytes_of, given_of, text_from, text_at, PATH_LIMIT, if_writable, can_write, written_spans, lent}
+use Rattle.plain_tables.specs.OfPlainProcess.Valid.{IsByte, IsFrame, Each}
+use Rattle.plain_tables.proofs.OfPlainProcess.Giving.{Giving, gives, nothing, where_, either, then_, mapped}
+use Rattle.plain_tables.proofs.OfPlainProcess.MemoryBounds.{byte_read, bytes_read}
 
 pub record Lent (memory : Memory) (q : Request) (given : List ℕ) : Type 0 where
   pub bytes : All IsByte given

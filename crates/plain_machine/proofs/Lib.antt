@@ -67,3 +67,4 @@ pub mod ForkedKernels
 pub mod ReapedKernels
 pub mod Leasts
 pub mod Births
+pub use Rattle.plain_tables.proofs as OfPlainTables

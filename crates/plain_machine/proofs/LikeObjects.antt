@@ -5,14 +5,14 @@ use Rattle.std.proofs.Common.{◌≡◌, ◌≢◌, ℕ, ◌%◌, Bool, refl, sy
 use Rattle.std.specs.Prelude.{◌==◌, ◌&&◌, ◌||◌, Some, is_some}
 use Rattle.std.specs.List.{list_any}
 use Rattle.std.specs.FinMap as map
-use Rattle.views.proofs.MapLaws.{get_insert_same, get_insert_other, same_or_other}
-use Rattle.sys_abi.specs.declared.identity.Slot.{Slot}
-use Rattle.sys_abi.specs.declared.identity.ConnId.{ConnId}
-use Rattle.sys_abi.specs.declared.identity.DescId.{DescId}
-use Rattle.sys_abi.specs.declared.identity.VirtAddr.{VirtAddr}
-use Rattle.sys_abi.proofs.OrderLaws.{desc_total, desc_exact}
-use Rattle.plain_process.specs.Valid.{Each}
-use Rattle.sys_abi.specs.declared.descriptor.Descriptor.{Descriptor}
+use Rattle.plain_tables.proofs.OfViews.MapLaws.{get_insert_same, get_insert_other, same_or_other}
+use Rattle.plain_tables.specs.OfSysAbi.declared.identity.Slot.{Slot}
+use Rattle.plain_tables.specs.OfSysAbi.declared.identity.ConnId.{ConnId}
+use Rattle.plain_tables.specs.OfSysAbi.declared.identity.DescId.{DescId}
+use Rattle.plain_tables.specs.OfSysAbi.declared.identity.VirtAddr.{VirtAddr}
+use Rattle.plain_tables.proofs.OfSysAbi.OrderLaws.{desc_total, desc_exact}
+use Rattle.plain_tables.specs.OfPlainProcess.Valid.{Each}
+use Rattle.plain_tables.specs.OfSysAbi.declared.descriptor.Descriptor.{Descriptor}
 use Rattle.plain_tables.specs.declared.description.Description.{Description}
 use Rattle.plain_tables.specs.declared.description.Object.{Object}
 use Rattle.plain_tables.specs.declared.description.Object.TheVariants.{File, Stream, Socket, Listener, Datagram}

@@ -4,27 +4,27 @@ use Rattle.std.proofs.Common.{◌≡◌, ℕ, ◌+◌, ◌-◌, ◌*◌, ◌/◌
 use Rattle.std.specs.Prelude.{◌==◌, not, nat_le, nat_lt, Option, Some, None, is_some}
 use Rattle.std.specs.FinMap as map
 use Rattle.std.proofs.lemmas.Bool.Decides.{nat_tests}
-use Rattle.views.proofs.MapLaws.{true_false}
-use Rattle.call_table.specs.declared.request.Request.{Request}
-use Rattle.call_table.specs.declared.request.Request.TheVariants.{Exit, SetTidAddress, Futex, SchedYield, RtSigaction, RtSigprocmask, RtSigreturn, Gettid, Brk, Munmap, Mmap, Clone}
-use Rattle.sys_abi.specs.declared.reply.Reply.{Reply}
-use Rattle.sys_abi.specs.declared.reply.Reply.TheVariants.{Value}
-use Rattle.sys_abi.specs.declared.errors.TheConstants.{EAGAIN, EINVAL, ENOMEM, ENOSYS}
-use Rattle.call_table.specs.Requests.{is_local}
-use Rattle.plain_process.specs.declared.user_part.UserPart.{UserPart}
-use Rattle.plain_process.specs.declared.user_part.ThreadPart.{ThreadPart}
-use Rattle.plain_process.specs.Attempts.{Try, Fails, NotReady, Gives, need, found}
-use Rattle.plain_process.specs.Memory.{little_endian}
-use Rattle.plain_process.specs.Steps.{UserStep, Asks, Waits, waits, step_of, user_step}
-use Rattle.plain_process.specs.Buffers.{is_wait, lent}
-use Rattle.plain_process.specs.Threads.{waiting, wake}
-use Rattle.plain_process.specs.Put.{added_thread, put, error}
-use Rattle.plain_process.specs.Pages.{MAPPING_START, MAPPING_END, pages_of}
-use Rattle.plain_process.specs.Rows.Locals.{Local, Replies, Stays, local_reply}
-use Rattle.plain_process.specs.Rows.Futex.{is_wake, futex_wait, futex_wake, futex_row}
-use Rattle.plain_process.specs.Rows.Mappings.{is_break, with_break, brk_row, munmap_row, rights_of, MAP_FLAGS, room_for, mmap_row}
-use Rattle.plain_process.specs.Local.{with_clear_tid, set_tid_address_row, local_by, local_settled, local_lent, local_row}
-use Rattle.plain_process.specs.Valid.{IsWord, IsThread, IsUser, IsRequest, CanAddAs}
+use Rattle.plain_tables.proofs.OfViews.MapLaws.{true_false}
+use Rattle.plain_tables.specs.OfCallTable.declared.request.Request.{Request}
+use Rattle.plain_tables.specs.OfCallTable.declared.request.Request.TheVariants.{Exit, SetTidAddress, Futex, SchedYield, RtSigaction, RtSigprocmask, RtSigreturn, Gettid, Brk, Munmap, Mmap, Clone}
+use Rattle.plain_tables.specs.OfSysAbi.declared.reply.Reply.{Reply}
+use Rattle.plain_tables.specs.OfSysAbi.declared.reply.Reply.TheVariants.{Value}
+use Rattle.plain_tables.specs.OfSysAbi.declared.errors.TheConstants.{EAGAIN, EINVAL, ENOMEM, ENOSYS}
+use Rattle.plain_tables.specs.OfCallTable.Requests.{is_local}
+use Rattle.plain_tables.specs.OfPlainProcess.declared.user_part.UserPart.{UserPart}
+use Rattle.plain_tables.specs.OfPlainProcess.declared.user_part.ThreadPart.{ThreadPart}
+use Rattle.plain_tables.specs.OfPlainProcess.Attempts.{Try, Fails, NotReady, Gives, need, found}
+use Rattle.plain_tables.specs.OfPlainProcess.Memory.{little_endian}
+use Rattle.plain_tables.specs.OfPlainProcess.Steps.{UserStep, Asks, Waits, waits, step_of, user_step}
+use Rattle.plain_tables.specs.OfPlainProcess.Buffers.{is_wait, lent}
+use Rattle.plain_tables.specs.OfPlainProcess.Threads.{waiting, wake}
+use Rattle.plain_tables.specs.OfPlainProcess.Put.{added_thread, put, error}
+use Rattle.plain_tables.specs.OfPlainProcess.Pages.{MAPPING_START, MAPPING_END, pages_of}
+use Rattle.plain_tables.specs.OfPlainProcess.Rows.Locals.{Local, Replies, Stays, local_reply}
+use Rattle.plain_tables.specs.OfPlainProcess.Rows.Futex.{is_wake, futex_wait, futex_wake, futex_row}
+use Rattle.plain_tables.specs.OfPlainProcess.Rows.Mappings.{is_break, with_break, brk_row, munmap_row, rights_of, MAP_FLAGS, room_for, mmap_row}
+use Rattle.plain_tables.specs.OfPlainProcess.Local.{with_clear_tid, set_tid_address_row, local_by, local_settled, local_lent, local_row}
+use Rattle.plain_tables.specs.OfPlainProcess.Valid.{IsWord, IsThread, IsUser, IsRequest, CanAddAs}
 use Rattle.plain_machine.specs.Laws.{LocalKeepsUser}
 use Rattle.plain_machine.proofs.MemoryPages.{kept_pages}
 use Rattle.plain_machine.proofs.Trying.{Trying, succeeds, fails, after}

@@ -3,13 +3,13 @@
 use Rattle.std.proofs.Common.{◌≡◌, ℕ, Bool, true, false, cond, List, [], refl}
 use Rattle.std.specs.Prelude.{Option, Some, None, All}
 use Rattle.std.proofs.lemmas.List.Elements.{All-nil}
-use Rattle.call_table.specs.declared.request.Request.{Request}
-use Rattle.plain_process.specs.declared.user_part.UserPart.{UserPart}
-use Rattle.plain_process.specs.Attempts.{Try, Gives, need, found}
-use Rattle.plain_process.specs.Buffers.{filled_spans}
-use Rattle.plain_process.specs.Put.{CanTake}
-use Rattle.plain_process.specs.Rows.Locals.{Local, Replies, Stays}
-use Rattle.plain_process.specs.Valid.{IsWord, IsByte}
+use Rattle.plain_tables.specs.OfCallTable.declared.request.Request.{Request}
+use Rattle.plain_tables.specs.OfPlainProcess.declared.user_part.UserPart.{UserPart}
+use Rattle.plain_tables.specs.OfPlainProcess.Attempts.{Try, Gives, need, found}
+use Rattle.plain_tables.specs.OfPlainProcess.Buffers.{filled_spans}
+use Rattle.plain_tables.specs.OfPlainProcess.Put.{CanTake}
+use Rattle.plain_tables.specs.OfPlainProcess.Rows.Locals.{Local, Replies, Stays}
+use Rattle.plain_tables.specs.OfPlainProcess.Valid.{IsWord, IsByte}
 use Rattle.plain_machine.proofs.MemoryPages.{no_bytes_taken}
 use Rattle.plain_machine.proofs.Trying.{Trying}
 use Rattle.plain_machine.proofs.UserParts.{Follows}

@@ -3,30 +3,30 @@
 use Rattle.std.proofs.Common.{◌≡◌, ◌≢◌, ℕ, true, cond, List, refl, sym, ap, ◌∙◌}
 use Rattle.std.specs.Prelude.{◌&&◌, nat_le, Option, Some, None}
 use Rattle.std.specs.FinMap as map
-use Rattle.sys_abi.specs.declared.identity.VPid.{VPid}
-use Rattle.sys_abi.specs.declared.record.Record.{Record}
-use Rattle.sys_abi.specs.declared.record.Record.TheVariants.{User, Call, Deliver, Arrive, Cut, Drained, Refilled, Complete, Refused, Lapsed}
-use Rattle.call_table.specs.declared.request.Request.{Request}
-use Rattle.sys_abi.specs.declared.identity.Dir.{Dir}
-use Rattle.sys_abi.specs.Orders.{vpid_cmp}
-use Rattle.call_table.specs.Requests.{is_local}
-use Rattle.sys_abi.specs.Signals.{has_signal}
-use Rattle.sys_abi.proofs.OrderLaws.{vpid_total, vpid_exact}
-use Rattle.views.proofs.MapLaws.{get_insert_other, get-retain}
+use Rattle.plain_tables.specs.OfSysAbi.declared.identity.VPid.{VPid}
+use Rattle.plain_tables.specs.OfSysAbi.declared.record.Record.{Record}
+use Rattle.plain_tables.specs.OfSysAbi.declared.record.Record.TheVariants.{User, Call, Deliver, Arrive, Cut, Drained, Refilled, Complete, Refused, Lapsed}
+use Rattle.plain_tables.specs.OfCallTable.declared.request.Request.{Request}
+use Rattle.plain_tables.specs.OfSysAbi.declared.identity.Dir.{Dir}
+use Rattle.plain_tables.specs.OfSysAbi.Orders.{vpid_cmp}
+use Rattle.plain_tables.specs.OfCallTable.Requests.{is_local}
+use Rattle.plain_tables.specs.OfSysAbi.Signals.{has_signal}
+use Rattle.plain_tables.proofs.OfSysAbi.OrderLaws.{vpid_total, vpid_exact}
+use Rattle.plain_tables.proofs.OfViews.MapLaws.{get_insert_other, get-retain}
 use Rattle.plain_machine.specs.declared.plain.Plain.{Plain}
 use Rattle.plain_tables.specs.declared.channel.Direction.{Direction}
 use Rattle.plain_machine.specs.declared.kernel.PlainKernel.{PlainKernel}
-use Rattle.plain_process.specs.declared.user_part.UserPart.{UserPart}
-use Rattle.plain_process.specs.declared.user_part.ThreadPart.{ThreadPart}
+use Rattle.plain_tables.specs.OfPlainProcess.declared.user_part.UserPart.{UserPart}
+use Rattle.plain_tables.specs.OfPlainProcess.declared.user_part.ThreadPart.{ThreadPart}
 use Rattle.plain_machine.specs.Attempts.{Served}
 use Rattle.plain_machine.specs.Kernel.{is_live, after_take}
 use Rattle.plain_machine.specs.Ends.{after_end}
-use Rattle.plain_process.specs.Put.{made_by, put}
+use Rattle.plain_tables.specs.OfPlainProcess.Put.{made_by, put}
 use Rattle.plain_tables.specs.Tables.{pid}
-use Rattle.plain_process.specs.Deliveries.{Delivery, Enters, Ignores, Kills, traps_with}
-use Rattle.plain_process.proofs.Giving.{Giving, gives, nothing, where_, either, then_, mapped}
-use Rattle.plain_process.specs.Steps.{UserStep, Stepped, Asks, Trapped, Waits, NoThread, user_step, user_steps}
-use Rattle.plain_process.specs.Buffers.{lent}
+use Rattle.plain_tables.specs.OfPlainProcess.Deliveries.{Delivery, Enters, Ignores, Kills, traps_with}
+use Rattle.plain_tables.proofs.OfPlainProcess.Giving.{Giving, gives, nothing, where_, either, then_, mapped}
+use Rattle.plain_tables.specs.OfPlainProcess.Steps.{UserStep, Stepped, Asks, Trapped, Waits, NoThread, user_step, user_steps}
+use Rattle.plain_tables.specs.OfPlainProcess.Buffers.{lent}
 use Rattle.plain_machine.specs.Serve.{serve}
 use Rattle.plain_machine.specs.Records.{with_child, users_after, Outcome, outcome, QUANTUM, living, with_user, quiet, delivered, deliverable, user_ends, if_ends, outcome_of_user, outcome_of_call, outcome_of_ask, outcome_of_lent, outcome_of_serve, outcome_of_pending, outcome_of_signal, outcome_of_arrival}
 use Rattle.plain_machine.specs.Laws.{subject, RecordIsLocal}

@@ -5,13 +5,13 @@ use Rattle.std.specs.Prelude.{zero, suc, Option, Some, None, is_some}
 use Rattle.std.specs.Option.{option_map_or}
 use Rattle.std.specs.FinMap as map
 use Rattle.std.proofs.lemmas.Bool.Decides.{nat_tests}
-use Rattle.sys_abi.specs.declared.identity.VPid.{VPid}
-use Rattle.sys_abi.specs.declared.flags.TheConstants.{O_NONBLOCK}
-use Rattle.sys_abi.specs.Flags.{has_flag}
-use Rattle.sys_abi.proofs.OrderLaws.{vpid_total, vpid_exact}
+use Rattle.plain_tables.specs.OfSysAbi.declared.identity.VPid.{VPid}
+use Rattle.plain_tables.specs.OfSysAbi.declared.flags.TheConstants.{O_NONBLOCK}
+use Rattle.plain_tables.specs.OfSysAbi.Flags.{has_flag}
+use Rattle.plain_tables.proofs.OfSysAbi.OrderLaws.{vpid_total, vpid_exact}
 use Rattle.plain_machine.specs.declared.kernel.PlainKernel.{PlainKernel}
 use Rattle.plain_tables.specs.declared.process.Process.{Process}
-use Rattle.sys_abi.specs.declared.maker.Maker.{Maker}
+use Rattle.plain_tables.specs.OfSysAbi.declared.maker.Maker.{Maker}
 use Rattle.plain_tables.specs.Tables.{is_live_process, made_more}
 use Rattle.plain_tables.specs.Valid.Descriptions.{AreFlags}
 use Rattle.plain_machine.specs.Kernel.{is_live, made_of, has_numbers, numbered}

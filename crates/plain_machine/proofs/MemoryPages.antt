@@ -10,15 +10,15 @@ use Rattle.std.specs.Cmp.{nat_cmp_total}
 use Rattle.std.specs.FinMap as map
 use Rattle.std.proofs.lemmas.Bool.{cases_lt}
 use Rattle.std.proofs.lemmas.List.{length-take-le}
-use Rattle.views.proofs.MapLaws.{get_insert_same, get_insert_other, same_or_other, true_false}
-use Rattle.plain_process.specs.declared.memory.Right.{Right}
-use Rattle.plain_process.specs.declared.memory.Right.TheVariants.{Write}
-use Rattle.plain_process.specs.declared.memory.Frame.{Frame}
-use Rattle.plain_process.specs.declared.buffers.Span.{Span}
-use Rattle.plain_process.specs.Memory.{Memory, allows, byte_in, byte_at, followed_by, bytes_at, with_byte_in, with_byte, with_bytes, low_bytes, store}
-use Rattle.plain_process.specs.Buffers.{can_write}
-use Rattle.plain_process.specs.Put.{CanHold, CanTake, with_spans}
-use Rattle.plain_process.proofs.Giving.{Giving, gives, where_}
+use Rattle.plain_tables.proofs.OfViews.MapLaws.{get_insert_same, get_insert_other, same_or_other, true_false}
+use Rattle.plain_tables.specs.OfPlainProcess.declared.memory.Right.{Right}
+use Rattle.plain_tables.specs.OfPlainProcess.declared.memory.Right.TheVariants.{Write}
+use Rattle.plain_tables.specs.OfPlainProcess.declared.memory.Frame.{Frame}
+use Rattle.plain_tables.specs.OfPlainProcess.declared.buffers.Span.{Span}
+use Rattle.plain_tables.specs.OfPlainProcess.Memory.{Memory, allows, byte_in, byte_at, followed_by, bytes_at, with_byte_in, with_byte, with_bytes, low_bytes, store}
+use Rattle.plain_tables.specs.OfPlainProcess.Buffers.{can_write}
+use Rattle.plain_tables.specs.OfPlainProcess.Put.{CanHold, CanTake, with_spans}
+use Rattle.plain_tables.proofs.OfPlainProcess.Giving.{Giving, gives, where_}
 
 abbrev rights_in : Option Frame → Option ℕ
 rights_in found = option_map (λ frame. frame.rights) found

@@ -5,17 +5,17 @@ use Rattle.std.specs.Prelude.{Option, Some, None, is_some, unwrap_or}
 use Rattle.std.specs.Ordering.{nat_cmp}
 use Rattle.std.specs.Cmp.{nat_cmp_total}
 use Rattle.std.specs.FinMap as map
-use Rattle.views.proofs.MapLaws.{true_false}
-use Rattle.sys_abi.specs.declared.identity.VPid.{VPid}
-use Rattle.sys_abi.specs.Signals.{has_signal, with_signal, without_signal}
-use Rattle.sys_abi.specs.Lives.{lives}
-use Rattle.sys_abi.specs.declared.life.Life.{Life}
-use Rattle.sys_abi.specs.declared.life.Life.TheVariants.{Live, Zombie}
+use Rattle.plain_tables.proofs.OfViews.MapLaws.{true_false}
+use Rattle.plain_tables.specs.OfSysAbi.declared.identity.VPid.{VPid}
+use Rattle.plain_tables.specs.OfSysAbi.Signals.{has_signal, with_signal, without_signal}
+use Rattle.plain_tables.specs.OfSysAbi.Lives.{lives}
+use Rattle.plain_tables.specs.OfSysAbi.declared.life.Life.{Life}
+use Rattle.plain_tables.specs.OfSysAbi.declared.life.Life.TheVariants.{Live, Zombie}
 use Rattle.plain_tables.specs.declared.process.Process.{Process}
 use Rattle.plain_tables.specs.Tables.{FIRST_PID, signals_of, with_signals, taken_from, raised_at, without_thread_entry, with_thread_entry, raised_for_all}
 use Rattle.plain_tables.specs.Valid.Processes.{IsSignalSet, IsGivenOut, FitsLife, IsProcess}
 use Rattle.plain_tables.proofs.Entries.{still_there}
-use Rattle.plain_process.specs.Valid.{Each}
+use Rattle.plain_tables.specs.OfPlainProcess.Valid.{Each}
 use Rattle.plain_machine.proofs.Entries.{each_with}
 use Rattle.plain_machine.proofs.SignalBounds.{set_without, set_with, none_without}
 use Rattle.plain_machine.proofs.ThreadKeys.{same_there, same_len}

@@ -3,9 +3,9 @@
 use Rattle.std.proofs.Common.{◌≡◌, ℕ, Bool, true, false, refl, sym}
 use Rattle.std.specs.Prelude.{Option, Some, None}
 use Rattle.plain_machine.specs.declared.kernel.PlainKernel.{PlainKernel}
-use Rattle.plain_process.specs.Attempts.{Try, Fails, NotReady, Gives, and_then, need, refuse_if, found}
+use Rattle.plain_tables.specs.OfPlainProcess.Attempts.{Try, Fails, NotReady, Gives, and_then, need, refuse_if, found}
 use Rattle.plain_machine.specs.Attempts.{Served}
-use Rattle.views.proofs.MapLaws.{true_false}
+use Rattle.plain_tables.proofs.OfViews.MapLaws.{true_false}
 use Rattle.plain_machine.proofs.RowBounds.{Settles}
 
 abbrev pub is_prompt : {A : Type 0} → Try A → Bool

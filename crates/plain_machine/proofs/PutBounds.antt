@@ -4,22 +4,22 @@ use Rattle.std.proofs.Common.{◌≡◌, ℕ, ◌-◌, Bool, true, false, List, 
 use Rattle.std.specs.Prelude.{Option, Some, None, is_some, All, take, drop}
 use Rattle.std.specs.FinMap as map
 use Rattle.std.proofs.lemmas.List.Elements.{All-nil, All-take, All-drop}
-use Rattle.views.proofs.MapLaws.{true_false}
-use Rattle.call_table.specs.declared.request.Request.{Request}
-use Rattle.call_table.specs.declared.request.Request.TheVariants.{Exit, Clone}
-use Rattle.sys_abi.specs.declared.reply.Reply.{Reply}
-use Rattle.sys_abi.specs.Clones.{clone_form}
-use Rattle.sys_abi.specs.declared.cloning.CloneForm.{CloneForm}
-use Rattle.plain_process.specs.declared.user_part.UserPart.{UserPart}
-use Rattle.plain_process.specs.declared.user_part.ThreadPart.{ThreadPart}
-use Rattle.plain_process.specs.Memory.{Memory}
-use Rattle.plain_process.specs.Steps.{with_thread}
-use Rattle.plain_process.specs.declared.buffers.Span.{Span}
-use Rattle.plain_process.specs.Buffers.{reads_of, given_of, writes_of, filled_spans, lent}
-use Rattle.plain_process.specs.Put.{word_of, after_call, with_spans, added_by, added_thread, with_added, after_threads, put_by, put, put_fault, error, CanTake}
-use Rattle.plain_process.specs.Valid.{IsWord, IsByte, IsUser, IsRequest, CanAddAs, CanAdd}
+use Rattle.plain_tables.proofs.OfViews.MapLaws.{true_false}
+use Rattle.plain_tables.specs.OfCallTable.declared.request.Request.{Request}
+use Rattle.plain_tables.specs.OfCallTable.declared.request.Request.TheVariants.{Exit, Clone}
+use Rattle.plain_tables.specs.OfSysAbi.declared.reply.Reply.{Reply}
+use Rattle.plain_tables.specs.OfSysAbi.Clones.{clone_form}
+use Rattle.plain_tables.specs.OfSysAbi.declared.cloning.CloneForm.{CloneForm}
+use Rattle.plain_tables.specs.OfPlainProcess.declared.user_part.UserPart.{UserPart}
+use Rattle.plain_tables.specs.OfPlainProcess.declared.user_part.ThreadPart.{ThreadPart}
+use Rattle.plain_tables.specs.OfPlainProcess.Memory.{Memory}
+use Rattle.plain_tables.specs.OfPlainProcess.Steps.{with_thread}
+use Rattle.plain_tables.specs.OfPlainProcess.declared.buffers.Span.{Span}
+use Rattle.plain_tables.specs.OfPlainProcess.Buffers.{reads_of, given_of, writes_of, filled_spans, lent}
+use Rattle.plain_tables.specs.OfPlainProcess.Put.{word_of, after_call, with_spans, added_by, added_thread, with_added, after_threads, put_by, put, put_fault, error, CanTake}
+use Rattle.plain_tables.specs.OfPlainProcess.Valid.{IsWord, IsByte, IsUser, IsRequest, CanAddAs, CanAdd}
 use Rattle.plain_machine.specs.Laws.{PutKeepsUser, FaultKeepsUser}
-use Rattle.plain_process.proofs.MemoryBounds.{IsMemory, kept_by_bytes}
+use Rattle.plain_tables.proofs.OfPlainProcess.MemoryBounds.{IsMemory, kept_by_bytes}
 use Rattle.plain_machine.proofs.MemoryPages.{KeepsPages, spans_keep_pages, no_bytes_taken}
 use Rattle.plain_machine.specs.RowLaws.{with_one, there_after}
 use Rattle.plain_machine.proofs.ThreadKeys.{same_len}

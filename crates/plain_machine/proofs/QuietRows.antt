@@ -2,12 +2,12 @@
 --     same_by      unchanged_meets
 use Rattle.std.proofs.Common.{◌≡◌, ℕ, ◌≤◌, true, List, [], ap}
 use Rattle.std.specs.FinMap as map
-use Rattle.sys_abi.specs.declared.identity.VPid.{VPid}
-use Rattle.sys_abi.specs.declared.reply.Reply.TheVariants.{Value}
-use Rattle.call_table.specs.declared.request.Request.{Request}
+use Rattle.plain_tables.specs.OfSysAbi.declared.identity.VPid.{VPid}
+use Rattle.plain_tables.specs.OfSysAbi.declared.reply.Reply.TheVariants.{Value}
+use Rattle.plain_tables.specs.OfCallTable.declared.request.Request.{Request}
 use Rattle.plain_machine.specs.declared.kernel.PlainKernel.{PlainKernel}
 use Rattle.plain_tables.specs.Tables.{Processes, is_live_process, has_thread_in}
-use Rattle.plain_process.specs.Valid.{IsWord}
+use Rattle.plain_tables.specs.OfPlainProcess.Valid.{IsWord}
 use Rattle.plain_machine.specs.Kernel.{is_live}
 use Rattle.plain_machine.specs.Valid.{IsKernel}
 use Rattle.plain_machine.specs.RowLaws.{IsAsked}

@@ -6,14 +6,14 @@ use Rattle.std.specs.FinMap as map
 use Rattle.std.proofs.lemmas.Bool.{cases_lt}
 use Rattle.std.proofs.lemmas.List.{get_or_past}
 use Rattle.std.proofs.lemmas.List.Elements.{All-from_recursion}
-use Rattle.call_table.specs.declared.request.Request.{Request}
-use Rattle.call_table.specs.Requests.{request_by, request_of}
-use Rattle.call_table.specs.declared.calls.TheConstants.{EVENTFD2, DUP, DUP3, FCNTL, UNLINKAT, OPENAT, CLOSE, PIPE2, LSEEK, READ, WRITE, EXIT, EXIT_GROUP, SET_TID_ADDRESS, FUTEX, SCHED_YIELD, KILL, TGKILL, RT_SIGACTION, RT_SIGPROCMASK, RT_SIGRETURN, GETPID, GETPPID, GETTID, SOCKET, SOCKETPAIR, BIND, LISTEN, ACCEPT, CONNECT, GETSOCKNAME, GETPEERNAME, SETSOCKOPT, SHUTDOWN, BRK, MUNMAP, CLONE, MMAP, WAIT4}
-use Rattle.plain_process.specs.declared.user_part.UserPart.{UserPart}
-use Rattle.plain_process.specs.declared.user_part.ThreadPart.{ThreadPart}
-use Rattle.plain_process.specs.Instructions.{Effect, Next, Calls, Traps}
-use Rattle.plain_process.specs.Steps.{effect_at, UserStep, Asks, Waits, waits, step_by, step_of, user_step}
-use Rattle.plain_process.specs.Valid.{IsWord, IsUser, IsRequest}
+use Rattle.plain_tables.specs.OfCallTable.declared.request.Request.{Request}
+use Rattle.plain_tables.specs.OfCallTable.Requests.{request_by, request_of}
+use Rattle.plain_tables.specs.OfCallTable.declared.calls.TheConstants.{EVENTFD2, DUP, DUP3, FCNTL, UNLINKAT, OPENAT, CLOSE, PIPE2, LSEEK, READ, WRITE, EXIT, EXIT_GROUP, SET_TID_ADDRESS, FUTEX, SCHED_YIELD, KILL, TGKILL, RT_SIGACTION, RT_SIGPROCMASK, RT_SIGRETURN, GETPID, GETPPID, GETTID, SOCKET, SOCKETPAIR, BIND, LISTEN, ACCEPT, CONNECT, GETSOCKNAME, GETPEERNAME, SETSOCKOPT, SHUTDOWN, BRK, MUNMAP, CLONE, MMAP, WAIT4}
+use Rattle.plain_tables.specs.OfPlainProcess.declared.user_part.UserPart.{UserPart}
+use Rattle.plain_tables.specs.OfPlainProcess.declared.user_part.ThreadPart.{ThreadPart}
+use Rattle.plain_tables.specs.OfPlainProcess.Instructions.{Effect, Next, Calls, Traps}
+use Rattle.plain_tables.specs.OfPlainProcess.Steps.{effect_at, UserStep, Asks, Waits, waits, step_by, step_of, user_step}
+use Rattle.plain_tables.specs.OfPlainProcess.Valid.{IsWord, IsUser, IsRequest}
 use Rattle.plain_machine.specs.Laws.{AskedIsRequest}
 
 -- the word at any place of a list of words, 0 past its end

@@ -8,27 +8,27 @@ use Rattle.std.proofs.Common.{◌≡◌, ◌≢◌, ℕ, ◌^◌, ◌<◌, ◌�
 use Rattle.std.specs.Prelude.{Option, Some, None, is_some}
 use Rattle.std.specs.FinMap as map
 use Rattle.std.proofs.lemmas.List.Elements.{All-nil}
-use Rattle.views.proofs.MapLaws.{true_false}
-use Rattle.sys_abi.specs.declared.identity.VPid.{VPid}
-use Rattle.sys_abi.specs.declared.reply.Reply.{Reply}
-use Rattle.sys_abi.specs.declared.reply.Reply.TheVariants.{Value}
-use Rattle.call_table.specs.declared.request.Request.{Request}
-use Rattle.call_table.specs.declared.request.Request.TheVariants.{Exit, Clone}
-use Rattle.sys_abi.specs.declared.transfer.TheConstants.{TRANSFER_LIMIT}
+use Rattle.plain_tables.proofs.OfViews.MapLaws.{true_false}
+use Rattle.plain_tables.specs.OfSysAbi.declared.identity.VPid.{VPid}
+use Rattle.plain_tables.specs.OfSysAbi.declared.reply.Reply.{Reply}
+use Rattle.plain_tables.specs.OfSysAbi.declared.reply.Reply.TheVariants.{Value}
+use Rattle.plain_tables.specs.OfCallTable.declared.request.Request.{Request}
+use Rattle.plain_tables.specs.OfCallTable.declared.request.Request.TheVariants.{Exit, Clone}
+use Rattle.plain_tables.specs.OfSysAbi.declared.transfer.TheConstants.{TRANSFER_LIMIT}
 use Rattle.plain_machine.specs.declared.kernel.PlainKernel.{PlainKernel}
 use Rattle.plain_tables.specs.declared.process.Process.{Process}
 use Rattle.plain_tables.specs.Tables.{pid, is_live_process, has_thread_in}
-use Rattle.plain_process.specs.Attempts.{Try, Fails, NotReady, Gives, and_then, need, found}
-use Rattle.plain_process.specs.Buffers.{filled_spans}
-use Rattle.plain_process.specs.Put.{added_thread, made_by, error}
-use Rattle.plain_process.specs.Valid.{IsWord}
+use Rattle.plain_tables.specs.OfPlainProcess.Attempts.{Try, Fails, NotReady, Gives, and_then, need, found}
+use Rattle.plain_tables.specs.OfPlainProcess.Buffers.{filled_spans}
+use Rattle.plain_tables.specs.OfPlainProcess.Put.{added_thread, made_by, error}
+use Rattle.plain_tables.specs.OfPlainProcess.Valid.{IsWord}
 use Rattle.plain_machine.specs.Attempts.{Served, refused, settled}
 use Rattle.plain_machine.specs.Kernel.{is_live, has_thread, at_process}
 use Rattle.plain_machine.specs.Ends.{after_end}
 use Rattle.plain_machine.specs.Valid.{IsKernel}
 use Rattle.plain_machine.specs.RowLaws.{IsAsked, IsAnswer, IsServed, IsMade, MayAdd, there_after}
 use Rattle.plain_machine.specs.Serve.{row, serve, is_ready, front_of}
-use Rattle.plain_process.proofs.Giving.{Giving, gives, nothing}
+use Rattle.plain_tables.proofs.OfPlainProcess.Giving.{Giving, gives, nothing}
 use Rattle.plain_machine.proofs.Trying.{Trying, fails}
 use Rattle.plain_machine.proofs.MemoryPages.{no_bytes_taken}
 use Rattle.plain_machine.proofs.ChangedProcesses.{changed_other, changed_here}

@@ -3,8 +3,8 @@ use Rattle.std.proofs.Common.{◌≡◌, ℕ, ◌-◌, ◌^◌, ◌<◌, Bool, t
 use Rattle.std.specs.Prelude.{◌==◌, not, bit_and, bit_xor}
 use Rattle.std.proofs.lemmas.Nat.{or_lt, xor_lt, and_le_l, and_le_r, pow_below}
 use Rattle.std.proofs.lemmas.Bool.Decides.{nat_tests}
-use Rattle.sys_abi.specs.Signals.{is_signal, bit_of, has_signal, with_signal, without_signals, without_signal}
-use Rattle.views.proofs.MapLaws.{true_false}
+use Rattle.plain_tables.specs.OfSysAbi.Signals.{is_signal, bit_of, has_signal, with_signal, without_signals, without_signal}
+use Rattle.plain_tables.proofs.OfViews.MapLaws.{true_false}
 use Rattle.plain_machine.specs.Valid.{IsSignalSet}
 
 pub bit_small : (s : ℕ) → bit_of s < 2 ^ 31

@@ -8,27 +8,27 @@ use Rattle.std.specs.List.{list_any}
 use Rattle.std.specs.Option.{option_map_or}
 use Rattle.std.specs.FinMap as map
 use Rattle.std.proofs.lemmas.Bool.Decides.{nat_tests}
-use Rattle.views.specs.Limits.{DESCRIPTOR_LIMIT}
-use Rattle.views.proofs.MapLaws.{key_tied, true_false}
-use Rattle.views.proofs.MapValues.{some_among-values}
-use Rattle.sys_abi.specs.declared.identity.VPid.{VPid}
-use Rattle.sys_abi.specs.declared.identity.DescId.{DescId}
-use Rattle.sys_abi.specs.declared.identity.VirtAddr.{VirtAddr}
-use Rattle.sys_abi.specs.declared.errors.TheConstants.{EBADF, EMFILE, EAGAIN, ENOTSOCK}
-use Rattle.sys_abi.specs.declared.flags.TheConstants.{O_NONBLOCK}
-use Rattle.sys_abi.specs.Flags.{has_flag}
-use Rattle.sys_abi.proofs.OrderLaws.{vpid_total, vpid_exact, desc_total, desc_exact, address_total, address_exact}
+use Rattle.plain_tables.specs.OfViews.Limits.{DESCRIPTOR_LIMIT}
+use Rattle.plain_tables.proofs.OfViews.MapLaws.{key_tied, true_false}
+use Rattle.plain_tables.proofs.OfViews.MapValues.{some_among-values}
+use Rattle.plain_tables.specs.OfSysAbi.declared.identity.VPid.{VPid}
+use Rattle.plain_tables.specs.OfSysAbi.declared.identity.DescId.{DescId}
+use Rattle.plain_tables.specs.OfSysAbi.declared.identity.VirtAddr.{VirtAddr}
+use Rattle.plain_tables.specs.OfSysAbi.declared.errors.TheConstants.{EBADF, EMFILE, EAGAIN, ENOTSOCK}
+use Rattle.plain_tables.specs.OfSysAbi.declared.flags.TheConstants.{O_NONBLOCK}
+use Rattle.plain_tables.specs.OfSysAbi.Flags.{has_flag}
+use Rattle.plain_tables.proofs.OfSysAbi.OrderLaws.{vpid_total, vpid_exact, desc_total, desc_exact, address_total, address_exact}
 use Rattle.plain_machine.specs.declared.kernel.PlainKernel.{PlainKernel}
 use Rattle.plain_tables.specs.declared.process.Process.{Process}
-use Rattle.sys_abi.specs.declared.maker.Maker.{Maker}
-use Rattle.sys_abi.specs.declared.descriptor.Descriptor.{Descriptor}
+use Rattle.plain_tables.specs.OfSysAbi.declared.maker.Maker.{Maker}
+use Rattle.plain_tables.specs.OfSysAbi.declared.descriptor.Descriptor.{Descriptor}
 use Rattle.plain_tables.specs.declared.description.Description.{Description}
 use Rattle.plain_tables.specs.declared.description.Object.TheVariants.{Socket}
 use Rattle.plain_tables.specs.declared.channel.Channel.{Channel}
 use Rattle.plain_tables.specs.Tables.{Descriptors, slot, is_live_process, has_thread_in, made_more}
 use Rattle.plain_tables.specs.Objects.{bound_at}
 use Rattle.plain_tables.specs.Valid.Sockets.{has_host}
-use Rattle.plain_process.specs.Attempts.{Try, Fails, NotReady, Gives, and_then, need, found}
+use Rattle.plain_tables.specs.OfPlainProcess.Attempts.{Try, Fails, NotReady, Gives, and_then, need, found}
 use Rattle.plain_machine.specs.Attempts.{Served, settled}
 use Rattle.plain_machine.specs.Kernel.{Held, held, is_live, free_among, free_from, made_of, host_of, has_numbers, numbered}
 use Rattle.plain_machine.specs.Addresses.{address_at, is_at, has_end_at, is_port_used, unused_among, automatic_port, FIRST_AUTOMATIC, AUTOMATIC_COUNT}

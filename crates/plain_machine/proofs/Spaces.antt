@@ -9,20 +9,20 @@ use Rattle.std.proofs.lemmas.Bool.{cases_lt}
 use Rattle.std.proofs.lemmas.Bool.Decides.{nat_tests}
 use Rattle.std.proofs.lemmas.List.Elements.{All-nil}
 use Rattle.std.proofs.lemmas.List.Filters.{length-filter_both}
-use Rattle.views.specs.Limits.{PAGE_LIMIT}
-use Rattle.views.specs.Maps.{retain}
-use Rattle.views.proofs.MapLaws.{get_insert_same, get_insert_other, get-retain}
-use Rattle.views.proofs.MapValues.{entries-retain, retain-keys}
-use Rattle.plain_process.specs.declared.memory.Frame.{Frame}
-use Rattle.plain_process.specs.declared.user_part.UserPart.{UserPart}
-use Rattle.plain_process.specs.Memory.{Memory}
-use Rattle.plain_process.specs.Start.{page_of, with_pages, RETURN_PAGE}
-use Rattle.plain_process.specs.Pages.{pages_of, is_among, without_pages, is_free, free_run}
-use Rattle.plain_process.specs.Rows.Mappings.{with_memory, heap_to, with_break, room_for}
-use Rattle.plain_process.specs.Valid.{IsByte, IsUser}
-use Rattle.plain_process.proofs.Giving.{Giving, gives, nothing, where_, either}
-use Rattle.plain_process.proofs.MemoryBounds.{IsMemory}
-use Rattle.plain_process.proofs.StartPages.{with_pages_are}
+use Rattle.plain_tables.specs.OfViews.Limits.{PAGE_LIMIT}
+use Rattle.plain_tables.specs.OfViews.Maps.{retain}
+use Rattle.plain_tables.proofs.OfViews.MapLaws.{get_insert_same, get_insert_other, get-retain}
+use Rattle.plain_tables.proofs.OfViews.MapValues.{entries-retain, retain-keys}
+use Rattle.plain_tables.specs.OfPlainProcess.declared.memory.Frame.{Frame}
+use Rattle.plain_tables.specs.OfPlainProcess.declared.user_part.UserPart.{UserPart}
+use Rattle.plain_tables.specs.OfPlainProcess.Memory.{Memory}
+use Rattle.plain_tables.specs.OfPlainProcess.Start.{page_of, with_pages, RETURN_PAGE}
+use Rattle.plain_tables.specs.OfPlainProcess.Pages.{pages_of, is_among, without_pages, is_free, free_run}
+use Rattle.plain_tables.specs.OfPlainProcess.Rows.Mappings.{with_memory, heap_to, with_break, room_for}
+use Rattle.plain_tables.specs.OfPlainProcess.Valid.{IsByte, IsUser}
+use Rattle.plain_tables.proofs.OfPlainProcess.Giving.{Giving, gives, nothing, where_, either}
+use Rattle.plain_tables.proofs.OfPlainProcess.MemoryBounds.{IsMemory}
+use Rattle.plain_tables.proofs.OfPlainProcess.StartPages.{with_pages_are}
 use Rattle.plain_machine.proofs.UserParts.{IsSpace, Follows, user_from, space_of, threads_of, actions_of, waiters_of}
 
 -- pages that are added

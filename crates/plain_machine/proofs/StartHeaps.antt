@@ -7,14 +7,14 @@ use Rattle.std.specs.Ordering.{nat_cmp}
 use Rattle.std.specs.Cmp.{nat_cmp_total}
 use Rattle.std.specs.FinMap as map
 use Rattle.std.proofs.lemmas.Bool.Decides.{nat_tests}
-use Rattle.views.proofs.MapLaws.{get_insert_same, get_insert_other, true_false}
-use Rattle.elf32.specs.declared.program.Program.{Program}
-use Rattle.elf32.specs.declared.program.Segment.{Segment}
-use Rattle.elf32.specs.Pages.{touches, is_touched}
-use Rattle.plain_process.specs.declared.memory.Frame.{Frame}
-use Rattle.plain_process.specs.Memory.{Memory}
-use Rattle.plain_process.specs.Start.{page_of, with_pages, segment_page, segment_pages, highest_end, break_of, STACK_PAGE, STACK_PAGES, RETURN_PAGE, PROGRAM_PAGES, return_code, return_bytes, return_frame, start_stack, start_memory}
-use Rattle.plain_process.specs.Valid.{IsHeap}
+use Rattle.plain_tables.proofs.OfViews.MapLaws.{get_insert_same, get_insert_other, true_false}
+use Rattle.plain_tables.specs.OfElf32.declared.program.Program.{Program}
+use Rattle.plain_tables.specs.OfElf32.declared.program.Segment.{Segment}
+use Rattle.plain_tables.specs.OfElf32.Pages.{touches, is_touched}
+use Rattle.plain_tables.specs.OfPlainProcess.declared.memory.Frame.{Frame}
+use Rattle.plain_tables.specs.OfPlainProcess.Memory.{Memory}
+use Rattle.plain_tables.specs.OfPlainProcess.Start.{page_of, with_pages, segment_page, segment_pages, highest_end, break_of, STACK_PAGE, STACK_PAGES, RETURN_PAGE, PROGRAM_PAGES, return_code, return_bytes, return_frame, start_stack, start_memory}
+use Rattle.plain_tables.specs.OfPlainProcess.Valid.{IsHeap}
 
 -- a page that no segment touches
 absent_by : (segments : List Segment) (n place : ℕ) (b : Bool) → is_touched segments place ≡ false → is_touched segments n ≡ b → map.get (segment_pages segments n) place ≡ None

@@ -4,24 +4,24 @@ use Rattle.std.specs.Prelude.{Option, Some, None, is_some, All}
 use Rattle.std.specs.Ordering.{nat_cmp, eq_by_cmp}
 use Rattle.std.specs.Cmp.{nat_cmp_total}
 use Rattle.std.specs.FinMap as map
-use Rattle.views.proofs.MapLaws.{get_insert_same, get_insert_other, same_or_other}
-use Rattle.sys_abi.specs.declared.identity.VPid.{VPid}
-use Rattle.sys_abi.specs.Orders.{vpid_cmp}
-use Rattle.sys_abi.proofs.OrderLaws.{vpid_total, vpid_exact}
+use Rattle.plain_tables.proofs.OfViews.MapLaws.{get_insert_same, get_insert_other, same_or_other}
+use Rattle.plain_tables.specs.OfSysAbi.declared.identity.VPid.{VPid}
+use Rattle.plain_tables.specs.OfSysAbi.Orders.{vpid_cmp}
+use Rattle.plain_tables.proofs.OfSysAbi.OrderLaws.{vpid_total, vpid_exact}
 use Rattle.plain_machine.specs.declared.kernel.PlainKernel.{PlainKernel}
 use Rattle.plain_tables.specs.declared.process.Process.{Process}
-use Rattle.plain_process.specs.declared.user_part.UserPart.{UserPart}
+use Rattle.plain_tables.specs.OfPlainProcess.declared.user_part.UserPart.{UserPart}
 use Rattle.plain_tables.specs.Tables.{pid, is_live_process}
 use Rattle.plain_machine.specs.Kernel.{is_live}
-use Rattle.plain_process.specs.Start.{Launched, start_user}
+use Rattle.plain_tables.specs.OfPlainProcess.Start.{Launched, start_user}
 use Rattle.plain_tables.specs.Start.{start_process}
 use Rattle.plain_machine.specs.Start.{NamedFile, FIRST_PID, with_process, with_processes, with_file, with_files, with_users, empty_kernel, start_kernel, start}
 use Rattle.plain_machine.specs.Valid.{IsValid, SameThreads}
-use Rattle.plain_process.specs.Valid.{IsUser, Each}
-use Rattle.plain_process.specs.Launches.{IsLaunched}
+use Rattle.plain_tables.specs.OfPlainProcess.Valid.{IsUser, Each}
+use Rattle.plain_tables.specs.OfPlainProcess.Launches.{IsLaunched}
 use Rattle.plain_machine.specs.Laws.{StartIsValid}
 use Rattle.plain_machine.proofs.Entries.{each_with, no_entry}
-use Rattle.plain_process.proofs.StartPages.{all_tail}
+use Rattle.plain_tables.proofs.OfPlainProcess.StartPages.{all_tail}
 use Rattle.plain_machine.proofs.StartUsers.{start_user_is}
 use Rattle.plain_machine.proofs.WholeStarts.{start_is_whole}
 

@@ -8,19 +8,19 @@ use Rattle.std.specs.Int.{w32, from_le_bytes}
 use Rattle.std.specs.FinMap as map
 use Rattle.std.proofs.lemmas.List.{length-replicate, length-set}
 use Rattle.std.proofs.lemmas.List.Elements.{All-set, All-nil, All-cons, All-append, All-take, All-drop, All-replicate}
-use Rattle.views.proofs.MapLaws.{get_insert_other, same_or_other}
-use Rattle.elf32.specs.declared.program.Program.{Program}
-use Rattle.elf32.specs.declared.program.Segment.{Segment}
-use Rattle.elf32.specs.Programs.{IsWellPlaced}
-use Rattle.elf32.specs.Fields.{word_at}
-use Rattle.elf32.specs.FileHeader.{e_phnum}
-use Rattle.elf32.specs.ProgramHeaders.{segments_before, segments_of, segment_of, program_header, describes_memory}
-use Rattle.plain_process.specs.declared.user_part.SignalAction.{SignalAction}
-use Rattle.plain_process.specs.Start.{break_of, start_sp, start_regs, start_thread, start_user, default_action}
-use Rattle.plain_process.specs.Valid.{IsWord, IsByte, IsRegs, IsThread, IsAction}
+use Rattle.plain_tables.proofs.OfViews.MapLaws.{get_insert_other, same_or_other}
+use Rattle.plain_tables.specs.OfElf32.declared.program.Program.{Program}
+use Rattle.plain_tables.specs.OfElf32.declared.program.Segment.{Segment}
+use Rattle.plain_tables.specs.OfElf32.Programs.{IsWellPlaced}
+use Rattle.plain_tables.specs.OfElf32.Fields.{word_at}
+use Rattle.plain_tables.specs.OfElf32.FileHeader.{e_phnum}
+use Rattle.plain_tables.specs.OfElf32.ProgramHeaders.{segments_before, segments_of, segment_of, program_header, describes_memory}
+use Rattle.plain_tables.specs.OfPlainProcess.declared.user_part.SignalAction.{SignalAction}
+use Rattle.plain_tables.specs.OfPlainProcess.Start.{break_of, start_sp, start_regs, start_thread, start_user, default_action}
+use Rattle.plain_tables.specs.OfPlainProcess.Valid.{IsWord, IsByte, IsRegs, IsThread, IsAction}
 use Rattle.plain_machine.specs.Laws.{StartIsUser, ReadIsLaunched}
-use Rattle.plain_process.proofs.MemoryBounds.{byte_of}
-use Rattle.plain_process.proofs.StartPages.{all_tail, start_memory_is}
+use Rattle.plain_tables.proofs.OfPlainProcess.MemoryBounds.{byte_of}
+use Rattle.plain_tables.proofs.OfPlainProcess.StartPages.{all_tail, start_memory_is}
 use Rattle.plain_machine.proofs.StartHeaps.{start_heap, start_return}
 
 highest_from : (segments : List Segment) (highest : ℕ) → All IsWellPlaced segments → highest ≤ 0x40000000 → fold (λ h segment. max h (segment.vaddr + segment.memsz)) highest segments ≤ 0x40000000

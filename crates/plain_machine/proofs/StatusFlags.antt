@@ -4,7 +4,7 @@ use Rattle.std.proofs.Common.{◌≡◌, ℕ, ◌+◌, ◌*◌, ◌/◌, ◌%◌
 use Rattle.std.specs.Prelude.{◌==◌, bit_and, bit_or}
 use Rattle.std.proofs.lemmas.Bool.Decides.{nat_tests}
 use Rattle.std.proofs.lemmas.Nat.{and_le_r, and_mask, and_mod, and_block, and_assoc, or_comm, or_shifted}
-use Rattle.plain_process.specs.Valid.{IsWord}
+use Rattle.plain_tables.specs.OfPlainProcess.Valid.{IsWord}
 use Rattle.plain_tables.specs.Valid.Descriptions.{AreFlags}
 use Rattle.plain_machine.specs.Rows.Descriptors.{set_flags}
 use Rattle.plain_machine.specs.Rows.Files.{status_flags}

@@ -8,26 +8,26 @@ use Rattle.std.specs.FinMap as map
 use Rattle.std.proofs.lemmas.Bool.Decides.{nat_tests}
 use Rattle.std.proofs.lemmas.List.Elements.{All-nil}
 use Rattle.std.proofs.lemmas.List.Filters.{length-filter_both}
-use Rattle.views.proofs.MapLaws.{remove_absent}
-use Rattle.sys_abi.specs.declared.flags.TheConstants.{CLONE_CHILD_CLEARTID, CLONE_SETTLS}
-use Rattle.plain_process.specs.declared.regs.Regs.{Regs}
-use Rattle.plain_process.specs.declared.user_part.UserPart.{UserPart}
-use Rattle.plain_process.specs.declared.user_part.ThreadPart.{ThreadPart}
-use Rattle.plain_process.specs.declared.user_part.Waiter.{Waiter}
-use Rattle.plain_process.specs.Memory.{Memory, store}
-use Rattle.plain_process.specs.Registers.{A0, SP, TP}
-use Rattle.plain_process.specs.Steps.{with_regs}
-use Rattle.plain_process.specs.Threads.{after_call, with_waiters, without_waiter, awake_by, awake, first_waiter, Woken, woken_by, wake_one, wake, without_thread, with_cleared, after_clearing, thread_end_by, after_thread_end, with_reg_if, new_regs, new_thread, with_new_thread_by, with_new_thread}
-use Rattle.plain_process.specs.Valid.{IsWord, IsRegs, IsThread, IsUser}
-use Rattle.plain_process.proofs.Giving.{Giving}
-use Rattle.plain_process.proofs.MemoryBounds.{IsMemory, kept_by_store}
+use Rattle.plain_tables.proofs.OfViews.MapLaws.{remove_absent}
+use Rattle.plain_tables.specs.OfSysAbi.declared.flags.TheConstants.{CLONE_CHILD_CLEARTID, CLONE_SETTLS}
+use Rattle.plain_tables.specs.OfPlainProcess.declared.regs.Regs.{Regs}
+use Rattle.plain_tables.specs.OfPlainProcess.declared.user_part.UserPart.{UserPart}
+use Rattle.plain_tables.specs.OfPlainProcess.declared.user_part.ThreadPart.{ThreadPart}
+use Rattle.plain_tables.specs.OfPlainProcess.declared.user_part.Waiter.{Waiter}
+use Rattle.plain_tables.specs.OfPlainProcess.Memory.{Memory, store}
+use Rattle.plain_tables.specs.OfPlainProcess.Registers.{A0, SP, TP}
+use Rattle.plain_tables.specs.OfPlainProcess.Steps.{with_regs}
+use Rattle.plain_tables.specs.OfPlainProcess.Threads.{after_call, with_waiters, without_waiter, awake_by, awake, first_waiter, Woken, woken_by, wake_one, wake, without_thread, with_cleared, after_clearing, thread_end_by, after_thread_end, with_reg_if, new_regs, new_thread, with_new_thread_by, with_new_thread}
+use Rattle.plain_tables.specs.OfPlainProcess.Valid.{IsWord, IsRegs, IsThread, IsUser}
+use Rattle.plain_tables.proofs.OfPlainProcess.Giving.{Giving}
+use Rattle.plain_tables.proofs.OfPlainProcess.MemoryBounds.{IsMemory, kept_by_store}
 use Rattle.plain_machine.proofs.MemoryPages.{KeepsPages, kept_pages, store_keeps}
 use Rattle.plain_machine.proofs.WordBounds.{either_word}
 use Rattle.plain_machine.proofs.EffectBounds.{regs_at, regs_with, next_word}
 use Rattle.plain_machine.specs.RowLaws.{without_one, with_one}
 use Rattle.plain_machine.proofs.ThreadKeys.{there_without, there_with}
 use Rattle.plain_machine.proofs.UserParts.{Follows, follows_itself, then_follows, memory_of, written_follows, thread_follows, no_waiter_follows, thread_less, thread_more}
-use Rattle.sys_abi.specs.Flags.{has_flag}
+use Rattle.plain_tables.specs.OfSysAbi.Flags.{has_flag}
 
 -- a thread after its call's answer
 pub thread_with : (thread : ThreadPart) (regs : Regs) → IsThread thread → IsRegs regs → IsThread (with_regs thread regs)

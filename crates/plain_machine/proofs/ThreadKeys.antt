@@ -6,9 +6,9 @@ use Rattle.std.specs.Ordering.{nat_cmp, eq_by_cmp}
 use Rattle.std.specs.Cmp.{nat_cmp_total}
 use Rattle.std.specs.FinMap as map
 use Rattle.std.proofs.lemmas.List.{length-map}
-use Rattle.views.specs.Maps.{map_values}
-use Rattle.views.proofs.MapLaws.{get_insert_same, get_insert_other, same_or_other, true_false}
-use Rattle.views.proofs.MapValues.{get-map_values, entries-map_values}
+use Rattle.plain_tables.specs.OfViews.Maps.{map_values}
+use Rattle.plain_tables.proofs.OfViews.MapLaws.{get_insert_same, get_insert_other, same_or_other, true_false}
+use Rattle.plain_tables.proofs.OfViews.MapValues.{get-map_values, entries-map_values}
 use Rattle.plain_machine.specs.RowLaws.{without_one, with_one}
 
 none_or_same : {X : Type 0} (b : Bool) (found : Option X) → is_some (cond b None found) ≡ cond b false (is_some found)

@@ -6,8 +6,8 @@ use Rattle.std.specs.FinMap as map
 use Rattle.std.proofs.Math.Nat.{min-le_left, min-le_right}
 use Rattle.std.proofs.lemmas.List.{length-take, length-drop, length-append, length-replicate}
 use Rattle.std.proofs.lemmas.List.Elements.{All-take, All-drop, All-append, All-replicate}
-use Rattle.views.specs.Limits.{ALL_FILES_LIMIT}
-use Rattle.plain_process.specs.Valid.{IsByte}
+use Rattle.plain_tables.specs.OfViews.Limits.{ALL_FILES_LIMIT}
+use Rattle.plain_tables.specs.OfPlainProcess.Valid.{IsByte}
 use Rattle.plain_machine.specs.declared.kernel.PlainKernel.{PlainKernel}
 use Rattle.plain_tables.specs.declared.description.Object.TheVariants.{File}
 use Rattle.plain_machine.specs.Kernel.{Held}

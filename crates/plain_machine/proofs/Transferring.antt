@@ -6,21 +6,21 @@ use Rattle.std.proofs.Common.{◌≡◌, ℕ, ◌≤◌, Bool, true, false, cond
 use Rattle.std.specs.Prelude.{not, min, is_some, All}
 use Rattle.std.specs.FinMap as map
 use Rattle.std.proofs.lemmas.List.Elements.{All-nil}
-use Rattle.sys_abi.specs.declared.identity.VPid.{VPid}
-use Rattle.sys_abi.specs.declared.errors.TheConstants.{EAGAIN, EPIPE}
-use Rattle.sys_abi.specs.declared.flags.TheConstants.{O_NONBLOCK}
-use Rattle.sys_abi.specs.declared.signals.TheConstants.{SIGPIPE}
-use Rattle.sys_abi.specs.declared.reply.Reply.TheVariants.{Value}
-use Rattle.call_table.specs.declared.request.Request.{Request}
-use Rattle.call_table.specs.declared.request.Request.TheVariants.{Read}
-use Rattle.sys_abi.specs.declared.transfer.TheConstants.{TRANSFER_LIMIT}
-use Rattle.sys_abi.specs.Flags.{has_flag}
+use Rattle.plain_tables.specs.OfSysAbi.declared.identity.VPid.{VPid}
+use Rattle.plain_tables.specs.OfSysAbi.declared.errors.TheConstants.{EAGAIN, EPIPE}
+use Rattle.plain_tables.specs.OfSysAbi.declared.flags.TheConstants.{O_NONBLOCK}
+use Rattle.plain_tables.specs.OfSysAbi.declared.signals.TheConstants.{SIGPIPE}
+use Rattle.plain_tables.specs.OfSysAbi.declared.reply.Reply.TheVariants.{Value}
+use Rattle.plain_tables.specs.OfCallTable.declared.request.Request.{Request}
+use Rattle.plain_tables.specs.OfCallTable.declared.request.Request.TheVariants.{Read}
+use Rattle.plain_tables.specs.OfSysAbi.declared.transfer.TheConstants.{TRANSFER_LIMIT}
+use Rattle.plain_tables.specs.OfSysAbi.Flags.{has_flag}
 use Rattle.plain_machine.specs.declared.kernel.PlainKernel.{PlainKernel}
 use Rattle.plain_tables.specs.Tables.{raised_at}
-use Rattle.plain_process.specs.Attempts.{Try, Fails, NotReady, Gives, and_then}
-use Rattle.plain_process.specs.Buffers.{fills_of, writes_of, filled_spans}
-use Rattle.plain_process.specs.Put.{error}
-use Rattle.plain_process.specs.Valid.{IsByte}
+use Rattle.plain_tables.specs.OfPlainProcess.Attempts.{Try, Fails, NotReady, Gives, and_then}
+use Rattle.plain_tables.specs.OfPlainProcess.Buffers.{fills_of, writes_of, filled_spans}
+use Rattle.plain_tables.specs.OfPlainProcess.Put.{error}
+use Rattle.plain_tables.specs.OfPlainProcess.Valid.{IsByte}
 use Rattle.plain_machine.specs.Attempts.{Served, refused, settled}
 use Rattle.plain_machine.specs.Kernel.{has_thread, after_raise}
 use Rattle.plain_machine.specs.Kernels.{IsKernel}

@@ -1,7 +1,7 @@
 -- What is true of the value of an attempt, where it gives one: through the tests of a row, one after the other.
 --     succeeds, fails      of a value, of an error      after      through a test that may refuse
 use Rattle.std.proofs.Common.{◌≡◌, ℕ, refl, subst}
-use Rattle.plain_process.specs.Attempts.{Try, Fails, NotReady, Gives, and_then}
+use Rattle.plain_tables.specs.OfPlainProcess.Attempts.{Try, Fails, NotReady, Gives, and_then}
 
 pub record Trying {A : Type 0} (attempt : Try A) (P : A → Type 0) : Type 0 where
   pub each : (a : A) → attempt ≡ Gives a → P a

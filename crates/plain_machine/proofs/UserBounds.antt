@@ -7,16 +7,16 @@ use Rattle.std.specs.Cmp.{nat_cmp_total}
 use Rattle.std.specs.FinMap as map
 use Rattle.std.proofs.lemmas.Bool.{cases_lt}
 use Rattle.std.proofs.lemmas.Bool.Decides.{nat_tests}
-use Rattle.views.proofs.MapLaws.{get_remove_other, true_false}
-use Rattle.plain_process.specs.declared.user_part.UserPart.{UserPart}
-use Rattle.plain_process.specs.declared.user_part.ThreadPart.{ThreadPart}
-use Rattle.plain_process.specs.declared.user_part.Waiter.{Waiter}
-use Rattle.plain_process.specs.Instructions.{Effect, Next, Calls, Traps}
-use Rattle.plain_process.specs.Deliveries.{traps_with}
-use Rattle.plain_process.specs.Steps.{effect_at, UserStep, Waits, waits, with_regs, step_by, step_of, user_step, stepped, user_steps}
-use Rattle.plain_process.specs.Valid.{IsUser}
+use Rattle.plain_tables.proofs.OfViews.MapLaws.{get_remove_other, true_false}
+use Rattle.plain_tables.specs.OfPlainProcess.declared.user_part.UserPart.{UserPart}
+use Rattle.plain_tables.specs.OfPlainProcess.declared.user_part.ThreadPart.{ThreadPart}
+use Rattle.plain_tables.specs.OfPlainProcess.declared.user_part.Waiter.{Waiter}
+use Rattle.plain_tables.specs.OfPlainProcess.Instructions.{Effect, Next, Calls, Traps}
+use Rattle.plain_tables.specs.OfPlainProcess.Deliveries.{traps_with}
+use Rattle.plain_tables.specs.OfPlainProcess.Steps.{effect_at, UserStep, Waits, waits, with_regs, step_by, step_of, user_step, stepped, user_steps}
+use Rattle.plain_tables.specs.OfPlainProcess.Valid.{IsUser}
 use Rattle.plain_machine.specs.Laws.{UserStepsKeepUser, WaitersAreFew}
-use Rattle.plain_process.proofs.Giving.{Giving, gives, nothing, then_}
+use Rattle.plain_tables.proofs.OfPlainProcess.Giving.{Giving, gives, nothing, then_}
 use Rattle.plain_machine.proofs.EffectBounds.{Keeps, keeps_at}
 use Rattle.plain_machine.proofs.UserParts.{Follows, follows_itself, then_follows, memory_of, thread_follows}
 use Rattle.plain_machine.proofs.ThreadEnds.{thread_with}

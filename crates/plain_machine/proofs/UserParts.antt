@@ -12,17 +12,17 @@ use Rattle.std.proofs.lemmas.Bool.Decides.{nat_tests}
 use Rattle.std.proofs.lemmas.List.Elements.{All-nil, All-cons, All-append, All-filter, filter_passes}
 use Rattle.std.proofs.lemmas.List.Kept.{AllPairs-filter}
 use Rattle.std.proofs.lemmas.List.Quantifiers.{all_pairs_push}
-use Rattle.views.proofs.MapLaws.{get_insert_same, get_insert_other, get_remove_same, get_remove_other, same_or_other}
-use Rattle.plain_process.specs.declared.user_part.UserPart.{UserPart}
-use Rattle.plain_process.specs.declared.user_part.ThreadPart.{ThreadPart}
-use Rattle.plain_process.specs.declared.user_part.SignalAction.{SignalAction}
-use Rattle.plain_process.specs.declared.user_part.Waiter.{Waiter}
-use Rattle.plain_process.specs.Memory.{Memory}
-use Rattle.plain_process.specs.Threads.{with_waiters, without_waiter, without_thread}
-use Rattle.plain_process.specs.Steps.{with_thread}
-use Rattle.plain_process.specs.Start.{RETURN_PAGE, return_frame}
-use Rattle.plain_process.specs.Valid.{IsWord, IsThread, IsAction, IsWaiter, IsHeap, IsUser, Each}
-use Rattle.plain_process.proofs.MemoryBounds.{IsMemory}
+use Rattle.plain_tables.proofs.OfViews.MapLaws.{get_insert_same, get_insert_other, get_remove_same, get_remove_other, same_or_other}
+use Rattle.plain_tables.specs.OfPlainProcess.declared.user_part.UserPart.{UserPart}
+use Rattle.plain_tables.specs.OfPlainProcess.declared.user_part.ThreadPart.{ThreadPart}
+use Rattle.plain_tables.specs.OfPlainProcess.declared.user_part.SignalAction.{SignalAction}
+use Rattle.plain_tables.specs.OfPlainProcess.declared.user_part.Waiter.{Waiter}
+use Rattle.plain_tables.specs.OfPlainProcess.Memory.{Memory}
+use Rattle.plain_tables.specs.OfPlainProcess.Threads.{with_waiters, without_waiter, without_thread}
+use Rattle.plain_tables.specs.OfPlainProcess.Steps.{with_thread}
+use Rattle.plain_tables.specs.OfPlainProcess.Start.{RETURN_PAGE, return_frame}
+use Rattle.plain_tables.specs.OfPlainProcess.Valid.{IsWord, IsThread, IsAction, IsWaiter, IsHeap, IsUser, Each}
+use Rattle.plain_tables.proofs.OfPlainProcess.MemoryBounds.{IsMemory}
 use Rattle.plain_machine.proofs.MemoryPages.{KeepsPages, same_pages}
 use Rattle.plain_machine.specs.RowLaws.{with_one}
 use Rattle.plain_machine.proofs.ThreadKeys.{there_with, same_there}

@@ -4,11 +4,11 @@ use Rattle.std.proofs.Common.{◌≡◌, ℕ, ◌+◌, ◌^◌, ◌<◌, ◌≤�
 use Rattle.std.specs.Prelude.{Option, Some, None, is_some}
 use Rattle.std.specs.Cmp.{nat_cmp_total}
 use Rattle.std.specs.FinMap as map
-use Rattle.views.proofs.MapLaws.{true_false}
-use Rattle.sys_abi.specs.declared.identity.VPid.{VPid}
-use Rattle.sys_abi.specs.declared.identity.Dir.{Dir}
-use Rattle.sys_abi.specs.Lives.{lives}
-use Rattle.sys_abi.specs.Signals.{has_signal, without_signal}
+use Rattle.plain_tables.proofs.OfViews.MapLaws.{true_false}
+use Rattle.plain_tables.specs.OfSysAbi.declared.identity.VPid.{VPid}
+use Rattle.plain_tables.specs.OfSysAbi.declared.identity.Dir.{Dir}
+use Rattle.plain_tables.specs.OfSysAbi.Lives.{lives}
+use Rattle.plain_tables.specs.OfSysAbi.Signals.{has_signal, without_signal}
 use Rattle.plain_machine.specs.declared.kernel.PlainKernel.{PlainKernel}
 use Rattle.plain_tables.specs.declared.process.Process.{Process}
 use Rattle.plain_tables.specs.declared.channel.Direction.{Direction}

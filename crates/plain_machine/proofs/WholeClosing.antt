@@ -5,16 +5,16 @@ use Rattle.std.proofs.Common.{◌≡◌, ℕ, ◌<◌, Bool, true, false, cond, 
 use Rattle.std.specs.Prelude.{zero, suc, Option, Some, None, is_some}
 use Rattle.std.specs.Cmp.{nat_cmp_total}
 use Rattle.std.specs.FinMap as map
-use Rattle.views.proofs.MapValues.{some_among-values}
-use Rattle.views.proofs.MapLaws.{key_tied, get_remove_same, same_or_other, true_false}
-use Rattle.sys_abi.specs.declared.identity.VPid.{VPid}
-use Rattle.sys_abi.specs.declared.identity.Slot.{Slot}
-use Rattle.sys_abi.specs.declared.identity.DescId.{DescId}
-use Rattle.sys_abi.specs.declared.identity.ConnId.{ConnId}
-use Rattle.sys_abi.specs.declared.identity.VirtAddr.{VirtAddr}
-use Rattle.sys_abi.proofs.OrderLaws.{slot_total, slot_exact, desc_total, desc_exact, address_total, address_exact}
+use Rattle.plain_tables.proofs.OfViews.MapValues.{some_among-values}
+use Rattle.plain_tables.proofs.OfViews.MapLaws.{key_tied, get_remove_same, same_or_other, true_false}
+use Rattle.plain_tables.specs.OfSysAbi.declared.identity.VPid.{VPid}
+use Rattle.plain_tables.specs.OfSysAbi.declared.identity.Slot.{Slot}
+use Rattle.plain_tables.specs.OfSysAbi.declared.identity.DescId.{DescId}
+use Rattle.plain_tables.specs.OfSysAbi.declared.identity.ConnId.{ConnId}
+use Rattle.plain_tables.specs.OfSysAbi.declared.identity.VirtAddr.{VirtAddr}
+use Rattle.plain_tables.proofs.OfSysAbi.OrderLaws.{slot_total, slot_exact, desc_total, desc_exact, address_total, address_exact}
 use Rattle.plain_machine.specs.declared.kernel.PlainKernel.{PlainKernel}
-use Rattle.sys_abi.specs.declared.descriptor.Descriptor.{Descriptor}
+use Rattle.plain_tables.specs.OfSysAbi.declared.descriptor.Descriptor.{Descriptor}
 use Rattle.plain_tables.specs.declared.description.Description.{Description}
 use Rattle.plain_tables.specs.declared.description.Object.{Object}
 use Rattle.plain_tables.specs.declared.description.Object.TheVariants.{Console, File, Stream, Socket, Listener, Datagram, Counter}

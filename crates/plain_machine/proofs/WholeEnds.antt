@@ -5,16 +5,16 @@ use Rattle.std.proofs.Common.{◌≡◌, ◌≢◌, ℕ, ◌^◌, ◌<◌, ◌�
 use Rattle.std.specs.Prelude.{◌==◌, nat_le, Option, Some, None, option_map}
 use Rattle.std.specs.FinMap as map
 use Rattle.std.proofs.lemmas.Bool.Decides.{nat_tests}
-use Rattle.views.specs.Limits.{DESCRIPTOR_LIMIT}
-use Rattle.views.proofs.MapLaws.{true_false}
-use Rattle.views.proofs.MapValues.{get-map_values}
-use Rattle.sys_abi.specs.declared.identity.VPid.{VPid}
-use Rattle.sys_abi.specs.declared.identity.DescId.{DescId}
-use Rattle.sys_abi.specs.declared.signals.TheConstants.{SIGCHLD}
-use Rattle.sys_abi.specs.declared.life.Life.{Life}
-use Rattle.sys_abi.specs.declared.life.Life.TheVariants.{Live, Zombie}
-use Rattle.sys_abi.specs.Lives.{lives}
-use Rattle.plain_process.specs.Valid.{Each}
+use Rattle.plain_tables.specs.OfViews.Limits.{DESCRIPTOR_LIMIT}
+use Rattle.plain_tables.proofs.OfViews.MapLaws.{true_false}
+use Rattle.plain_tables.proofs.OfViews.MapValues.{get-map_values}
+use Rattle.plain_tables.specs.OfSysAbi.declared.identity.VPid.{VPid}
+use Rattle.plain_tables.specs.OfSysAbi.declared.identity.DescId.{DescId}
+use Rattle.plain_tables.specs.OfSysAbi.declared.signals.TheConstants.{SIGCHLD}
+use Rattle.plain_tables.specs.OfSysAbi.declared.life.Life.{Life}
+use Rattle.plain_tables.specs.OfSysAbi.declared.life.Life.TheVariants.{Live, Zombie}
+use Rattle.plain_tables.specs.OfSysAbi.Lives.{lives}
+use Rattle.plain_tables.specs.OfPlainProcess.Valid.{Each}
 use Rattle.plain_machine.specs.declared.kernel.PlainKernel.{PlainKernel}
 use Rattle.plain_tables.specs.declared.process.Process.{Process}
 use Rattle.plain_tables.specs.declared.description.Description.{Description}

@@ -5,9 +5,9 @@ use Rattle.std.specs.Prelude.{◌==◌, ◌&&◌, nat_lt, Some, is_some}
 use Rattle.std.specs.FinMap as map
 use Rattle.std.proofs.lemmas.Bool.Decides.{nat_tests}
 use Rattle.std.proofs.lemmas.List.Elements.{All-nil}
-use Rattle.sys_abi.specs.declared.identity.ConnId.{ConnId}
-use Rattle.sys_abi.specs.declared.identity.Dir.{Dir}
-use Rattle.sys_abi.proofs.OrderLaws.{dir_total, dir_exact}
+use Rattle.plain_tables.specs.OfSysAbi.declared.identity.ConnId.{ConnId}
+use Rattle.plain_tables.specs.OfSysAbi.declared.identity.Dir.{Dir}
+use Rattle.plain_tables.proofs.OfSysAbi.OrderLaws.{dir_total, dir_exact}
 use Rattle.plain_machine.specs.declared.kernel.PlainKernel.{PlainKernel}
 use Rattle.plain_tables.specs.declared.channel.Channel.{Channel}
 use Rattle.plain_tables.specs.declared.channel.Direction.{Direction}
@@ -15,7 +15,7 @@ use Rattle.plain_tables.specs.Tables.{Channels, Directions, changed_by, changed_
 use Rattle.plain_tables.specs.Objects.{dir}
 use Rattle.plain_tables.specs.Closing.{with_end, without_reader, silenced}
 use Rattle.plain_tables.specs.Valid.Channels.{AreChannels, IsDirection}
-use Rattle.plain_process.specs.Valid.{IsByte}
+use Rattle.plain_tables.specs.OfPlainProcess.Valid.{IsByte}
 use Rattle.plain_machine.specs.Kernels.{IsKernel}
 use Rattle.plain_machine.specs.Rows.Sockets.{shut}
 use Rattle.plain_tables.proofs.DirectionChanges.{direction_keeps}

@@ -7,22 +7,22 @@ use Rattle.std.specs.Cmp.{nat_cmp_total}
 use Rattle.std.specs.FinMap as map
 use Rattle.std.proofs.lemmas.List.Sums.{sum_by-cons}
 use Rattle.std.proofs.lemmas.List.Elements.{All-head, All-tail}
-use Rattle.views.proofs.MapLaws.{get_insert_same, get_insert_other, same_key, true_false}
-use Rattle.views.proofs.MapValues.{none_among-values}
-use Rattle.sys_abi.specs.declared.identity.VPid.{VPid}
-use Rattle.sys_abi.specs.declared.identity.Slot.{Slot}
-use Rattle.sys_abi.specs.declared.identity.DescId.{DescId}
-use Rattle.sys_abi.specs.declared.flags.TheConstants.{O_RDWR}
-use Rattle.sys_abi.specs.Orders.{vpid_cmp, desc_cmp, conn_cmp, dir_cmp, address_cmp}
-use Rattle.sys_abi.specs.Names.{name_cmp}
-use Rattle.sys_abi.proofs.OrderLaws.{vpid_total, vpid_exact, slot_total, slot_exact, desc_total, desc_exact, conn_total, conn_exact, dir_total, dir_exact, address_total, address_exact, name_total, name_exact}
-use Rattle.plain_process.specs.Start.{Launched}
-use Rattle.plain_process.specs.Launches.{IsLaunched}
-use Rattle.plain_process.specs.Valid.{IsByte}
+use Rattle.plain_tables.proofs.OfViews.MapLaws.{get_insert_same, get_insert_other, same_key, true_false}
+use Rattle.plain_tables.proofs.OfViews.MapValues.{none_among-values}
+use Rattle.plain_tables.specs.OfSysAbi.declared.identity.VPid.{VPid}
+use Rattle.plain_tables.specs.OfSysAbi.declared.identity.Slot.{Slot}
+use Rattle.plain_tables.specs.OfSysAbi.declared.identity.DescId.{DescId}
+use Rattle.plain_tables.specs.OfSysAbi.declared.flags.TheConstants.{O_RDWR}
+use Rattle.plain_tables.specs.OfSysAbi.Orders.{vpid_cmp, desc_cmp, conn_cmp, dir_cmp, address_cmp}
+use Rattle.plain_tables.specs.OfSysAbi.Names.{name_cmp}
+use Rattle.plain_tables.proofs.OfSysAbi.OrderLaws.{vpid_total, vpid_exact, slot_total, slot_exact, desc_total, desc_exact, conn_total, conn_exact, dir_total, dir_exact, address_total, address_exact, name_total, name_exact}
+use Rattle.plain_tables.specs.OfPlainProcess.Start.{Launched}
+use Rattle.plain_tables.specs.OfPlainProcess.Launches.{IsLaunched}
+use Rattle.plain_tables.specs.OfPlainProcess.Valid.{IsByte}
 use Rattle.plain_machine.specs.declared.kernel.PlainKernel.{PlainKernel}
 use Rattle.plain_tables.specs.declared.process.Process.{Process}
-use Rattle.sys_abi.specs.declared.maker.Maker.{Maker}
-use Rattle.sys_abi.specs.declared.descriptor.Descriptor.{Descriptor}
+use Rattle.plain_tables.specs.OfSysAbi.declared.maker.Maker.{Maker}
+use Rattle.plain_tables.specs.OfSysAbi.declared.descriptor.Descriptor.{Descriptor}
 use Rattle.plain_tables.specs.declared.description.Description.{Description}
 use Rattle.plain_tables.specs.declared.description.Object.{Object}
 use Rattle.plain_tables.specs.declared.description.Object.TheVariants.{Console, Datagram}

@@ -6,25 +6,25 @@ use Rattle.std.specs.FinMap as map
 use Rattle.std.proofs.lemmas.Bool.Decides.{nat_tests}
 use Rattle.std.proofs.lemmas.List.{length-take, length-drop, length-append, drop_all}
 use Rattle.std.proofs.lemmas.List.Elements.{All-take, All-drop, All-append}
-use Rattle.views.specs.Limits.{DIRECTION_LIMIT}
-use Rattle.views.proofs.MapLaws.{get_insert_same, true_false}
-use Rattle.sys_abi.specs.declared.identity.VPid.{VPid}
-use Rattle.sys_abi.specs.declared.identity.Dir.{Dir}
-use Rattle.sys_abi.specs.declared.identity.ConnId.{ConnId}
-use Rattle.sys_abi.specs.declared.identity.VirtAddr.{VirtAddr}
-use Rattle.sys_abi.proofs.OrderLaws.{conn_total, conn_exact}
+use Rattle.plain_tables.specs.OfViews.Limits.{DIRECTION_LIMIT}
+use Rattle.plain_tables.proofs.OfViews.MapLaws.{get_insert_same, true_false}
+use Rattle.plain_tables.specs.OfSysAbi.declared.identity.VPid.{VPid}
+use Rattle.plain_tables.specs.OfSysAbi.declared.identity.Dir.{Dir}
+use Rattle.plain_tables.specs.OfSysAbi.declared.identity.ConnId.{ConnId}
+use Rattle.plain_tables.specs.OfSysAbi.declared.identity.VirtAddr.{VirtAddr}
+use Rattle.plain_tables.proofs.OfSysAbi.OrderLaws.{conn_total, conn_exact}
 use Rattle.plain_machine.specs.declared.kernel.PlainKernel.{PlainKernel}
 use Rattle.plain_machine.specs.declared.new_end.NewEnd.{NewEnd}
 use Rattle.plain_tables.specs.declared.channel.Channel.{Channel}
 use Rattle.plain_tables.specs.declared.channel.ChannelKind.{ChannelKind}
 use Rattle.plain_tables.specs.declared.channel.ChannelKind.TheVariants.{Pipe}
 use Rattle.plain_tables.specs.declared.channel.Direction.{Direction}
-use Rattle.sys_abi.specs.declared.maker.Maker.{Maker}
+use Rattle.plain_tables.specs.OfSysAbi.declared.maker.Maker.{Maker}
 use Rattle.plain_tables.specs.Tables.{Channels}
 use Rattle.plain_tables.specs.Objects.{end_of, host_of_end}
 use Rattle.plain_tables.specs.Valid.Descriptions.{AreFlags}
 use Rattle.plain_tables.specs.Valid.Channels.{HasAddress, MayBeEnd, IsDirection}
-use Rattle.plain_process.specs.Valid.{IsByte}
+use Rattle.plain_tables.specs.OfPlainProcess.Valid.{IsByte}
 use Rattle.plain_machine.specs.Kernel.{is_live, made_of, has_numbers, numbered}
 use Rattle.plain_machine.specs.Channels.{open_end, open_channel, with_direction}
 use Rattle.plain_machine.specs.Kernels.{IsKernel}

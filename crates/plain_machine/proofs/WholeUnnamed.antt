@@ -5,10 +5,10 @@ use Rattle.std.specs.Prelude.{◌==◌, ◌||◌, Some, is_some}
 use Rattle.std.specs.Cmp.{nat_cmp_total}
 use Rattle.std.specs.FinMap as map
 use Rattle.std.proofs.lemmas.Bool.Decides.{nat_tests}
-use Rattle.views.proofs.MapLaws.{get_remove_other, same_or_other, true_false}
-use Rattle.views.proofs.MapValues.{some_among-values}
-use Rattle.sys_abi.specs.declared.identity.DescId.{DescId}
-use Rattle.sys_abi.proofs.OrderLaws.{desc_total, desc_exact, name_total, name_exact}
+use Rattle.plain_tables.proofs.OfViews.MapLaws.{get_remove_other, same_or_other, true_false}
+use Rattle.plain_tables.proofs.OfViews.MapValues.{some_among-values}
+use Rattle.plain_tables.specs.OfSysAbi.declared.identity.DescId.{DescId}
+use Rattle.plain_tables.proofs.OfSysAbi.OrderLaws.{desc_total, desc_exact, name_total, name_exact}
 use Rattle.plain_machine.specs.declared.kernel.PlainKernel.{PlainKernel}
 use Rattle.plain_tables.specs.declared.description.Description.{Description}
 use Rattle.plain_tables.specs.declared.description.Object.{Object}

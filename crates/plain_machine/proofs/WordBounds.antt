@@ -6,8 +6,8 @@ use Rattle.std.specs.Int.{int_div_euclid}
 use Rattle.std.proofs.Math.Nat.{div-le_self, mod-le}
 use Rattle.std.proofs.lemmas.Nat.{mul-lt, shr_below}
 use Rattle.std.proofs.lemmas.Bool.Decides.{nat_tests}
-use Rattle.plain_process.specs.Valid.{IsWord}
-use Rattle.plain_process.specs.Instructions.{signed, word, shifted_down, one_if, sign_extended}
+use Rattle.plain_tables.specs.OfPlainProcess.Valid.{IsWord}
+use Rattle.plain_tables.specs.OfPlainProcess.Instructions.{signed, word, shifted_down, one_if, sign_extended}
 
 -- an integer is below n, as every negative one is
 abbrev IsBelow : ℕ → ℤ → Type 0

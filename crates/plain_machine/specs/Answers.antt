@@ -5,7 +5,7 @@
 --     answer_told k given answer        what an answer tells of the call, settled
 use Rattle.std.specs.Prelude.{◌≡◌, ℕ, List, [], Option, Some, None, if◌then◌else◌}
 use Rattle.plain_machine.specs.declared.kernel.PlainKernel.{PlainKernel}
-use Rattle.plain_process.specs.Attempts.{Try, Fails, NotReady, Gives}
+use Rattle.plain_tables.specs.OfPlainProcess.Attempts.{Try, Fails, NotReady, Gives}
 use Rattle.plain_machine.specs.Attempts.{Served}
 use Rattle.plain_tables.specs.declared.answer.Answer.{Answer}
 use Rattle.plain_tables.specs.declared.answer.Attempt.{Attempt}

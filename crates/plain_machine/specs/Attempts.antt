@@ -3,11 +3,11 @@
 --     settled k m      what the row says of the kernel part k: an error leaves it as it is, and nothing where
 --                      the call waits
 use Rattle.std.specs.Prelude.{ℕ, List, [], Option, Some, None}
-use Rattle.views.specs.Numbers.{Byte}
-use Rattle.sys_abi.specs.declared.reply.Reply.{Reply}
-use Rattle.sys_abi.specs.declared.reply.Reply.TheVariants.{Value, Error}
+use Rattle.plain_tables.specs.OfViews.Numbers.{Byte}
+use Rattle.plain_tables.specs.OfSysAbi.declared.reply.Reply.{Reply}
+use Rattle.plain_tables.specs.OfSysAbi.declared.reply.Reply.TheVariants.{Value, Error}
 use Rattle.plain_machine.specs.declared.kernel.PlainKernel.{PlainKernel}
-use Rattle.plain_process.specs.Attempts.{Try, Fails, NotReady, Gives}
+use Rattle.plain_tables.specs.OfPlainProcess.Attempts.{Try, Fails, NotReady, Gives}
 
 -- the kernel part after a call, its answer, the bytes for the guest, and those for the console
 pub record Served : Type 0 where

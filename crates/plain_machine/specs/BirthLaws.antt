@@ -2,16 +2,16 @@
 -- `Laws`: a process begins by a fork alone, and ends by its own records alone.
 use Rattle.std.specs.Prelude.{◌≡◌, true, false, Some, None}
 use Rattle.std.specs.FinMap as map
-use Rattle.sys_abi.specs.declared.identity.VPid.{VPid}
-use Rattle.sys_abi.specs.declared.identity.Tid.{Tid}
-use Rattle.sys_abi.specs.declared.record.Record.{Record}
-use Rattle.sys_abi.specs.declared.record.Record.TheVariants.{Call}
-use Rattle.sys_abi.specs.declared.reply.Reply.{Reply}
-use Rattle.call_table.specs.declared.request.Request.{Request}
-use Rattle.plain_process.specs.declared.user_part.UserPart.{UserPart}
-use Rattle.plain_process.specs.Put.{made_by}
-use Rattle.plain_process.specs.Steps.{Asks, user_step}
-use Rattle.plain_process.specs.Threads.{child_of}
+use Rattle.plain_tables.specs.OfSysAbi.declared.identity.VPid.{VPid}
+use Rattle.plain_tables.specs.OfSysAbi.declared.identity.Tid.{Tid}
+use Rattle.plain_tables.specs.OfSysAbi.declared.record.Record.{Record}
+use Rattle.plain_tables.specs.OfSysAbi.declared.record.Record.TheVariants.{Call}
+use Rattle.plain_tables.specs.OfSysAbi.declared.reply.Reply.{Reply}
+use Rattle.plain_tables.specs.OfCallTable.declared.request.Request.{Request}
+use Rattle.plain_tables.specs.OfPlainProcess.declared.user_part.UserPart.{UserPart}
+use Rattle.plain_tables.specs.OfPlainProcess.Put.{made_by}
+use Rattle.plain_tables.specs.OfPlainProcess.Steps.{Asks, user_step}
+use Rattle.plain_tables.specs.OfPlainProcess.Threads.{child_of}
 use Rattle.plain_tables.specs.Tables.{pid}
 use Rattle.plain_machine.specs.declared.plain.Plain.{Plain}
 use Rattle.plain_machine.specs.Kernel.{is_live}

@@ -2,9 +2,9 @@
 -- Source: `man 2 socketpair`, `man 7 pipe`, `man 2 close`.
 use Rattle.std.specs.Prelude.{ℕ, ◌+◌, true, false, List, [], Option, Some, None}
 use Rattle.std.specs.FinMap as map
-use Rattle.sys_abi.specs.declared.identity.ConnId.{ConnId}
-use Rattle.sys_abi.specs.declared.identity.Dir.{Dir}
-use Rattle.sys_abi.specs.declared.identity.VirtAddr.{VirtAddr}
+use Rattle.plain_tables.specs.OfSysAbi.declared.identity.ConnId.{ConnId}
+use Rattle.plain_tables.specs.OfSysAbi.declared.identity.Dir.{Dir}
+use Rattle.plain_tables.specs.OfSysAbi.declared.identity.VirtAddr.{VirtAddr}
 use Rattle.plain_machine.specs.declared.kernel.PlainKernel.{PlainKernel}
 use Rattle.plain_tables.specs.declared.channel.Channel.{Channel}
 use Rattle.plain_tables.specs.declared.channel.ChannelEnd.{ChannelEnd}

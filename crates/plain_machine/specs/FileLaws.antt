@@ -3,13 +3,13 @@
 --     shape object      what all tables but the files see of an object
 use Rattle.std.specs.Prelude.{◌≡◌, ℕ, ◌+◌, ◌%◌, ◌^◌, ◌<◌, ◌≤◌, Bool, true, List, length, sum_by, Some, None, All}
 use Rattle.std.specs.FinMap as map
-use Rattle.views.specs.Limits.{ALL_FILES_LIMIT, DESCRIPTOR_LIMIT}
-use Rattle.sys_abi.specs.declared.identity.VPid.{VPid}
-use Rattle.sys_abi.specs.declared.identity.Slot.{Slot}
-use Rattle.sys_abi.specs.declared.identity.DescId.{DescId}
-use Rattle.plain_process.specs.Valid.{IsByte}
+use Rattle.plain_tables.specs.OfViews.Limits.{ALL_FILES_LIMIT, DESCRIPTOR_LIMIT}
+use Rattle.plain_tables.specs.OfSysAbi.declared.identity.VPid.{VPid}
+use Rattle.plain_tables.specs.OfSysAbi.declared.identity.Slot.{Slot}
+use Rattle.plain_tables.specs.OfSysAbi.declared.identity.DescId.{DescId}
+use Rattle.plain_tables.specs.OfPlainProcess.Valid.{IsByte}
 use Rattle.plain_machine.specs.declared.kernel.PlainKernel.{PlainKernel}
-use Rattle.sys_abi.specs.declared.descriptor.Descriptor.{Descriptor}
+use Rattle.plain_tables.specs.OfSysAbi.declared.descriptor.Descriptor.{Descriptor}
 use Rattle.plain_tables.specs.declared.description.Description.{Description}
 use Rattle.plain_tables.specs.declared.description.Object.{Object}
 use Rattle.plain_tables.specs.declared.description.Object.TheVariants.{File, Counter}

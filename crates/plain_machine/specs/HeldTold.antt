@@ -1,10 +1,10 @@
 -- What code tells of a descriptor that a process holds: the descriptor itself and its description.
 --     held_of, held_told
 use Rattle.std.specs.Prelude.{Option, Some, None}
-use Rattle.sys_abi.specs.declared.errors.TheConstants.{EBADF}
-use Rattle.sys_abi.specs.declared.descriptor.Descriptor.{Descriptor}
+use Rattle.plain_tables.specs.OfSysAbi.declared.errors.TheConstants.{EBADF}
+use Rattle.plain_tables.specs.OfSysAbi.declared.descriptor.Descriptor.{Descriptor}
 use Rattle.plain_tables.specs.declared.description.Description.{Description}
-use Rattle.plain_process.specs.Attempts.{Try, Fails, Gives}
+use Rattle.plain_tables.specs.OfPlainProcess.Attempts.{Try, Fails, Gives}
 use Rattle.plain_machine.specs.Kernel.{Held}
 
 abbrev pub held_of : Descriptor × Description → Held

@@ -4,15 +4,15 @@
 use Rattle.std.specs.Prelude.{ℕ, zero, suc, ◌+◌, ◌-◌, ◌^◌, Bool, ◌&&◌, nat_lt, Option, Some, None, is_some, option_and_then, if◌then◌else◌}
 use Rattle.std.specs.Option.{option_map_or}
 use Rattle.std.specs.FinMap as map
-use Rattle.views.specs.Numbers.{ThreadNumber, SignalNumber, Flags}
-use Rattle.views.specs.Limits.{DESCRIPTOR_LIMIT}
-use Rattle.sys_abi.specs.declared.identity.VPid.{VPid}
+use Rattle.plain_tables.specs.OfViews.Numbers.{ThreadNumber, SignalNumber, Flags}
+use Rattle.plain_tables.specs.OfViews.Limits.{DESCRIPTOR_LIMIT}
+use Rattle.plain_tables.specs.OfSysAbi.declared.identity.VPid.{VPid}
 use Rattle.plain_machine.specs.declared.kernel.PlainKernel.{PlainKernel}
 use Rattle.plain_tables.specs.declared.process.Process.{Process}
-use Rattle.sys_abi.specs.declared.identity.DescId.{DescId}
-use Rattle.sys_abi.specs.declared.errors.TheConstants.{EBADF, EMFILE}
-use Rattle.plain_process.specs.Attempts.{Try, Gives, found, ◌>>=◌}
-use Rattle.sys_abi.specs.declared.descriptor.Descriptor.{Descriptor}
+use Rattle.plain_tables.specs.OfSysAbi.declared.identity.DescId.{DescId}
+use Rattle.plain_tables.specs.OfSysAbi.declared.errors.TheConstants.{EBADF, EMFILE}
+use Rattle.plain_tables.specs.OfPlainProcess.Attempts.{Try, Gives, found, ◌>>=◌}
+use Rattle.plain_tables.specs.OfSysAbi.declared.descriptor.Descriptor.{Descriptor}
 use Rattle.plain_tables.specs.declared.description.Description.{Description}
 use Rattle.plain_tables.specs.declared.description.Object.{Object}
 use Rattle.plain_tables.specs.Tables.{Descriptors, pid, slot, is_live_process, pending_in, taken_from, raised_at, raised_for_all, changed_at, thread_count_in, has_thread_in, with_thread_entry, same_host, made_more}

@@ -2,8 +2,8 @@
 -- Source: the limits of docs/MACHINE.md.
 --     IsKernel k      all of it      AreNamed files      what a job's named files need
 use Rattle.std.specs.Prelude.{◌≢◌, ◌≤◌, List, length, sum_by, All, AllPairs}
-use Rattle.views.specs.Limits.{NAMED_FILE_LIMIT, ALL_FILES_LIMIT}
-use Rattle.plain_process.specs.Valid.{IsByte}
+use Rattle.plain_tables.specs.OfViews.Limits.{NAMED_FILE_LIMIT, ALL_FILES_LIMIT}
+use Rattle.plain_tables.specs.OfPlainProcess.Valid.{IsByte}
 use Rattle.plain_machine.specs.declared.kernel.PlainKernel.{PlainKernel}
 use Rattle.plain_machine.specs.Start.{NamedFile}
 use Rattle.plain_tables.specs.Valid.Processes.{AreNumbers, AreProcesses, AreMakers, AreParents}

@@ -1,34 +1,34 @@
 -- Laws of runs, each of which the contract of `run_laws` promises.
 use Rattle.std.specs.Prelude.{◌≡◌, ◌≢◌, ◌<◌, ◌≤◌, ℕ, Bool, true, List, [], ◌∷◌, ◌++◌, length, Option, Some, None, is_some, All}
 use Rattle.std.specs.FinMap as map
-use Rattle.views.specs.Limits.{HOST_LIMIT, PROCESS_LIMIT}
-use Rattle.sys_abi.specs.declared.identity.VPid.{VPid}
-use Rattle.sys_abi.specs.declared.reply.Reply.{Reply}
-use Rattle.call_table.specs.declared.request.Request.{Request}
-use Rattle.sys_abi.specs.declared.record.Record.{Record}
-use Rattle.sys_abi.specs.declared.record.Record.TheVariants.{User, Call, Deliver}
+use Rattle.plain_tables.specs.OfViews.Limits.{HOST_LIMIT, PROCESS_LIMIT}
+use Rattle.plain_tables.specs.OfSysAbi.declared.identity.VPid.{VPid}
+use Rattle.plain_tables.specs.OfSysAbi.declared.reply.Reply.{Reply}
+use Rattle.plain_tables.specs.OfCallTable.declared.request.Request.{Request}
+use Rattle.plain_tables.specs.OfSysAbi.declared.record.Record.{Record}
+use Rattle.plain_tables.specs.OfSysAbi.declared.record.Record.TheVariants.{User, Call, Deliver}
 use Rattle.plain_machine.specs.declared.plain.Plain.{Plain}
 use Rattle.plain_machine.specs.declared.kernel.PlainKernel.{PlainKernel}
-use Rattle.plain_process.specs.declared.user_part.UserPart.{UserPart}
+use Rattle.plain_tables.specs.OfPlainProcess.declared.user_part.UserPart.{UserPart}
 use Rattle.plain_machine.specs.Kernel.{is_live}
 use Rattle.plain_tables.specs.Tables.{pid}
 use Rattle.plain_machine.specs.Attempts.{Served}
-use Rattle.plain_process.specs.Steps.{Asks, user_step, user_steps}
-use Rattle.plain_process.specs.Deliveries.{Enters, deliver}
-use Rattle.plain_process.specs.Buffers.{lent, filled_spans}
-use Rattle.plain_process.specs.Put.{word_of, added_thread, put, put_fault, CanTake}
-use Rattle.plain_process.specs.Local.{local_row}
+use Rattle.plain_tables.specs.OfPlainProcess.Steps.{Asks, user_step, user_steps}
+use Rattle.plain_tables.specs.OfPlainProcess.Deliveries.{Enters, deliver}
+use Rattle.plain_tables.specs.OfPlainProcess.Buffers.{lent, filled_spans}
+use Rattle.plain_tables.specs.OfPlainProcess.Put.{word_of, added_thread, put, put_fault, CanTake}
+use Rattle.plain_tables.specs.OfPlainProcess.Local.{local_row}
 use Rattle.plain_machine.specs.Serve.{serve, is_ready, front_of}
 use Rattle.plain_machine.specs.RowLaws.{IsAsked, IsServed, MayAdd}
 use Rattle.plain_machine.specs.Records.{Outcome, outcome, step}
 use Rattle.plain_machine.specs.Runs.{run, console}
-use Rattle.elf32.specs.Pages.{page_count}
-use Rattle.elf32.specs.Programs.{program_of, IsWellPlaced}
-use Rattle.plain_process.specs.Start.{Launched, start_user}
+use Rattle.plain_tables.specs.OfElf32.Pages.{page_count}
+use Rattle.plain_tables.specs.OfElf32.Programs.{program_of, IsWellPlaced}
+use Rattle.plain_tables.specs.OfPlainProcess.Start.{Launched, start_user}
 use Rattle.plain_machine.specs.Start.{NamedFile, start}
-use Rattle.plain_process.specs.Valid.{IsWord, IsByte, IsUser, IsRequest, CanAdd}
+use Rattle.plain_tables.specs.OfPlainProcess.Valid.{IsWord, IsByte, IsUser, IsRequest, CanAdd}
 use Rattle.plain_machine.specs.Valid.{IsValid, AreNamed}
-use Rattle.plain_process.specs.Launches.{IsLaunched}
+use Rattle.plain_tables.specs.OfPlainProcess.Launches.{IsLaunched}
 
 -- the process that a record is of
 abbrev pub subject : Record → Option VPid

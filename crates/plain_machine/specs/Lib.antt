@@ -24,3 +24,5 @@ pub mod RowLaws
 pub mod StreamLaws
 pub mod Laws
 pub mod BirthLaws
+pub use Rattle.plain_tables.specs.OfPlainProcess
+pub use Rattle.plain_tables.specs as OfPlainTables

@@ -6,13 +6,13 @@
 --     with_ends, with_datagrams      a channel with both its ends, a pair of datagram ends
 use Rattle.std.specs.Prelude.{◌==◌, ◌&&◌, ℕ, ◌+◌, Bool, nat_lt, bit_and, List, [], if◌then◌else◌, None}
 use Rattle.std.specs.FinMap as map
-use Rattle.views.specs.Numbers.{Flags, Byte}
-use Rattle.views.specs.Limits.{CHANNEL_LIMIT}
-use Rattle.sys_abi.specs.declared.identity.VPid.{VPid}
-use Rattle.sys_abi.specs.declared.identity.DescId.{DescId}
-use Rattle.sys_abi.specs.declared.identity.ConnId.{ConnId}
-use Rattle.sys_abi.specs.declared.flags.TheConstants.{O_NONBLOCK, O_CLOEXEC}
-use Rattle.sys_abi.specs.Flags.{has_flag}
+use Rattle.plain_tables.specs.OfViews.Numbers.{Flags, Byte}
+use Rattle.plain_tables.specs.OfViews.Limits.{CHANNEL_LIMIT}
+use Rattle.plain_tables.specs.OfSysAbi.declared.identity.VPid.{VPid}
+use Rattle.plain_tables.specs.OfSysAbi.declared.identity.DescId.{DescId}
+use Rattle.plain_tables.specs.OfSysAbi.declared.identity.ConnId.{ConnId}
+use Rattle.plain_tables.specs.OfSysAbi.declared.flags.TheConstants.{O_NONBLOCK, O_CLOEXEC}
+use Rattle.plain_tables.specs.OfSysAbi.Flags.{has_flag}
 use Rattle.plain_machine.specs.declared.kernel.PlainKernel.{PlainKernel}
 use Rattle.plain_machine.specs.declared.new_end.NewEnd.{NewEnd}
 use Rattle.plain_tables.specs.declared.channel.ChannelKind.{ChannelKind}

@@ -4,30 +4,30 @@
 use Rattle.std.specs.Prelude.{◌==◌, ◌&&◌, ◌||◌, ℕ, ◌+◌, Bool, true, false, not, nat_le, List, [], length, Option, Some, None, is_some, option_and_then, if◌then◌else◌}
 use Rattle.std.specs.Option.{option_map}
 use Rattle.std.specs.FinMap as map
-use Rattle.views.specs.Numbers.{ThreadNumber, SignalNumber, Byte}
-use Rattle.sys_abi.specs.declared.identity.VPid.{VPid}
-use Rattle.sys_abi.specs.declared.identity.Dir.{Dir}
-use Rattle.sys_abi.specs.declared.record.Record.{Record}
-use Rattle.sys_abi.specs.declared.record.Record.TheVariants.{User, Call, Deliver, Arrive, Cut, Drained, Refilled, Complete, Refused, Lapsed}
-use Rattle.call_table.specs.declared.request.Request.{Request}
-use Rattle.sys_abi.specs.Orders.{vpid_cmp}
-use Rattle.call_table.specs.Requests.{is_local}
-use Rattle.sys_abi.specs.Signals.{has_signal, without_signals}
+use Rattle.plain_tables.specs.OfViews.Numbers.{ThreadNumber, SignalNumber, Byte}
+use Rattle.plain_tables.specs.OfSysAbi.declared.identity.VPid.{VPid}
+use Rattle.plain_tables.specs.OfSysAbi.declared.identity.Dir.{Dir}
+use Rattle.plain_tables.specs.OfSysAbi.declared.record.Record.{Record}
+use Rattle.plain_tables.specs.OfSysAbi.declared.record.Record.TheVariants.{User, Call, Deliver, Arrive, Cut, Drained, Refilled, Complete, Refused, Lapsed}
+use Rattle.plain_tables.specs.OfCallTable.declared.request.Request.{Request}
+use Rattle.plain_tables.specs.OfSysAbi.Orders.{vpid_cmp}
+use Rattle.plain_tables.specs.OfCallTable.Requests.{is_local}
+use Rattle.plain_tables.specs.OfSysAbi.Signals.{has_signal, without_signals}
 use Rattle.plain_machine.specs.declared.plain.Plain.{Plain}
 use Rattle.plain_tables.specs.declared.channel.Direction.{Direction}
 use Rattle.plain_machine.specs.declared.kernel.PlainKernel.{PlainKernel}
-use Rattle.plain_process.specs.declared.user_part.UserPart.{UserPart}
-use Rattle.plain_process.specs.declared.user_part.ThreadPart.{ThreadPart}
+use Rattle.plain_tables.specs.OfPlainProcess.declared.user_part.UserPart.{UserPart}
+use Rattle.plain_tables.specs.OfPlainProcess.declared.user_part.ThreadPart.{ThreadPart}
 use Rattle.plain_machine.specs.Attempts.{Served}
 use Rattle.plain_machine.specs.Kernel.{is_live, pending, after_take}
 use Rattle.plain_machine.specs.Ends.{after_end}
-use Rattle.plain_process.specs.Steps.{UserStep, Asks, Trapped, Waits, user_step, user_steps}
-use Rattle.plain_process.specs.Buffers.{lent}
-use Rattle.plain_process.specs.Put.{made_by, put, put_fault}
-use Rattle.plain_process.specs.Threads.{child_of}
+use Rattle.plain_tables.specs.OfPlainProcess.Steps.{UserStep, Asks, Trapped, Waits, user_step, user_steps}
+use Rattle.plain_tables.specs.OfPlainProcess.Buffers.{lent}
+use Rattle.plain_tables.specs.OfPlainProcess.Put.{made_by, put, put_fault}
+use Rattle.plain_tables.specs.OfPlainProcess.Threads.{child_of}
 use Rattle.plain_tables.specs.Tables.{pid}
-use Rattle.plain_process.specs.Local.{local_row}
-use Rattle.plain_process.specs.Deliveries.{Delivery, Enters, Ignores, Kills, deliver, traps_with}
+use Rattle.plain_tables.specs.OfPlainProcess.Local.{local_row}
+use Rattle.plain_tables.specs.OfPlainProcess.Deliveries.{Delivery, Enters, Ignores, Kills, deliver, traps_with}
 use Rattle.plain_machine.specs.Serve.{serve}
 
 -- how many instructions a thread runs at most in one record

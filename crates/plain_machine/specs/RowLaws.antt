@@ -4,16 +4,16 @@
 --     there_after t q reply u was     whether the thread u is there after the answer of a call of t
 use Rattle.std.specs.Prelude.{◌≡◌, ◌≢◌, ℕ, ◌<◌, ◌≤◌, Bool, true, false, List, [], length, Option, Some, None, All, if◌then◌else◌}
 use Rattle.std.specs.Ordering.{nat_cmp, eq_by_cmp}
-use Rattle.sys_abi.specs.declared.identity.VPid.{VPid}
-use Rattle.sys_abi.specs.declared.reply.Reply.{Reply}
-use Rattle.call_table.specs.declared.request.Request.{Request}
-use Rattle.call_table.specs.declared.request.Request.TheVariants.{Exit}
-use Rattle.sys_abi.specs.declared.transfer.TheConstants.{TRANSFER_LIMIT}
+use Rattle.plain_tables.specs.OfSysAbi.declared.identity.VPid.{VPid}
+use Rattle.plain_tables.specs.OfSysAbi.declared.reply.Reply.{Reply}
+use Rattle.plain_tables.specs.OfCallTable.declared.request.Request.{Request}
+use Rattle.plain_tables.specs.OfCallTable.declared.request.Request.TheVariants.{Exit}
+use Rattle.plain_tables.specs.OfSysAbi.declared.transfer.TheConstants.{TRANSFER_LIMIT}
 use Rattle.plain_tables.specs.Tables.{pid}
-use Rattle.plain_process.specs.Memory.{Memory}
-use Rattle.plain_process.specs.Buffers.{lent, filled_spans}
-use Rattle.plain_process.specs.Put.{word_of, added_thread, made_by, CanTake}
-use Rattle.plain_process.specs.Valid.{IsWord, IsByte, IsRequest}
+use Rattle.plain_tables.specs.OfPlainProcess.Memory.{Memory}
+use Rattle.plain_tables.specs.OfPlainProcess.Buffers.{lent, filled_spans}
+use Rattle.plain_tables.specs.OfPlainProcess.Put.{word_of, added_thread, made_by, CanTake}
+use Rattle.plain_tables.specs.OfPlainProcess.Valid.{IsWord, IsByte, IsRequest}
 use Rattle.plain_machine.specs.declared.kernel.PlainKernel.{PlainKernel}
 use Rattle.plain_machine.specs.Attempts.{Served}
 use Rattle.plain_machine.specs.Kernel.{is_live, has_thread, thread_count}

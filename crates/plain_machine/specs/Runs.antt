@@ -1,7 +1,7 @@
 -- A run: the state after a trace, none once a record is no step, and the console bytes of the trace.
 use Rattle.std.specs.Prelude.{List, [], ◌∷◌, ◌++◌, Option, Some, None, option_and_then}
-use Rattle.views.specs.Numbers.{Byte}
-use Rattle.sys_abi.specs.declared.record.Record.{Record}
+use Rattle.plain_tables.specs.OfViews.Numbers.{Byte}
+use Rattle.plain_tables.specs.OfSysAbi.declared.record.Record.{Record}
 use Rattle.plain_machine.specs.declared.plain.Plain.{Plain}
 use Rattle.plain_machine.specs.Records.{Outcome, outcome, step}
 

@@ -3,16 +3,16 @@
 --     serve k p t q given          its answer: none where the call waits
 --     is_ready k p t q front       whether it doesn't wait, by the front of what it reads
 use Rattle.std.specs.Prelude.{Bool, true, false, List, ◌++◌, take, replicate, Option, Some, None}
-use Rattle.views.specs.Numbers.{ThreadNumber, Byte}
-use Rattle.sys_abi.specs.declared.identity.VPid.{VPid}
-use Rattle.sys_abi.specs.declared.errors.TheConstants.{ENOSYS}
-use Rattle.call_table.specs.declared.request.Request.{Request}
-use Rattle.call_table.specs.declared.request.Request.TheVariants.{Eventfd2, Dup, Dup3, Fcntl, Unlinkat, Openat, Close, Pipe2, Lseek, Read, Write, Exit, ExitGroup, Kill, Tgkill, Getpid, Getppid, Socket, Socketpair, Bind, Listen, Accept, Connect, Getsockname, Getpeername, Setsockopt, Shutdown, Clone, Wait4}
+use Rattle.plain_tables.specs.OfViews.Numbers.{ThreadNumber, Byte}
+use Rattle.plain_tables.specs.OfSysAbi.declared.identity.VPid.{VPid}
+use Rattle.plain_tables.specs.OfSysAbi.declared.errors.TheConstants.{ENOSYS}
+use Rattle.plain_tables.specs.OfCallTable.declared.request.Request.{Request}
+use Rattle.plain_tables.specs.OfCallTable.declared.request.Request.TheVariants.{Eventfd2, Dup, Dup3, Fcntl, Unlinkat, Openat, Close, Pipe2, Lseek, Read, Write, Exit, ExitGroup, Kill, Tgkill, Getpid, Getppid, Socket, Socketpair, Bind, Listen, Accept, Connect, Getsockname, Getpeername, Setsockopt, Shutdown, Clone, Wait4}
 use Rattle.plain_tables.specs.declared.description.Description.{Description}
 use Rattle.plain_tables.specs.declared.description.Object.{Object}
 use Rattle.plain_tables.specs.declared.description.Object.TheVariants.{Console}
 use Rattle.plain_machine.specs.declared.kernel.PlainKernel.{PlainKernel}
-use Rattle.plain_process.specs.Attempts.{Try, Fails}
+use Rattle.plain_tables.specs.OfPlainProcess.Attempts.{Try, Fails}
 use Rattle.plain_machine.specs.Attempts.{Served, settled}
 use Rattle.plain_machine.specs.Rows.Channels.{pipe2_row, socketpair_row}
 use Rattle.plain_machine.specs.Rows.Clone.{clone_row}

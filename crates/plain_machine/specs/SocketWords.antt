@@ -4,15 +4,15 @@
 --     is_settled attempt, unready flags     a call that doesn't wait, and one that isn't ready
 use Rattle.std.specs.Prelude.{◌==◌, ◌&&◌, ℕ, ◌+◌, ◌%◌, bit_and, Bool, true, false, not, List, [], ◌∷◌, ◌++◌, drop, Option, Some, None, if◌then◌else◌}
 use Rattle.std.specs.FinMap as map
-use Rattle.views.specs.Numbers.{Flags, Byte}
-use Rattle.sys_abi.specs.declared.identity.VPid.{VPid}
-use Rattle.sys_abi.specs.declared.identity.DescId.{DescId}
-use Rattle.sys_abi.specs.declared.identity.ConnId.{ConnId}
-use Rattle.sys_abi.specs.declared.identity.VirtAddr.{VirtAddr}
-use Rattle.sys_abi.specs.declared.errors.TheConstants.{EAGAIN, ENOTSOCK}
-use Rattle.sys_abi.specs.declared.flags.TheConstants.{O_RDWR, O_NONBLOCK, O_CLOEXEC}
-use Rattle.sys_abi.specs.Flags.{has_flag}
-use Rattle.plain_process.specs.Attempts.{Try, Fails, NotReady, Gives, need, found, ◌>>=◌, ◌>>◌}
+use Rattle.plain_tables.specs.OfViews.Numbers.{Flags, Byte}
+use Rattle.plain_tables.specs.OfSysAbi.declared.identity.VPid.{VPid}
+use Rattle.plain_tables.specs.OfSysAbi.declared.identity.DescId.{DescId}
+use Rattle.plain_tables.specs.OfSysAbi.declared.identity.ConnId.{ConnId}
+use Rattle.plain_tables.specs.OfSysAbi.declared.identity.VirtAddr.{VirtAddr}
+use Rattle.plain_tables.specs.OfSysAbi.declared.errors.TheConstants.{EAGAIN, ENOTSOCK}
+use Rattle.plain_tables.specs.OfSysAbi.declared.flags.TheConstants.{O_RDWR, O_NONBLOCK, O_CLOEXEC}
+use Rattle.plain_tables.specs.OfSysAbi.Flags.{has_flag}
+use Rattle.plain_tables.specs.OfPlainProcess.Attempts.{Try, Fails, NotReady, Gives, need, found, ◌>>=◌, ◌>>◌}
 use Rattle.plain_machine.specs.declared.kernel.PlainKernel.{PlainKernel}
 use Rattle.plain_tables.specs.declared.channel.Channel.{Channel}
 use Rattle.plain_tables.specs.declared.channel.ChannelKind.{ChannelKind}

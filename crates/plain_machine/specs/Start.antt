@@ -2,20 +2,20 @@
 --     start jobs files      the plain state of programs in the order of the words and of named files
 use Rattle.std.specs.Prelude.{ℕ, ◌+◌, false, List, [], ◌∷◌}
 use Rattle.std.specs.FinMap as map
-use Rattle.views.specs.Numbers.{Byte}
-use Rattle.sys_abi.specs.declared.identity.DescId.{DescId}
-use Rattle.sys_abi.specs.Orders.{vpid_cmp}
-use Rattle.sys_abi.specs.declared.flags.TheConstants.{O_RDWR}
-use Rattle.plain_process.specs.declared.user_part.UserPart.{UserPart}
+use Rattle.plain_tables.specs.OfViews.Numbers.{Byte}
+use Rattle.plain_tables.specs.OfSysAbi.declared.identity.DescId.{DescId}
+use Rattle.plain_tables.specs.OfSysAbi.Orders.{vpid_cmp}
+use Rattle.plain_tables.specs.OfSysAbi.declared.flags.TheConstants.{O_RDWR}
+use Rattle.plain_tables.specs.OfPlainProcess.declared.user_part.UserPart.{UserPart}
 use Rattle.plain_tables.specs.declared.description.Object.TheVariants.{Console}
 use Rattle.plain_tables.specs.declared.description.Description.{Description}
-use Rattle.sys_abi.specs.declared.descriptor.Descriptor.{Descriptor}
+use Rattle.plain_tables.specs.OfSysAbi.declared.descriptor.Descriptor.{Descriptor}
 use Rattle.plain_machine.specs.declared.kernel.PlainKernel.{PlainKernel}
 use Rattle.plain_machine.specs.declared.plain.Plain.{Plain}
 pub use Rattle.plain_tables.specs.Tables.{FIRST_PID, NOBODY}
 use Rattle.plain_tables.specs.Tables.{pid, slot}
 use Rattle.plain_tables.specs.Start.{start_process}
-use Rattle.plain_process.specs.Start.{Launched, start_user}
+use Rattle.plain_tables.specs.OfPlainProcess.Start.{Launched, start_user}
 
 pub record NamedFile : Type 0 where
   pub name : List Byte

@@ -4,15 +4,15 @@
 use Rattle.std.specs.Prelude.{◌≡◌, ◌≢◌, ℕ, ◌+◌, ◌-◌, ◌<◌, ◌≤◌, Bool, true, false, List, [], ◌++◌, take, Option, Some, None, is_some, All, if◌then◌else◌}
 use Rattle.std.specs.Ordering.{eq_by_cmp}
 use Rattle.std.specs.FinMap as map
-use Rattle.views.specs.Limits.{DESCRIPTOR_LIMIT}
-use Rattle.sys_abi.specs.declared.identity.VPid.{VPid}
-use Rattle.sys_abi.specs.declared.identity.DescId.{DescId}
-use Rattle.sys_abi.specs.declared.identity.Dir.{Dir}
-use Rattle.sys_abi.specs.declared.reply.Reply.{Reply}
-use Rattle.sys_abi.specs.declared.reply.Reply.TheVariants.{Value, Error}
-use Rattle.sys_abi.specs.Orders.{dir_cmp}
-use Rattle.plain_process.specs.Attempts.{Gives}
-use Rattle.plain_process.specs.Valid.{IsByte}
+use Rattle.plain_tables.specs.OfViews.Limits.{DESCRIPTOR_LIMIT}
+use Rattle.plain_tables.specs.OfSysAbi.declared.identity.VPid.{VPid}
+use Rattle.plain_tables.specs.OfSysAbi.declared.identity.DescId.{DescId}
+use Rattle.plain_tables.specs.OfSysAbi.declared.identity.Dir.{Dir}
+use Rattle.plain_tables.specs.OfSysAbi.declared.reply.Reply.{Reply}
+use Rattle.plain_tables.specs.OfSysAbi.declared.reply.Reply.TheVariants.{Value, Error}
+use Rattle.plain_tables.specs.OfSysAbi.Orders.{dir_cmp}
+use Rattle.plain_tables.specs.OfPlainProcess.Attempts.{Gives}
+use Rattle.plain_tables.specs.OfPlainProcess.Valid.{IsByte}
 use Rattle.plain_machine.specs.declared.kernel.PlainKernel.{PlainKernel}
 use Rattle.plain_tables.specs.declared.channel.Channel.{Channel}
 use Rattle.plain_tables.specs.declared.channel.ChannelKind.TheVariants.{Pipe}

@@ -4,21 +4,21 @@ use Rattle.std.specs.Prelude.{◌≡◌, Bool, true, false, List, [], ◌∷◌,
 use Rattle.std.specs.Option.{option_map}
 use Rattle.std.specs.List.{list_any, filter_map}
 use Rattle.std.specs.FinMap as map
-use Rattle.views.specs.Maps.{map_values}
-use Rattle.sys_abi.specs.declared.identity.Slot.{Slot}
-use Rattle.sys_abi.specs.declared.record.Record.{Record}
-use Rattle.sys_abi.specs.declared.record.Record.TheVariants.{User, Call, Deliver}
-use Rattle.sys_abi.specs.declared.record.Kind.{Kind}
-use Rattle.sys_abi.specs.declared.record.Kind.TheVariants.{Datagram as DatagramKind, Counter as CounterKind}
+use Rattle.plain_tables.specs.OfViews.Maps.{map_values}
+use Rattle.plain_tables.specs.OfSysAbi.declared.identity.Slot.{Slot}
+use Rattle.plain_tables.specs.OfSysAbi.declared.record.Record.{Record}
+use Rattle.plain_tables.specs.OfSysAbi.declared.record.Record.TheVariants.{User, Call, Deliver}
+use Rattle.plain_tables.specs.OfSysAbi.declared.record.Kind.{Kind}
+use Rattle.plain_tables.specs.OfSysAbi.declared.record.Kind.TheVariants.{Datagram as DatagramKind, Counter as CounterKind}
 use Rattle.plain_machine.specs.declared.plain.Plain.{Plain}
 use Rattle.plain_machine.specs.declared.kernel.PlainKernel.{PlainKernel}
 use Rattle.plain_tables.specs.declared.channel.Direction.{Direction}
 use Rattle.plain_tables.specs.declared.description.Description.{Description}
-use Rattle.sys_abi.specs.declared.descriptor.Descriptor.{Descriptor}
+use Rattle.plain_tables.specs.OfSysAbi.declared.descriptor.Descriptor.{Descriptor}
 use Rattle.plain_tables.specs.declared.description.Object.{Object}
 use Rattle.plain_tables.specs.declared.description.Object.TheVariants.{Datagram, Counter}
 use Rattle.plain_machine.specs.Records.{step}
-use Rattle.sys_abi.specs.Lives.{lives}
+use Rattle.plain_tables.specs.OfSysAbi.Lives.{lives}
 
 -- some process lives
 unfoldable pub has_life : PlainKernel → Bool

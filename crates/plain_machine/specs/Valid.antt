@@ -5,13 +5,13 @@
 --     IsValid g       of it and of each process's part, and of how they fit together
 use Rattle.std.specs.Prelude.{◌≡◌, ℕ, Some, is_some}
 use Rattle.std.specs.FinMap as map
-use Rattle.sys_abi.specs.declared.identity.VPid.{VPid}
-use Rattle.plain_process.specs.declared.user_part.UserPart.{UserPart}
+use Rattle.plain_tables.specs.OfSysAbi.declared.identity.VPid.{VPid}
+use Rattle.plain_tables.specs.OfPlainProcess.declared.user_part.UserPart.{UserPart}
 use Rattle.plain_tables.specs.declared.process.Process.{Process}
 use Rattle.plain_machine.specs.declared.plain.Plain.{Plain}
 use Rattle.plain_machine.specs.Kernel.{is_live}
 pub use Rattle.plain_machine.specs.Kernels.{IsKernel, AreNamed}
-use Rattle.plain_process.specs.Valid.{Each, IsUser}
+use Rattle.plain_tables.specs.OfPlainProcess.Valid.{Each, IsUser}
 pub use Rattle.plain_tables.specs.Valid.Processes.{IsSignalSet, IsGivenOut, FitsLife, IsProcess}
 
 -- a process's part has the threads that the kernel part has of it

@@ -3,11 +3,11 @@
 --     need_ready flags ready      where flags are the description's status flags
 --     waits attempt               the call isn't ready
 use Rattle.std.specs.Prelude.{Bool, true, false, if◌then◌else◌}
-use Rattle.views.specs.Numbers.{Flags}
-use Rattle.sys_abi.specs.declared.errors.TheConstants.{EAGAIN}
-use Rattle.sys_abi.specs.declared.flags.TheConstants.{O_NONBLOCK}
-use Rattle.sys_abi.specs.Flags.{has_flag}
-use Rattle.plain_process.specs.Attempts.{Try, Fails, NotReady, Gives}
+use Rattle.plain_tables.specs.OfViews.Numbers.{Flags}
+use Rattle.plain_tables.specs.OfSysAbi.declared.errors.TheConstants.{EAGAIN}
+use Rattle.plain_tables.specs.OfSysAbi.declared.flags.TheConstants.{O_NONBLOCK}
+use Rattle.plain_tables.specs.OfSysAbi.Flags.{has_flag}
+use Rattle.plain_tables.specs.OfPlainProcess.Attempts.{Try, Fails, NotReady, Gives}
 
 unfoldable pub need_ready : Flags → Bool → Try (Unit {0})
 need_ready flags true = Gives tt

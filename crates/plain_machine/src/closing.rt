@@ -5,8 +5,8 @@ ghost use Rattle.plain_machine.specs.Closing as words;
 use crate::kernel::PlainKernel;
 use plain_tables::closing::{close_channel, close_directions, close_pending, drop_unkept};
 use plain_tables::description::{Object, is_held};
+use plain_tables::sys_abi::{ConnId, DescId, Slot, VPid, VirtAddr};
 use std::alloc::Global;
-use sys_abi::{ConnId, DescId, Slot, VPid, VirtAddr};
 
 impl PlainKernel {
     fn close_side(&mut self, alloc: Global, conn: ConnId, side: u8)

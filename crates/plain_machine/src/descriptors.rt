@@ -1,15 +1,15 @@
 //! Descriptors that a process holds, finds free and gets, and the numbers of what it makes.
 ghost use Rattle.std.specs.Prelude.{◌≡◌, ◌+◌, ◌^◌, ◌<◌, OnOk};
-ghost use Rattle.sys_abi.specs.declared.errors.TheConstants.{EMFILE};
-ghost use Rattle.plain_process.specs.Attempts.{found};
+ghost use Rattle.plain_tables.specs.OfSysAbi.declared.errors.TheConstants.{EMFILE};
+ghost use Rattle.plain_tables.specs.OfPlainProcess.Attempts.{found};
 ghost use Rattle.plain_machine.specs.Kernel as words;
 ghost use Rattle.plain_machine.specs.HeldTold.{held_told};
 
 use crate::end::DESCRIPTOR_LIMIT;
 use crate::kernel::PlainKernel;
 use plain_tables::description::{Description, Object};
+use plain_tables::sys_abi::{DescId, Descriptor, Maker, Slot, VPid};
 use std::alloc::AllocError;
-use sys_abi::{DescId, Descriptor, Maker, Slot, VPid};
 
 /// A call makes something only where its process's next number is below this one, so that there is room for
 /// all that one call makes.
@@ -20,7 +20,7 @@ pub type Held = (Descriptor, Description);
 
 impl PlainKernel {
     /// The descriptor of the process and the description that it refers to; EBADF where there is none.
-    #[tactic(auto, unfolding(crate::specs::Kernel::held, plain_process::specs::Attempts::and_then, plain_process::specs::Attempts::found))]
+    #[tactic(auto, unfolding(crate::specs::Kernel::held, plain_tables::specs::HandedOn::and_then, plain_tables::specs::HandedOn::found))]
     pub fn held_at(&self, p: VPid, fd: u32) -> Option<Held>
         ensures { words.held self.now p fd ≡ held_told result }
     {
@@ -34,7 +34,7 @@ impl PlainKernel {
     }
 
     /// The least descriptor from a number on that the process doesn't use; EMFILE where there is none.
-    #[tactic(auto, unfolding(crate::specs::Kernel::free_from, plain_process::specs::Attempts::found))]
+    #[tactic(auto, unfolding(crate::specs::Kernel::free_from, plain_tables::specs::HandedOn::found))]
     pub fn free_from(&self, p: VPid, from: u32) -> Option<u32>
         ensures { words.free_from self.now p from ≡ found result EMFILE }
     {

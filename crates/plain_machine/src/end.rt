@@ -3,10 +3,10 @@ ghost use Rattle.plain_machine.specs.Ends as words;
 
 use crate::kernel::PlainKernel;
 use plain_tables::ends::{disown, keep_makers, make_zombie, orphan};
+use plain_tables::sys_abi::signals::SIGCHLD;
+use plain_tables::sys_abi::{Signal, Tid, VPid};
 use plain_tables::threads::remove_thread;
 use std::alloc::Global;
-use sys_abi::signals::SIGCHLD;
-use sys_abi::{Signal, Tid, VPid};
 
 /// A process has at most so many descriptors.
 pub const DESCRIPTOR_LIMIT: u32 = 256;

@@ -5,8 +5,8 @@ ghost use Rattle.plain_machine.specs.Kernel.{host_of};
 use crate::end::DESCRIPTOR_LIMIT;
 use crate::kernel::PlainKernel;
 use plain_tables::forks::{child_process, share_below};
+use plain_tables::sys_abi::{Maker, VPid};
 use std::alloc::{AllocError, Global};
-use sys_abi::{Maker, VPid};
 
 impl PlainKernel {
     /// The host of a process, 0 where it is not there.

@@ -3,12 +3,12 @@ ghost use Rattle.std.specs.Prelude.{◌≡◌, IfOk};
 use plain_tables::channel::{Channel, Direction, Listening};
 use plain_tables::description::Description;
 use plain_tables::process::Process;
+use plain_tables::sys_abi::{Descriptor, Maker};
+use plain_tables::views::duplicate::Duplicate;
+use plain_tables::views::list_of::ListOf;
+use plain_tables::views::number_map::NumberMap;
 use plain_tables::{ByAddress, ByConn, ByDesc, ByDir, ByName, ByPid, BySlot};
 use std::alloc::{AllocError, Global};
-use sys_abi::{Descriptor, Maker};
-use views::duplicate::Duplicate;
-use views::list_of::ListOf;
-use views::number_map::NumberMap;
 
 /// The kernel part of a plain state: what all processes share, as flat maps.
 pub struct PlainKernel {

@@ -35,6 +35,7 @@ pub mod waiting;
 pub use kernel::PlainKernel;
 pub use laws::{kernel_laws, run_laws};
 pub use plain::Plain;
+pub use plain_tables;
+pub use plain_tables::sys_abi::Life;
 pub use plain_tables::{Answer, Attempt, NOBODY, RowResult, Waiting};
 pub use start::FIRST_PID;
-pub use sys_abi::Life;

@@ -4,7 +4,7 @@ ghost use Rattle.plain_machine.specs.Tests as tests;
 
 use crate::kernel::PlainKernel;
 use plain_tables::Description;
-use sys_abi::{Slot, VPid};
+use plain_tables::sys_abi::{Slot, VPid};
 
 impl PlainKernel {
     /// Whether the process is there and has not ended.

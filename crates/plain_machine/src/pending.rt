@@ -3,7 +3,7 @@ ghost use Rattle.plain_machine.specs.Kernel as words;
 
 use crate::kernel::PlainKernel;
 use plain_tables::pending::{raise_at, raise_for_all_at, take_at};
-use sys_abi::{Signal, Tid, VPid};
+use plain_tables::sys_abi::{Signal, Tid, VPid};
 
 impl PlainKernel {
     /// The signals that are pending for the thread or its process.

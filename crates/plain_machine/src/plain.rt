@@ -1,8 +1,8 @@
 use crate::kernel::PlainKernel;
-use plain_process::user_part::UserPart;
 use plain_tables::ByPid;
+use plain_tables::plain_process::user_part::UserPart;
+use plain_tables::views::duplicate::Duplicate;
 use std::alloc::{AllocError, Global};
-use views::duplicate::Duplicate;
 
 /// A plain state: the kernel part, and the user part of each live process.
 #[derive(Drop)]

@@ -4,13 +4,13 @@ ghost use Rattle.plain_machine.specs.Start as words;
 use crate::kernel::PlainKernel;
 use plain_tables::description::{Description, Object};
 use plain_tables::start::{with_made, with_standard, with_started};
+use plain_tables::sys_abi::flags::O_RDWR;
+use plain_tables::sys_abi::{DescId, Descriptor, Maker, VPid};
+use plain_tables::views::duplicate::Duplicate;
+use plain_tables::views::list_of::ListOf;
+use plain_tables::views::number_map::NumberMap;
 use plain_tables::{ByAddress, ByConn, ByDesc, ByDir, ByName, ByPid, BySlot};
 use std::alloc::{AllocError, Global};
-use sys_abi::flags::O_RDWR;
-use sys_abi::{DescId, Descriptor, Maker, VPid};
-use views::duplicate::Duplicate;
-use views::list_of::ListOf;
-use views::number_map::NumberMap;
 
 /// The number of the first process.
 pub const FIRST_PID: u32 = 40_000;

@@ -2,9 +2,9 @@ ghost use Rattle.std.specs.Prelude.{◌≡◌, ◌+◌, ◌^◌, ◌<◌, OnOk, 
 ghost use Rattle.plain_machine.specs.Kernel as words;
 
 use crate::kernel::PlainKernel;
+use plain_tables::sys_abi::VPid;
 use plain_tables::threads::insert_thread;
 use std::alloc::AllocError;
-use sys_abi::VPid;
 
 impl PlainKernel {
     /// A thread more, with the next number. Without memory all is as before.

@@ -3,8 +3,8 @@ ghost use Rattle.std.specs.Prelude.{◌≡◌};
 ghost use Rattle.plain_tables.specs.Waits as words;
 
 use crate::kernel::PlainKernel;
+use plain_tables::sys_abi::VPid;
 use plain_tables::waiting::{Waiting, wait_any, wait_by};
-use sys_abi::VPid;
 
 impl PlainKernel {
     /// What a wait of a process finds, for this child or for any.

@@ -3,11 +3,11 @@
 use Rattle.std.proofs.Common.{◌≡◌, ◌≢◌, ℕ, Bool, true, false, cond, refl, sym, ap, subst, ◌∙◌}
 use Rattle.std.specs.Prelude.{◌==◌, ◌&&◌, ◌||◌, Option, Some, nat_lt, length, IfSome}
 use Rattle.std.specs.FinMap as map
-use Rattle.views.specs.Limits.{CONTEXT_LIMIT}
+use Rattle.elf32.specs.OfViews.Limits.{CONTEXT_LIMIT}
 use Rattle.call_table.specs.declared.delivery.Delivered.{Delivered}
 use Rattle.call_table.specs.declared.delivery.Delivered.TheVariants as came
-use Rattle.sys_abi.specs.Signals.{has_signal}
-use Rattle.sys_abi.specs.declared.signals.TheConstants.{SIGKILL}
+use Rattle.call_table.specs.OfSysAbi.Signals.{has_signal}
+use Rattle.call_table.specs.OfSysAbi.declared.signals.TheConstants.{SIGKILL}
 use Rattle.plain_process.specs.declared.user_part.SignalAction.{SignalAction}
 use Rattle.plain_process.specs.declared.user_part.ThreadPart.{ThreadPart}
 use Rattle.plain_process.specs.declared.user_part.UserPart.{UserPart}

@@ -10,3 +10,4 @@ pub mod WakingInRow
 pub mod PageByPage
 pub mod Delivering
 pub mod StepsInRow
+pub use Rattle.elf32.proofs.OfViews

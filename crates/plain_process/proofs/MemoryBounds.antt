@@ -9,7 +9,7 @@ use Rattle.std.proofs.lemmas.List.Elements.{All-set, All-append, All-cons, All-n
 use Rattle.std.proofs.lemmas.List.{length-set, get_or_past}
 use Rattle.std.proofs.lemmas.Bool.{cases_lt}
 use Rattle.std.proofs.Math.Nat.{pow-suc}
-use Rattle.views.proofs.MapLaws.{get_insert_same, get_insert_other, same_or_other}
+use Rattle.elf32.proofs.OfViews.MapLaws.{get_insert_same, get_insert_other, same_or_other}
 use Rattle.plain_process.specs.declared.memory.Right.{Right}
 use Rattle.plain_process.specs.declared.memory.Right.TheVariants.{Read, Write}
 use Rattle.plain_process.specs.declared.memory.Frame.{Frame}

@@ -12,7 +12,7 @@ use Rattle.std.specs.Cmp.{nat_cmp_total}
 use Rattle.std.specs.FinMap as map
 use Rattle.std.proofs.lemmas.Bool.{cases_eq, cases_lt}
 use borrow.Author.Tests.{le-leb, lt-leb, lt-ltb, le-ltb}
-use Rattle.views.proofs.MapLaws.{get_remove_same, get_remove_other, get-retain}
+use Rattle.elf32.proofs.OfViews.MapLaws.{get_remove_same, get_remove_other, get-retain}
 use Rattle.plain_process.specs.Memory.{Memory}
 use Rattle.plain_process.specs.Start.{with_pages, page_of}
 use Rattle.plain_process.specs.Pages.{is_among, is_free, without_pages, free_run}

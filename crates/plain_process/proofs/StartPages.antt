@@ -10,7 +10,7 @@ use Rattle.std.proofs.lemmas.List.{length-replicate, length-take-le}
 use Rattle.std.proofs.lemmas.List.Elements.{All-append, All-cons, All-nil, All-replicate, All-take, All-drop}
 use Rattle.std.proofs.lemmas.Nat.{or_lt}
 use Rattle.std.proofs.Math.Nat.{le_trans}
-use Rattle.views.proofs.MapLaws.{get_insert_same, get_insert_other, same_or_other}
+use Rattle.elf32.proofs.OfViews.MapLaws.{get_insert_same, get_insert_other, same_or_other}
 use Rattle.elf32.specs.declared.program.Program.{Program}
 use Rattle.elf32.specs.declared.program.Segment.{Segment}
 use Rattle.elf32.specs.Pages.{is_touched, touches, rights_at, pages_below}

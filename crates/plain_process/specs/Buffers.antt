@@ -8,21 +8,21 @@
 use Rattle.std.specs.Prelude.{◌==◌, ◌||◌, ℕ, zero, suc, ◌+◌, ◌≤◌, min, Bool, List, [], ◌∷◌, ◌++◌, Option, Some, None, is_some, unwrap_or, option_and_then, if◌then◌else◌}
 use Rattle.std.specs.Option.{option_map}
 use Rattle.std.specs.List.{list_all}
-use Rattle.views.specs.Numbers.{Address, Flags, Byte}
+use Rattle.elf32.specs.OfViews.Numbers.{Address, Flags, Byte}
 use Rattle.call_table.specs.declared.request.Request.{Request}
 use Rattle.call_table.specs.declared.request.Request.TheVariants.{Unlinkat, Openat, Pipe2, Read, Write, Futex, RtSigaction, RtSigprocmask, Socketpair, Bind, Accept, Connect, Getsockname, Getpeername, Clone, Wait4}
-use Rattle.sys_abi.specs.declared.flags.TheConstants.{CLONE_PARENT_SETTID, CLONE_CHILD_SETTID}
-use Rattle.sys_abi.specs.declared.transfer.TheConstants.{TRANSFER_LIMIT}
-use Rattle.sys_abi.specs.declared.cloning.CloneForm.{CloneForm}
-use Rattle.sys_abi.specs.declared.cloning.CloneForm.TheVariants.{Fork}
-use Rattle.sys_abi.specs.Clones.{clone_form}
+use Rattle.call_table.specs.OfSysAbi.declared.flags.TheConstants.{CLONE_PARENT_SETTID, CLONE_CHILD_SETTID}
+use Rattle.call_table.specs.OfSysAbi.declared.transfer.TheConstants.{TRANSFER_LIMIT}
+use Rattle.call_table.specs.OfSysAbi.declared.cloning.CloneForm.{CloneForm}
+use Rattle.call_table.specs.OfSysAbi.declared.cloning.CloneForm.TheVariants.{Fork}
+use Rattle.call_table.specs.OfSysAbi.Clones.{clone_form}
 use Rattle.plain_process.specs.declared.memory.Right.TheVariants.{Read as ToRead, Write as ToWrite}
 use Rattle.plain_process.specs.declared.buffers.Span.{Span}
 use Rattle.plain_process.specs.declared.buffers.Source.{Source}
 use Rattle.plain_process.specs.declared.buffers.Source.TheVariants.{Nothing, Bytes, Text}
 use Rattle.plain_process.specs.declared.buffers.Spans.{Spans}
 use Rattle.plain_process.specs.Memory.{Memory, byte_at, bytes_at, load}
-use Rattle.sys_abi.specs.Flags.{has_flag}
+use Rattle.call_table.specs.OfSysAbi.Flags.{has_flag}
 
 abbrev pub span : Address → ℕ → Span
 span address length = record { address = address; length = min length TRANSFER_LIMIT }

@@ -6,14 +6,14 @@
 --     delivered_told                   the same without the part that it leaves
 use Rattle.std.specs.Prelude.{◌==◌, ◌&&◌, ◌||◌, ℕ, ◌-◌, ◌*◌, ◌/◌, Bool, true, false, nat_lt, bit_or, [], ◌∷◌, ◌++◌, length, slice_get, Option, Some, None, unwrap_or, if◌then◌else◌}
 use Rattle.std.specs.FinMap as map
-use Rattle.views.specs.Numbers.{ThreadNumber, SignalNumber, Flags}
-use Rattle.views.specs.Limits.{CONTEXT_LIMIT}
-use Rattle.sys_abi.specs.Signals.{has_signal, with_signal}
+use Rattle.elf32.specs.OfViews.Numbers.{ThreadNumber, SignalNumber, Flags}
+use Rattle.elf32.specs.OfViews.Limits.{CONTEXT_LIMIT}
+use Rattle.call_table.specs.OfSysAbi.Signals.{has_signal, with_signal}
 use Rattle.call_table.specs.declared.delivery.Delivered.{Delivered}
 use Rattle.call_table.specs.declared.delivery.Delivered.TheVariants as came
-use Rattle.sys_abi.specs.declared.signals.TheConstants.{SIGKILL, SIGSEGV, SIGCHLD, SIGURG, SIGWINCH}
-use Rattle.sys_abi.specs.declared.flags.TheConstants.{SA_NODEFER, SA_RESTART}
-use Rattle.sys_abi.specs.declared.errors.TheConstants.{EINTR}
+use Rattle.call_table.specs.OfSysAbi.declared.signals.TheConstants.{SIGKILL, SIGSEGV, SIGCHLD, SIGURG, SIGWINCH}
+use Rattle.call_table.specs.OfSysAbi.declared.flags.TheConstants.{SA_NODEFER, SA_RESTART}
+use Rattle.call_table.specs.OfSysAbi.declared.errors.TheConstants.{EINTR}
 use Rattle.plain_process.specs.declared.regs.Regs.{Regs}
 use Rattle.plain_process.specs.declared.user_part.UserPart.{UserPart}
 use Rattle.plain_process.specs.declared.user_part.ThreadPart.{ThreadPart}
@@ -23,7 +23,7 @@ use Rattle.plain_process.specs.Steps.{UserStep, Trapped, user_step, with_thread}
 use Rattle.plain_process.specs.Threads.{with_waiters, without_waiter}
 use Rattle.plain_process.specs.Replies.{word_of, error}
 use Rattle.plain_process.specs.Start.{default_action}
-use Rattle.sys_abi.specs.Flags.{has_flag}
+use Rattle.call_table.specs.OfSysAbi.Flags.{has_flag}
 
 pub data Delivery : Type 0 where
   Enters : UserPart → Delivery  -- the handler begins

@@ -1,7 +1,7 @@
 -- Worked examples of the definitions, each value worked out by hand from the manual that its definition
 -- restates.
 use Rattle.std.specs.Prelude.{◌≡◌, ℕ, ◌-◌, ◌^◌, [], ◌∷◌, codes, ◌++◌, Some, None, pos, negsuc}
-use Rattle.sys_abi.specs.declared.reply.Reply.TheVariants.{Value}
+use Rattle.call_table.specs.OfSysAbi.declared.reply.Reply.TheVariants.{Value}
 use Rattle.plain_process.specs.declared.instruction.Insn.{Insn}
 use Rattle.plain_process.specs.declared.instruction.Op.{Op}
 use Rattle.plain_process.specs.declared.instruction.Op.TheVariants.{Addi, Auipc, Ecall, Jal, Lw, Sw, Beq, Mul, Mulh, Mulhsu, Mulhu, Div, Rem, Sra, Slt}

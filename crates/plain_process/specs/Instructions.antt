@@ -8,7 +8,7 @@
 use Rattle.std.specs.Prelude.{◌==◌, ℕ, ◌+◌, ◌-◌, ◌*◌, ◌/◌, ◌%◌, ◌^◌, Bool, ℤ, pos, ◌*ℤ◌, bit_and, bit_or, bit_xor, int_lt, int_div, int_rem, nat_lt, not, List, [], ◌∷◌, find, Option, Some, None, true, false, if◌then◌else◌}
 use Rattle.std.specs.Option.{option_map}
 use Rattle.std.specs.Int.{w32, cast_signed, cast_unsigned, int_div_euclid}
-use Rattle.views.specs.Numbers.{Address}
+use Rattle.elf32.specs.OfViews.Numbers.{Address}
 use Rattle.plain_process.specs.declared.instruction.Insn.{Insn}
 use Rattle.plain_process.specs.declared.instruction.Op.{Op}
 use Rattle.plain_process.specs.declared.instruction.Op.TheVariants.{Lui, Auipc, Jal, Jalr, Beq, Bne, Blt, Bge, Bltu, Bgeu, Lb, Lh, Lw, Lbu, Lhu, Sb, Sh, Sw, Addi, Slti, Sltiu, Xori, Ori, Andi, Slli, Srli, Srai, Add, Sub, Sll, Slt, Sltu, Xor, Srl, Sra, Or, And, Mul, Mulh, Mulhsu, Mulhu, Div, Divu, Rem, Remu, Fence, Ecall, Ebreak}

@@ -1,6 +1,6 @@
 -- What is true of each program that a job starts, as the readers of programs and of the command line give it.
 use Rattle.std.specs.Prelude.{◌<◌, All}
-use Rattle.views.specs.Limits.{HOST_LIMIT}
+use Rattle.elf32.specs.OfViews.Limits.{HOST_LIMIT}
 use Rattle.elf32.specs.declared.program.Segment.{Segment}
 use Rattle.plain_process.specs.Start.{Launched, IsLoadable}
 use Rattle.plain_process.specs.Valid.{IsWord, IsByte}

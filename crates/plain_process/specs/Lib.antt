@@ -18,3 +18,6 @@ pub mod Launches
 pub mod Examples
 pub mod Delivered
 pub mod Commands
+pub use Rattle.elf32.specs.OfViews
+pub use Rattle.call_table.specs as OfCallTable
+pub use Rattle.elf32.specs as OfElf32

@@ -2,11 +2,11 @@
 --     local_row user t q      the process's part after the call q of its thread t
 use Rattle.std.specs.Prelude.{List, [], Option, Some, None}
 use Rattle.std.specs.FinMap as map
-use Rattle.views.specs.Numbers.{Address, ThreadNumber, Byte}
+use Rattle.elf32.specs.OfViews.Numbers.{Address, ThreadNumber, Byte}
 use Rattle.call_table.specs.declared.request.Request.{Request}
 use Rattle.call_table.specs.declared.request.Request.TheVariants.{SetTidAddress, Futex, SchedYield, RtSigaction, RtSigprocmask, RtSigreturn, Gettid, Brk, Munmap, Mmap}
-use Rattle.sys_abi.specs.declared.reply.Reply.TheVariants.{Value}
-use Rattle.sys_abi.specs.declared.errors.TheConstants.{ENOSYS}
+use Rattle.call_table.specs.OfSysAbi.declared.reply.Reply.TheVariants.{Value}
+use Rattle.call_table.specs.OfSysAbi.declared.errors.TheConstants.{ENOSYS}
 use Rattle.plain_process.specs.declared.user_part.UserPart.{UserPart}
 use Rattle.plain_process.specs.declared.user_part.ThreadPart.{ThreadPart}
 use Rattle.plain_process.specs.Attempts.{Try, Fails, NotReady, Gives}

@@ -8,7 +8,7 @@ use Rattle.std.specs.Prelude.{◌==◌, ℕ, zero, suc, ◌+◌, ◌*◌, ◌/�
 use Rattle.std.specs.Option.{option_map}
 use Rattle.std.specs.Ordering.{nat_cmp}
 use Rattle.std.specs.FinMap as map
-use Rattle.views.specs.Numbers.{Address, Byte}
+use Rattle.elf32.specs.OfViews.Numbers.{Address, Byte}
 use Rattle.plain_process.specs.declared.memory.Right.{Right}
 use Rattle.plain_process.specs.declared.memory.Right.TheVariants.{Read, Write, Execute}
 use Rattle.plain_process.specs.declared.memory.Frame.{Frame}

@@ -7,7 +7,7 @@
 use Rattle.std.specs.Prelude.{◌≡◌, ℕ, zero, suc, ◌+◌, ◌-◌, ◌/◌, ◌<◌, ◌≤◌, ◌&&◌, not, nat_le, nat_lt, Bool, true, find, Option, None, is_some}
 use Rattle.std.specs.List.{range_with_len}
 use Rattle.std.specs.FinMap as map
-use Rattle.views.specs.Numbers.{Address}
+use Rattle.elf32.specs.OfViews.Numbers.{Address}
 use Rattle.plain_process.specs.Memory.{Memory}
 
 -- so many bytes from a page's start on touch so many pages

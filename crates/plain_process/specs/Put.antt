@@ -7,15 +7,15 @@
 --     CanTake memory spans bytes    the bytes can be written where an answer puts them
 use Rattle.std.specs.Prelude.{◌≡◌, ℕ, ◌-◌, List, [], ◌∷◌, length, take, drop, Option, Some, None, is_some, true}
 use Rattle.std.specs.FinMap as map
-use Rattle.views.specs.Numbers.{Address, ThreadNumber, Flags, Byte}
+use Rattle.elf32.specs.OfViews.Numbers.{Address, ThreadNumber, Flags, Byte}
 use Rattle.call_table.specs.declared.request.Request.{Request}
 use Rattle.call_table.specs.declared.request.Request.TheVariants.{Exit, Clone}
-use Rattle.sys_abi.specs.declared.reply.Reply.{Reply}
-use Rattle.sys_abi.specs.declared.reply.Reply.TheVariants.{Value}
-use Rattle.sys_abi.specs.declared.errors.TheConstants.{EFAULT}
-use Rattle.sys_abi.specs.declared.cloning.CloneForm.{CloneForm}
-use Rattle.sys_abi.specs.declared.cloning.CloneForm.TheVariants.{Fork, Thread}
-use Rattle.sys_abi.specs.Clones.{clone_form}
+use Rattle.call_table.specs.OfSysAbi.declared.reply.Reply.{Reply}
+use Rattle.call_table.specs.OfSysAbi.declared.reply.Reply.TheVariants.{Value}
+use Rattle.call_table.specs.OfSysAbi.declared.errors.TheConstants.{EFAULT}
+use Rattle.call_table.specs.OfSysAbi.declared.cloning.CloneForm.{CloneForm}
+use Rattle.call_table.specs.OfSysAbi.declared.cloning.CloneForm.TheVariants.{Fork, Thread}
+use Rattle.call_table.specs.OfSysAbi.Clones.{clone_form}
 use Rattle.plain_process.specs.declared.user_part.UserPart.{UserPart}
 use Rattle.plain_process.specs.declared.user_part.ThreadPart.{ThreadPart}
 use Rattle.plain_process.specs.declared.memory.Right.TheVariants.{Write as ToWrite}

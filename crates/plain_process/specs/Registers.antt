@@ -1,7 +1,7 @@
 -- Registers x0 to x31, where x0 reads 0 and is never written, and the program counter (unprivileged manual,
 -- section 2.1).
 use Rattle.std.specs.Prelude.{◌==◌, ℕ, ◌+◌, ◌%◌, ◌^◌, slice_index, slice_set, if◌then◌else◌}
-use Rattle.views.specs.Numbers.{Address}
+use Rattle.elf32.specs.OfViews.Numbers.{Address}
 use Rattle.plain_process.specs.declared.regs.Regs.{Regs}
 
 abbrev pub reg : Regs → ℕ → ℕ

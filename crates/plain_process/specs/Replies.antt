@@ -2,8 +2,8 @@
 -- Source: the system call convention of RISC-V Linux (`man 2 syscall`): an error is the negative of its
 -- number.
 use Rattle.std.specs.Prelude.{ℕ, ◌-◌, ◌%◌, ◌^◌}
-use Rattle.sys_abi.specs.declared.reply.Reply.{Reply}
-use Rattle.sys_abi.specs.declared.reply.Reply.TheVariants.{Value, Error}
+use Rattle.call_table.specs.OfSysAbi.declared.reply.Reply.{Reply}
+use Rattle.call_table.specs.OfSysAbi.declared.reply.Reply.TheVariants.{Value, Error}
 
 abbrev pub word_of : Reply → ℕ
 word_of (Value value) = value

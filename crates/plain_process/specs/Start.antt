@@ -6,8 +6,8 @@
 use Rattle.std.specs.Prelude.{◌==◌, ◌&&◌, ◌≤◌, All, ℕ, zero, suc, ◌+◌, ◌-◌, ◌*◌, ◌/◌, ◌^◌, max, nat_le, nat_lt, Bool, true, false, List, [], ◌∷◌, ◌++◌, find, fold, length, take, drop, replicate, slice_index, slice_set, Option, Some, None, if◌then◌else◌}
 use Rattle.std.specs.List.{flat_map}
 use Rattle.std.specs.FinMap as map
-use Rattle.views.specs.Numbers.{Address, ThreadNumber, Byte}
-use Rattle.views.specs.Limits.{PROGRAM_PAGE_LIMIT}
+use Rattle.elf32.specs.OfViews.Numbers.{Address, ThreadNumber, Byte}
+use Rattle.elf32.specs.OfViews.Limits.{PROGRAM_PAGE_LIMIT}
 use Rattle.elf32.specs.declared.program.Program.{Program}
 use Rattle.elf32.specs.declared.program.Segment.{Segment}
 use Rattle.elf32.specs.Pages.{is_touched, page_rights, page_count}

@@ -4,7 +4,7 @@
 use Rattle.std.specs.Prelude.{◌==◌, ℕ, zero, suc, Bool, Option, Some, None, option_and_then, if◌then◌else◌}
 use Rattle.std.specs.List.{list_any}
 use Rattle.std.specs.FinMap as map
-use Rattle.views.specs.Numbers.{ThreadNumber}
+use Rattle.elf32.specs.OfViews.Numbers.{ThreadNumber}
 use Rattle.call_table.specs.declared.request.Request.{Request}
 use Rattle.call_table.specs.Requests.{request_of}
 use Rattle.plain_process.specs.declared.instruction.Insn.{Insn}

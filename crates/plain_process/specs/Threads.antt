@@ -13,8 +13,8 @@
 --     child_of user t new q             the part of the child that the call q makes of a process whose thread t stands there
 use Rattle.std.specs.Prelude.{◌==◌, ℕ, zero, suc, ◌+◌, Bool, not, List, [], ◌∷◌, ◌++◌, filter, find, Option, Some, None, unwrap_or, if◌then◌else◌}
 use Rattle.std.specs.FinMap as map
-use Rattle.views.specs.Numbers.{Address, ThreadNumber, Flags}
-use Rattle.sys_abi.specs.declared.flags.TheConstants.{CLONE_CHILD_CLEARTID, CLONE_CHILD_SETTID, CLONE_SETTLS}
+use Rattle.elf32.specs.OfViews.Numbers.{Address, ThreadNumber, Flags}
+use Rattle.call_table.specs.OfSysAbi.declared.flags.TheConstants.{CLONE_CHILD_CLEARTID, CLONE_CHILD_SETTID, CLONE_SETTLS}
 use Rattle.call_table.specs.declared.request.Request.{Request}
 use Rattle.call_table.specs.declared.request.Request.TheVariants.{Clone}
 use Rattle.plain_process.specs.declared.regs.Regs.{Regs}
@@ -24,7 +24,7 @@ use Rattle.plain_process.specs.declared.user_part.Waiter.{Waiter}
 use Rattle.plain_process.specs.Memory.{Memory, store, low_bytes, with_bytes}
 use Rattle.plain_process.specs.Registers.{A0, SP, TP, with_reg, at_pc, next_pc}
 use Rattle.plain_process.specs.Steps.{with_regs, with_thread}
-use Rattle.sys_abi.specs.Flags.{has_flag}
+use Rattle.call_table.specs.OfSysAbi.Flags.{has_flag}
 
 abbrev pub after_call : ThreadPart → ℕ → ThreadPart
 after_call thread value = with_regs thread (at_pc (with_reg thread.regs A0 value) (next_pc thread.regs))

@@ -2,9 +2,9 @@ ghost use Rattle.std.specs.Prelude.{◌≡◌, ◌∷◌, []};
 ghost use Rattle.plain_process.specs.Buffers as buffers;
 
 use call_table::Request;
-use sys_abi::flags::{CLONE_CHILD_SETTID, CLONE_PARENT_SETTID};
-use sys_abi::transfer::TRANSFER_LIMIT;
-use sys_abi::{CloneForm, clone_form};
+use call_table::sys_abi::flags::{CLONE_CHILD_SETTID, CLONE_PARENT_SETTID};
+use call_table::sys_abi::transfer::TRANSFER_LIMIT;
+use call_table::sys_abi::{CloneForm, clone_form};
 
 /// So many bytes of a process's memory, from an address on.
 #[derive(Clone, Copy)]

@@ -10,10 +10,12 @@ use crate::regs::Regs;
 use crate::threads::{A0, A1, A2, RA, SP, after_call, with_reg};
 use crate::user_part::SignalAction;
 use call_table::Delivered;
-use sys_abi::Signal;
-use sys_abi::errors::EINTR;
-use sys_abi::flags::{SA_NODEFER, SA_RESTART};
-use sys_abi::signals::{SIGCHLD, SIGKILL, SIGSEGV, SIGURG, SIGWINCH, has_signal, with_signal};
+use call_table::sys_abi::Signal;
+use call_table::sys_abi::errors::EINTR;
+use call_table::sys_abi::flags::{SA_NODEFER, SA_RESTART};
+use call_table::sys_abi::signals::{
+    SIGCHLD, SIGKILL, SIGSEGV, SIGURG, SIGWINCH, has_signal, with_signal,
+};
 
 /// How many contexts a thread saves at most.
 pub const CONTEXT_LIMIT: usize = 64;

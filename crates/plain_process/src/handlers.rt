@@ -5,7 +5,7 @@ ghost use Rattle.plain_process.specs.Memory.{low_bytes};
 ghost use Rattle.plain_process.specs.Rows.Handlers as handlers;
 
 use crate::user_part::SignalAction;
-use sys_abi::signals::{SIGKILL, SIGSTOP, blockable, without_signals};
+use call_table::sys_abi::signals::{SIGKILL, SIGSTOP, blockable, without_signals};
 
 fn byte_or_zero(given: &[u8], place: usize) -> u8
     ensures { result ≡ slice_index given.now place }

@@ -26,6 +26,7 @@ pub mod threads;
 pub mod user_part;
 
 pub use buffers::{Source, Span, Spans, fills_of, length_place, reads_of, writes_of};
+pub use elf32::views;
 pub use instruction::{Insn, Op};
 pub use laws::worked_examples;
 pub use memory::{Frame, Right};

@@ -1,6 +1,6 @@
+use call_table::sys_abi::Page;
+use elf32::views::duplicate::Duplicate;
 use std::alloc::{AllocError, Global};
-use sys_abi::Page;
-use views::duplicate::Duplicate;
 
 /// What an access needs of its page: a load reads, a store writes, a fetch executes (ELF's `PF_R`, `PF_W`,
 /// `PF_X`).

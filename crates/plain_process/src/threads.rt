@@ -4,13 +4,13 @@ ghost use Rattle.std.specs.Prelude.{◌≡◌, ◌<◌, if◌then◌else◌};
 ghost use Rattle.plain_process.specs.Put.{added_thread, added_by, made_as, made_by};
 ghost use Rattle.plain_process.specs.Registers as registers;
 ghost use Rattle.plain_process.specs.Threads as words;
-ghost use Rattle.sys_abi.specs.Flags.{has_flag};
+ghost use Rattle.call_table.specs.OfSysAbi.Flags.{has_flag};
 
 use crate::regs::Regs;
 use crate::user_part::Waiter;
 use call_table::Request;
-use sys_abi::flags::{CLONE_CHILD_CLEARTID, CLONE_SETTLS};
-use sys_abi::{CloneForm, Reply, clone_form};
+use call_table::sys_abi::flags::{CLONE_CHILD_CLEARTID, CLONE_SETTLS};
+use call_table::sys_abi::{CloneForm, Reply, clone_form};
 
 /// The return address, the stack pointer and the thread pointer, and the first three arguments of a call
 /// (RISC-V ELF psABI, chapter 1).

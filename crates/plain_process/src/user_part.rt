@@ -1,9 +1,9 @@
 use crate::memory::Frame;
 use crate::regs::Regs;
+use elf32::views::duplicate::Duplicate;
+use elf32::views::list_of::ListOf;
+use elf32::views::number_map::NumberMap;
 use std::alloc::{AllocError, Global};
-use views::duplicate::Duplicate;
-use views::list_of::ListOf;
-use views::number_map::NumberMap;
 
 /// What a signal handler interrupted: registers, program counter and signal mask.
 #[derive(Clone, Copy)]

@@ -4,9 +4,9 @@ use Rattle.std.proofs.Common.{◌≡◌, ℕ, ◌+◌, ◌<◌, ◌≤◌, true,
 use Rattle.std.specs.Prelude.{◌⊎◌, Option, Some, None, is_some}
 use Rattle.std.specs.Cmp.{nat_cmp_total}
 use Rattle.std.specs.FinMap as map
-use Rattle.views.proofs.MapLaws.{get_insert_other, same_or_other, true_false}
-use Rattle.sys_abi.specs.declared.identity.VPid.{VPid}
-use Rattle.sys_abi.proofs.OrderLaws.{vpid_total, vpid_exact}
+use Rattle.plain_process.proofs.OfViews.MapLaws.{get_insert_other, same_or_other, true_false}
+use Rattle.id_maps.specs.OfSysAbi.declared.identity.VPid.{VPid}
+use Rattle.id_maps.proofs.OfSysAbi.OrderLaws.{vpid_total, vpid_exact}
 use Rattle.plain_tables.specs.declared.process.Process.{Process}
 use Rattle.plain_tables.specs.Tables.{Processes, has_thread_in, with_thread_entry, changed_at}
 use Rattle.plain_tables.specs.Valid.Processes.{AreProcesses, IsProcess}

@@ -7,13 +7,13 @@ use Rattle.std.specs.Ordering.{eq_by_cmp}
 use Rattle.std.specs.FinMap as map
 use Rattle.std.proofs.lemmas.List.Elements.{All-head, All-tail}
 use Rattle.std.proofs.lemmas.Bool.Decides.{nat_tests}
-use Rattle.views.proofs.MapLaws.{same_key, other_key, get_remove_same, get_remove_other, same_or_other, true_false}
-use Rattle.views.proofs.MapValues.{none_among-values, some_among-values}
-use Rattle.sys_abi.specs.declared.identity.DescId.{DescId}
-use Rattle.sys_abi.specs.declared.identity.ConnId.{ConnId}
-use Rattle.sys_abi.specs.declared.identity.VirtAddr.{VirtAddr}
-use Rattle.sys_abi.specs.Orders.{conn_cmp}
-use Rattle.sys_abi.proofs.OrderLaws.{conn_total, conn_exact, desc_total, desc_exact, address_total, address_exact}
+use Rattle.plain_process.proofs.OfViews.MapLaws.{same_key, other_key, get_remove_same, get_remove_other, same_or_other, true_false}
+use Rattle.plain_process.proofs.OfViews.MapValues.{none_among-values, some_among-values}
+use Rattle.id_maps.specs.OfSysAbi.declared.identity.DescId.{DescId}
+use Rattle.id_maps.specs.OfSysAbi.declared.identity.ConnId.{ConnId}
+use Rattle.id_maps.specs.OfSysAbi.declared.identity.VirtAddr.{VirtAddr}
+use Rattle.id_maps.specs.OfSysAbi.Orders.{conn_cmp}
+use Rattle.id_maps.proofs.OfSysAbi.OrderLaws.{conn_total, conn_exact, desc_total, desc_exact, address_total, address_exact}
 use Rattle.plain_process.specs.Valid.{Each}
 use Rattle.plain_tables.specs.declared.description.Description.{Description}
 use Rattle.plain_tables.specs.declared.description.Object.{Object}

@@ -3,8 +3,8 @@
 use Rattle.std.proofs.Common.{◌≡◌, ◌-◌, true, [], refl, subst, ◌∙◌}
 use Rattle.std.specs.Prelude.{Some, is_some}
 use Rattle.std.specs.FinMap as map
-use Rattle.sys_abi.specs.declared.identity.Dir.{Dir}
-use Rattle.sys_abi.proofs.OrderLaws.{dir_total, dir_exact}
+use Rattle.id_maps.specs.OfSysAbi.declared.identity.Dir.{Dir}
+use Rattle.id_maps.proofs.OfSysAbi.OrderLaws.{dir_total, dir_exact}
 use Rattle.plain_tables.specs.declared.channel.Channel.{Channel}
 use Rattle.plain_tables.specs.declared.channel.ChannelKind.TheVariants.{Pipe}
 use Rattle.plain_tables.specs.declared.channel.Direction.{Direction}

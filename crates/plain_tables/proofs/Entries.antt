@@ -6,8 +6,8 @@ use Rattle.std.specs.Ordering.{eq_by_cmp}
 use Rattle.std.specs.declared.cmp.Ordering.{Ordering}
 use Rattle.std.specs.Cmp.{IsTotalOrder}
 use Rattle.std.specs.FinMap as map
-use Rattle.views.proofs.MapLaws.{get_insert_same, get_insert_other, get_remove_same, get-retain, same_or_other, true_false}
-use Rattle.views.proofs.MapValues.{none_among-values, some_among-values}
+use Rattle.plain_process.proofs.OfViews.MapLaws.{get_insert_same, get_insert_other, get_remove_same, get-retain, same_or_other, true_false}
+use Rattle.plain_process.proofs.OfViews.MapValues.{none_among-values, some_among-values}
 use Rattle.plain_process.specs.Valid.{Each}
 
 most_with : (b : Bool) (n m : ℕ) → m ≡ cond b n (n + 1) → m ≤ n + 1

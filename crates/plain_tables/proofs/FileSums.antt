@@ -7,9 +7,9 @@ use Rattle.std.specs.FinMap as map
 use Rattle.std.specs.FinMap.{is_sorted, find, put, nat_cmp-IsAntisymmetric}
 use Rattle.std.specs.FinMap.Entries.{below_all, by_order}
 use Rattle.std.proofs.lemmas.List.Sums.{sum_by-cons}
-use Rattle.views.proofs.MapLaws.{get_remove_same, insert_remove_same, remove_absent, values-empty}
+use Rattle.plain_process.proofs.OfViews.MapLaws.{get_remove_same, insert_remove_same, remove_absent, values-empty}
 use Rattle.plain_tables.specs.Tables.{Files}
-use Rattle.views.proofs.Passes.{first, second, less}
+use Rattle.plain_process.proofs.OfViews.Passes.{first, second, less}
 
 bytes_of : Files → ℕ
 bytes_of files = sum_by length (map.values files)

@@ -25,3 +25,6 @@ pub mod SocketObjects
 pub mod Queues
 pub mod FewListeners
 pub mod WaitOrder
+pub use Rattle.plain_process.proofs.OfViews
+pub use Rattle.id_maps.proofs.OfSysAbi
+pub use Rattle.plain_process.proofs as OfPlainProcess

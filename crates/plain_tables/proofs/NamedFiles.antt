@@ -4,9 +4,9 @@ use Rattle.std.proofs.Common.{◌≡◌, ℕ, ◌+◌, ◌<◌, ◌≤◌, Bool,
 use Rattle.std.specs.Prelude.{◌==◌, ◌||◌, List, sum_by, Option, Some, None, is_some, All}
 use Rattle.std.specs.Cmp.{nat_cmp_total}
 use Rattle.std.specs.FinMap as map
-use Rattle.views.proofs.MapLaws.{get_insert_same, get_insert_other, true_false}
-use Rattle.views.proofs.MapValues.{some_among-values}
-use Rattle.sys_abi.proofs.OrderLaws.{name_total, name_exact}
+use Rattle.plain_process.proofs.OfViews.MapLaws.{get_insert_same, get_insert_other, true_false}
+use Rattle.plain_process.proofs.OfViews.MapValues.{some_among-values}
+use Rattle.id_maps.proofs.OfSysAbi.OrderLaws.{name_total, name_exact}
 use Rattle.plain_process.specs.Valid.{IsByte}
 use Rattle.plain_tables.specs.declared.description.Object.{Object}
 use Rattle.plain_tables.specs.declared.description.Object.TheVariants.{File}

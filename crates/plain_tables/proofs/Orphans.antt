@@ -8,16 +8,16 @@ use Rattle.std.specs.FinMap as map
 use Rattle.std.proofs.lemmas.List.{length-map}
 use Rattle.std.proofs.lemmas.List.Filters.{length-filter_both}
 use Rattle.std.proofs.lemmas.Bool.Decides.{nat_tests}
-use Rattle.views.specs.Maps.{retain, option_filter}
-use Rattle.views.proofs.MapLaws.{get-retain, true_false}
-use Rattle.views.proofs.MapValues.{get-map_values, get-retained, entries-map_values, entries-retain}
-use Rattle.sys_abi.specs.declared.identity.VPid.{VPid}
-use Rattle.sys_abi.specs.declared.life.Life.{Life}
-use Rattle.sys_abi.specs.declared.life.Life.TheVariants.{Live, Zombie}
-use Rattle.sys_abi.specs.Lives.{lives}
-use Rattle.sys_abi.proofs.OrderLaws.{vpid_total, vpid_exact}
+use Rattle.plain_process.specs.OfViews.Maps.{retain, option_filter}
+use Rattle.plain_process.proofs.OfViews.MapLaws.{get-retain, true_false}
+use Rattle.plain_process.proofs.OfViews.MapValues.{get-map_values, get-retained, entries-map_values, entries-retain}
+use Rattle.id_maps.specs.OfSysAbi.declared.identity.VPid.{VPid}
+use Rattle.id_maps.specs.OfSysAbi.declared.life.Life.{Life}
+use Rattle.id_maps.specs.OfSysAbi.declared.life.Life.TheVariants.{Live, Zombie}
+use Rattle.id_maps.specs.OfSysAbi.Lives.{lives}
+use Rattle.id_maps.proofs.OfSysAbi.OrderLaws.{vpid_total, vpid_exact}
 use Rattle.plain_tables.specs.declared.process.Process.{Process}
-use Rattle.sys_abi.specs.declared.maker.Maker.{Maker}
+use Rattle.id_maps.specs.OfSysAbi.declared.maker.Maker.{Maker}
 use Rattle.plain_tables.specs.Tables.{FIRST_PID, NOBODY, Processes, Makers, pid, is_live_process, lives_in, has_thread_in, same_host}
 use Rattle.plain_tables.specs.Ends.{is_child_of, is_zombie_child, orphan, orphaned, makers_of}
 use Rattle.plain_tables.specs.Valid.Processes.{AreProcesses, AreMakers, AreParents, IsProcess, IsParent, HasParent}

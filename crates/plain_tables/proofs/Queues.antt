@@ -9,13 +9,13 @@ use Rattle.std.proofs.lemmas.List.Elements.{All-nil, All-cons, All-tail, All-pus
 use Rattle.std.proofs.lemmas.List.Folds.{list_any-append}
 use Rattle.std.proofs.lemmas.List.Quantifiers.{all_pairs_push}
 use Rattle.std.proofs.lemmas.Bool.Decides.{nat_tests}
-use Rattle.views.proofs.MapLaws.{get_insert_same, get_insert_other, key_tied, same_key, other_key, same_or_other, true_false}
-use Rattle.views.proofs.MapValues.{none_among-values, some_among-values}
-use Rattle.sys_abi.specs.declared.identity.DescId.{DescId}
-use Rattle.sys_abi.specs.declared.identity.ConnId.{ConnId}
-use Rattle.sys_abi.specs.declared.identity.VirtAddr.{VirtAddr}
-use Rattle.sys_abi.specs.Orders.{conn_cmp}
-use Rattle.sys_abi.proofs.OrderLaws.{conn_total, conn_exact, desc_total, desc_exact, address_total, address_exact}
+use Rattle.plain_process.proofs.OfViews.MapLaws.{get_insert_same, get_insert_other, key_tied, same_key, other_key, same_or_other, true_false}
+use Rattle.plain_process.proofs.OfViews.MapValues.{none_among-values, some_among-values}
+use Rattle.id_maps.specs.OfSysAbi.declared.identity.DescId.{DescId}
+use Rattle.id_maps.specs.OfSysAbi.declared.identity.ConnId.{ConnId}
+use Rattle.id_maps.specs.OfSysAbi.declared.identity.VirtAddr.{VirtAddr}
+use Rattle.id_maps.specs.OfSysAbi.Orders.{conn_cmp}
+use Rattle.id_maps.proofs.OfSysAbi.OrderLaws.{conn_total, conn_exact, desc_total, desc_exact, address_total, address_exact}
 use Rattle.plain_tables.specs.declared.description.Description.{Description}
 use Rattle.plain_tables.specs.declared.description.Object.TheVariants.{Stream, Listener}
 use Rattle.plain_tables.specs.declared.channel.Channel.{Channel}

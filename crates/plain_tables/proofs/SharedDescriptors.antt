@@ -4,12 +4,12 @@
 use Rattle.std.proofs.Common.{◌≡◌, ◌≢◌, ℕ, ◌+◌, ◌<◌, true, refl, sym, ap, subst, ◌∙◌, inl, inr, arith, ⊎_elim}
 use Rattle.std.specs.Prelude.{◌==◌, ◌⊎◌, zero, suc, Option, Some, None, option_map}
 use Rattle.std.specs.FinMap as map
-use Rattle.views.proofs.MapLaws.{get_insert_same, get_insert_other, same_or_other, true_false}
-use Rattle.sys_abi.specs.declared.identity.VPid.{VPid}
-use Rattle.sys_abi.specs.declared.identity.Slot.{Slot}
-use Rattle.sys_abi.proofs.OrderLaws.{slot_total, slot_exact}
-use Rattle.sys_abi.specs.declared.maker.Maker.{Maker}
-use Rattle.sys_abi.specs.declared.descriptor.Descriptor.{Descriptor}
+use Rattle.plain_process.proofs.OfViews.MapLaws.{get_insert_same, get_insert_other, same_or_other, true_false}
+use Rattle.id_maps.specs.OfSysAbi.declared.identity.VPid.{VPid}
+use Rattle.id_maps.specs.OfSysAbi.declared.identity.Slot.{Slot}
+use Rattle.id_maps.proofs.OfSysAbi.OrderLaws.{slot_total, slot_exact}
+use Rattle.id_maps.specs.OfSysAbi.declared.maker.Maker.{Maker}
+use Rattle.id_maps.specs.OfSysAbi.declared.descriptor.Descriptor.{Descriptor}
 use Rattle.plain_tables.specs.Tables.{Processes, Makers, Descriptors, Descriptions, Channels, Listeners, pid, slot, lives_in, refers_to, is_held, same_host}
 use Rattle.plain_tables.specs.Ends.{shared_at, shared_below}
 use Rattle.plain_tables.specs.Valid.Descriptions.{AreDescriptors, AreDescriptions, AreHolders, IsOwner}

@@ -3,11 +3,11 @@
 use Rattle.std.proofs.Common.{◌≡◌, ◌≢◌, ℕ, Bool, true, false, refl, sym, ap, subst, ◌∙◌}
 use Rattle.std.specs.Prelude.{◌==◌, ◌&&◌, ◌||◌, Some, None}
 use Rattle.std.specs.FinMap as map
-use Rattle.views.proofs.MapLaws.{get_remove_same, insert_remove, true_false}
-use Rattle.sys_abi.specs.declared.identity.DescId.{DescId}
-use Rattle.sys_abi.specs.declared.identity.ConnId.{ConnId}
-use Rattle.sys_abi.specs.declared.identity.VirtAddr.{VirtAddr}
-use Rattle.sys_abi.proofs.OrderLaws.{desc_total, desc_exact}
+use Rattle.plain_process.proofs.OfViews.MapLaws.{get_remove_same, insert_remove, true_false}
+use Rattle.id_maps.specs.OfSysAbi.declared.identity.DescId.{DescId}
+use Rattle.id_maps.specs.OfSysAbi.declared.identity.ConnId.{ConnId}
+use Rattle.id_maps.specs.OfSysAbi.declared.identity.VirtAddr.{VirtAddr}
+use Rattle.id_maps.proofs.OfSysAbi.OrderLaws.{desc_total, desc_exact}
 use Rattle.plain_tables.specs.declared.description.Description.{Description}
 use Rattle.plain_tables.specs.declared.description.Object.TheVariants.{Socket}
 use Rattle.plain_tables.specs.Tables.{Names, Files, Processes, Makers, Descriptors, Descriptions, Channels, Listeners, Inboxes, is_held}

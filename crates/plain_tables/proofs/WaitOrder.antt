@@ -1,7 +1,7 @@
 -- A wait for any child, read from the last child to the first.
 use Rattle.std.proofs.Common.{◌≡◌, Bool, true, false, List, [], ◌∷◌, ◌++◌, refl, sym, ap, ◌∙◌}
 use Rattle.std.specs.Prelude.{if◌then◌else◌}
-use Rattle.sys_abi.specs.declared.identity.VPid.{VPid}
+use Rattle.id_maps.specs.OfSysAbi.declared.identity.VPid.{VPid}
 use Rattle.plain_tables.specs.declared.process.Process.{Process}
 use Rattle.plain_tables.specs.declared.waiting.Waiting.{Waiting}
 use Rattle.plain_tables.specs.declared.waiting.Waiting.TheVariants.{NoChild}

@@ -5,7 +5,7 @@
 --     without_unkept                          the files after one may have lost its last user
 use Rattle.std.specs.Prelude.{◌==◌, ℕ, ◌-◌, true, false, List, [], ◌∷◌, Option, Some, None, if◌then◌else◌}
 use Rattle.std.specs.FinMap as map
-use Rattle.sys_abi.specs.declared.identity.ConnId.{ConnId}
+use Rattle.id_maps.specs.OfSysAbi.declared.identity.ConnId.{ConnId}
 use Rattle.plain_tables.specs.declared.channel.Channel.{Channel}
 use Rattle.plain_tables.specs.declared.channel.ChannelEnd.{ChannelEnd}
 use Rattle.plain_tables.specs.declared.channel.Direction.{Direction}

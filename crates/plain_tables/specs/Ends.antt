@@ -4,12 +4,12 @@
 -- this project's own rule.
 use Rattle.std.specs.Prelude.{◌==◌, ◌&&◌, ℕ, zero, suc, Bool, not, Option, Some, None, is_some, if◌then◌else◌}
 use Rattle.std.specs.FinMap as map
-use Rattle.views.specs.Maps.{map_values, retain}
-use Rattle.sys_abi.specs.declared.identity.VPid.{VPid}
-use Rattle.sys_abi.specs.declared.life.Life.TheVariants.{Live, Zombie}
-use Rattle.sys_abi.specs.Lives.{lives}
+use Rattle.plain_process.specs.OfViews.Maps.{map_values, retain}
+use Rattle.id_maps.specs.OfSysAbi.declared.identity.VPid.{VPid}
+use Rattle.id_maps.specs.OfSysAbi.declared.life.Life.TheVariants.{Live, Zombie}
+use Rattle.id_maps.specs.OfSysAbi.Lives.{lives}
 use Rattle.plain_tables.specs.declared.process.Process.{Process}
-use Rattle.sys_abi.specs.declared.descriptor.Descriptor.{Descriptor}
+use Rattle.id_maps.specs.OfSysAbi.declared.descriptor.Descriptor.{Descriptor}
 use Rattle.plain_tables.specs.declared.description.Description.{Description}
 use Rattle.plain_tables.specs.Tables.{NOBODY, Processes, Makers, Descriptors, Descriptions, slot}
 

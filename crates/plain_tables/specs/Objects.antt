@@ -8,11 +8,11 @@ use Rattle.std.specs.Prelude.{◌==◌, ◌&&◌, ◌||◌, ℕ, Bool, true, fal
 use Rattle.std.specs.List.{list_any}
 use Rattle.std.specs.Ordering.{eq_by_cmp}
 use Rattle.std.specs.FinMap as map
-use Rattle.sys_abi.specs.declared.identity.DescId.{DescId}
-use Rattle.sys_abi.specs.declared.identity.ConnId.{ConnId}
-use Rattle.sys_abi.specs.declared.identity.Dir.{Dir}
-use Rattle.sys_abi.specs.declared.identity.VirtAddr.{VirtAddr}
-use Rattle.sys_abi.specs.Orders.{desc_cmp, conn_cmp, address_cmp}
+use Rattle.id_maps.specs.OfSysAbi.declared.identity.DescId.{DescId}
+use Rattle.id_maps.specs.OfSysAbi.declared.identity.ConnId.{ConnId}
+use Rattle.id_maps.specs.OfSysAbi.declared.identity.Dir.{Dir}
+use Rattle.id_maps.specs.OfSysAbi.declared.identity.VirtAddr.{VirtAddr}
+use Rattle.id_maps.specs.OfSysAbi.Orders.{desc_cmp, conn_cmp, address_cmp}
 use Rattle.plain_tables.specs.declared.description.Description.{Description}
 use Rattle.plain_tables.specs.declared.description.Object.{Object}
 use Rattle.plain_tables.specs.declared.description.Object.TheVariants.{File, Stream, Socket, Listener, Datagram}

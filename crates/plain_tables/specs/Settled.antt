@@ -1,7 +1,7 @@
 -- The answer of a call's row, settled.
 --     settled_told attempt      the answer: an error is one too, and there is none where the call waits
 use Rattle.std.specs.Prelude.{false, [], Option, Some, None}
-use Rattle.sys_abi.specs.declared.reply.Reply.TheVariants.{Error}
+use Rattle.id_maps.specs.OfSysAbi.declared.reply.Reply.TheVariants.{Error}
 use Rattle.plain_tables.specs.declared.answer.Answer.{Answer}
 use Rattle.plain_tables.specs.declared.answer.Attempt.{Attempt}
 use Rattle.plain_tables.specs.declared.answer.Attempt.TheVariants as of_code

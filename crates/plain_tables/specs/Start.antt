@@ -2,7 +2,7 @@
 -- No signal is pending, and nobody is its parent.
 use Rattle.std.specs.Prelude.{ℕ}
 use Rattle.std.specs.FinMap as map
-use Rattle.sys_abi.specs.declared.life.Life.TheVariants.{Live}
+use Rattle.id_maps.specs.OfSysAbi.declared.life.Life.TheVariants.{Live}
 use Rattle.plain_tables.specs.declared.process.Process.{Process}
 use Rattle.plain_tables.specs.Tables.{NOBODY}
 

@@ -6,21 +6,21 @@ use Rattle.std.specs.List.{list_any}
 use Rattle.std.specs.Ordering.{nat_cmp, eq_by_cmp}
 use Rattle.std.specs.declared.cmp.Ordering.{Ordering}
 use Rattle.std.specs.FinMap as map
-use Rattle.views.specs.Numbers.{ThreadNumber, SignalNumber, Flags}
-use Rattle.sys_abi.specs.declared.identity.VPid.{VPid}
-use Rattle.sys_abi.specs.declared.identity.DescId.{DescId}
-use Rattle.sys_abi.specs.declared.identity.Slot.{Slot}
-use Rattle.sys_abi.specs.Orders.{vpid_cmp, desc_cmp, slot_cmp, conn_cmp, dir_cmp, address_cmp}
-use Rattle.sys_abi.specs.Names.{name_cmp}
-use Rattle.sys_abi.specs.Signals.{has_signal, with_signal, without_signal}
+use Rattle.plain_process.specs.OfViews.Numbers.{ThreadNumber, SignalNumber, Flags}
+use Rattle.id_maps.specs.OfSysAbi.declared.identity.VPid.{VPid}
+use Rattle.id_maps.specs.OfSysAbi.declared.identity.DescId.{DescId}
+use Rattle.id_maps.specs.OfSysAbi.declared.identity.Slot.{Slot}
+use Rattle.id_maps.specs.OfSysAbi.Orders.{vpid_cmp, desc_cmp, slot_cmp, conn_cmp, dir_cmp, address_cmp}
+use Rattle.id_maps.specs.OfSysAbi.Names.{name_cmp}
+use Rattle.id_maps.specs.OfSysAbi.Signals.{has_signal, with_signal, without_signal}
 use Rattle.plain_tables.specs.declared.process.Process.{Process}
-use Rattle.sys_abi.specs.declared.maker.Maker.{Maker}
-use Rattle.sys_abi.specs.declared.descriptor.Descriptor.{Descriptor}
+use Rattle.id_maps.specs.OfSysAbi.declared.maker.Maker.{Maker}
+use Rattle.id_maps.specs.OfSysAbi.declared.descriptor.Descriptor.{Descriptor}
 use Rattle.plain_tables.specs.declared.description.Description.{Description}
 use Rattle.plain_tables.specs.declared.channel.Channel.{Channel}
 use Rattle.plain_tables.specs.declared.channel.Direction.{Direction}
 use Rattle.plain_tables.specs.declared.channel.Listening.{Listening}
-use Rattle.sys_abi.specs.Lives.{lives}
+use Rattle.id_maps.specs.OfSysAbi.Lives.{lives}
 
 -- processes are numbered from here on
 abbrev pub FIRST_PID : ℕ

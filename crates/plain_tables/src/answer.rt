@@ -1,11 +1,11 @@
 ghost use Rattle.std.specs.Prelude.{◌≡◌, false, []};
-ghost use Rattle.sys_abi.specs.declared.reply.Reply.TheVariants.{Value};
+ghost use Rattle.id_maps.specs.OfSysAbi.declared.reply.Reply.TheVariants.{Value};
 ghost use Rattle.plain_tables.specs.Settled.{settled_told};
 ghost use Rattle.plain_tables.specs.declared.answer.Attempt.TheVariants as an_attempt;
 
+use id_maps::sys_abi::{Errno, Reply};
+use plain_process::views::list_of::ListOf;
 use std::alloc::{AllocError, Global};
-use sys_abi::{Errno, Reply};
-use views::list_of::ListOf;
 
 /// What a call answers, apart from the change of the kernel part.
 #[derive(Drop)]

@@ -1,7 +1,7 @@
+use id_maps::sys_abi::{ConnId, VirtAddr};
+use plain_process::views::duplicate::Duplicate;
+use plain_process::views::list_of::ListOf;
 use std::alloc::{AllocError, Global};
-use sys_abi::{ConnId, VirtAddr};
-use views::duplicate::Duplicate;
-use views::list_of::ListOf;
 
 #[derive(Clone, Copy, PartialEq, Eq)]
 pub enum ChannelKind {

@@ -6,11 +6,11 @@ ghost use Rattle.plain_tables.specs.Objects as objects;
 
 use crate::channel::{Channel, ChannelEnd, Direction};
 use crate::description::{Description, Object};
+use id_maps::sys_abi::{ConnId, Dir};
 use id_maps::{ByConn, ByDesc, ByDir, ByName};
+use plain_process::views::list_of::ListOf;
+use plain_process::views::number_map::NumberMap;
 use std::alloc::Global;
-use sys_abi::{ConnId, Dir};
-use views::list_of::ListOf;
-use views::number_map::NumberMap;
 
 impl Channel {
     /// The end at side 0, or the other one.

@@ -2,9 +2,9 @@ ghost use Rattle.std.specs.Prelude.{◌≡◌};
 ghost use Rattle.plain_tables.specs.Tables as words;
 
 use id_maps::BySlot;
+use id_maps::sys_abi::{ConnId, DescId, Descriptor, VirtAddr};
+use plain_process::views::duplicate::Duplicate;
 use std::alloc::{AllocError, Global};
-use sys_abi::{ConnId, DescId, Descriptor, VirtAddr};
-use views::duplicate::Duplicate;
 
 /// What an open description stands for.
 #[derive(Clone, Copy)]

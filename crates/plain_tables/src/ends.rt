@@ -1,15 +1,15 @@
 //! What the end of a process does to the other processes, to their makers and to the owners of descriptions.
 ghost use Rattle.std.specs.Prelude.{◌≡◌, true, not};
-ghost use Rattle.views.specs.Maps.{map_values, retain};
+ghost use Rattle.plain_process.specs.OfViews.Maps.{map_values, retain};
 ghost use Rattle.plain_tables.specs.Ends as words;
 ghost use Rattle.plain_tables.specs.Tables.{changed_at};
 
 use crate::description::Description;
 use crate::process::Process;
+use id_maps::sys_abi::{Life, Maker, VPid};
 use id_maps::{ByDesc, ByPid};
+use plain_process::views::number_map::NumberMap;
 use std::alloc::Global;
-use sys_abi::{Life, Maker, VPid};
-use views::number_map::NumberMap;
 
 /// The parent of a process that nobody waits for.
 pub const NOBODY: u32 = 1;

@@ -6,9 +6,9 @@ ghost use Rattle.plain_tables.specs.Tables.{slot};
 
 use crate::process::Process;
 use id_maps::BySlot;
+use id_maps::sys_abi::{Descriptor, Life, Slot, VPid};
+use plain_process::views::number_map::NumberMap;
 use std::alloc::{AllocError, Global};
-use sys_abi::{Descriptor, Life, Slot, VPid};
-use views::number_map::NumberMap;
 
 /// A process of this parent with one thread, of its own number.
 pub fn child_process(alloc: Global, parent: u32, number: u32) -> Result<Process, AllocError>

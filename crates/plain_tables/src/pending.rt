@@ -4,9 +4,9 @@ ghost use Rattle.plain_tables.specs.Tables as words;
 
 use crate::process::Process;
 use id_maps::ByPid;
-use sys_abi::signals::{has_signal, with_signal, without_signal};
-use sys_abi::{Signal, VPid};
-use views::number_map::NumberMap;
+use id_maps::sys_abi::signals::{has_signal, with_signal, without_signal};
+use id_maps::sys_abi::{Signal, VPid};
+use plain_process::views::number_map::NumberMap;
 
 impl Process {
     /// The signals that are pending for a thread.

@@ -1,7 +1,7 @@
+use id_maps::sys_abi::Life;
+use plain_process::views::duplicate::Duplicate;
+use plain_process::views::number_map::NumberMap;
 use std::alloc::{AllocError, Global};
-use sys_abi::Life;
-use views::duplicate::Duplicate;
-use views::number_map::NumberMap;
 
 /// A process as the kernel knows it: its parent (1: nobody), its life, the signals that are pending for it,
 /// and for each of its threads those that are pending for it. Bit s - 1 of a set of signals stands for signal

@@ -6,11 +6,11 @@ ghost use Rattle.plain_tables.specs.Start as words;
 
 use crate::ends::NOBODY;
 use crate::process::Process;
+use id_maps::sys_abi::{Descriptor, Life, Maker, Slot, VPid};
 use id_maps::{ByPid, BySlot};
+use plain_process::views::duplicate::Duplicate;
+use plain_process::views::number_map::NumberMap;
 use std::alloc::{AllocError, Global};
-use sys_abi::{Descriptor, Life, Maker, Slot, VPid};
-use views::duplicate::Duplicate;
-use views::number_map::NumberMap;
 
 fn start_process(alloc: Global, p: u32) -> Result<Process, AllocError>
     ensures { IfOk result (λ process. process ≡ words.start_process p) }

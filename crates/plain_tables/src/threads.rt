@@ -3,8 +3,8 @@ ghost use Rattle.plain_tables.specs.Tables as words;
 
 use crate::process::Process;
 use id_maps::ByPid;
+use id_maps::sys_abi::VPid;
 use std::alloc::AllocError;
-use sys_abi::VPid;
 
 /// A thread more in a process that is there. Without memory all is as before.
 pub fn insert_thread(processes: &mut ByPid<Process>, p: VPid, t: u32) -> Result<(), AllocError>

@@ -5,7 +5,7 @@ ghost use Rattle.plain_tables.specs.Waits as words;
 
 use crate::process::Process;
 use id_maps::ByPid;
-use sys_abi::{Life, VPid};
+use id_maps::sys_abi::{Life, VPid};
 
 /// What a wait finds.
 #[derive(Clone, Copy)]

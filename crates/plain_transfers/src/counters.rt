@@ -1,7 +1,7 @@
 //! The values of event counters.
 ghost use Rattle.std.specs.Prelude.{◌≡◌, ◌≤◌, ◌+◌, nat_le, true, length, IfOk, OnOk};
 ghost use Rattle.plain_process.specs.Memory.{little_endian, low_bytes};
-ghost use Rattle.plain_tables.specs.declared.description.Object.TheVariants.{Counter};
+ghost use Rattle.plain_machine.specs.OfPlainTables.declared.description.Object.TheVariants.{Counter};
 ghost use Rattle.plain_machine.specs.HeldTold.{held_of};
 ghost use Rattle.plain_machine.specs.Kernel.{with_object};
 ghost use Rattle.plain_machine.specs.Transfers.Counters as words;
@@ -10,8 +10,8 @@ ghost use Rattle.plain_machine.specs.Answers.{RowTold, KeepsUnlessGives};
 use crate::moving::gift;
 use plain_machine::PlainKernel;
 use plain_machine::descriptors::Held;
-use plain_tables::answer::{Attempt, RowResult};
-use plain_tables::{Description, Object};
+use plain_machine::plain_tables::answer::{Attempt, RowResult};
+use plain_machine::plain_tables::{Description, Object};
 use std::alloc::{AllocError, Global};
 use sys_abi::errors::EINVAL;
 use views::list_of::ListOf;

@@ -1,7 +1,7 @@
 //! Messages of datagram pairs.
 ghost use Rattle.std.specs.Prelude.{◌≡◌, ◌≤◌, ◌∷◌, ◌++◌, [], List, length, drop, IfOk, OnOk};
 ghost use Rattle.sys_abi.specs.declared.transfer.TheConstants.{TRANSFER_LIMIT};
-ghost use Rattle.plain_tables.specs.Tables.{changed_at};
+ghost use Rattle.plain_machine.specs.OfPlainTables.Tables.{changed_at};
 ghost use Rattle.plain_machine.specs.Answers.{RowTold, KeepsUnlessGives};
 ghost use Rattle.plain_machine.specs.Transfers.Datagrams as words;
 
@@ -9,7 +9,7 @@ use crate::bytes::{drop_first, first_bytes};
 use crate::moving::gift;
 use id_maps::ByDesc;
 use plain_machine::PlainKernel;
-use plain_tables::answer::{Attempt, RowResult};
+use plain_machine::plain_tables::answer::{Attempt, RowResult};
 use std::alloc::{AllocError, Global};
 use sys_abi::DescId;
 use sys_abi::errors::{ECONNREFUSED, EMSGSIZE};

@@ -2,7 +2,7 @@
 ghost use Rattle.std.specs.Prelude.{◌≡◌, ◌≤◌, length, min, IfOk, OnOk};
 ghost use Rattle.std.specs.FinMap as map;
 ghost use Rattle.sys_abi.specs.declared.transfer.TheConstants.{TRANSFER_LIMIT};
-ghost use Rattle.plain_tables.specs.Tables.{changed_at};
+ghost use Rattle.plain_machine.specs.OfPlainTables.Tables.{changed_at};
 ghost use Rattle.plain_machine.specs.Answers.{RowTold, KeepsUnlessGives};
 ghost use Rattle.plain_machine.specs.Transfers.Streams as words;
 
@@ -10,8 +10,8 @@ use crate::bytes::{append, drop_first, first_bytes};
 use crate::moving::{break_pipe, gift};
 use id_maps::ByDir;
 use plain_machine::PlainKernel;
-use plain_tables::Direction;
-use plain_tables::answer::{Attempt, RowResult};
+use plain_machine::plain_tables::Direction;
+use plain_machine::plain_tables::answer::{Attempt, RowResult};
 use std::alloc::{AllocError, Global};
 use sys_abi::errors::{ENOTCONN, EPIPE};
 use sys_abi::{Dir, Tid, VPid};

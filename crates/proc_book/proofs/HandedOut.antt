@@ -12,18 +12,18 @@ use Rattle.std.proofs.lemmas.Option.{same_Some, none-some}
 use Rattle.views.specs.Maps.{map_values, retain, option_filter}
 use Rattle.views.proofs.MapLaws.{true_false, same_or_other, get_insert_same, get_insert_other, get_remove_same, get_remove_other}
 use Rattle.views.proofs.MapValues.{get-map_values, get-retained}
-use Rattle.sys_abi.specs.declared.identity.RealPid.{RealPid}
+use Rattle.virt_ids.specs.OfSysAbi.declared.identity.RealPid.{RealPid}
 use Rattle.proc_book.specs.declared.process.Process.{Process}
-use Rattle.sys_abi.specs.declared.signals.TheConstants.{SIGCHLD}
-use Rattle.sys_abi.specs.Orders.{real_pid_cmp}
+use Rattle.virt_ids.specs.OfSysAbi.declared.signals.TheConstants.{SIGCHLD}
+use Rattle.virt_ids.specs.OfSysAbi.Orders.{real_pid_cmp}
 use Rattle.virt_ids.specs.Changes.{at_key}
-use Rattle.sys_abi.specs.Signals.{has_signal}
+use Rattle.virt_ids.specs.OfSysAbi.Signals.{has_signal}
 use Rattle.proc_book.specs.Processes.{newborn, is_live, is_child_of, signals_of, raised, after_take, zombie}
 use Rattle.proc_book.specs.Ends.{Processes, orphan, is_zombie_child, orphaned, is_live_at, left_by, ended_by, after_end}
 use Rattle.proc_book.specs.Procs.{real, with_thread, without_thread, IsBelow, IsUnused, AllHandedOut, after_wait}
 use Rattle.proc_book.specs.declared.waiting.Waiting.{Waiting}
 use Rattle.proc_book.specs.declared.waiting.Waiting.TheVariants.{NoChild, NotReady, Ended}
-use Rattle.sys_abi.proofs.OrderLaws.{real_pid_total, real_pid_exact}
+use Rattle.virt_ids.proofs.OfSysAbi.OrderLaws.{real_pid_total, real_pid_exact}
 
 -- q has no thread that p has not
 abbrev pub HasFewer : Process → Process → Type 0

@@ -10,11 +10,11 @@ use Rattle.std.specs.FinMap as map
 use Rattle.std.proofs.lemmas.Option.{same_Some, none-some}
 use Rattle.views.specs.Leasts.{this_first, least_of, FindsLeast}
 use Rattle.views.proofs.Leasts.{finds-least_of}
-use Rattle.sys_abi.specs.declared.identity.RealPid.{RealPid}
-use Rattle.sys_abi.specs.declared.life.Life.{Life}
-use Rattle.sys_abi.specs.declared.life.Life.TheVariants.{Live, Zombie}
-use Rattle.sys_abi.specs.Lives.{lives}
-use Rattle.sys_abi.proofs.OrderLaws.{real_pid_total, real_pid_exact}
+use Rattle.virt_ids.specs.OfSysAbi.declared.identity.RealPid.{RealPid}
+use Rattle.virt_ids.specs.OfSysAbi.declared.life.Life.{Life}
+use Rattle.virt_ids.specs.OfSysAbi.declared.life.Life.TheVariants.{Live, Zombie}
+use Rattle.virt_ids.specs.OfSysAbi.Lives.{lives}
+use Rattle.virt_ids.proofs.OfSysAbi.OrderLaws.{real_pid_total, real_pid_exact}
 use Rattle.proc_book.specs.declared.process.Process.{Process}
 use Rattle.proc_book.specs.declared.waiting.Waiting.{Waiting}
 use Rattle.proc_book.specs.declared.waiting.Waiting.TheVariants.{NoChild, NotReady, Ended}

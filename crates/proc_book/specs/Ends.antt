@@ -7,9 +7,9 @@ use Rattle.std.specs.Prelude.{ℕ, Bool, false, not, ◌&&◌, Option, Some, Non
 use Rattle.std.specs.Option.{option_map_or}
 use Rattle.std.specs.FinMap as map
 use Rattle.views.specs.Maps.{map_values, retain}
-use Rattle.sys_abi.specs.declared.identity.RealPid.{RealPid}
-use Rattle.sys_abi.specs.declared.signals.TheConstants.{SIGCHLD}
-use Rattle.sys_abi.specs.Orders.{real_pid_cmp}
+use Rattle.virt_ids.specs.OfSysAbi.declared.identity.RealPid.{RealPid}
+use Rattle.virt_ids.specs.OfSysAbi.declared.signals.TheConstants.{SIGCHLD}
+use Rattle.virt_ids.specs.OfSysAbi.Orders.{real_pid_cmp}
 use Rattle.proc_book.specs.declared.process.Process.{Process}
 use Rattle.virt_ids.specs.Changes.{at_key}
 use Rattle.proc_book.specs.Processes.{is_live, is_child_of, raised, zombie}

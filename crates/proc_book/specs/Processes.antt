@@ -9,13 +9,13 @@
 use Rattle.std.specs.Prelude.{ℕ, Bool, false, ◌&&◌, ◌||◌, Option, Some, None, is_some, unwrap_or, if◌then◌else◌}
 use Rattle.std.specs.Ordering.{eq_by_cmp}
 use Rattle.std.specs.FinMap as map
-use Rattle.sys_abi.specs.declared.identity.RealPid.{RealPid}
+use Rattle.virt_ids.specs.OfSysAbi.declared.identity.RealPid.{RealPid}
 use Rattle.proc_book.specs.declared.process.Process.{Process}
-use Rattle.sys_abi.specs.declared.life.Life.TheVariants.{Live, Zombie}
+use Rattle.virt_ids.specs.OfSysAbi.declared.life.Life.TheVariants.{Live, Zombie}
 use Rattle.virt_ids.specs.Changes.{at_key}
-use Rattle.sys_abi.specs.Orders.{real_pid_cmp}
-use Rattle.sys_abi.specs.Signals.{has_signal, with_signal, without_signal}
-use Rattle.sys_abi.specs.Lives.{lives}
+use Rattle.virt_ids.specs.OfSysAbi.Orders.{real_pid_cmp}
+use Rattle.virt_ids.specs.OfSysAbi.Signals.{has_signal, with_signal, without_signal}
+use Rattle.virt_ids.specs.OfSysAbi.Lives.{lives}
 
 abbrev pub newborn : Option RealPid → ℕ → Process
 newborn parent number = record { parent = parent; life = Live; pending = 0; threads = map.insert map.empty number 0 }

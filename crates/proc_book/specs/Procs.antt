@@ -20,12 +20,12 @@ use Rattle.std.specs.Ordering.{is_lt}
 use Rattle.std.specs.Coded.{Coded, code_by, coded×, coded_ℕ, coded_list}
 use Rattle.std.specs.FinMap as map
 use Rattle.views.specs.NumberMap.{is_above as is_after}
-use Rattle.sys_abi.specs.declared.identity.RealPid.{RealPid}
-use Rattle.sys_abi.specs.Orders.{real_pid_cmp, coded_real_pid}
+use Rattle.virt_ids.specs.OfSysAbi.declared.identity.RealPid.{RealPid}
+use Rattle.virt_ids.specs.OfSysAbi.Orders.{real_pid_cmp, coded_real_pid}
 use Rattle.proc_book.specs.declared.process.Process.{Process}
 use Rattle.proc_book.specs.contracts.process.Process as process
-use Rattle.sys_abi.specs.declared.life.Life.{Life}
-use Rattle.sys_abi.specs.declared.life.Life.TheVariants.{Live, Zombie}
+use Rattle.virt_ids.specs.OfSysAbi.declared.life.Life.{Life}
+use Rattle.virt_ids.specs.OfSysAbi.declared.life.Life.TheVariants.{Live, Zombie}
 use Rattle.proc_book.specs.declared.limits.TheConstants.{PROCESS_LIMIT}
 use Rattle.proc_book.specs.declared.waiting.Waiting.{Waiting}
 use Rattle.proc_book.specs.declared.waiting.Waiting.TheVariants.{NoChild, NotReady, Ended}

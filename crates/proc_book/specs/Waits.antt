@@ -8,9 +8,9 @@
 use Rattle.std.specs.Prelude.{◌≡◌, ℕ, false, Some, IsTrue}
 use Rattle.std.specs.Ordering.{is_le}
 use Rattle.std.specs.FinMap as map
-use Rattle.sys_abi.specs.declared.identity.RealPid.{RealPid}
-use Rattle.sys_abi.specs.Orders.{real_pid_cmp}
-use Rattle.sys_abi.specs.declared.life.Life.TheVariants.{Zombie}
+use Rattle.virt_ids.specs.OfSysAbi.declared.identity.RealPid.{RealPid}
+use Rattle.virt_ids.specs.OfSysAbi.Orders.{real_pid_cmp}
+use Rattle.virt_ids.specs.OfSysAbi.declared.life.Life.TheVariants.{Zombie}
 use Rattle.proc_book.specs.declared.process.Process.{Process}
 use Rattle.proc_book.specs.declared.waiting.Waiting.{Waiting}
 use Rattle.proc_book.specs.declared.waiting.Waiting.TheVariants.{NoChild, NotReady, Ended}

@@ -7,9 +7,9 @@ ghost use Rattle.proc_book.specs.Ends as words;
 
 use crate::process::Process;
 use std::alloc::Global;
-use sys_abi::signals::SIGCHLD;
-use sys_abi::{RealPid, Signal};
 use virt_ids::ByRealPid;
+use virt_ids::sys_abi::signals::SIGCHLD;
+use virt_ids::sys_abi::{RealPid, Signal};
 
 pub(crate) fn is_live_at(processes: &ByRealPid<Process>, p: RealPid) -> bool
     ensures { result ≡ words.is_live_at processes.now p }

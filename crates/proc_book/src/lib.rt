@@ -23,5 +23,6 @@ pub mod waiting;
 pub use proc_fault::ProcFault;
 pub use process::Process;
 pub use procs::Procs;
-pub use sys_abi::Life;
+pub use virt_ids;
+pub use virt_ids::sys_abi::Life;
 pub use waiting::Waiting;

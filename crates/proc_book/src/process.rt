@@ -1,7 +1,7 @@
 ghost use Rattle.std.specs.Prelude.{◌≡◌, ◌≤◌, ◌<◌, Err, IfOk, OnOk, OnErr, IsOkUnless, true};
 ghost use Rattle.std.specs.FinMap as map;
 ghost use Rattle.virt_ids.specs.Changes.{at_key};
-ghost use Rattle.sys_abi.specs.Signals as signals;
+ghost use Rattle.virt_ids.specs.OfSysAbi.Signals as signals;
 ghost use Rattle.proc_book.specs.Processes as words;
 ghost use Rattle.proc_book.specs.Ends as ends;
 ghost use Rattle.proc_book.specs.Procs as procs;
@@ -10,9 +10,9 @@ ghost use Rattle.proc_book.specs.declared.limits.TheConstants.{THREAD_LIMIT};
 use crate::limits::THREAD_LIMIT;
 use crate::proc_fault::ProcFault;
 use std::alloc::{AllocError, Global};
-use sys_abi::signals::{has_signal, with_signal, without_signal};
-use sys_abi::{Life, RealPid, Signal};
 use views::number_map::NumberMap;
+use virt_ids::sys_abi::signals::{has_signal, with_signal, without_signal};
+use virt_ids::sys_abi::{Life, RealPid, Signal};
 
 /// A process: its parent, if it has one, its life, the signals that are pending for it, and for each of its
 /// threads those that are pending for that thread.

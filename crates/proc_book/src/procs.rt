@@ -13,8 +13,8 @@ use crate::process::Process;
 use crate::waiting::{Waiting, wait_for};
 use std::alloc::{AllocError, Global};
 use std::marker::Model;
-use sys_abi::{Life, RealPid, Signal};
 use virt_ids::ByRealPid;
+use virt_ids::sys_abi::{Life, RealPid, Signal};
 
 /// The processes of all nodes, and for each node the number that it hands out next.
 #[derive(Drop)]

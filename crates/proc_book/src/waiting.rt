@@ -3,8 +3,8 @@ ghost use Rattle.std.specs.FinMap as map;
 ghost use Rattle.proc_book.specs.Procs as words;
 
 use crate::process::Process;
-use sys_abi::{Life, RealPid};
 use virt_ids::ByRealPid;
+use virt_ids::sys_abi::{Life, RealPid};
 
 /// What a wait finds.
 #[derive(Clone, Copy, Debug, PartialEq, Eq)]

@@ -15,7 +15,7 @@ use Rattle.views.proofs.MapLaws.{key_tied, true_false, same_or_other, get_remove
 use Rattle.sys_abi.specs.declared.identity.VPid.{VPid}
 use Rattle.sys_abi.specs.Orders.{vpid_cmp}
 use Rattle.sys_abi.proofs.OrderLaws.{vpid_total, vpid_exact}
-use Rattle.guest_proc.specs.Guests.{GuestPart}
+use Rattle.computation.specs.OfGuestProc.Guests.{GuestPart}
 use Rattle.computation.proofs.States.{Guests}
 use Rattle.run_start.specs.Starts.{AreNumbered}
 

@@ -28,7 +28,7 @@ use Rattle.plain_machine.specs.Records.{Users}
 use Rattle.plain_machine.specs.Start.{NamedFile, FIRST_PID, start, start_kernel, with_file, with_files, with_process, with_processes, with_users, empty_kernel, console_description, console_of}
 use Rattle.rebuild_tables.specs.Rebuilt.{HasNoDatagrams}
 use Rattle.rebuild_system.specs.Restarts.{AllArrived}
-use Rattle.guest_proc.specs.Guests.{GuestPart}
+use Rattle.computation.specs.OfGuestProc.Guests.{GuestPart}
 use Rattle.computation.specs.declared.computation.Computation.{Computation}
 use Rattle.computation.specs.Computations.{IsReady}
 use Rattle.computation.proofs.States.{Guests, seen, plain_is}

@@ -15,7 +15,7 @@ use Rattle.plain_machine.specs.declared.kernel.PlainKernel.{PlainKernel}
 use Rattle.plain_machine.specs.declared.plain.Plain.{Plain}
 use Rattle.plain_machine.specs.Start.{NamedFile, start}
 use Rattle.plain_machine.specs.Valid.{IsValid}
-use Rattle.guest_proc.specs.Guests.{GuestPart}
+use Rattle.computation.specs.OfGuestProc.Guests.{GuestPart}
 use Rattle.rebuild_tables.specs.Rebuilt.{HasNoDatagrams}
 use Rattle.rebuild_system.specs.Restarts.{AllArrived}
 use Rattle.run_start.specs.declared.start.Start.{Start}

@@ -9,6 +9,6 @@
 mod listing;
 pub mod start;
 
-pub use computation::{Computation, Did, Next, Stop, Wrapped};
-pub use guest_proc::Guest;
+pub use computation::guest_proc::Guest;
+pub use computation::{Computation, Did, Next, Stop, Wrapped, guest_proc};
 pub use start::Start;

@@ -13,10 +13,10 @@ ghost use Rattle.computation.specs.HandedOn.{IsWrapped};
 ghost use Rattle.computation.specs.Computations.{plain_of, IsReady};
 
 use crate::listing::listed;
+use computation::guest_proc::Guest;
 use computation::{Computation, Wrapped};
 use discovery::Directory;
 use elf32::Program;
-use guest_proc::Guest;
 use host_tables::{Hosts, System};
 use id_maps::ByPid;
 use plain_machine::PlainKernel;

@@ -3,3 +3,4 @@ pub mod Suspended
 pub mod HandedOn
 pub mod StopVariants
 pub mod DidVariants
+pub use Rattle.run_start.specs.OfGuestProc

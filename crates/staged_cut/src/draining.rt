@@ -6,7 +6,7 @@ ghost use Rattle.plain_machine.specs.declared.kernel.PlainKernel.{PlainKernel};
 ghost use Rattle.plain_machine.specs.Kernel.{is_live};
 ghost use Rattle.barrier_core.specs.declared.members.TheConstants.{MEMBER_LIMIT};
 ghost use Rattle.leader_vote.specs.Voters as voting;
-ghost use Rattle.wrap_names.specs.Wrapping.{IsWrapped};
+ghost use Rattle.ckpt_stages.specs.OfWrapNames.Wrapping.{IsWrapped};
 ghost use Rattle.ckpt_stages.specs.Faults as faults;
 ghost use Rattle.ckpt_stages.specs.Suspensions as words;
 ghost use Rattle.staged_cut.specs.Suspended.{AreSuspended};
@@ -14,12 +14,12 @@ ghost use Rattle.staged_cut.specs.Suspended.{AreSuspended};
 use crate::standing::{same, stood_by, wrap};
 use barrier_core::{Barrier, Stage};
 use ckpt_stages::first_unsupported::first_unsupported;
+use ckpt_stages::wrap_names::stood::Stood;
 use ckpt_stages::{DrainedSet, Elected, StageFault, Suspended};
 use host_tables::System;
 use run_start::Wrapped;
 use std::alloc::{AllocError, Global};
 use sys_abi::VPid;
-use wrap_names::stood::Stood;
 
 /// Suspends all processes, has them elect leaders, and drains all channels. `live` names the live processes:
 /// the barrier is theirs, and they are suspended at it.

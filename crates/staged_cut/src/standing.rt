@@ -1,12 +1,12 @@
 //! The kernel part for which a system stands, handed on to a stage and back. It takes no memory.
 ghost use Rattle.std.specs.Prelude.{◌≡◌};
 ghost use Rattle.plain_machine.specs.declared.kernel.PlainKernel.{PlainKernel};
-ghost use Rattle.wrap_names.specs.Wrapping.{IsWrapped};
+ghost use Rattle.ckpt_stages.specs.OfWrapNames.Wrapping.{IsWrapped};
 
 use ckpt_stages::Refilled;
+use ckpt_stages::wrap_names::stood::Stood;
 use host_tables::System;
 use run_start::Wrapped;
-use wrap_names::stood::Stood;
 
 /// The kernel part that the caller's proof names for a system that runs.
 pub(crate) fn stood_by(_wrapped: &Wrapped) -> Stood

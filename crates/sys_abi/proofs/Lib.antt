@@ -1,2 +1,3 @@
 pub mod OrderLaws
 pub mod SignalSets
+pub use Rattle.views.proofs as OfViews

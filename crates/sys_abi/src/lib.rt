@@ -32,3 +32,4 @@ pub use page::Page;
 pub use record::{Cause, Kind, Record};
 pub use reply::{Errno, Reply};
 pub use transfer::Transfer;
+pub use views;

@@ -1,2 +1,3 @@
 pub mod Groups
 pub mod Local
+pub use Rattle.process_memory.specs as OfProcessMemory

@@ -21,3 +21,4 @@ mod waits;
 
 pub use group::ThreadGroup;
 pub use local_answer::LocalAnswer;
+pub use process_memory;

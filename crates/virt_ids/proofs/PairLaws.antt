@@ -5,7 +5,7 @@ use Rattle.std.specs.Option.{unwrap_or}
 use Rattle.std.specs.Cmp.{IsTotalOrder}
 use Rattle.std.specs.FinMap as map
 use Rattle.std.specs.FinMap.{FinMap, IsAntisymmetric}
-use Rattle.views.proofs.MapLaws.{true_false, remove_insert_new, remove_absent, same_or_other, get_insert_same, get_insert_other, get_remove_same, get_remove_other}
+use Rattle.id_maps.proofs.OfViews.MapLaws.{true_false, remove_insert_new, remove_absent, same_or_other, get_insert_same, get_insert_other, get_remove_same, get_remove_other}
 use Rattle.virt_ids.specs.Pairs.{AreInverse}
 
 abbrev is_there : {A : Type 0} → Option A → Type 0

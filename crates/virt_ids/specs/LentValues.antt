@@ -4,9 +4,9 @@
 use Rattle.std.specs.Prelude.{◌≡◌, Option, OnSome}
 use Rattle.std.specs.Borrow.{Fml, RattleType, MutBor, LendsSo}
 use Rattle.std.specs.FinMap as map
-use Rattle.sys_abi.specs.declared.identity.RealPid.{RealPid}
-use Rattle.sys_abi.specs.declared.identity.RealAddr.{RealAddr}
-use Rattle.sys_abi.specs.Orders.{real_pid_cmp, real_address_cmp}
+use Rattle.id_maps.specs.OfSysAbi.declared.identity.RealPid.{RealPid}
+use Rattle.id_maps.specs.OfSysAbi.declared.identity.RealAddr.{RealAddr}
+use Rattle.id_maps.specs.OfSysAbi.Orders.{real_pid_cmp, real_address_cmp}
 use Rattle.virt_ids.specs.contracts.by_real_pid.ByRealPid as by_real_pid
 use Rattle.virt_ids.specs.contracts.by_real_address.ByRealAddress as by_real_address
 

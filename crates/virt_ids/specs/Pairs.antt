@@ -10,10 +10,10 @@ use Rattle.std.specs.Ordering.{nat_cmp}
 use Rattle.std.specs.FinMap as map
 use Rattle.std.specs.FinMap.{FinMap}
 use Rattle.std.specs.Coded.{Coded, code_by, coded×, coded_ℕ}
-use Rattle.sys_abi.specs.declared.identity.RealPid.{RealPid}
-use Rattle.sys_abi.specs.declared.identity.RealAddr.{RealAddr}
-use Rattle.sys_abi.specs.declared.identity.VirtAddr.{VirtAddr}
-use Rattle.sys_abi.specs.Orders.{address_cmp, real_pid_cmp, real_address_cmp, coded_address, coded_real_pid, coded_real_address}
+use Rattle.id_maps.specs.OfSysAbi.declared.identity.RealPid.{RealPid}
+use Rattle.id_maps.specs.OfSysAbi.declared.identity.RealAddr.{RealAddr}
+use Rattle.id_maps.specs.OfSysAbi.declared.identity.VirtAddr.{VirtAddr}
+use Rattle.id_maps.specs.OfSysAbi.Orders.{address_cmp, real_pid_cmp, real_address_cmp, coded_address, coded_real_pid, coded_real_address}
 
 pub record Pairs : Type 0 where
   pub pids : FinMap nat_cmp RealPid

@@ -4,10 +4,10 @@ ghost use Rattle.std.specs.Borrow.{sem};
 ghost use Rattle.std.specs.FinMap as map;
 ghost use Rattle.virt_ids.specs.LentValues.{LendsByRealAddress};
 
+use id_maps::sys_abi::RealAddr;
 use std::alloc::{AllocError, Global};
 use std::collections::BTreeMap;
 use std::marker::Model;
-use sys_abi::RealAddr;
 
 /// A map from ports that nodes handed out, which contracts see as a finite map in the order of `RealAddr`.
 #[derive(Drop)]
@@ -17,7 +17,7 @@ pub struct ByRealAddress<V> {
 
 impl<V> Model for ByRealAddress<V> {
     ghost use Rattle.std.specs.FinMap as map;
-    ghost use Rattle.sys_abi.specs.Orders.{real_address_cmp, coded_real_address};
+    ghost use Rattle.id_maps.specs.OfSysAbi.Orders.{real_address_cmp, coded_real_address};
 
     ghost Value = { map.FinMap real_address_cmp V };
 

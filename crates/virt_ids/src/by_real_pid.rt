@@ -5,11 +5,11 @@ ghost use Rattle.std.specs.FinMap as map;
 ghost use Rattle.std.specs.Map.Calls.{CalledAtPair, RetainsPairs};
 ghost use Rattle.virt_ids.specs.LentValues.{LendsByRealPid};
 
+use id_maps::sys_abi::RealPid;
 use std::alloc::{AllocError, Global};
 use std::collections::BTreeMap;
 use std::collections::btree_map::{Iter, Keys, Values};
 use std::marker::Model;
-use sys_abi::RealPid;
 
 /// A map from process numbers that nodes handed out, which contracts see as a finite map in the order of
 /// `RealPid`.
@@ -20,7 +20,7 @@ pub struct ByRealPid<V> {
 
 impl<V> Model for ByRealPid<V> {
     ghost use Rattle.std.specs.FinMap as map;
-    ghost use Rattle.sys_abi.specs.Orders.{real_pid_cmp, coded_real_pid};
+    ghost use Rattle.id_maps.specs.OfSysAbi.Orders.{real_pid_cmp, coded_real_pid};
 
     ghost Value = { map.FinMap real_pid_cmp V };
 

@@ -6,10 +6,10 @@ ghost use Rattle.virt_ids.specs.Pairs.{IsTaken, AreWhole, without_back};
 use crate::id_fault::IdFault;
 use crate::{ByRealAddress, ByRealPid};
 use id_maps::ByAddress;
+use id_maps::sys_abi::{RealAddr, RealPid, VirtAddr};
+use id_maps::views::number_map::NumberMap;
 use std::alloc::Global;
 use std::marker::Model;
-use sys_abi::{RealAddr, RealPid, VirtAddr};
-use views::number_map::NumberMap;
 
 /// The pairs of virtual and real numbers of processes and threads, and of virtual and real addresses. A
 /// look-up on either side goes down a tree.

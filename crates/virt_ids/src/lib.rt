@@ -27,5 +27,5 @@ pub mod ids;
 pub use by_real_address::ByRealAddress;
 pub use by_real_pid::ByRealPid;
 pub use id_fault::IdFault;
-pub use id_maps::ByConn;
+pub use id_maps::{ByConn, sys_abi};
 pub use ids::Ids;

@@ -4,9 +4,9 @@ use Rattle.std.specs.Prelude.{Option, Some, None, slice_get, if◌then◌else◌
 use Rattle.std.specs.Option.{option_map, option_map_or}
 use Rattle.std.specs.FinMap as map
 use Rattle.std.proofs.lemmas.Option.{same_Some, none-some}
-use Rattle.views.proofs.MapLaws.{true_false, remove_insert}
-use Rattle.sys_abi.specs.declared.identity.ConnId.{ConnId}
-use Rattle.sys_abi.proofs.OrderLaws.{conn_total, conn_exact}
+use Rattle.virt_ids.proofs.OfViews.MapLaws.{true_false, remove_insert}
+use Rattle.virt_ids.specs.OfSysAbi.declared.identity.ConnId.{ConnId}
+use Rattle.virt_ids.proofs.OfSysAbi.OrderLaws.{conn_total, conn_exact}
 use Rattle.wire_channels.specs.declared.channel.Channel.{Channel}
 use Rattle.wire_channels.specs.Channels.{Channels, is_open, without_end, put_back, after_close, after_closes, with_closed, stays_open}
 

@@ -10,10 +10,10 @@ use Rattle.std.specs.Prelude.{Option, Some, None, is_some, min, if◌then◌else
 use Rattle.std.specs.Option.{option_map, option_map_or}
 use Rattle.std.specs.FinMap as map
 use Rattle.std.proofs.lemmas.List.{length-take, nil_from_length, take-append-drop}
-use Rattle.views.proofs.MapLaws.{same_or_other, get_insert_same, get_insert_other}
-use Rattle.sys_abi.specs.declared.identity.ConnId.{ConnId}
-use Rattle.sys_abi.specs.declared.identity.Dir.{Dir}
-use Rattle.sys_abi.proofs.OrderLaws.{conn_total, conn_exact}
+use Rattle.virt_ids.proofs.OfViews.MapLaws.{same_or_other, get_insert_same, get_insert_other}
+use Rattle.virt_ids.specs.OfSysAbi.declared.identity.ConnId.{ConnId}
+use Rattle.virt_ids.specs.OfSysAbi.declared.identity.Dir.{Dir}
+use Rattle.virt_ids.proofs.OfSysAbi.OrderLaws.{conn_total, conn_exact}
 use Rattle.wire_channels.specs.declared.channel.Channel.{Channel}
 use Rattle.wire_channels.specs.declared.place.Place.{Place}
 use Rattle.wire_channels.specs.declared.place.Place.TheVariants.{Send, Wire}

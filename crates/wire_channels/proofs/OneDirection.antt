@@ -9,10 +9,10 @@ use Rattle.std.specs.Prelude.{Option, Some, None, if◌then◌else◌}
 use Rattle.std.specs.Option.{option_map, option_map_or}
 use Rattle.std.specs.FinMap as map
 use Rattle.std.proofs.lemmas.Bool.Decides.{nat_tests}
-use Rattle.views.proofs.MapLaws.{same_or_other, get_insert_same, get_insert_other, insert_insert, insert_same}
-use Rattle.sys_abi.specs.declared.identity.ConnId.{ConnId}
-use Rattle.sys_abi.specs.declared.identity.Dir.{Dir}
-use Rattle.sys_abi.proofs.OrderLaws.{conn_total, conn_exact}
+use Rattle.virt_ids.proofs.OfViews.MapLaws.{same_or_other, get_insert_same, get_insert_other, insert_insert, insert_same}
+use Rattle.virt_ids.specs.OfSysAbi.declared.identity.ConnId.{ConnId}
+use Rattle.virt_ids.specs.OfSysAbi.declared.identity.Dir.{Dir}
+use Rattle.virt_ids.proofs.OfSysAbi.OrderLaws.{conn_total, conn_exact}
 use Rattle.wire_channels.specs.declared.channel.Channel.{Channel}
 use Rattle.wire_channels.specs.Directions.{Direction}
 use Rattle.wire_channels.specs.Channels.{Channels, direction_at, at_direction}

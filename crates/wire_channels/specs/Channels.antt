@@ -11,9 +11,9 @@ use Rattle.std.specs.Prelude.{◌==◌, ℕ, ◌-◌, Bool, true, false, ◌&&�
 use Rattle.std.specs.Option.{option_map, option_map_or}
 use Rattle.std.specs.List.{list_any}
 use Rattle.std.specs.FinMap as map
-use Rattle.sys_abi.specs.declared.identity.ConnId.{ConnId}
-use Rattle.sys_abi.specs.declared.identity.Dir.{Dir}
-use Rattle.sys_abi.specs.Orders.{conn_cmp}
+use Rattle.virt_ids.specs.OfSysAbi.declared.identity.ConnId.{ConnId}
+use Rattle.virt_ids.specs.OfSysAbi.declared.identity.Dir.{Dir}
+use Rattle.virt_ids.specs.OfSysAbi.Orders.{conn_cmp}
 use Rattle.wire_channels.specs.declared.channel.Channel.{Channel}
 use Rattle.virt_ids.specs.Changes.{at_key}
 use Rattle.wire_channels.specs.Directions.{Direction, unused, is_flowing, after_end, after_stop_reading}

@@ -6,7 +6,7 @@
 --     SameFrames before after   the same channels are there, each with the same of these
 use Rattle.std.specs.Prelude.{◌≡◌, Bool, List, option_map}
 use Rattle.std.specs.FinMap as map
-use Rattle.sys_abi.specs.declared.identity.ConnId.{ConnId}
+use Rattle.virt_ids.specs.OfSysAbi.declared.identity.ConnId.{ConnId}
 use Rattle.wire_channels.specs.declared.channel.Channel.{Channel}
 use Rattle.wire_channels.specs.Channels.{Channels}
 use Rattle.wire_channels.specs.Directions.{Direction}

@@ -3,3 +3,4 @@ pub mod Channels
 pub mod Directions
 pub mod Frames
 pub mod Listeners
+pub use Rattle.virt_ids.specs as OfVirtIds

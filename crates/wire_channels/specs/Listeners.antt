@@ -8,11 +8,11 @@
 --     IsNextPort m node base at    nobody listens at that port of the node, and somebody at each one before it
 use Rattle.std.specs.Prelude.{◌≡◌, ℕ, ◌+◌, ◌<◌, ◌≤◌, [], ◌∷◌, ◌++◌, drop, None, IsSome}
 use Rattle.std.specs.FinMap as map
-use Rattle.sys_abi.specs.declared.identity.ConnId.{ConnId}
-use Rattle.sys_abi.specs.declared.identity.RealAddr.{RealAddr}
+use Rattle.virt_ids.specs.OfSysAbi.declared.identity.ConnId.{ConnId}
+use Rattle.virt_ids.specs.OfSysAbi.declared.identity.RealAddr.{RealAddr}
 use Rattle.wire_channels.specs.declared.listener.Listener.{Listener}
 use Rattle.wire_channels.specs.declared.limits.TheConstants.{PORT_COUNT}
-use Rattle.sys_abi.specs.Orders.{real_address_cmp}
+use Rattle.virt_ids.specs.OfSysAbi.Orders.{real_address_cmp}
 
 abbrev pub Listeners : Type 0
 Listeners = map.FinMap real_address_cmp Listener

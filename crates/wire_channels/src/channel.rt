@@ -6,7 +6,7 @@ use crate::lane::Lane;
 use crate::net_fault::NetFault;
 use crate::place::Place;
 use std::alloc::{AllocError, Global};
-use sys_abi::Transfer;
+use virt_ids::sys_abi::Transfer;
 
 /// A channel: the direction in which side 0 sends, that in which side 1 sends, and which ends are open.
 #[derive(Drop)]

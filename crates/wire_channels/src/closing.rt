@@ -7,8 +7,8 @@ ghost use Rattle.wire_channels.specs.Channels as words;
 use crate::channel::Channel;
 use crate::limits::ACCEPTING_SIDE;
 use crate::listener::ConnQueue;
-use sys_abi::ConnId;
 use virt_ids::ByConn;
+use virt_ids::sys_abi::ConnId;
 
 /// Closes an end of a channel, and tells whether the channel has an open end then, or isn't there.
 fn close_end(channels: &mut ByConn<Channel>, id: ConnId, side: u8) -> bool

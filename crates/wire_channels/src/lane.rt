@@ -9,7 +9,7 @@ use crate::place::Place;
 use crate::rings::{Ring, copy_front, take_front};
 use std::alloc::{AllocError, Global};
 use std::marker::Model;
-use sys_abi::Transfer;
+use virt_ids::sys_abi::Transfer;
 
 /// A direction of a channel. The bytes of its three queues are one stream and stand in one ring, oldest first:
 /// those that can be read, those on the wire, and those in the sender's queue. Two counts tell where one queue

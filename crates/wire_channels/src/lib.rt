@@ -35,4 +35,5 @@ pub use listener::{ConnQueue, Listener};
 pub use moving::{end_on, move_on, receive_on, send_on, stop_reading_on};
 pub use net_fault::NetFault;
 pub use place::Place;
+pub use virt_ids;
 pub use virt_ids::ByConn;

@@ -4,7 +4,7 @@ ghost use Rattle.wire_channels.specs.Listeners as words;
 use std::alloc::{AllocError, Global};
 use std::collections::VecDeque;
 use std::marker::Model;
-use sys_abi::ConnId;
+use virt_ids::sys_abi::ConnId;
 
 /// The connections that wait to be accepted, oldest first.
 #[derive(Drop)]
@@ -14,7 +14,7 @@ pub struct ConnQueue {
 
 impl Model for ConnQueue {
     ghost use Rattle.std.specs.Prelude.{List};
-    ghost use Rattle.sys_abi.specs.declared.identity.ConnId.{ConnId};
+    ghost use Rattle.virt_ids.specs.OfSysAbi.declared.identity.ConnId.{ConnId};
 
     ghost Value = { List ConnId };
 

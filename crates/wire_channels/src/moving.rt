@@ -8,8 +8,8 @@ ghost use Rattle.wire_channels.specs.Answers as answers;
 use crate::channel::Channel;
 use crate::net_fault::NetFault;
 use crate::place::Place;
-use sys_abi::{Dir, Transfer};
 use virt_ids::ByConn;
+use virt_ids::sys_abi::{Dir, Transfer};
 
 /// Takes as much of the piece as the direction has room for (`man 2 send`). Takes no memory.
 ///

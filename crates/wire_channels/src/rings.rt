@@ -1,10 +1,10 @@
 //! Bytes out of the front of a ring. Each run of bytes is copied whole.
 ghost use Rattle.std.specs.Prelude.{◌≡◌, ◌+◌, ◌≤◌, ◌++◌, length, take, drop};
-ghost use Rattle.sys_abi.specs.declared.transfer.TheConstants.{TRANSFER_LIMIT};
+ghost use Rattle.virt_ids.specs.OfSysAbi.declared.transfer.TheConstants.{TRANSFER_LIMIT};
 ghost use Rattle.circular_buffer.specs.Buffer.{buffer};
 
 use circular_buffer::HeapCircularBuffer;
-use sys_abi::Transfer;
+use virt_ids::sys_abi::Transfer;
 
 pub(crate) type Ring = HeapCircularBuffer<u8>;
 

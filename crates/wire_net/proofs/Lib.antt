@@ -14,3 +14,4 @@ pub mod LiveChannels
 pub mod NotedAgents
 pub mod OneCall
 pub mod Pieces
+pub use Rattle.wire_channels.proofs as OfWireChannels

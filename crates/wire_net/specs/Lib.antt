@@ -8,3 +8,4 @@ pub mod Noted
 pub mod Reserves
 pub mod Runs
 pub mod Whereabouts
+pub use Rattle.wire_channels.specs as OfWireChannels

@@ -2,14 +2,14 @@
 ghost use Rattle.std.specs.Prelude.{◌≡◌, ◌≤◌, not, nat_le, length, OnOk, OnErr, MatchOption, option_map};
 ghost use Rattle.std.specs.FinMap as map;
 ghost use Rattle.wire_channels.specs.declared.limits.TheConstants.{PORT_BASE_LIMIT};
-ghost use Rattle.virt_ids.specs.Changes.{at_key};
+ghost use Rattle.wire_channels.specs.OfVirtIds.Changes.{at_key};
 ghost use Rattle.wire_channels.specs.Listeners as words;
 ghost use Rattle.wire_net.specs.Networks.{accept_answer};
 
 use std::alloc::{AllocError, Global};
 use sys_abi::{ConnId, RealAddr};
-use virt_ids::ByRealAddress;
 use wire_channels::limits::PORT_COUNT;
+use wire_channels::virt_ids::ByRealAddress;
 use wire_channels::{ConnQueue, Listener, NetFault};
 
 /// A listener at which nobody waits yet.

@@ -1,7 +1,7 @@
 ghost use Rattle.std.specs.Prelude.{◌≡◌, ◌↔◌, ◌<◌, ◌≤◌, ◌⊎◌, min, take, length, Ok, Err, IsSome, IsNone, IfSome, IfNone, IfOk, IfErr, OnOk, OnErr, IsOkUnless};
 ghost use Rattle.std.specs.FinMap as map;
 ghost use Rattle.wire_channels.specs.declared.limits.TheConstants.{ACCEPTING_SIDE, CHANNEL_LIMIT, NODE_LIMIT, PORT_BASE_LIMIT};
-ghost use Rattle.virt_ids.specs.Changes.{at_key};
+ghost use Rattle.wire_channels.specs.OfVirtIds.Changes.{at_key};
 ghost use Rattle.wire_channels.specs.Channels as channels;
 ghost use Rattle.wire_channels.specs.Directions as directions;
 ghost use Rattle.wire_channels.specs.Frames.{SameFrames};
@@ -13,8 +13,8 @@ use crate::listening::{accept_at, has_room, new_listener, next_port, wait_at};
 use std::alloc::{AllocError, Global};
 use std::marker::Model;
 use sys_abi::{ConnId, Dir, RealAddr, Transfer};
-use virt_ids::ByRealAddress;
 use wire_channels::limits::CHANNEL_LIMIT;
+use wire_channels::virt_ids::ByRealAddress;
 use wire_channels::{
     ByConn, Channel, Listener, NetFault, Place, drop_end, drop_pending, end_on, move_on,
     receive_on, send_on, stop_reading_on,

@@ -11,7 +11,7 @@ use Rattle.host_tables.specs.declared.reply.KernelReply.{KernelReply}
 use Rattle.host_tables.specs.declared.reply.KernelReply.TheVariants.{Done, Error, Memory}
 use Rattle.host_tables.specs.declared.reply.KernelReply.TheVariants as reply
 use Rattle.host_tables.specs.declared.system.System.{System}
-use Rattle.wrap_names.specs.Wrapping.{IsWrapped, Answers, StandsAfter, is_memory, kernel_left}
+use Rattle.wrap_passing.specs.OfWrapNames.Wrapping.{IsWrapped, Answers, StandsAfter, is_memory, kernel_left}
 
 module _ (s : System) (next_id : ℕ) (k : PlainKernel) (before now : List Byte) (m : Try Served) where
   pub stands_then : (answered : KernelReply) → is_memory answered ≡ false

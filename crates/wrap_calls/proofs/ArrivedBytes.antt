@@ -31,10 +31,10 @@ use Rattle.host_tables.specs.Network.{SameDirection}
 use Rattle.host_tables.specs.Stands.{Given, Stands}
 use Rattle.host_tables.specs.Systems.{given_of}
 use Rattle.host_tables.proofs.DirectionChanges.{KeepsSilence, direction_put, left_alone}
-use Rattle.wrap_names.specs.Changes.{missing_in, arrived_in, after_arrival}
-use Rattle.wrap_names.specs.Wrapping.{IsWrapped}
-use Rattle.wrap_names.proofs.Keeps.{others}
-use Rattle.wrap_names.proofs.Kept.{kept_wrapped}
+use Rattle.wrap_passing.specs.OfWrapNames.Changes.{missing_in, arrived_in, after_arrival}
+use Rattle.wrap_passing.specs.OfWrapNames.Wrapping.{IsWrapped}
+use Rattle.wrap_passing.proofs.OfWrapNames.Keeps.{others}
+use Rattle.wrap_passing.proofs.OfWrapNames.Kept.{kept_wrapped}
 use Rattle.wrap_calls.proofs.MissingBytes.{on_way}
 
 abbrev pub passed : ℕ → RealDirection → RealDirection

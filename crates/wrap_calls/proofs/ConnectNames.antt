@@ -29,7 +29,7 @@ use Rattle.host_tables.specs.Descriptions.{Names, address_of, seen_object}
 use Rattle.host_tables.specs.Requests.{IfSocket, IfHeld, next_conn}
 use Rattle.host_tables.specs.Stands.{Given, Stands}
 use Rattle.host_tables.proofs.LookUps.{held_none}
-use Rattle.wrap_names.specs.Wrapping.{IsWrapped}
+use Rattle.wrap_passing.specs.OfWrapNames.Wrapping.{IsWrapped}
 use Rattle.wrap_calls.specs.Naming.{conn_in}
 
 if_seen : (names : Names) (pairs : Pairs) (id : DescId) (M : VirtAddr → Type 0) → M (address_of names id)

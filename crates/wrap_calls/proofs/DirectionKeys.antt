@@ -30,7 +30,7 @@ use Rattle.wire_channels.specs.Channels as channels
 use Rattle.host_tables.specs.declared.system.System.{System}
 use Rattle.host_tables.specs.Network.{Conns, SameDirection}
 use Rattle.host_tables.proofs.LookUps.{some_value}
-use Rattle.wrap_names.specs.Wrapping.{IsWrapped}
+use Rattle.wrap_passing.specs.OfWrapNames.Wrapping.{IsWrapped}
 use Rattle.wrap_calls.specs.Directions.{is_above, is_first_side}
 use Rattle.wrap_calls.proofs.FirstKeys.{Finds, finds_key, found_key}
 

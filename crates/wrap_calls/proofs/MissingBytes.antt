@@ -15,7 +15,7 @@ use Rattle.host_tables.specs.declared.kernel.Kernel.{Kernel}
 use Rattle.host_tables.specs.Network.{SameDirection}
 use Rattle.host_tables.specs.Stands.{Given, Stands}
 use Rattle.host_tables.proofs.DirectionChanges.{left_alone}
-use Rattle.wrap_names.specs.Changes.{missing_in}
+use Rattle.wrap_passing.specs.OfWrapNames.Changes.{missing_in}
 use Rattle.wrap_calls.specs.Directions.{on_the_way}
 
 counted : (all received wire sent arrived : ℕ) → all ≡ received + wire + sent → arrived ≡ received

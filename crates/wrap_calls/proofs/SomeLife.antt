@@ -26,7 +26,7 @@ use Rattle.host_tables.specs.Numbers.{to_real, to_virt}
 use Rattle.host_tables.specs.Processes.{SameProcess}
 use Rattle.host_tables.proofs.Ways.{lead_process}
 use Rattle.host_tables.specs.declared.system.System.{System}
-use Rattle.wrap_names.specs.Wrapping.{IsWrapped}
+use Rattle.wrap_passing.specs.OfWrapNames.Wrapping.{IsWrapped}
 use Rattle.wrap_calls.proofs.FirstKeys.{Finds, finds_key}
 
 module _ (k : PlainKernel) (whole : IsKernel k) where

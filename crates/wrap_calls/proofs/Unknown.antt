@@ -15,9 +15,9 @@ use Rattle.plain_machine.specs.declared.kernel.PlainKernel.{PlainKernel}
 use Rattle.plain_machine.specs.Serve.{row}
 use Rattle.host_tables.specs.declared.reply.KernelReply.TheVariants.{Error}
 use Rattle.host_tables.specs.declared.system.System.{System}
-use Rattle.wrap_names.specs.Wrapping.{IsWrapped, StandsAfter}
+use Rattle.wrap_passing.specs.OfWrapNames.Wrapping.{IsWrapped, StandsAfter}
 use Rattle.wrap_passing.specs.Asking.{is_passed, is_making, is_wait, is_served}
-use Rattle.wrap_names.specs.Calls.{is_address_call}
+use Rattle.wrap_passing.specs.OfWrapNames.Calls.{is_address_call}
 use Rattle.wrap_ends.specs.Serving.{is_closing}
 use Rattle.wrap_ends.specs.Exits.{is_exit}
 use Rattle.wrap_makers.specs.Cloning.{is_clone}

@@ -2,7 +2,7 @@
 pub use Rattle.wrap_calls.specs.Console.{console_write, takes_writes, writes_console}
 unfoldable pub use Rattle.wrap_calls.specs.Console.{written}
 pub use Rattle.wrap_calls.specs.Directions.{is_above}
-pub use Rattle.wrap_names.specs.Wrapping.{Answers}
-pub use Rattle.wrap_names.specs.Changes.{arrived_in}
-unfoldable pub use Rattle.wrap_names.specs.Changes.{after_arrival}
-pub use Rattle.wrap_names.specs.Wrapping.{IsWrapped}
+pub use Rattle.wrap_passing.specs.OfWrapNames.Wrapping.{Answers}
+pub use Rattle.wrap_passing.specs.OfWrapNames.Changes.{arrived_in}
+unfoldable pub use Rattle.wrap_passing.specs.OfWrapNames.Changes.{after_arrival}
+pub use Rattle.wrap_passing.specs.OfWrapNames.Wrapping.{IsWrapped}

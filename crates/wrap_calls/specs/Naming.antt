@@ -5,7 +5,7 @@ use Rattle.sys_abi.specs.declared.identity.VPid.{VPid}
 use Rattle.sys_abi.specs.declared.identity.ConnId.{ConnId}
 use Rattle.plain_tables.specs.Tables.{Makers}
 use Rattle.plain_machine.specs.Making.{conn_id}
-use Rattle.wrap_names.specs.Naming.{made_in}
+use Rattle.wrap_passing.specs.OfWrapNames.Naming.{made_in}
 
 abbrev pub conn_in : Makers → VPid → Option ConnId
 conn_in makers p =

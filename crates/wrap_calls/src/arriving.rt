@@ -1,12 +1,12 @@
 //! Bytes arrive.
 ghost use Rattle.std.specs.Prelude.{◌≡◌, ◌<◌, min};
 ghost use Rattle.std.specs.FinMap as map;
-ghost use Rattle.wrap_names.specs.Changes.{missing_in, after_arrival};
+ghost use Rattle.wrap_passing.specs.OfWrapNames.Changes.{missing_in, after_arrival};
 
 use crate::direction_arriving::arrive;
 use crate::wrapped::Wrapped;
 use sys_abi::Dir;
-use wrap_names::stood::Change;
+use wrap_passing::wrap_names::stood::Change;
 
 impl Wrapped {
     /// Has so many bytes of the direction arrive, at most those that are on the way, and tells how many.

@@ -6,7 +6,7 @@ ghost use Rattle.plain_machine.specs.declared.kernel.PlainKernel.{PlainKernel};
 ghost use Rattle.plain_machine.specs.Kernel.{held};
 ghost use Rattle.plain_machine.specs.Rows.Connections as rows;
 ghost use Rattle.host_tables.specs.Requests.{target_of, IfHeld};
-ghost use Rattle.wrap_names.specs.Wrapping.{IsWrapped};
+ghost use Rattle.wrap_passing.specs.OfWrapNames.Wrapping.{IsWrapped};
 ghost use Rattle.wrap_calls.specs.Naming as words;
 
 use conn_table::ConnTable;
@@ -16,9 +16,9 @@ use plain_ports::addresses::{ADDRESS_SIZE, AF_INET, family_of, named_host, port_
 use sys_abi::errors::{EAFNOSUPPORT, EINVAL};
 use sys_abi::{ConnId, Errno, RealAddr, RealPid, VPid, VirtAddr};
 use virt_ids::Ids;
-use wrap_names::look_ups::address_of;
-use wrap_names::naming::{leads_to_pipe, made_by};
-use wrap_names::ports::has_port;
+use wrap_passing::wrap_names::look_ups::address_of;
+use wrap_passing::wrap_names::naming::{leads_to_pipe, made_by};
+use wrap_passing::wrap_names::ports::has_port;
 
 /// Numbers of what a process makes are below this one, so that a call has room for those that it takes.
 const LAST_MADE: u32 = 0xFFFF_FFFC;

@@ -10,7 +10,7 @@ ghost use Rattle.plain_machine.specs.declared.kernel.PlainKernel.{PlainKernel};
 ghost use Rattle.plain_machine.specs.Attempts.{Served};
 ghost use Rattle.plain_machine.specs.Serve.{row};
 ghost use Rattle.host_descriptors.specs.Held.{held_in};
-ghost use Rattle.wrap_names.specs.Wrapping.{IsWrapped};
+ghost use Rattle.wrap_passing.specs.OfWrapNames.Wrapping.{IsWrapped};
 ghost use Rattle.wrap_calls.specs.Console as words;
 
 use call_table::Request;

@@ -2,8 +2,8 @@
 ghost use Rattle.std.specs.Prelude.{◌≡◌, ◌<◌, min};
 ghost use Rattle.std.specs.FinMap as map;
 ghost use Rattle.plain_machine.specs.declared.kernel.PlainKernel.{PlainKernel};
-ghost use Rattle.wrap_names.specs.Changes.{missing_in, after_arrival};
-ghost use Rattle.wrap_names.specs.Wrapping.{IsWrapped};
+ghost use Rattle.wrap_passing.specs.OfWrapNames.Changes.{missing_in, after_arrival};
+ghost use Rattle.wrap_passing.specs.OfWrapNames.Wrapping.{IsWrapped};
 
 use host_tables::System;
 use sys_abi::Dir;

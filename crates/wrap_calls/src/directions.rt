@@ -5,8 +5,8 @@ ghost use Rattle.conn_table.specs.Conns as table;
 ghost use Rattle.plain_machine.specs.declared.kernel.PlainKernel.{PlainKernel};
 ghost use Rattle.plain_tables.specs.Objects.{dir};
 ghost use Rattle.wire_channels.specs.Channels as channels;
-ghost use Rattle.wrap_names.specs.Changes.{missing_in};
-ghost use Rattle.wrap_names.specs.Wrapping.{IsWrapped};
+ghost use Rattle.wrap_passing.specs.OfWrapNames.Changes.{missing_in};
+ghost use Rattle.wrap_passing.specs.OfWrapNames.Wrapping.{IsWrapped};
 ghost use Rattle.wrap_calls.specs.Directions as words;
 
 use conn_table::ConnTable;

@@ -10,7 +10,7 @@ ghost use Rattle.plain_machine.specs.Kernel as plain;
 ghost use Rattle.plain_machine.specs.Serve as calls;
 ghost use Rattle.plain_machine.specs.Serve.{row};
 ghost use Rattle.plain_machine.specs.Tests as tests;
-ghost use Rattle.wrap_names.specs.Changes.{missing_in};
+ghost use Rattle.wrap_passing.specs.OfWrapNames.Changes.{missing_in};
 ghost use Rattle.wrap_calls.specs.Console as consoles;
 ghost use Rattle.wrap_calls.specs.Directions as directions;
 

@@ -2,7 +2,7 @@
 ghost use Rattle.std.specs.Prelude.{◌≡◌};
 ghost use Rattle.plain_machine.specs.declared.kernel.PlainKernel.{PlainKernel};
 ghost use Rattle.plain_machine.specs.Serve as words;
-ghost use Rattle.wrap_names.specs.Wrapping.{IsWrapped};
+ghost use Rattle.wrap_passing.specs.OfWrapNames.Wrapping.{IsWrapped};
 
 use crate::connecting::is_connect_ready;
 use crate::strangers::is_stranger_ready;
@@ -10,7 +10,7 @@ use call_table::Request;
 use host_tables::System;
 use sys_abi::{Tid, VPid};
 use wrap_ends::is_wait4_ready;
-use wrap_names::naming::{leads_to_pipe, named, next_desc};
+use wrap_passing::wrap_names::naming::{leads_to_pipe, named, next_desc};
 use wrap_passing::{is_read_ready, is_write_ready};
 use wrap_sockets::is_accept_ready;
 

@@ -3,7 +3,7 @@ ghost use Rattle.std.specs.Prelude.{◌≡◌, false};
 ghost use Rattle.call_table.specs.Requests.{is_local};
 ghost use Rattle.plain_machine.specs.RowLaws.{IsAsked};
 ghost use Rattle.plain_machine.specs.Serve.{row};
-ghost use Rattle.wrap_names.specs.Wrapping.{IsWrapped, StandsAfter};
+ghost use Rattle.wrap_passing.specs.OfWrapNames.Wrapping.{IsWrapped, StandsAfter};
 ghost use Rattle.wrap_makers.specs.Cloning.{is_clone};
 
 use call_table::Request;
@@ -12,9 +12,9 @@ use sys_abi::errors::ENOSYS;
 use sys_abi::transfer::Transfer;
 use sys_abi::{Errno, Tid, VPid};
 use wrap_makers::serving as making;
-use wrap_names::serving as naming;
-use wrap_names::stood::Stood;
 use wrap_passing::serving as passing;
+use wrap_passing::wrap_names::serving as naming;
+use wrap_passing::wrap_names::stood::Stood;
 use wrap_sockets::serving as meeting;
 
 /// Serves a guest's call. After want of memory all is as before.

@@ -7,7 +7,7 @@ ghost use Rattle.plain_machine.specs.Rows.Wait as rows;
 ghost use Rattle.plain_machine.specs.Serve as words;
 ghost use Rattle.plain_tables.specs.Tables.{NOBODY as NO_PROCESS, pid};
 ghost use Rattle.plain_tables.specs.Waits as waits;
-ghost use Rattle.wrap_names.specs.Wrapping.{IsWrapped};
+ghost use Rattle.wrap_passing.specs.OfWrapNames.Wrapping.{IsWrapped};
 
 use crate::living::has_life;
 use call_table::Request;

@@ -4,7 +4,7 @@ ghost use Rattle.plain_machine.specs.declared.kernel.PlainKernel.{PlainKernel};
 ghost use Rattle.plain_machine.specs.Kernel as plain;
 ghost use Rattle.plain_machine.specs.RowLaws.{IsAsked};
 ghost use Rattle.plain_machine.specs.Serve.{row};
-ghost use Rattle.wrap_names.specs.Wrapping as words;
+ghost use Rattle.wrap_passing.specs.OfWrapNames.Wrapping as words;
 
 use crate::serving::serve_call;
 use call_table::Request;
@@ -12,8 +12,8 @@ use host_tables::{KernelReply, System};
 use std::marker::Model;
 use sys_abi::transfer::Transfer;
 use sys_abi::{Signal, Tid, VPid};
-use wrap_names::stood::{Change, Stood};
 use wrap_passing::taking::take_signal;
+use wrap_passing::wrap_names::stood::{Change, Stood};
 
 /// A system that stands for a kernel part, which is what a caller sees of it.
 pub struct Wrapped {
@@ -35,8 +35,8 @@ impl Drop for Wrapped {
 
 impl Model for Wrapped {
     ghost use Rattle.plain_machine.specs.declared.kernel.PlainKernel.{PlainKernel};
-    ghost use Rattle.wrap_names.specs.Codes.{kernel_code};
-    ghost use Rattle.wrap_names.specs.Wrapping.{IsWrapped};
+    ghost use Rattle.wrap_passing.specs.OfWrapNames.Codes.{kernel_code};
+    ghost use Rattle.wrap_passing.specs.OfWrapNames.Wrapping.{IsWrapped};
 
     ghost Value = { PlainKernel };
 
@@ -48,7 +48,7 @@ impl Model for Wrapped {
 }
 
 impl Wrapped {
-    ghost use Rattle.wrap_names.specs.Wrapping.{Answers, IsWrapped};
+    ghost use Rattle.wrap_passing.specs.OfWrapNames.Wrapping.{Answers, IsWrapped};
     ghost use Rattle.call_table.specs.Requests.{is_local};
 
     /// The system stands for the kernel part that the caller's proof names, whose next number is this one.

@@ -34,8 +34,8 @@ use Rattle.host_tables.specs.declared.system.System.{System}
 use Rattle.host_tables.specs.Stands.{Stands}
 use Rattle.host_tables.specs.Systems.{given_of}
 use Rattle.host_tables.proofs.LookUps.{some_value}
-use Rattle.host_processes.specs.Leaves.{after_leave}
-use Rattle.host_processes.proofs.Left.{end_is}
+use Rattle.wrap_names.specs.OfHostProcesses.Leaves.{after_leave}
+use Rattle.wrap_names.proofs.OfHostProcesses.Left.{end_is}
 use Rattle.wrap_names.specs.Wrapping.{IsWrapped, StandsAfter}
 use Rattle.wrap_ends.specs.Ending.{EndsAs, EndsOne, EndsThread, IsAlone, without_number, without_thread}
 use Rattle.wrap_ends.proofs.Steps.{begun}

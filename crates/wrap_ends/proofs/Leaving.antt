@@ -38,7 +38,7 @@ use Rattle.host_tables.specs.Processes.{SameProcess}
 use Rattle.host_tables.specs.Stands.{Stands}
 use Rattle.host_tables.specs.Systems.{given_of, has_own_name, is_named_in, IsNumber}
 use Rattle.host_tables.proofs.LookUps.{some_value}
-use Rattle.host_processes.specs.Leaves.{after_leave}
+use Rattle.wrap_names.specs.OfHostProcesses.Leaves.{after_leave}
 use Rattle.wrap_names.specs.Passing.{Passed}
 use Rattle.wrap_names.specs.Wrapping.{IsWrapped}
 use Rattle.wrap_names.proofs.Reaping.{IsNobody, nobody}

@@ -19,7 +19,7 @@ use Rattle.plain_tables.proofs.Orphans.{look_up, orphan_life}
 use Rattle.plain_machine.specs.declared.kernel.PlainKernel.{PlainKernel}
 use Rattle.plain_machine.specs.Ends.{without_owner, without_children, with_zombie, left_to, left_by}
 use Rattle.plain_machine.specs.Kernel.{is_live, without_process, after_raise_for_all}
-use Rattle.host_processes.specs.Leaves.{after_leave}
+use Rattle.wrap_names.specs.OfHostProcesses.Leaves.{after_leave}
 
 abbrev pub left_of : VPid → Option Process → Option Process
 left_of p o = option_map (orphan p) (option_filter (λ x. not (is_zombie_child p x)) o)

@@ -20,7 +20,7 @@ use Rattle.plain_machine.specs.Ends.{closed_below}
 use Rattle.plain_machine.proofs.WholeClosing.{none_below}
 use Rattle.host_tables.specs.declared.system.System.{System}
 use Rattle.host_tables.proofs.LookUps.{some_value, at_slot}
-use Rattle.host_processes.proofs.LowestCloses.{closed_next, closed_rest}
+use Rattle.wrap_names.proofs.OfHostProcesses.LowestCloses.{closed_next, closed_rest}
 use Rattle.wrap_names.specs.Wrapping.{IsWrapped}
 
 pub record IsClosedBelow (now : System) (next_id : ℕ) (k : PlainKernel) (p : VPid) (turns : ℕ) : Type 0 where

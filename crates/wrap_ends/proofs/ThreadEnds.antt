@@ -42,7 +42,7 @@ use Rattle.host_tables.specs.Systems.{given_of, IsNumber}
 use Rattle.host_tables.proofs.LookUps.{some_value, real_process_of}
 use Rattle.host_tables.proofs.ProcessChanges.{same_threads}
 use Rattle.host_tables.proofs.Ways.{lead_thread}
-use Rattle.host_processes.specs.Leaves.{after_leave}
+use Rattle.wrap_names.specs.OfHostProcesses.Leaves.{after_leave}
 use Rattle.wrap_names.specs.Passing.{Passed}
 use Rattle.wrap_names.specs.Wrapping.{IsWrapped}
 use Rattle.wrap_names.proofs.Reaping.{nobody}

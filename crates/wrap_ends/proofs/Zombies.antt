@@ -39,8 +39,8 @@ use Rattle.host_tables.specs.Stands.{Given, Stands}
 use Rattle.host_tables.specs.Systems.{given_of, IsNumber}
 use Rattle.host_tables.proofs.Waits.{same_parent}
 use Rattle.host_tables.proofs.Ways.{lead_process}
-use Rattle.host_processes.proofs.Reaped.{reaped_kept}
-use Rattle.host_processes.specs.Leaves.{after_leave}
+use Rattle.wrap_names.proofs.OfHostProcesses.Reaped.{reaped_kept}
+use Rattle.wrap_names.specs.OfHostProcesses.Leaves.{after_leave}
 use Rattle.wrap_names.specs.Passing.{Passed}
 use Rattle.wrap_names.specs.Wrapping.{IsWrapped}
 use Rattle.wrap_names.proofs.Reaping.{nobody_left}

@@ -15,7 +15,7 @@ use Rattle.plain_tables.specs.Tables.{without_thread_entry}
 use Rattle.plain_machine.specs.declared.kernel.PlainKernel.{PlainKernel}
 use Rattle.plain_machine.specs.Kernel.{at_process, is_live, thread_count}
 use Rattle.host_tables.specs.declared.system.System.{System}
-use Rattle.host_processes.specs.Leaves.{after_leave}
+use Rattle.wrap_names.specs.OfHostProcesses.Leaves.{after_leave}
 use Rattle.wrap_names.specs.Wrapping.{IsWrapped}
 
 pub record EndsAs (new : System) (next_id : ℕ) (k : PlainKernel) (p : VPid) (who : RealPid)

@@ -6,16 +6,16 @@ ghost use Rattle.plain_machine.specs.declared.kernel.PlainKernel.{PlainKernel};
 ghost use Rattle.plain_machine.specs.Ends.{after_end};
 ghost use Rattle.plain_machine.specs.Kernel.{is_live, thread_count};
 ghost use Rattle.plain_machine.specs.Kernels.{IsKernel};
-ghost use Rattle.host_processes.specs.Leaves.{after_leave};
+ghost use Rattle.wrap_names.specs.OfHostProcesses.Leaves.{after_leave};
 ghost use Rattle.wrap_names.specs.Wrapping.{IsWrapped};
 ghost use Rattle.wrap_ends.specs.Ending.{HasNoZombie};
 
 use crate::closing::close_all;
 use crate::reaping::reap_all;
 use crate::threads::{end_threads, forget_thread};
-use host_processes::leave;
 use host_tables::System;
 use sys_abi::{RealPid, VPid};
+use wrap_names::host_processes::leave;
 use wrap_names::stood::Stood;
 
 /// Ends a process: its descriptors close, what it owned has no owner, its children have no parent and its

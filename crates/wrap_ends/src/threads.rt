@@ -8,10 +8,10 @@ ghost use Rattle.host_tables.specs.Numbers.{real};
 ghost use Rattle.wrap_names.specs.Wrapping.{IsWrapped};
 ghost use Rattle.wrap_ends.specs.Ending.{EndsAs, EndsOne, EndsThread, without_thread};
 
-use host_processes::exit_thread;
 use host_tables::System;
 use sys_abi::{RealPid, VPid};
 use virt_ids::Ids;
+use wrap_names::host_processes::exit_thread;
 
 /// How many threads a process has at most.
 const THREAD_LIMIT: u32 = 64;

@@ -25,7 +25,7 @@ use Rattle.host_tables.specs.Numbers.{real}
 use Rattle.host_tables.specs.Requests.{AreBelow}
 use Rattle.host_tables.specs.Serves.{Through, Serves, ByPid, silent}
 use Rattle.host_tables.specs.Systems.{given_of}
-use Rattle.host_processes.specs.Forks.{paired_with, IsNext}
+use Rattle.wrap_names.specs.OfHostProcesses.Forks.{paired_with, IsNext}
 use Rattle.wrap_names.specs.Wrapping.{IsWrapped, StandsAfter, is_done}
 use Rattle.wrap_makers.specs.Cloning.{maker_in, with_pair, with_maker, without_pair, without_maker, told_as, next_after}
 use Rattle.wrap_makers.proofs.CloneRow.{IsCloned, row_cloned}

@@ -19,7 +19,7 @@ use Rattle.host_tables.specs.declared.system.System.{System}
 use Rattle.host_tables.specs.Numbers.{real, IsHandedOut}
 use Rattle.host_tables.specs.Systems.{given_of}
 use Rattle.host_tables.proofs.LookUps.{lives_of}
-use Rattle.host_processes.proofs.NewNumbers.{its_process, unpaired_v, unpaired_r}
+use Rattle.wrap_names.proofs.OfHostProcesses.NewNumbers.{its_process, unpaired_v, unpaired_r}
 use Rattle.wrap_names.specs.Wrapping.{IsWrapped}
 use Rattle.wrap_makers.proofs.NewNumber.{below, unmade, room_left}
 

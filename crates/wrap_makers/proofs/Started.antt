@@ -29,7 +29,7 @@ use Rattle.host_tables.specs.Numbers.{real}
 use Rattle.host_tables.specs.Serves.{IsReply, bytes_or, Serves, ByPid, reply_value, silent}
 use Rattle.host_tables.specs.Stands.{Stands, with_number}
 use Rattle.host_tables.specs.Systems.{given_of}
-use Rattle.host_processes.specs.Forks.{paired_with, IsNext}
+use Rattle.wrap_names.specs.OfHostProcesses.Forks.{paired_with, IsNext}
 use Rattle.wrap_names.specs.Wrapping.{IsWrapped, StandsAfter, is_done}
 use Rattle.wrap_makers.specs.Cloning.{maker_in, with_pair, with_maker, told_as, next_after}
 use Rattle.wrap_makers.proofs.CloneRow.{IsCloned, given_by, left_by}

@@ -45,7 +45,7 @@ pub(crate) fn start(
     };
     let reply = told_as(
         number,
-        host_processes::clone(&mut system.kernel, who, flags),
+        wrap_names::host_processes::clone(&mut system.kernel, who, flags),
     );
     if is_done(reply) {
         return reply;

@@ -19,12 +19,12 @@ use Rattle.plain_machine.specs.Kernel.{with_object}
 use Rattle.plain_machine.specs.Kernels.{IsKernel}
 use Rattle.host_streams.specs.HandedOn.{Held}
 use Rattle.host_streams.specs.HandedOn.{seen_held}
-use Rattle.host_tables.specs.declared.system.System.{System}
-use Rattle.host_tables.specs.Datagrams.{RealDescriptions}
-use Rattle.host_tables.specs.Descriptions.{Names, Addresses, address_of, nowhere, seen_object, seen_desc, IsTold, SameDescriptions}
-use Rattle.host_tables.specs.Stands.{Given, Stands}
-use Rattle.host_tables.specs.Systems.{given_of, AreExact, is_named_in}
-use Rattle.host_tables.proofs.DescriptionChanges.{IsStillTold, SameDescriptions-put}
+use Rattle.host_streams.specs.OfHostTables.declared.system.System.{System}
+use Rattle.host_streams.specs.OfHostTables.Datagrams.{RealDescriptions}
+use Rattle.host_streams.specs.OfHostTables.Descriptions.{Names, Addresses, address_of, nowhere, seen_object, seen_desc, IsTold, SameDescriptions}
+use Rattle.host_streams.specs.OfHostTables.Stands.{Given, Stands}
+use Rattle.host_streams.specs.OfHostTables.Systems.{given_of, AreExact, is_named_in}
+use Rattle.host_streams.proofs.OfHostTables.DescriptionChanges.{IsStillTold, SameDescriptions-put}
 use Rattle.wrap_names.specs.Wrapping.{IsWrapped}
 
 -- other descriptions

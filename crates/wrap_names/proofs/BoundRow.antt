@@ -10,9 +10,9 @@ use Rattle.plain_process.specs.Attempts.{Try}
 use Rattle.plain_machine.specs.declared.kernel.PlainKernel.{PlainKernel}
 use Rattle.plain_machine.specs.Attempts.{Served}
 use Rattle.plain_machine.specs.Kernels.{IsKernel}
-use Rattle.host_tables.specs.declared.reply.KernelReply.TheVariants.{Done, Error, Memory}
-use Rattle.host_tables.specs.declared.system.System.{System}
-use Rattle.host_tables.specs.Systems.{given_of}
+use Rattle.host_streams.specs.OfHostTables.declared.reply.KernelReply.TheVariants.{Done, Error, Memory}
+use Rattle.host_streams.specs.OfHostTables.declared.system.System.{System}
+use Rattle.host_streams.specs.OfHostTables.Systems.{given_of}
 use Rattle.host_streams.proofs.HandedOn.{held_by}
 use Rattle.conn_table.specs.declared.table.ConnTable.{ConnTable}
 use Rattle.wrap_names.specs.Wrapping.{IsWrapped, StandsAfter, kernel_left}

@@ -38,18 +38,18 @@ use Rattle.plain_machine.specs.declared.kernel.PlainKernel.{PlainKernel}
 use Rattle.plain_machine.specs.Kernel.{is_live}
 use Rattle.plain_machine.specs.Kernels.{IsKernel}
 use Rattle.plain_machine.specs.RowLaws.{IsAsked}
-use Rattle.host_tables.specs.Conditions.{IsThere, IsSound, IsAsking}
-use Rattle.host_tables.specs.declared.kernel.Kernel.{Kernel}
-use Rattle.host_tables.specs.declared.system.System.{System}
-use Rattle.host_tables.specs.Datagrams.{told_end}
-use Rattle.host_tables.specs.Descriptions.{address_of, seen_desc, seen_object, IsTold}
-use Rattle.host_tables.specs.Network.{SameListener}
-use Rattle.host_tables.specs.Numbers.{real, number_on, to_real_thread}
-use Rattle.host_tables.specs.Processes.{IsSame, to_slot, from_slot}
-use Rattle.host_tables.specs.Stands.{Given, Stands}
-use Rattle.host_tables.specs.Systems.{given_of}
-use Rattle.host_tables.proofs.LookUps.{some_value, lives_of, real_process_of}
-use Rattle.host_tables.proofs.Ways.{lead_slot}
+use Rattle.host_streams.specs.OfHostTables.Conditions.{IsThere, IsSound, IsAsking}
+use Rattle.host_streams.specs.OfHostTables.declared.kernel.Kernel.{Kernel}
+use Rattle.host_streams.specs.OfHostTables.declared.system.System.{System}
+use Rattle.host_streams.specs.OfHostTables.Datagrams.{told_end}
+use Rattle.host_streams.specs.OfHostTables.Descriptions.{address_of, seen_desc, seen_object, IsTold}
+use Rattle.host_streams.specs.OfHostTables.Network.{SameListener}
+use Rattle.host_streams.specs.OfHostTables.Numbers.{real, number_on, to_real_thread}
+use Rattle.host_streams.specs.OfHostTables.Processes.{IsSame, to_slot, from_slot}
+use Rattle.host_streams.specs.OfHostTables.Stands.{Given, Stands}
+use Rattle.host_streams.specs.OfHostTables.Systems.{given_of}
+use Rattle.host_streams.proofs.OfHostTables.LookUps.{some_value, lives_of, real_process_of}
+use Rattle.host_streams.proofs.OfHostTables.Ways.{lead_slot}
 use Rattle.wrap_names.specs.declared.numbers.Caller.{Caller}
 use Rattle.wrap_names.specs.Naming.{caller_on, caller_by, caller_in}
 use Rattle.wrap_names.specs.Wrapping.{IsWrapped}

@@ -11,8 +11,8 @@ use Rattle.plain_machine.specs.declared.kernel.PlainKernel.{PlainKernel}
 use Rattle.plain_machine.specs.Addresses.{pair_bytes}
 use Rattle.plain_machine.specs.SocketWords.{shown_as, end_name}
 use Rattle.wire_channels.specs.declared.channel.Channel.{Channel}
-use Rattle.host_tables.specs.declared.system.System.{System}
-use Rattle.host_tables.specs.Network.{seen_end, seen_channel}
+use Rattle.host_streams.specs.OfHostTables.declared.system.System.{System}
+use Rattle.host_streams.specs.OfHostTables.Network.{seen_end, seen_channel}
 use Rattle.wrap_names.specs.Wrapping.{IsWrapped}
 use Rattle.wrap_names.proofs.Callers.{mapped_some}
 use Rattle.wrap_names.specs.Ends.{end_of, end_in}

@@ -28,11 +28,11 @@ use Rattle.conn_table.specs.Pairs.{Pairs}
 use Rattle.plain_tables.specs.declared.description.Description.{Description}
 use Rattle.plain_tables.specs.declared.process.Process.{Process}
 use Rattle.plain_tables.specs.Tables.{NOBODY, Processes, Makers, Descriptors, Descriptions, pid, slot}
-use Rattle.host_tables.specs.Datagrams.{RealDescriptions}
-use Rattle.host_tables.specs.Descriptions.{Names, Addresses, seen_desc, SameDescriptions}
-use Rattle.host_tables.specs.Numbers.{Pids, Virts, real, IsNumberOf, IsKnown, number_of, number_on, to_real, to_virt, to_real_thread, to_virt_thread, ArePaired, AreNumbered}
-use Rattle.host_tables.specs.Processes.{IsSame, RealDescriptors, SameProcess, SameProcesses, SameDescriptors, to_slot, from_slot}
-use Rattle.host_tables.proofs.Ways.{lead_process, lead_slot, lead_thread}
+use Rattle.host_streams.specs.OfHostTables.Datagrams.{RealDescriptions}
+use Rattle.host_streams.specs.OfHostTables.Descriptions.{Names, Addresses, seen_desc, SameDescriptions}
+use Rattle.host_streams.specs.OfHostTables.Numbers.{Pids, Virts, real, IsNumberOf, IsKnown, number_of, number_on, to_real, to_virt, to_real_thread, to_virt_thread, ArePaired, AreNumbered}
+use Rattle.host_streams.specs.OfHostTables.Processes.{IsSame, RealDescriptors, SameProcess, SameProcesses, SameDescriptors, to_slot, from_slot}
+use Rattle.host_streams.proofs.OfHostTables.Ways.{lead_process, lead_slot, lead_thread}
 
 module _ (pids : Pids) (virts : Virts) (inverse : AreInverse pids virts) (v : ℕ) (r : RealPid)
     (paired : map.get pids v ≡ Some r) where

@@ -20,7 +20,7 @@ use Rattle.plain_machine.specs.declared.kernel.PlainKernel.{PlainKernel}
 use Rattle.plain_machine.specs.Addresses.{AF_INET, ADDRESS_SIZE, endpoint_of, named_host, address_at}
 use Rattle.plain_machine.specs.Rows.Sockets.{is_own_host, port_for}
 use Rattle.plain_machine.specs.SocketWords.{unbound_host}
-use Rattle.host_tables.specs.Descriptions.{Names, seen_object}
+use Rattle.host_streams.specs.OfHostTables.Descriptions.{Names, seen_object}
 use Rattle.wrap_names.specs.Binding.{host_for, address_for}
 
 module _ (object : Object) (length : ℕ) where

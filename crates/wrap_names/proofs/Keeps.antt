@@ -21,7 +21,7 @@ use Rattle.plain_tables.specs.Tables.{Processes, Descriptors, Descriptions, Name
 use Rattle.plain_machine.specs.declared.kernel.PlainKernel.{PlainKernel}
 use Rattle.plain_machine.specs.Kernel.{after_raise, after_raise_for_all, with_description}
 use Rattle.plain_machine.proofs.ChangedProcesses.{changed_here, changed_other}
-use Rattle.host_tables.specs.Systems.{IsNumber, has_own_name, is_named_in}
+use Rattle.host_streams.specs.OfHostTables.Systems.{IsNumber, has_own_name, is_named_in}
 
 pub record Keeps (k k' : PlainKernel) : Type 0 where
   pub numbers : (v : ℕ) → IsNumber k v → IsNumber k' v

@@ -24,14 +24,14 @@ use Rattle.plain_machine.specs.Serve.{row, serve}
 use Rattle.plain_machine.proofs.EachRow.{each_is_served}
 use Rattle.plain_machine.proofs.Trying.{Trying}
 use Rattle.wire_channels.specs.declared.channel.Channel.{Channel}
-use Rattle.host_tables.specs.declared.reply.KernelReply.{KernelReply}
-use Rattle.host_tables.specs.declared.reply.KernelReply.TheVariants.{Done, Error, Memory}
-use Rattle.host_tables.specs.declared.reply.KernelReply.TheVariants as reply
-use Rattle.host_tables.specs.declared.system.System.{System}
-use Rattle.host_tables.specs.Network.{seen_channel}
-use Rattle.host_tables.specs.Numbers.{HasRoom}
-use Rattle.host_tables.specs.Stands.{Stands}
-use Rattle.host_tables.specs.Systems.{given_of, AreExact}
+use Rattle.host_streams.specs.OfHostTables.declared.reply.KernelReply.{KernelReply}
+use Rattle.host_streams.specs.OfHostTables.declared.reply.KernelReply.TheVariants.{Done, Error, Memory}
+use Rattle.host_streams.specs.OfHostTables.declared.reply.KernelReply.TheVariants as reply
+use Rattle.host_streams.specs.OfHostTables.declared.system.System.{System}
+use Rattle.host_streams.specs.OfHostTables.Network.{seen_channel}
+use Rattle.host_streams.specs.OfHostTables.Numbers.{HasRoom}
+use Rattle.host_streams.specs.OfHostTables.Stands.{Stands}
+use Rattle.host_streams.specs.OfHostTables.Systems.{given_of, AreExact}
 use Rattle.wrap_names.specs.Passing.{Passed}
 use Rattle.wrap_names.specs.Asks.{AsksFor}
 use Rattle.wrap_names.specs.Wrapping.{IsWrapped, StandsAfter, kernel_left}

@@ -18,3 +18,4 @@ pub mod Bound
 pub mod BoundRow
 pub mod Unchanged
 pub mod Rows
+pub use Rattle.host_streams.proofs.OfHostProcesses

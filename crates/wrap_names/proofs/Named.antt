@@ -16,12 +16,12 @@ use Rattle.plain_machine.specs.declared.kernel.PlainKernel.{PlainKernel}
 use Rattle.plain_machine.specs.Kernel.{is_live}
 use Rattle.plain_machine.specs.Making.{desc_id}
 use Rattle.plain_machine.specs.RowLaws.{IsAsked}
-use Rattle.host_tables.specs.declared.system.System.{System}
-use Rattle.host_tables.specs.Conditions.{IsNewDesc}
-use Rattle.host_tables.specs.Descriptions.{seen_desc}
-use Rattle.host_tables.specs.Requests.{leads_to_pipe, neighbour_of}
-use Rattle.host_tables.specs.Systems.{given_of}
-use Rattle.host_tables.proofs.LookUps.{some_value}
+use Rattle.host_streams.specs.OfHostTables.declared.system.System.{System}
+use Rattle.host_streams.specs.OfHostTables.Conditions.{IsNewDesc}
+use Rattle.host_streams.specs.OfHostTables.Descriptions.{seen_desc}
+use Rattle.host_streams.specs.OfHostTables.Requests.{leads_to_pipe, neighbour_of}
+use Rattle.host_streams.specs.OfHostTables.Systems.{given_of}
+use Rattle.host_streams.proofs.OfHostTables.LookUps.{some_value}
 use Rattle.host_streams.proofs.PipeLookUps.{leads_to_pipe_told}
 use Rattle.wrap_names.specs.Naming.{neighbour_in, made_in, desc_in, named_in, of_pipe_in}
 use Rattle.wrap_names.specs.Wrapping.{IsWrapped}

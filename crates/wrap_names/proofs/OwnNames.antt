@@ -19,7 +19,7 @@ use Rattle.plain_machine.specs.Addresses.{unbound_bytes, pair_bytes}
 use Rattle.plain_machine.specs.Kernel.{Held}
 use Rattle.plain_machine.specs.Rows.Sockets.{own_name, named, getsockname_row, getpeername_row}
 use Rattle.plain_machine.specs.SocketWords.{shown_as, end_name, socket_at}
-use Rattle.host_tables.specs.Descriptions.{Names, seen_object}
+use Rattle.host_streams.specs.OfHostTables.Descriptions.{Names, seen_object}
 use Rattle.wrap_names.specs.Calls.{peer_named}
 
 module _ (k : PlainKernel) (names : Names) (pairs : Pairs) (id : DescId) where

@@ -26,11 +26,11 @@ use Rattle.plain_tables.specs.Objects.{bound_at}
 use Rattle.plain_machine.specs.declared.kernel.PlainKernel.{PlainKernel}
 use Rattle.plain_machine.specs.Addresses.{is_at, has_end_at, is_port_used}
 use Rattle.wire_channels.specs.declared.channel.Channel as wire
-use Rattle.host_tables.specs.declared.system.System.{System}
-use Rattle.host_tables.specs.Descriptions.{address_of, nowhere, seen_object, seen_desc, IsTold}
-use Rattle.host_tables.specs.Network.{seen_channel}
-use Rattle.host_tables.specs.Stands.{Given}
-use Rattle.host_tables.specs.Systems.{given_of, has_own_name, is_named_in}
+use Rattle.host_streams.specs.OfHostTables.declared.system.System.{System}
+use Rattle.host_streams.specs.OfHostTables.Descriptions.{address_of, nowhere, seen_object, seen_desc, IsTold}
+use Rattle.host_streams.specs.OfHostTables.Network.{seen_channel}
+use Rattle.host_streams.specs.OfHostTables.Stands.{Given}
+use Rattle.host_streams.specs.OfHostTables.Systems.{given_of, has_own_name, is_named_in}
 use Rattle.wrap_names.specs.Wrapping.{IsWrapped}
 use Rattle.wrap_names.proofs.Alike.{HoldsThere, any_alike}
 use Rattle.wrap_names.proofs.Ends.{channel_some, channel_none}

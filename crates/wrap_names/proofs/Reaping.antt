@@ -26,8 +26,8 @@ use Rattle.plain_machine.specs.declared.kernel.PlainKernel.{PlainKernel}
 use Rattle.plain_machine.specs.Kernel.{without_process}
 use Rattle.plain_machine.specs.Kernels.{IsKernel}
 use Rattle.plain_machine.proofs.ReapedKernels.{IsEnded, whole_reaped}
-use Rattle.host_tables.specs.declared.kernel.Kernel.{Kernel}
-use Rattle.host_tables.specs.Stands.{Given, Stands}
+use Rattle.host_streams.specs.OfHostTables.declared.kernel.Kernel.{Kernel}
+use Rattle.host_streams.specs.OfHostTables.Stands.{Given, Stands}
 use Rattle.wrap_names.proofs.FewerPairs.{fewer_pids, fewer_virts, SameProcesses-shrink, SameDescriptors-shrink, SameDescriptions-shrink, AreNumbered-shrinks, ArePaired-shrinks}
 
 pub record IsNobody (k : PlainKernel) (v : ℕ) : Type 0 where

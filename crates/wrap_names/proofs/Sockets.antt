@@ -18,8 +18,8 @@ use Rattle.host_streams.specs.HandedOn.{Held}
 use Rattle.host_streams.specs.HandedOn.{held_in, seen_held}
 use Rattle.host_streams.specs.PipeEnds.{is_socket_unless, socket_by, socket_in}
 use Rattle.host_streams.proofs.SocketLookUps.{socket_none, socket_some}
-use Rattle.host_tables.specs.declared.system.System.{System}
-use Rattle.host_tables.specs.Systems.{given_of}
+use Rattle.host_streams.specs.OfHostTables.declared.system.System.{System}
+use Rattle.host_streams.specs.OfHostTables.Systems.{given_of}
 use Rattle.wrap_names.specs.Naming.{of_pipe_in}
 use Rattle.wrap_names.specs.Wrapping.{IsWrapped}
 use Rattle.wrap_names.proofs.Named.{pipe_is}

@@ -12,11 +12,11 @@ use Rattle.plain_machine.specs.declared.kernel.PlainKernel.{PlainKernel}
 use Rattle.plain_machine.specs.Addresses.{cut_to}
 use Rattle.plain_machine.specs.Attempts.{Served}
 use Rattle.plain_machine.specs.Rows.Sockets.{named}
-use Rattle.host_tables.specs.declared.reply.KernelReply.{KernelReply}
-use Rattle.host_tables.specs.declared.reply.KernelReply.TheVariants.{Done, Error, Memory}
-use Rattle.host_tables.specs.declared.reply.KernelReply.TheVariants as reply
-use Rattle.host_tables.specs.declared.system.System.{System}
-use Rattle.host_tables.specs.Serves.{bytes_or}
+use Rattle.host_streams.specs.OfHostTables.declared.reply.KernelReply.{KernelReply}
+use Rattle.host_streams.specs.OfHostTables.declared.reply.KernelReply.TheVariants.{Done, Error, Memory}
+use Rattle.host_streams.specs.OfHostTables.declared.reply.KernelReply.TheVariants as reply
+use Rattle.host_streams.specs.OfHostTables.declared.system.System.{System}
+use Rattle.host_streams.specs.OfHostTables.Serves.{bytes_or}
 use Rattle.wrap_names.specs.Wrapping.{IsWrapped, Answers, StandsAfter}
 
 module _ (s : System) (next_id : ℕ) (k : PlainKernel) (w : IsWrapped s next_id k)

@@ -5,11 +5,11 @@ use Rattle.views.specs.Numbers.{Byte}
 use Rattle.plain_process.specs.Attempts.{Try}
 use Rattle.plain_machine.specs.declared.kernel.PlainKernel.{PlainKernel}
 use Rattle.plain_machine.specs.Attempts.{Served}
-use Rattle.host_tables.specs.declared.attempt.Attempt.TheVariants as answer
-use Rattle.host_tables.specs.declared.reply.KernelReply.{KernelReply}
-use Rattle.host_tables.specs.declared.reply.KernelReply.TheVariants.{Done, Error, Memory}
-use Rattle.host_tables.specs.declared.reply.KernelReply.TheVariants as reply
-use Rattle.host_tables.specs.declared.system.System.{System}
+use Rattle.host_streams.specs.OfHostTables.declared.attempt.Attempt.TheVariants as answer
+use Rattle.host_streams.specs.OfHostTables.declared.reply.KernelReply.{KernelReply}
+use Rattle.host_streams.specs.OfHostTables.declared.reply.KernelReply.TheVariants.{Done, Error, Memory}
+use Rattle.host_streams.specs.OfHostTables.declared.reply.KernelReply.TheVariants as reply
+use Rattle.host_streams.specs.OfHostTables.declared.system.System.{System}
 use Rattle.wrap_names.specs.Wrapping.{TellsRow, kernel_left}
 use Rattle.wrap_names.specs.Passing.{Passed}
 

@@ -22,8 +22,8 @@ use Rattle.plain_machine.specs.Addresses.{AF_INET, ADDRESS_SIZE, endpoint_of, na
 use Rattle.plain_machine.specs.Rows.Sockets.{is_own_host, port_for}
 use Rattle.plain_machine.specs.SocketWords.{unbound_host}
 use Rattle.host_streams.specs.HandedOn.{held_in, seen_held}
-use Rattle.host_tables.specs.declared.kernel.Kernel.{Kernel}
-use Rattle.host_tables.specs.Stands.{Given}
+use Rattle.host_streams.specs.OfHostTables.declared.kernel.Kernel.{Kernel}
+use Rattle.host_streams.specs.OfHostTables.Stands.{Given}
 use Rattle.wrap_names.specs.declared.binding.Bound.{Bound}
 
 abbrev pub host_for : Object → ℕ → Try ℕ

@@ -6,7 +6,7 @@ use Rattle.std.specs.FinMap as map
 use Rattle.sys_abi.specs.declared.identity.ConnId.{ConnId}
 use Rattle.sys_abi.specs.declared.identity.VirtAddr.{VirtAddr}
 use Rattle.conn_table.specs.declared.conn.Conn.{Conn}
-use Rattle.host_tables.specs.Network.{Conns}
+use Rattle.host_streams.specs.OfHostTables.Network.{Conns}
 
 abbrev pub end_of : ℕ → Conn → Option VirtAddr
 end_of side conn = if side == 0 then slice_index_or conn.addr 0 None else slice_index_or conn.addr 1 None

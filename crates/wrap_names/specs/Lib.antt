@@ -7,3 +7,4 @@ pub mod Asks
 pub mod Ends
 pub mod Binding
 pub mod Calls
+pub use Rattle.host_streams.specs.OfHostProcesses

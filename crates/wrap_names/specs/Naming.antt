@@ -12,8 +12,8 @@ use Rattle.sys_abi.specs.declared.identity.RealPid.{RealPid}
 use Rattle.fd_tables.specs.Slots as slots
 use Rattle.plain_tables.specs.Tables.{Makers, pid, same_host}
 use Rattle.plain_machine.specs.Making.{desc_id}
-use Rattle.host_tables.specs.declared.system.System.{System}
-use Rattle.host_tables.specs.Numbers.{Pids, to_real_thread}
+use Rattle.host_streams.specs.OfHostTables.declared.system.System.{System}
+use Rattle.host_streams.specs.OfHostTables.Numbers.{Pids, to_real_thread}
 use Rattle.host_streams.specs.HandedOn.{held_in}
 use Rattle.host_streams.specs.PipeEnds.{is_pipe_of}
 use Rattle.wrap_names.specs.declared.numbers.Caller.{Caller}

@@ -2,9 +2,9 @@
 --     Passed s s' k'          it stands for this kernel part by the same pairs
 use Rattle.std.specs.Prelude.{◌≡◌, None}
 use Rattle.plain_machine.specs.declared.kernel.PlainKernel.{PlainKernel}
-use Rattle.host_tables.specs.declared.system.System.{System}
-use Rattle.host_tables.specs.Stands.{Stands}
-use Rattle.host_tables.specs.Systems.{given_of}
+use Rattle.host_streams.specs.OfHostTables.declared.system.System.{System}
+use Rattle.host_streams.specs.OfHostTables.Stands.{Stands}
+use Rattle.host_streams.specs.OfHostTables.Systems.{given_of}
 
 pub record Passed (s s' : System) (k' : PlainKernel) : Type 0 where
   pub ids : s'.ids ≡ s.ids

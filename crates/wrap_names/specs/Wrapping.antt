@@ -8,14 +8,14 @@ use Rattle.views.specs.Numbers.{Byte}
 use Rattle.plain_process.specs.Attempts.{Try, Fails, NotReady, Gives}
 use Rattle.plain_machine.specs.declared.kernel.PlainKernel.{PlainKernel}
 use Rattle.plain_machine.specs.Attempts.{Served}
-use Rattle.host_tables.specs.declared.attempt.Attempt.{Attempt}
-use Rattle.host_tables.specs.declared.attempt.Attempt.TheVariants as answer
-use Rattle.host_tables.specs.declared.reply.KernelReply.{KernelReply}
-use Rattle.host_tables.specs.declared.reply.KernelReply.TheVariants.{Done, Error, Memory}
-use Rattle.host_tables.specs.declared.reply.KernelReply.TheVariants as reply
-use Rattle.host_tables.specs.declared.system.System.{System}
-use Rattle.host_tables.specs.Serves.{IsReply, bytes_or}
-use Rattle.host_tables.specs.Systems.{StandsFor}
+use Rattle.host_streams.specs.OfHostTables.declared.attempt.Attempt.{Attempt}
+use Rattle.host_streams.specs.OfHostTables.declared.attempt.Attempt.TheVariants as answer
+use Rattle.host_streams.specs.OfHostTables.declared.reply.KernelReply.{KernelReply}
+use Rattle.host_streams.specs.OfHostTables.declared.reply.KernelReply.TheVariants.{Done, Error, Memory}
+use Rattle.host_streams.specs.OfHostTables.declared.reply.KernelReply.TheVariants as reply
+use Rattle.host_streams.specs.OfHostTables.declared.system.System.{System}
+use Rattle.host_streams.specs.OfHostTables.Serves.{IsReply, bytes_or}
+use Rattle.host_streams.specs.OfHostTables.Systems.{StandsFor}
 
 pub record IsWrapped (s : System) (next_id : ℕ) (k : PlainKernel) : Type 0 where
   pub stands : StandsFor s None k

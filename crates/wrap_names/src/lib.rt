@@ -24,3 +24,5 @@ pub mod numbers;
 pub mod ports;
 pub mod serving;
 pub mod stood;
+
+pub use host_streams::host_processes;

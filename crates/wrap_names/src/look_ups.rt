@@ -8,15 +8,15 @@ ghost use Rattle.plain_machine.specs.SocketWords as plain;
 ghost use Rattle.plain_ports.specs.Told.{told};
 ghost use Rattle.host_streams.specs.HandedOn.{held_in, seen_held};
 ghost use Rattle.host_streams.specs.PipeEnds as words;
-ghost use Rattle.host_tables.specs.Descriptions as descriptions;
-ghost use Rattle.host_tables.specs.Systems.{given_of};
+ghost use Rattle.host_streams.specs.OfHostTables.Descriptions as descriptions;
+ghost use Rattle.host_streams.specs.OfHostTables.Systems.{given_of};
 ghost use Rattle.wrap_names.specs.Wrapping.{IsWrapped};
 
 use crate::naming::leads_to_pipe;
 use conn_table::ConnTable;
 use fd_book::{Book, Object};
+use host_streams::host_tables::System;
 use host_streams::{Held, held_at};
-use host_tables::System;
 use sys_abi::errors::{EBADF, ENOTSOCK};
 use sys_abi::{DescId, Errno, RealPid, VPid, VirtAddr};
 

@@ -7,14 +7,14 @@ ghost use Rattle.plain_machine.specs.Addresses as words;
 ghost use Rattle.plain_machine.specs.SocketWords as sockets;
 ghost use Rattle.plain_machine.specs.Rows.Sockets as rows;
 ghost use Rattle.plain_tables.specs.Objects as objects;
-ghost use Rattle.host_tables.specs.Descriptions.{seen_object};
+ghost use Rattle.host_streams.specs.OfHostTables.Descriptions.{seen_object};
 ghost use Rattle.wrap_names.specs.Wrapping.{IsWrapped};
 ghost use Rattle.wrap_names.specs.Ends.{end_in};
 
 use crate::look_ups::address_of;
 use conn_table::ConnTable;
 use fd_book::Object;
-use host_tables::System;
+use host_streams::host_tables::System;
 use plain_ports::addresses::PAIR_BYTES;
 use plain_process::handlers::word_in;
 use sys_abi::transfer::Transfer;

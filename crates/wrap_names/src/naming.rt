@@ -1,14 +1,14 @@
 //! What a guest's call names, by look-ups in the tables of its system.
 ghost use Rattle.std.specs.Prelude.{◌≡◌};
 ghost use Rattle.std.specs.FinMap as map;
-ghost use Rattle.host_tables.specs.Network.{is_pipe_conn};
+ghost use Rattle.host_streams.specs.OfHostTables.Network.{is_pipe_conn};
 ghost use Rattle.plain_tables.specs.Tables as tables;
 ghost use Rattle.wrap_names.specs.Naming as words;
 
 use conn_table::ConnTable;
 use fd_book::Object;
 use host_streams::held_at;
-use host_tables::System;
+use host_streams::host_tables::System;
 use sys_abi::{ConnId, DescId, Maker, RealPid, VPid};
 
 /// Numbers of what a process makes are below this one, so that a call has room for those that it takes.

@@ -1,6 +1,6 @@
 //! Look-ups in the pairs of virtual and real numbers.
 ghost use Rattle.std.specs.Prelude.{◌≡◌};
-ghost use Rattle.host_tables.specs.Numbers.{to_real_thread};
+ghost use Rattle.host_streams.specs.OfHostTables.Numbers.{to_real_thread};
 ghost use Rattle.wrap_names.specs.Naming.{caller_in};
 
 use sys_abi::{RealPid, Tid, VPid};

@@ -5,10 +5,10 @@ ghost use Rattle.plain_machine.specs.Addresses as words;
 ghost use Rattle.plain_machine.specs.SocketWords as sockets;
 ghost use Rattle.plain_machine.specs.Rows.Sockets as rows;
 ghost use Rattle.plain_ports.specs.Told.{told, itself, same_address};
-ghost use Rattle.host_tables.specs.Requests as requests;
+ghost use Rattle.host_streams.specs.OfHostTables.Requests as requests;
 ghost use Rattle.wrap_names.specs.Wrapping.{IsWrapped};
 
-use host_tables::System;
+use host_streams::host_tables::System;
 use sys_abi::errors::EADDRINUSE;
 use sys_abi::{Errno, VirtAddr};
 

@@ -6,7 +6,7 @@ ghost use Rattle.plain_machine.specs.declared.kernel.PlainKernel.{PlainKernel};
 ghost use Rattle.plain_machine.specs.RowLaws.{IsAsked};
 ghost use Rattle.plain_machine.specs.Rows.Sockets as rows;
 ghost use Rattle.plain_machine.specs.Serve.{row};
-ghost use Rattle.host_tables.specs.Descriptions.{seen_object};
+ghost use Rattle.host_streams.specs.OfHostTables.Descriptions.{seen_object};
 ghost use Rattle.wrap_names.specs.Wrapping.{IsWrapped, Answers, StandsAfter};
 ghost use Rattle.wrap_names.specs.Calls.{is_address_call, peer_named};
 
@@ -17,7 +17,7 @@ use crate::numbers::caller_of;
 use crate::stood::Stood;
 use call_table::Request;
 use fd_book::Object;
-use host_tables::{KernelReply, System};
+use host_streams::host_tables::{KernelReply, System};
 use plain_ports::addresses::PAIR_BYTES;
 use plain_ports::look_ups::across;
 use sys_abi::errors::ENOTCONN;

@@ -8,3 +8,4 @@ pub mod Made
 pub mod PendingSignals
 pub mod WaitedRow
 pub mod TakenSignals
+pub use Rattle.wrap_names.proofs as OfWrapNames

@@ -15,3 +15,4 @@ pub mod taking;
 pub mod telling;
 
 pub use host_kernel::{is_read_ready, is_write_ready};
+pub use wrap_names;

@@ -2,21 +2,21 @@
 use Rattle.std.proofs.Common.{◌≡◌, ℕ, ◌+◌, ◌%◌, ◌<◌, Bool, true, false, ◌&&◌, cond, List, ◌++◌, refl, inl, inr, arith}
 use Rattle.std.specs.Prelude.{◌==◌, ◌⊎◌, not, zero, suc, All}
 use Rattle.std.proofs.lemmas.List.Elements.{All-append}
-use Rattle.sys_abi.specs.declared.identity.VPid.{VPid}
-use Rattle.sys_abi.specs.declared.errors.TheConstants.{EINVAL, ENFILE, EOPNOTSUPP, EAFNOSUPPORT}
-use Rattle.sys_abi.specs.declared.flags.TheConstants.{O_WRONLY, O_RDWR, O_CLOEXEC}
-use Rattle.call_table.specs.declared.request.Request.{Request}
-use Rattle.call_table.specs.declared.request.Request.TheVariants.{Pipe2, Socketpair}
-use Rattle.sys_abi.specs.Flags.{has_flag}
+use Rattle.plain_tables.specs.OfSysAbi.declared.identity.VPid.{VPid}
+use Rattle.plain_tables.specs.OfSysAbi.declared.errors.TheConstants.{EINVAL, ENFILE, EOPNOTSUPP, EAFNOSUPPORT}
+use Rattle.plain_tables.specs.OfSysAbi.declared.flags.TheConstants.{O_WRONLY, O_RDWR, O_CLOEXEC}
+use Rattle.plain_tables.specs.OfCallTable.declared.request.Request.{Request}
+use Rattle.plain_tables.specs.OfCallTable.declared.request.Request.TheVariants.{Pipe2, Socketpair}
+use Rattle.plain_tables.specs.OfSysAbi.Flags.{has_flag}
 use Rattle.plain_machine.specs.declared.kernel.PlainKernel.{PlainKernel}
 use Rattle.plain_machine.specs.declared.new_end.NewEnd.{NewEnd}
 use Rattle.plain_tables.specs.declared.channel.ChannelKind.{ChannelKind}
 use Rattle.plain_tables.specs.declared.channel.ChannelKind.TheVariants.{Pair, Pipe}
-use Rattle.plain_process.specs.Attempts.{Gives, need}
-use Rattle.plain_process.specs.Buffers.{fills_of, writes_of}
-use Rattle.plain_process.specs.Memory.{low_bytes}
-use Rattle.plain_process.specs.Valid.{IsByte}
-use Rattle.plain_process.proofs.MemoryBounds.{low_bytes_are}
+use Rattle.plain_tables.specs.OfPlainProcess.Attempts.{Gives, need}
+use Rattle.plain_tables.specs.OfPlainProcess.Buffers.{fills_of, writes_of}
+use Rattle.plain_tables.specs.OfPlainProcess.Memory.{low_bytes}
+use Rattle.plain_tables.specs.OfPlainProcess.Valid.{IsByte}
+use Rattle.plain_tables.proofs.OfPlainProcess.MemoryBounds.{low_bytes_are}
 use Rattle.plain_machine.specs.Kernel.{free_from, has_numbers, is_live}
 use Rattle.plain_machine.specs.Kernels.{IsKernel}
 use Rattle.plain_machine.specs.Making.{are_making_flags, end_flags, has_channel_room, with_ends, with_datagrams}

@@ -4,32 +4,32 @@ use Rattle.std.specs.Prelude.{nat_lt, Option, Some, None, is_some, All}
 use Rattle.std.specs.FinMap as map
 use Rattle.std.proofs.lemmas.Bool.Decides.{nat_tests}
 use Rattle.std.proofs.lemmas.List.Elements.{All-nil, All-append}
-use Rattle.views.specs.Limits.{PROCESS_LIMIT, THREAD_LIMIT}
-use Rattle.sys_abi.specs.declared.identity.VPid.{VPid}
-use Rattle.sys_abi.specs.declared.errors.TheConstants.{EAGAIN, EINVAL}
-use Rattle.sys_abi.specs.declared.flags.TheConstants.{CLONE_PARENT_SETTID, CLONE_CHILD_SETTID}
-use Rattle.sys_abi.specs.declared.cloning.CloneForm.{CloneForm}
-use Rattle.sys_abi.specs.declared.cloning.CloneForm.TheVariants.{Fork, Thread}
-use Rattle.sys_abi.specs.declared.reply.Reply.TheVariants.{Value}
-use Rattle.call_table.specs.declared.request.Request.{Request}
-use Rattle.call_table.specs.declared.request.Request.TheVariants.{Clone}
-use Rattle.sys_abi.specs.Clones.{clone_form}
-use Rattle.sys_abi.specs.Flags.{has_flag}
+use Rattle.plain_tables.specs.OfViews.Limits.{PROCESS_LIMIT, THREAD_LIMIT}
+use Rattle.plain_tables.specs.OfSysAbi.declared.identity.VPid.{VPid}
+use Rattle.plain_tables.specs.OfSysAbi.declared.errors.TheConstants.{EAGAIN, EINVAL}
+use Rattle.plain_tables.specs.OfSysAbi.declared.flags.TheConstants.{CLONE_PARENT_SETTID, CLONE_CHILD_SETTID}
+use Rattle.plain_tables.specs.OfSysAbi.declared.cloning.CloneForm.{CloneForm}
+use Rattle.plain_tables.specs.OfSysAbi.declared.cloning.CloneForm.TheVariants.{Fork, Thread}
+use Rattle.plain_tables.specs.OfSysAbi.declared.reply.Reply.TheVariants.{Value}
+use Rattle.plain_tables.specs.OfCallTable.declared.request.Request.{Request}
+use Rattle.plain_tables.specs.OfCallTable.declared.request.Request.TheVariants.{Clone}
+use Rattle.plain_tables.specs.OfSysAbi.Clones.{clone_form}
+use Rattle.plain_tables.specs.OfSysAbi.Flags.{has_flag}
 use Rattle.plain_machine.specs.declared.kernel.PlainKernel.{PlainKernel}
 use Rattle.plain_tables.specs.declared.process.Process.{Process}
 use Rattle.plain_tables.specs.Tables.{is_live_process, has_thread_in, with_thread_entry}
-use Rattle.plain_process.specs.Attempts.{need}
-use Rattle.plain_process.specs.Buffers.{span_if, clone_fills, fills_of, filled_spans}
-use Rattle.plain_process.specs.Memory.{Memory}
-use Rattle.plain_process.specs.Put.{added_by, added_thread, made_as, made_by, error}
-use Rattle.plain_process.specs.Valid.{IsByte}
+use Rattle.plain_tables.specs.OfPlainProcess.Attempts.{need}
+use Rattle.plain_tables.specs.OfPlainProcess.Buffers.{span_if, clone_fills, fills_of, filled_spans}
+use Rattle.plain_tables.specs.OfPlainProcess.Memory.{Memory}
+use Rattle.plain_tables.specs.OfPlainProcess.Put.{added_by, added_thread, made_as, made_by, error}
+use Rattle.plain_tables.specs.OfPlainProcess.Valid.{IsByte}
 use Rattle.plain_machine.specs.Kernel.{is_live, has_thread, thread_count, with_next_thread}
 use Rattle.plain_machine.specs.Ends.{after_fork}
 use Rattle.plain_machine.specs.Valid.{IsKernel}
 use Rattle.plain_machine.specs.RowLaws.{with_one, IsAsked, IsAnswer, IsServed, IsMade, MayAdd, there_after}
 use Rattle.plain_machine.specs.Rows.Clone.{LAST_ID, number_if, number_bytes, cloned, forked, clone_thread, clone_process, clone_by, clone_row}
 use Rattle.plain_machine.specs.Serve.{row, is_ready}
-use Rattle.plain_process.proofs.MemoryBounds.{low_bytes_are}
+use Rattle.plain_tables.proofs.OfPlainProcess.MemoryBounds.{low_bytes_are}
 use Rattle.plain_machine.proofs.Trying.{Trying, succeeds, fails, after}
 use Rattle.plain_machine.proofs.LocalReplies.{needed}
 use Rattle.plain_machine.proofs.MemoryPages.{FitsSpans}

@@ -4,14 +4,14 @@ use Rattle.std.specs.Prelude.{◌==◌, ◌&&◌, nat_le, nat_lt, Some, None, Al
 use Rattle.std.specs.FinMap as map
 use Rattle.std.proofs.lemmas.Bool.Decides.{nat_tests}
 use Rattle.std.proofs.lemmas.List.Elements.{All-nil}
-use Rattle.views.specs.Limits.{CHANNEL_LIMIT}
-use Rattle.sys_abi.specs.declared.identity.VPid.{VPid}
-use Rattle.sys_abi.specs.declared.identity.ConnId.{ConnId}
-use Rattle.sys_abi.specs.declared.identity.VirtAddr.{VirtAddr}
-use Rattle.sys_abi.specs.declared.errors.TheConstants.{EINVAL, ENFILE, EOPNOTSUPP, EAFNOSUPPORT, EADDRNOTAVAIL, EISCONN, ECONNREFUSED}
-use Rattle.sys_abi.specs.declared.flags.TheConstants.{O_RDWR}
-use Rattle.sys_abi.specs.declared.reply.Reply.TheVariants.{Value}
-use Rattle.call_table.specs.declared.request.Request.TheVariants.{Accept, Connect}
+use Rattle.plain_tables.specs.OfViews.Limits.{CHANNEL_LIMIT}
+use Rattle.plain_tables.specs.OfSysAbi.declared.identity.VPid.{VPid}
+use Rattle.plain_tables.specs.OfSysAbi.declared.identity.ConnId.{ConnId}
+use Rattle.plain_tables.specs.OfSysAbi.declared.identity.VirtAddr.{VirtAddr}
+use Rattle.plain_tables.specs.OfSysAbi.declared.errors.TheConstants.{EINVAL, ENFILE, EOPNOTSUPP, EAFNOSUPPORT, EADDRNOTAVAIL, EISCONN, ECONNREFUSED}
+use Rattle.plain_tables.specs.OfSysAbi.declared.flags.TheConstants.{O_RDWR}
+use Rattle.plain_tables.specs.OfSysAbi.declared.reply.Reply.TheVariants.{Value}
+use Rattle.plain_tables.specs.OfCallTable.declared.request.Request.TheVariants.{Accept, Connect}
 use Rattle.plain_machine.specs.declared.kernel.PlainKernel.{PlainKernel}
 use Rattle.plain_tables.specs.declared.channel.ChannelKind.TheVariants.{Internet}
 use Rattle.plain_tables.specs.declared.channel.Listening.{Listening}
@@ -19,12 +19,12 @@ use Rattle.plain_tables.specs.declared.description.Object.{Object}
 use Rattle.plain_tables.specs.declared.description.Object.TheVariants.{Stream, Socket, Listener, Datagram}
 use Rattle.plain_tables.specs.Tables.{Listeners, changed_by, slot}
 use Rattle.plain_tables.specs.Valid.Descriptions.{AreFlags}
-use Rattle.plain_process.specs.Attempts.{Gives, need, found}
-use Rattle.plain_process.specs.declared.buffers.Source.TheVariants.{Nothing, Bytes}
-use Rattle.plain_process.specs.Buffers.{span, reads_of, length_place, address_spans, writes_of, fills_of, filled_spans, lent}
-use Rattle.plain_process.specs.Memory.{Memory}
-use Rattle.plain_process.specs.Put.{CanTake}
-use Rattle.plain_process.specs.Valid.{IsByte}
+use Rattle.plain_tables.specs.OfPlainProcess.Attempts.{Gives, need, found}
+use Rattle.plain_tables.specs.OfPlainProcess.declared.buffers.Source.TheVariants.{Nothing, Bytes}
+use Rattle.plain_tables.specs.OfPlainProcess.Buffers.{span, reads_of, length_place, address_spans, writes_of, fills_of, filled_spans, lent}
+use Rattle.plain_tables.specs.OfPlainProcess.Memory.{Memory}
+use Rattle.plain_tables.specs.OfPlainProcess.Put.{CanTake}
+use Rattle.plain_tables.specs.OfPlainProcess.Valid.{IsByte}
 use Rattle.plain_machine.specs.Kernel.{Held, is_live, made_of, has_numbers, free_from, numbered, placed, with_description}
 use Rattle.plain_machine.specs.Channels.{open_channel, with_channel}
 use Rattle.plain_machine.specs.Addresses.{AF_INET, ADDRESS_SIZE, Endpoint, endpoint_of, named_host, address_at, cut_to}

@@ -1,14 +1,14 @@
 -- The law of eventfd2.
 use Rattle.std.proofs.Common.{ℕ, List, refl, arith}
-use Rattle.sys_abi.specs.declared.identity.VPid.{VPid}
-use Rattle.sys_abi.specs.declared.errors.TheConstants.{EINVAL, ENFILE}
-use Rattle.sys_abi.specs.declared.flags.TheConstants.{O_RDWR, O_CLOEXEC}
-use Rattle.call_table.specs.declared.request.Request.TheVariants.{Eventfd2}
-use Rattle.sys_abi.specs.Flags.{has_flag}
+use Rattle.plain_tables.specs.OfSysAbi.declared.identity.VPid.{VPid}
+use Rattle.plain_tables.specs.OfSysAbi.declared.errors.TheConstants.{EINVAL, ENFILE}
+use Rattle.plain_tables.specs.OfSysAbi.declared.flags.TheConstants.{O_RDWR, O_CLOEXEC}
+use Rattle.plain_tables.specs.OfCallTable.declared.request.Request.TheVariants.{Eventfd2}
+use Rattle.plain_tables.specs.OfSysAbi.Flags.{has_flag}
 use Rattle.plain_machine.specs.declared.kernel.PlainKernel.{PlainKernel}
 use Rattle.plain_tables.specs.declared.description.Object.TheVariants.{Counter}
-use Rattle.plain_process.specs.Attempts.{need}
-use Rattle.plain_process.specs.Valid.{IsRequest}
+use Rattle.plain_tables.specs.OfPlainProcess.Attempts.{need}
+use Rattle.plain_tables.specs.OfPlainProcess.Valid.{IsRequest}
 use Rattle.plain_machine.specs.Kernel.{free_from, has_numbers}
 use Rattle.plain_machine.specs.KernelLaws.{IsAlone}
 use Rattle.plain_machine.specs.Making.{are_making_flags, end_flags}

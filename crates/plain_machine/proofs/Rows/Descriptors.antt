@@ -3,26 +3,26 @@ use Rattle.std.proofs.Common.{◌≡◌, ◌≢◌, ℕ, ◌<◌, Bool, true, fa
 use Rattle.std.specs.Prelude.{◌==◌, ◌%◌, ◌⊎◌, not, nat_lt, Option, Some, None}
 use Rattle.std.specs.FinMap as map
 use Rattle.std.proofs.lemmas.Bool.Decides.{nat_tests}
-use Rattle.views.specs.Limits.{DESCRIPTOR_LIMIT}
-use Rattle.views.proofs.MapLaws.{get_remove_same, get_remove_other, true_false}
-use Rattle.sys_abi.specs.declared.identity.VPid.{VPid}
-use Rattle.sys_abi.specs.declared.identity.Slot.{Slot}
-use Rattle.sys_abi.specs.declared.errors.TheConstants.{EBADF, EINVAL, ESRCH}
-use Rattle.sys_abi.specs.declared.flags.TheConstants.{O_CLOEXEC}
-use Rattle.call_table.specs.declared.request.Request.{Request}
-use Rattle.call_table.specs.declared.request.Request.TheVariants.{Dup, Dup3, Fcntl, Close}
-use Rattle.sys_abi.proofs.OrderLaws.{slot_total, slot_exact}
+use Rattle.plain_tables.specs.OfViews.Limits.{DESCRIPTOR_LIMIT}
+use Rattle.plain_tables.proofs.OfViews.MapLaws.{get_remove_same, get_remove_other, true_false}
+use Rattle.plain_tables.specs.OfSysAbi.declared.identity.VPid.{VPid}
+use Rattle.plain_tables.specs.OfSysAbi.declared.identity.Slot.{Slot}
+use Rattle.plain_tables.specs.OfSysAbi.declared.errors.TheConstants.{EBADF, EINVAL, ESRCH}
+use Rattle.plain_tables.specs.OfSysAbi.declared.flags.TheConstants.{O_CLOEXEC}
+use Rattle.plain_tables.specs.OfCallTable.declared.request.Request.{Request}
+use Rattle.plain_tables.specs.OfCallTable.declared.request.Request.TheVariants.{Dup, Dup3, Fcntl, Close}
+use Rattle.plain_tables.proofs.OfSysAbi.OrderLaws.{slot_total, slot_exact}
 use Rattle.plain_machine.specs.declared.kernel.PlainKernel.{PlainKernel}
-use Rattle.plain_process.specs.declared.commands.FcntlCommand.{FcntlCommand}
-use Rattle.plain_process.specs.declared.commands.FcntlCommand.TheVariants.{DupFd, GetFd, SetFd, GetFl, SetFl, SetOwn, GetOwn, DupFdCloexec}
-use Rattle.sys_abi.specs.declared.maker.Maker.{Maker}
-use Rattle.sys_abi.specs.declared.descriptor.Descriptor.{Descriptor}
+use Rattle.plain_tables.specs.OfPlainProcess.declared.commands.FcntlCommand.{FcntlCommand}
+use Rattle.plain_tables.specs.OfPlainProcess.declared.commands.FcntlCommand.TheVariants.{DupFd, GetFd, SetFd, GetFl, SetFl, SetOwn, GetOwn, DupFdCloexec}
+use Rattle.plain_tables.specs.OfSysAbi.declared.maker.Maker.{Maker}
+use Rattle.plain_tables.specs.OfSysAbi.declared.descriptor.Descriptor.{Descriptor}
 use Rattle.plain_tables.specs.Tables.{pid, slot, same_host}
 use Rattle.plain_tables.specs.Valid.Descriptions.{IsOwner}
-use Rattle.plain_process.specs.Attempts.{need}
-use Rattle.plain_process.specs.Valid.{IsWord}
+use Rattle.plain_tables.specs.OfPlainProcess.Attempts.{need}
+use Rattle.plain_tables.specs.OfPlainProcess.Valid.{IsWord}
 use Rattle.plain_machine.specs.Closing.{close_fd}
-use Rattle.plain_process.specs.Commands.{fcntl_command}
+use Rattle.plain_tables.specs.OfPlainProcess.Commands.{fcntl_command}
 use Rattle.plain_machine.specs.Kernel.{Held, is_live, is_neighbour, held, free_from, with_descriptor}
 use Rattle.plain_machine.specs.Kernels.{IsKernel}
 use Rattle.plain_machine.specs.Rows.Descriptors.{dup_from, dup_row, is_cloexec_at_most, moved_to, dup3_row, dup_above, set_flags, with_flags, with_owner, may_own, set_owner, fcntl_by, fcntl_row, close_row}

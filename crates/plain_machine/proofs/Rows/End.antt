@@ -2,18 +2,18 @@
 use Rattle.std.proofs.Common.{◌≡◌, ℕ, ◌^◌, ◌<◌, Bool, true, false, cond, List, [], refl, arith}
 use Rattle.std.specs.Prelude.{nat_le, None}
 use Rattle.std.proofs.lemmas.Bool.Decides.{nat_tests}
-use Rattle.sys_abi.specs.declared.identity.VPid.{VPid}
-use Rattle.sys_abi.specs.declared.reply.Reply.TheVariants.{Value}
-use Rattle.call_table.specs.declared.request.Request.TheVariants.{Exit, ExitGroup}
+use Rattle.plain_tables.specs.OfSysAbi.declared.identity.VPid.{VPid}
+use Rattle.plain_tables.specs.OfSysAbi.declared.reply.Reply.TheVariants.{Value}
+use Rattle.plain_tables.specs.OfCallTable.declared.request.Request.TheVariants.{Exit, ExitGroup}
 use Rattle.plain_machine.specs.declared.kernel.PlainKernel.{PlainKernel}
 use Rattle.plain_tables.specs.Tables.{without_thread_entry}
-use Rattle.plain_process.specs.Put.{added_thread, made_by}
+use Rattle.plain_tables.specs.OfPlainProcess.Put.{added_thread, made_by}
 use Rattle.plain_machine.specs.Kernel.{at_process, thread_count}
 use Rattle.plain_machine.specs.Ends.{exit_status, after_end, thread_ended}
 use Rattle.plain_machine.specs.RowLaws.{there_after}
 use Rattle.plain_machine.specs.Rows.End.{exit_group_row, exit_row}
 use Rattle.plain_machine.specs.Serve.{row, serve, is_ready}
-use Rattle.plain_process.proofs.Giving.{gives}
+use Rattle.plain_tables.proofs.OfPlainProcess.Giving.{gives}
 use Rattle.plain_machine.proofs.Trying.{succeeds}
 use Rattle.plain_machine.proofs.ThreadKeys.{there_without}
 use Rattle.plain_machine.proofs.WholeChanges.{whole_fewer}

@@ -8,23 +8,23 @@ use Rattle.std.proofs.lemmas.Bool.Decides.{nat_tests}
 use Rattle.std.proofs.lemmas.List.{length-take-le, get_or-take}
 use Rattle.std.proofs.lemmas.List.Elements.{All-nil}
 use Rattle.std.proofs.lemmas.List.Quantifiers.{position-Some}
-use Rattle.views.specs.Limits.{FILE_LIMIT}
-use Rattle.views.proofs.MapLaws.{get_insert_same}
-use Rattle.sys_abi.specs.declared.identity.VPid.{VPid}
-use Rattle.sys_abi.specs.declared.errors.TheConstants.{ENOENT, EBADF, EEXIST, EINVAL, ENFILE, ENOSPC, ESPIPE, ENAMETOOLONG}
-use Rattle.sys_abi.specs.declared.flags.TheConstants.{O_CREAT, O_EXCL, O_TRUNC, O_CLOEXEC, AT_FDCWD}
-use Rattle.call_table.specs.declared.request.Request.{Request}
-use Rattle.call_table.specs.declared.request.Request.TheVariants.{Openat, Unlinkat, Lseek}
-use Rattle.sys_abi.specs.Flags.{has_flag}
+use Rattle.plain_tables.specs.OfViews.Limits.{FILE_LIMIT}
+use Rattle.plain_tables.proofs.OfViews.MapLaws.{get_insert_same}
+use Rattle.plain_tables.specs.OfSysAbi.declared.identity.VPid.{VPid}
+use Rattle.plain_tables.specs.OfSysAbi.declared.errors.TheConstants.{ENOENT, EBADF, EEXIST, EINVAL, ENFILE, ENOSPC, ESPIPE, ENAMETOOLONG}
+use Rattle.plain_tables.specs.OfSysAbi.declared.flags.TheConstants.{O_CREAT, O_EXCL, O_TRUNC, O_CLOEXEC, AT_FDCWD}
+use Rattle.plain_tables.specs.OfCallTable.declared.request.Request.{Request}
+use Rattle.plain_tables.specs.OfCallTable.declared.request.Request.TheVariants.{Openat, Unlinkat, Lseek}
+use Rattle.plain_tables.specs.OfSysAbi.Flags.{has_flag}
 use Rattle.plain_machine.specs.declared.kernel.PlainKernel.{PlainKernel}
 use Rattle.plain_tables.specs.declared.description.Object.{Object}
 use Rattle.plain_tables.specs.declared.description.Object.TheVariants.{File}
-use Rattle.sys_abi.specs.declared.maker.Maker.{Maker}
+use Rattle.plain_tables.specs.OfSysAbi.declared.maker.Maker.{Maker}
 use Rattle.plain_tables.specs.Tables.{Makers, slot}
 use Rattle.plain_tables.specs.Valid.Files.{IsName}
-use Rattle.plain_process.specs.Attempts.{Gives, need, refuse_if, found}
-use Rattle.plain_process.specs.Buffers.{PATH_LIMIT}
-use Rattle.plain_process.specs.Valid.{IsByte}
+use Rattle.plain_tables.specs.OfPlainProcess.Attempts.{Gives, need, refuse_if, found}
+use Rattle.plain_tables.specs.OfPlainProcess.Buffers.{PATH_LIMIT}
+use Rattle.plain_tables.specs.OfPlainProcess.Valid.{IsByte}
 use Rattle.plain_machine.specs.Kernel.{Held, held, free_from, has_numbers, with_object}
 use Rattle.plain_machine.specs.KernelLaws.{IsAlone}
 use Rattle.plain_machine.specs.Kernels.{IsKernel}

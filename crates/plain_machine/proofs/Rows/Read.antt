@@ -6,12 +6,12 @@ use Rattle.std.proofs.Math.Nat.{min-le_left, min-le_right}
 use Rattle.std.proofs.lemmas.Bool.Decides.{nat_tests}
 use Rattle.std.proofs.lemmas.List.{length-take}
 use Rattle.std.proofs.lemmas.List.Elements.{All-nil, All-head, All-tail, All-take, All-drop}
-use Rattle.sys_abi.specs.declared.identity.VPid.{VPid}
-use Rattle.sys_abi.specs.declared.identity.DescId.{DescId}
-use Rattle.sys_abi.specs.declared.identity.Dir.{Dir}
-use Rattle.sys_abi.specs.declared.errors.TheConstants.{EBADF, EINVAL, ENOTCONN}
-use Rattle.call_table.specs.declared.request.Request.TheVariants.{Read}
-use Rattle.sys_abi.specs.declared.transfer.TheConstants.{TRANSFER_LIMIT}
+use Rattle.plain_tables.specs.OfSysAbi.declared.identity.VPid.{VPid}
+use Rattle.plain_tables.specs.OfSysAbi.declared.identity.DescId.{DescId}
+use Rattle.plain_tables.specs.OfSysAbi.declared.identity.Dir.{Dir}
+use Rattle.plain_tables.specs.OfSysAbi.declared.errors.TheConstants.{EBADF, EINVAL, ENOTCONN}
+use Rattle.plain_tables.specs.OfCallTable.declared.request.Request.TheVariants.{Read}
+use Rattle.plain_tables.specs.OfSysAbi.declared.transfer.TheConstants.{TRANSFER_LIMIT}
 use Rattle.plain_machine.specs.declared.kernel.PlainKernel.{PlainKernel}
 use Rattle.plain_tables.specs.declared.channel.Direction.{Direction}
 use Rattle.plain_tables.specs.declared.description.Object.{Object}
@@ -19,10 +19,10 @@ use Rattle.plain_tables.specs.declared.description.Object.TheVariants.{Console, 
 use Rattle.plain_tables.specs.Objects.{dir}
 use Rattle.plain_tables.specs.Valid.Datagrams.{IsInbox}
 use Rattle.plain_tables.specs.Valid.Files.{IsOpenFile}
-use Rattle.plain_process.specs.Attempts.{Gives, need, found}
-use Rattle.plain_process.specs.Memory.{low_bytes}
-use Rattle.plain_process.specs.Valid.{IsByte}
-use Rattle.plain_process.proofs.MemoryBounds.{low_bytes_are}
+use Rattle.plain_tables.specs.OfPlainProcess.Attempts.{Gives, need, found}
+use Rattle.plain_tables.specs.OfPlainProcess.Memory.{low_bytes}
+use Rattle.plain_tables.specs.OfPlainProcess.Valid.{IsByte}
+use Rattle.plain_tables.proofs.OfPlainProcess.MemoryBounds.{low_bytes_are}
 use Rattle.plain_machine.specs.Channels.{direction_at, with_direction}
 use Rattle.plain_machine.specs.Kernel.{Held, held, with_object}
 use Rattle.plain_machine.specs.Making.{with_inbox}

@@ -2,13 +2,13 @@
 use Rattle.std.proofs.Common.{◌≡◌, ℕ, true, ◌&&◌, List, refl, sym, ap, subst, arith}
 use Rattle.std.specs.Prelude.{Option, Some}
 use Rattle.std.specs.FinMap as map
-use Rattle.sys_abi.specs.declared.identity.VPid.{VPid}
-use Rattle.sys_abi.specs.declared.errors.TheConstants.{EINVAL, ESRCH}
-use Rattle.call_table.specs.declared.request.Request.TheVariants.{Kill, Tgkill}
+use Rattle.plain_tables.specs.OfSysAbi.declared.identity.VPid.{VPid}
+use Rattle.plain_tables.specs.OfSysAbi.declared.errors.TheConstants.{EINVAL, ESRCH}
+use Rattle.plain_tables.specs.OfCallTable.declared.request.Request.TheVariants.{Kill, Tgkill}
 use Rattle.plain_machine.specs.declared.kernel.PlainKernel.{PlainKernel}
 use Rattle.plain_tables.specs.declared.process.Process.{Process}
 use Rattle.plain_tables.specs.Tables.{pid, is_live_process, raised_at, raised_for_all}
-use Rattle.plain_process.specs.Attempts.{need}
+use Rattle.plain_tables.specs.OfPlainProcess.Attempts.{need}
 use Rattle.plain_machine.specs.Kernel.{is_live, is_neighbour, has_thread, after_raise, after_raise_for_all}
 use Rattle.plain_machine.specs.Rows.Send.{is_above_zero, may_be_sent, kill_row, tgkill_row}
 use Rattle.plain_machine.specs.Serve.{row, is_ready}

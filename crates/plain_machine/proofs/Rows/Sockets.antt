@@ -2,25 +2,25 @@
 use Rattle.std.proofs.Common.{◌≡◌, ℕ, ◌<◌, ◌^◌, Bool, true, false, cond, List, [], length, refl, sym, ap, subst, ◌∙◌, arith}
 use Rattle.std.specs.Prelude.{◌==◌, ◌&&◌, ◌||◌, not, nat_le, min, max, Some, None}
 use Rattle.std.specs.FinMap as map
-use Rattle.sys_abi.specs.declared.identity.VPid.{VPid}
-use Rattle.sys_abi.specs.declared.identity.VirtAddr.{VirtAddr}
-use Rattle.sys_abi.specs.declared.errors.TheConstants.{EINVAL, ENFILE, EOPNOTSUPP, EAFNOSUPPORT, EADDRINUSE, EADDRNOTAVAIL, ENOTCONN}
-use Rattle.sys_abi.specs.declared.flags.TheConstants.{O_NONBLOCK, O_CLOEXEC}
-use Rattle.sys_abi.specs.Flags.{has_flag}
-use Rattle.sys_abi.specs.declared.reply.Reply.TheVariants.{Value}
-use Rattle.call_table.specs.declared.request.Request.{Request}
-use Rattle.call_table.specs.declared.request.Request.TheVariants.{Socket as SocketCall, Bind, Listen, Getsockname, Getpeername, Setsockopt, Shutdown}
+use Rattle.plain_tables.specs.OfSysAbi.declared.identity.VPid.{VPid}
+use Rattle.plain_tables.specs.OfSysAbi.declared.identity.VirtAddr.{VirtAddr}
+use Rattle.plain_tables.specs.OfSysAbi.declared.errors.TheConstants.{EINVAL, ENFILE, EOPNOTSUPP, EAFNOSUPPORT, EADDRINUSE, EADDRNOTAVAIL, ENOTCONN}
+use Rattle.plain_tables.specs.OfSysAbi.declared.flags.TheConstants.{O_NONBLOCK, O_CLOEXEC}
+use Rattle.plain_tables.specs.OfSysAbi.Flags.{has_flag}
+use Rattle.plain_tables.specs.OfSysAbi.declared.reply.Reply.TheVariants.{Value}
+use Rattle.plain_tables.specs.OfCallTable.declared.request.Request.{Request}
+use Rattle.plain_tables.specs.OfCallTable.declared.request.Request.TheVariants.{Socket as SocketCall, Bind, Listen, Getsockname, Getpeername, Setsockopt, Shutdown}
 use Rattle.plain_machine.specs.declared.kernel.PlainKernel.{PlainKernel}
 use Rattle.plain_tables.specs.declared.description.Object.{Object}
 use Rattle.plain_tables.specs.declared.description.Object.TheVariants.{Stream, Socket, Datagram}
 use Rattle.plain_tables.specs.Valid.Channels.{IsStream}
 use Rattle.plain_tables.specs.Valid.Descriptions.{AreFlags}
 use Rattle.plain_tables.specs.Valid.Sockets.{has_host}
-use Rattle.plain_process.specs.Attempts.{Gives, and_then, need, found}
-use Rattle.plain_process.specs.Buffers.{reads_of, length_place, writes_of, fills_of, filled_spans, lent}
-use Rattle.plain_process.specs.Memory.{Memory}
-use Rattle.plain_process.specs.Put.{CanTake}
-use Rattle.plain_process.specs.Valid.{IsWord}
+use Rattle.plain_tables.specs.OfPlainProcess.Attempts.{Gives, and_then, need, found}
+use Rattle.plain_tables.specs.OfPlainProcess.Buffers.{reads_of, length_place, writes_of, fills_of, filled_spans, lent}
+use Rattle.plain_tables.specs.OfPlainProcess.Memory.{Memory}
+use Rattle.plain_tables.specs.OfPlainProcess.Put.{CanTake}
+use Rattle.plain_tables.specs.OfPlainProcess.Valid.{IsWord}
 use Rattle.plain_machine.specs.Kernel.{Held, host_of, has_numbers, free_from, made_of, numbered, placed, with_object}
 use Rattle.plain_machine.specs.RowLaws.{IsAsked}
 use Rattle.plain_machine.specs.Addresses.{AF_INET, ADDRESS_SIZE, endpoint_of, named_host, address_at, cut_to, is_port_used, automatic_port}

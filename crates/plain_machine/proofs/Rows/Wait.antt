@@ -1,24 +1,24 @@
 -- The law of wait4.
 use Rattle.std.proofs.Common.{◌≡◌, ℕ, Bool, true, false, cond, List, [], ◌∷◌, length, refl, arith}
 use Rattle.std.specs.Prelude.{◌==◌, ◌||◌, not, is_some}
-use Rattle.sys_abi.specs.declared.identity.VPid.{VPid}
-use Rattle.sys_abi.specs.declared.errors.TheConstants.{ECHILD, EINVAL}
-use Rattle.call_table.specs.declared.request.Request.{Request}
-use Rattle.call_table.specs.declared.request.Request.TheVariants.{Wait4}
+use Rattle.plain_tables.specs.OfSysAbi.declared.identity.VPid.{VPid}
+use Rattle.plain_tables.specs.OfSysAbi.declared.errors.TheConstants.{ECHILD, EINVAL}
+use Rattle.plain_tables.specs.OfCallTable.declared.request.Request.{Request}
+use Rattle.plain_tables.specs.OfCallTable.declared.request.Request.TheVariants.{Wait4}
 use Rattle.plain_machine.specs.declared.kernel.PlainKernel.{PlainKernel}
 use Rattle.plain_tables.specs.declared.waiting.Waiting.{Waiting}
 use Rattle.plain_tables.specs.declared.waiting.Waiting.TheVariants.{NoChild, NotReady, Ended}
-use Rattle.plain_process.specs.Attempts.{NotReady as NotYet, need, and_then}
-use Rattle.plain_process.specs.Buffers.{span, span_unless_zero, writes_of, fills_of, filled_spans}
-use Rattle.plain_process.specs.Memory.{Memory, low_bytes}
-use Rattle.plain_process.specs.Put.{error}
+use Rattle.plain_tables.specs.OfPlainProcess.Attempts.{NotReady as NotYet, need, and_then}
+use Rattle.plain_tables.specs.OfPlainProcess.Buffers.{span, span_unless_zero, writes_of, fills_of, filled_spans}
+use Rattle.plain_tables.specs.OfPlainProcess.Memory.{Memory, low_bytes}
+use Rattle.plain_tables.specs.OfPlainProcess.Put.{error}
 use Rattle.plain_machine.specs.Attempts.{replied, settled}
 use Rattle.plain_machine.specs.RowLaws.{IsAnswer}
 use Rattle.plain_tables.specs.Waits.{wait_for, is_answered}
 use Rattle.plain_machine.specs.Valid.{IsKernel}
 use Rattle.plain_machine.specs.Rows.Wait.{WNOHANG, may_be_asked, child_of_number, reaped, wait4_by, wait4_row, is_wait4_ready}
 use Rattle.plain_machine.specs.Serve.{row, is_ready}
-use Rattle.plain_process.proofs.MemoryBounds.{low_bytes_are}
+use Rattle.plain_tables.proofs.OfPlainProcess.MemoryBounds.{low_bytes_are}
 use Rattle.plain_machine.proofs.Trying.{Trying, succeeds, fails, after}
 use Rattle.plain_machine.proofs.MemoryPages.{FitsSpans}
 use Rattle.plain_machine.proofs.CallBounds.{lent_room}

@@ -6,15 +6,15 @@ use Rattle.std.proofs.Math.Nat.{min-le_left}
 use Rattle.std.proofs.lemmas.Bool.Decides.{nat_tests}
 use Rattle.std.proofs.lemmas.List.{length-take, length-append, take-take}
 use Rattle.std.proofs.lemmas.List.Elements.{All-nil, All-cons, All-take, All-append}
-use Rattle.views.specs.Limits.{ALL_FILES_LIMIT, DIRECTION_LIMIT, MESSAGE_LIMIT}
-use Rattle.sys_abi.specs.declared.identity.VPid.{VPid}
-use Rattle.sys_abi.specs.declared.identity.DescId.{DescId}
-use Rattle.sys_abi.specs.declared.identity.Dir.{Dir}
-use Rattle.sys_abi.specs.declared.identity.ConnId.{ConnId}
-use Rattle.sys_abi.specs.declared.errors.TheConstants.{EBADF, EINVAL, EPIPE, EFBIG, ENOSPC, EMSGSIZE, ECONNREFUSED}
-use Rattle.call_table.specs.declared.request.Request.{Request}
-use Rattle.call_table.specs.declared.request.Request.TheVariants.{Write}
-use Rattle.sys_abi.specs.declared.reply.Reply.TheVariants.{Value}
+use Rattle.plain_tables.specs.OfViews.Limits.{ALL_FILES_LIMIT, DIRECTION_LIMIT, MESSAGE_LIMIT}
+use Rattle.plain_tables.specs.OfSysAbi.declared.identity.VPid.{VPid}
+use Rattle.plain_tables.specs.OfSysAbi.declared.identity.DescId.{DescId}
+use Rattle.plain_tables.specs.OfSysAbi.declared.identity.Dir.{Dir}
+use Rattle.plain_tables.specs.OfSysAbi.declared.identity.ConnId.{ConnId}
+use Rattle.plain_tables.specs.OfSysAbi.declared.errors.TheConstants.{EBADF, EINVAL, EPIPE, EFBIG, ENOSPC, EMSGSIZE, ECONNREFUSED}
+use Rattle.plain_tables.specs.OfCallTable.declared.request.Request.{Request}
+use Rattle.plain_tables.specs.OfCallTable.declared.request.Request.TheVariants.{Write}
+use Rattle.plain_tables.specs.OfSysAbi.declared.reply.Reply.TheVariants.{Value}
 use Rattle.plain_machine.specs.declared.kernel.PlainKernel.{PlainKernel}
 use Rattle.plain_tables.specs.declared.channel.Channel.{Channel}
 use Rattle.plain_tables.specs.declared.channel.ChannelKind.TheVariants.{Pipe}
@@ -25,10 +25,10 @@ use Rattle.plain_tables.specs.Objects.{dir}
 use Rattle.plain_tables.specs.Tables.{may_write}
 use Rattle.plain_tables.specs.Valid.Channels.{IsStream}
 use Rattle.plain_tables.specs.Valid.Datagrams.{IsInbox}
-use Rattle.plain_process.specs.Attempts.{Try, Fails, NotReady, Gives, and_then, need, found}
-use Rattle.plain_process.specs.Buffers.{filled_spans}
-use Rattle.plain_process.specs.Memory.{little_endian}
-use Rattle.plain_process.specs.Valid.{IsByte}
+use Rattle.plain_tables.specs.OfPlainProcess.Attempts.{Try, Fails, NotReady, Gives, and_then, need, found}
+use Rattle.plain_tables.specs.OfPlainProcess.Buffers.{filled_spans}
+use Rattle.plain_tables.specs.OfPlainProcess.Memory.{little_endian}
+use Rattle.plain_tables.specs.OfPlainProcess.Valid.{IsByte}
 use Rattle.plain_machine.specs.Attempts.{replied}
 use Rattle.plain_machine.specs.Channels.{direction_at, with_direction}
 use Rattle.plain_machine.specs.Kernel.{Held, held, with_object}

@@ -1,17 +1,17 @@
 -- pipe2(fds, flags), socketpair(domain, type, protocol, fds) (`man 2 pipe2`, `man 2 socketpair`): two ends
 -- behind the free descriptor and the next one, whose numbers are answered.
 use Rattle.std.specs.Prelude.{◌==◌, ◌&&◌, ◌||◌, ℕ, ◌+◌, ◌-◌, ◌%◌, not, Bool, [], ◌++◌, if◌then◌else◌}
-use Rattle.views.specs.Numbers.{Flags}
-use Rattle.sys_abi.specs.declared.identity.VPid.{VPid}
-use Rattle.sys_abi.specs.declared.errors.TheConstants.{EINVAL, ENFILE, EOPNOTSUPP, EAFNOSUPPORT}
-use Rattle.sys_abi.specs.declared.flags.TheConstants.{O_WRONLY, O_RDWR, O_CLOEXEC}
-use Rattle.sys_abi.specs.declared.reply.Reply.TheVariants.{Value}
-use Rattle.sys_abi.specs.Flags.{has_flag}
+use Rattle.plain_tables.specs.OfViews.Numbers.{Flags}
+use Rattle.plain_tables.specs.OfSysAbi.declared.identity.VPid.{VPid}
+use Rattle.plain_tables.specs.OfSysAbi.declared.errors.TheConstants.{EINVAL, ENFILE, EOPNOTSUPP, EAFNOSUPPORT}
+use Rattle.plain_tables.specs.OfSysAbi.declared.flags.TheConstants.{O_WRONLY, O_RDWR, O_CLOEXEC}
+use Rattle.plain_tables.specs.OfSysAbi.declared.reply.Reply.TheVariants.{Value}
+use Rattle.plain_tables.specs.OfSysAbi.Flags.{has_flag}
 use Rattle.plain_machine.specs.declared.kernel.PlainKernel.{PlainKernel}
 use Rattle.plain_machine.specs.declared.new_end.NewEnd.{NewEnd}
 use Rattle.plain_tables.specs.declared.channel.ChannelKind.TheVariants.{Pair, Pipe}
-use Rattle.plain_process.specs.Attempts.{Try, Gives, need, ◌>>=◌, ◌>>◌}
-use Rattle.plain_process.specs.Memory.{low_bytes}
+use Rattle.plain_tables.specs.OfPlainProcess.Attempts.{Try, Gives, need, ◌>>=◌, ◌>>◌}
+use Rattle.plain_tables.specs.OfPlainProcess.Memory.{low_bytes}
 use Rattle.plain_machine.specs.Attempts.{Served}
 use Rattle.plain_machine.specs.Kernel.{free_from, has_numbers}
 use Rattle.plain_machine.specs.Making.{are_making_flags, end_flags, has_channel_room, with_ends, with_datagrams}

@@ -3,22 +3,22 @@
 -- is the child's own.
 use Rattle.std.specs.Prelude.{◌&&◌, ℕ, ◌-◌, ◌^◌, nat_lt, List, [], ◌++◌, Option, Some, None, Bool, if◌then◌else◌}
 use Rattle.std.specs.FinMap as map
-use Rattle.views.specs.Numbers.{Flags, Byte}
-use Rattle.views.specs.Limits.{PROCESS_LIMIT, THREAD_LIMIT}
-use Rattle.sys_abi.specs.declared.identity.VPid.{VPid}
-use Rattle.sys_abi.specs.declared.reply.Reply.TheVariants.{Value}
-use Rattle.sys_abi.specs.declared.errors.TheConstants.{EAGAIN, EINVAL}
-use Rattle.sys_abi.specs.declared.flags.TheConstants.{CLONE_PARENT_SETTID, CLONE_CHILD_SETTID}
-use Rattle.sys_abi.specs.declared.cloning.CloneForm.{CloneForm}
-use Rattle.sys_abi.specs.declared.cloning.CloneForm.TheVariants.{Fork, Thread}
-use Rattle.sys_abi.specs.Clones.{clone_form}
+use Rattle.plain_tables.specs.OfViews.Numbers.{Flags, Byte}
+use Rattle.plain_tables.specs.OfViews.Limits.{PROCESS_LIMIT, THREAD_LIMIT}
+use Rattle.plain_tables.specs.OfSysAbi.declared.identity.VPid.{VPid}
+use Rattle.plain_tables.specs.OfSysAbi.declared.reply.Reply.TheVariants.{Value}
+use Rattle.plain_tables.specs.OfSysAbi.declared.errors.TheConstants.{EAGAIN, EINVAL}
+use Rattle.plain_tables.specs.OfSysAbi.declared.flags.TheConstants.{CLONE_PARENT_SETTID, CLONE_CHILD_SETTID}
+use Rattle.plain_tables.specs.OfSysAbi.declared.cloning.CloneForm.{CloneForm}
+use Rattle.plain_tables.specs.OfSysAbi.declared.cloning.CloneForm.TheVariants.{Fork, Thread}
+use Rattle.plain_tables.specs.OfSysAbi.Clones.{clone_form}
 use Rattle.plain_machine.specs.declared.kernel.PlainKernel.{PlainKernel}
-use Rattle.plain_process.specs.Memory.{low_bytes}
-use Rattle.plain_process.specs.Attempts.{Try, Fails, Gives, need, ◌>>◌}
+use Rattle.plain_tables.specs.OfPlainProcess.Memory.{low_bytes}
+use Rattle.plain_tables.specs.OfPlainProcess.Attempts.{Try, Fails, Gives, need, ◌>>◌}
 use Rattle.plain_machine.specs.Attempts.{Served}
 use Rattle.plain_machine.specs.Kernel.{thread_count, with_next_thread}
 use Rattle.plain_machine.specs.Ends.{after_fork}
-use Rattle.sys_abi.specs.Flags.{has_flag}
+use Rattle.plain_tables.specs.OfSysAbi.Flags.{has_flag}
 
 -- numbers of processes and threads are below this one
 abbrev pub LAST_ID : ℕ

@@ -4,21 +4,21 @@
 --     accepted, connected              the kernel part after it
 use Rattle.std.specs.Prelude.{◌==◌, ◌&&◌, ℕ, nat_le, nat_lt, Bool, false, List, [], ◌∷◌, length, Some, if◌then◌else◌}
 use Rattle.std.specs.FinMap as map
-use Rattle.views.specs.Numbers.{Address, Flags, Byte}
-use Rattle.views.specs.Limits.{CHANNEL_LIMIT}
-use Rattle.sys_abi.specs.declared.identity.VPid.{VPid}
-use Rattle.sys_abi.specs.declared.identity.ConnId.{ConnId}
-use Rattle.sys_abi.specs.declared.identity.VirtAddr.{VirtAddr}
-use Rattle.sys_abi.specs.declared.reply.Reply.TheVariants.{Value}
-use Rattle.sys_abi.specs.declared.errors.TheConstants.{EINVAL, ENFILE, EOPNOTSUPP, EAFNOSUPPORT, EADDRNOTAVAIL, EISCONN, ECONNREFUSED}
-use Rattle.sys_abi.specs.declared.flags.TheConstants.{O_RDWR}
+use Rattle.plain_tables.specs.OfViews.Numbers.{Address, Flags, Byte}
+use Rattle.plain_tables.specs.OfViews.Limits.{CHANNEL_LIMIT}
+use Rattle.plain_tables.specs.OfSysAbi.declared.identity.VPid.{VPid}
+use Rattle.plain_tables.specs.OfSysAbi.declared.identity.ConnId.{ConnId}
+use Rattle.plain_tables.specs.OfSysAbi.declared.identity.VirtAddr.{VirtAddr}
+use Rattle.plain_tables.specs.OfSysAbi.declared.reply.Reply.TheVariants.{Value}
+use Rattle.plain_tables.specs.OfSysAbi.declared.errors.TheConstants.{EINVAL, ENFILE, EOPNOTSUPP, EAFNOSUPPORT, EADDRNOTAVAIL, EISCONN, ECONNREFUSED}
+use Rattle.plain_tables.specs.OfSysAbi.declared.flags.TheConstants.{O_RDWR}
 use Rattle.plain_machine.specs.declared.kernel.PlainKernel.{PlainKernel}
 use Rattle.plain_tables.specs.declared.channel.ChannelKind.TheVariants.{Internet}
 use Rattle.plain_tables.specs.declared.channel.Listening.{Listening}
 use Rattle.plain_tables.specs.declared.description.Object.{Object}
 use Rattle.plain_tables.specs.declared.description.Object.TheVariants.{Stream, Socket, Datagram}
 use Rattle.plain_tables.specs.Tables.{changed_at}
-use Rattle.plain_process.specs.Attempts.{Try, Fails, Gives, need, found, ◌>>=◌, ◌>>◌}
+use Rattle.plain_tables.specs.OfPlainProcess.Attempts.{Try, Fails, Gives, need, found, ◌>>=◌, ◌>>◌}
 use Rattle.plain_machine.specs.Attempts.{Served, replied}
 use Rattle.plain_machine.specs.Kernel.{Held, has_numbers, free_from, numbered, placed, with_object}
 use Rattle.plain_machine.specs.Channels.{open_channel, with_channel}

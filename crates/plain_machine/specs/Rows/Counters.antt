@@ -1,13 +1,13 @@
 -- eventfd2(value, flags) (`man 2 eventfd`): a counter behind the free descriptor.
 use Rattle.std.specs.Prelude.{ℕ}
-use Rattle.views.specs.Numbers.{Flags}
-use Rattle.sys_abi.specs.declared.identity.VPid.{VPid}
-use Rattle.sys_abi.specs.declared.errors.TheConstants.{EINVAL, ENFILE}
-use Rattle.sys_abi.specs.declared.flags.TheConstants.{O_RDWR, O_CLOEXEC}
-use Rattle.sys_abi.specs.Flags.{has_flag}
+use Rattle.plain_tables.specs.OfViews.Numbers.{Flags}
+use Rattle.plain_tables.specs.OfSysAbi.declared.identity.VPid.{VPid}
+use Rattle.plain_tables.specs.OfSysAbi.declared.errors.TheConstants.{EINVAL, ENFILE}
+use Rattle.plain_tables.specs.OfSysAbi.declared.flags.TheConstants.{O_RDWR, O_CLOEXEC}
+use Rattle.plain_tables.specs.OfSysAbi.Flags.{has_flag}
 use Rattle.plain_machine.specs.declared.kernel.PlainKernel.{PlainKernel}
 use Rattle.plain_tables.specs.declared.description.Object.TheVariants.{Counter}
-use Rattle.plain_process.specs.Attempts.{Try, need, ◌>>=◌, ◌>>◌}
+use Rattle.plain_tables.specs.OfPlainProcess.Attempts.{Try, need, ◌>>=◌, ◌>>◌}
 use Rattle.plain_machine.specs.Attempts.{Served, replied}
 use Rattle.plain_machine.specs.Kernel.{free_from, has_numbers, made_of, numbered, placed}
 use Rattle.plain_machine.specs.Making.{are_making_flags, end_flags, desc_id}

@@ -1,18 +1,18 @@
 -- dup(fd), dup3(fd, to, flags), fcntl(fd, command, argument), close(fd) (`man 2 dup`, `man 2 fcntl`,
 -- `man 2 close`).
 use Rattle.std.specs.Prelude.{◌==◌, ◌%◌, ◌||◌, ℕ, Bool, true, false, not, ◌&&◌, bit_and, bit_or, nat_lt, Option, Some, None, if◌then◌else◌}
-use Rattle.views.specs.Numbers.{Flags}
-use Rattle.views.specs.Limits.{DESCRIPTOR_LIMIT}
-use Rattle.sys_abi.specs.declared.identity.VPid.{VPid}
-use Rattle.sys_abi.specs.declared.errors.TheConstants.{EBADF, EINVAL, ESRCH}
-use Rattle.sys_abi.specs.declared.flags.TheConstants.{O_CLOEXEC}
-use Rattle.sys_abi.specs.Clones.{without_bits}
+use Rattle.plain_tables.specs.OfViews.Numbers.{Flags}
+use Rattle.plain_tables.specs.OfViews.Limits.{DESCRIPTOR_LIMIT}
+use Rattle.plain_tables.specs.OfSysAbi.declared.identity.VPid.{VPid}
+use Rattle.plain_tables.specs.OfSysAbi.declared.errors.TheConstants.{EBADF, EINVAL, ESRCH}
+use Rattle.plain_tables.specs.OfSysAbi.declared.flags.TheConstants.{O_CLOEXEC}
+use Rattle.plain_tables.specs.OfSysAbi.Clones.{without_bits}
 use Rattle.plain_machine.specs.declared.kernel.PlainKernel.{PlainKernel}
-use Rattle.plain_process.specs.declared.commands.FcntlCommand.{FcntlCommand}
-use Rattle.plain_process.specs.declared.commands.FcntlCommand.TheVariants.{DupFd, GetFd, SetFd, GetFl, SetFl, SetOwn, GetOwn, DupFdCloexec}
-use Rattle.plain_process.specs.Attempts.{Try, Fails, need, ◌>>=◌, ◌>>◌}
+use Rattle.plain_tables.specs.OfPlainProcess.declared.commands.FcntlCommand.{FcntlCommand}
+use Rattle.plain_tables.specs.OfPlainProcess.declared.commands.FcntlCommand.TheVariants.{DupFd, GetFd, SetFd, GetFl, SetFl, SetOwn, GetOwn, DupFdCloexec}
+use Rattle.plain_tables.specs.OfPlainProcess.Attempts.{Try, Fails, need, ◌>>=◌, ◌>>◌}
 use Rattle.plain_machine.specs.Attempts.{Served, replied}
-use Rattle.plain_process.specs.Commands.{fcntl_command}
+use Rattle.plain_tables.specs.OfPlainProcess.Commands.{fcntl_command}
 use Rattle.plain_machine.specs.Kernel.{Held, held, free_from, is_neighbour, with_descriptor, with_description}
 use Rattle.plain_machine.specs.Closing.{close_fd}
 

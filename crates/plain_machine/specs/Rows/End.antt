@@ -1,10 +1,10 @@
 -- exit_group(code), exit(code) (`man 2 exit_group`, `man 2 exit`): the process ends with the status that the
 -- code gives, or the thread does.
 use Rattle.std.specs.Prelude.{ℕ}
-use Rattle.views.specs.Numbers.{ThreadNumber}
-use Rattle.sys_abi.specs.declared.identity.VPid.{VPid}
+use Rattle.plain_tables.specs.OfViews.Numbers.{ThreadNumber}
+use Rattle.plain_tables.specs.OfSysAbi.declared.identity.VPid.{VPid}
 use Rattle.plain_machine.specs.declared.kernel.PlainKernel.{PlainKernel}
-use Rattle.plain_process.specs.Attempts.{Try}
+use Rattle.plain_tables.specs.OfPlainProcess.Attempts.{Try}
 use Rattle.plain_machine.specs.Attempts.{Served, replied}
 use Rattle.plain_machine.specs.Ends.{exit_status, after_end, thread_ended}
 

@@ -4,18 +4,18 @@
 use Rattle.std.specs.Prelude.{◌==◌, ◌+◌, ◌-◌, ◌%◌, ◌^◌, ℕ, ◌&&◌, bit_and, nat_lt, List, [], length, take, position, Option, Some, None, if◌then◌else◌}
 use Rattle.std.specs.Option.{option_map_or}
 use Rattle.std.specs.FinMap as map
-use Rattle.views.specs.Numbers.{Flags, Byte}
-use Rattle.views.specs.Limits.{FILE_LIMIT}
-use Rattle.sys_abi.specs.declared.identity.VPid.{VPid}
-use Rattle.sys_abi.specs.declared.errors.TheConstants.{ENOENT, EBADF, EEXIST, EINVAL, ENFILE, ENOSPC, ESPIPE, ENAMETOOLONG}
-use Rattle.sys_abi.specs.declared.flags.TheConstants.{O_CREAT, O_EXCL, O_TRUNC, O_CLOEXEC, AT_FDCWD}
-use Rattle.sys_abi.specs.Flags.{has_flag}
+use Rattle.plain_tables.specs.OfViews.Numbers.{Flags, Byte}
+use Rattle.plain_tables.specs.OfViews.Limits.{FILE_LIMIT}
+use Rattle.plain_tables.specs.OfSysAbi.declared.identity.VPid.{VPid}
+use Rattle.plain_tables.specs.OfSysAbi.declared.errors.TheConstants.{ENOENT, EBADF, EEXIST, EINVAL, ENFILE, ENOSPC, ESPIPE, ENAMETOOLONG}
+use Rattle.plain_tables.specs.OfSysAbi.declared.flags.TheConstants.{O_CREAT, O_EXCL, O_TRUNC, O_CLOEXEC, AT_FDCWD}
+use Rattle.plain_tables.specs.OfSysAbi.Flags.{has_flag}
 use Rattle.plain_machine.specs.declared.kernel.PlainKernel.{PlainKernel}
 use Rattle.plain_tables.specs.declared.description.Object.{Object}
 use Rattle.plain_tables.specs.declared.description.Object.TheVariants.{File}
 use Rattle.plain_tables.specs.Closing.{without_unkept}
-use Rattle.plain_process.specs.Attempts.{Try, Fails, Gives, need, refuse_if, found, ◌>>=◌, ◌>>◌}
-use Rattle.plain_process.specs.Buffers.{PATH_LIMIT}
+use Rattle.plain_tables.specs.OfPlainProcess.Attempts.{Try, Fails, Gives, need, refuse_if, found, ◌>>=◌, ◌>>◌}
+use Rattle.plain_tables.specs.OfPlainProcess.Buffers.{PATH_LIMIT}
 use Rattle.plain_machine.specs.Attempts.{Served, replied}
 use Rattle.plain_machine.specs.Kernel.{Held, held, free_from, made_of, has_numbers, numbered, placed, with_object}
 use Rattle.plain_machine.specs.Start.{with_file}

@@ -1,14 +1,14 @@
 -- read(fd, buffer, count) (`man 2 read`): EBADF unless the descriptor is open for reading. At most 65,536
 -- bytes are read.
 use Rattle.std.specs.Prelude.{ℕ, ◌-◌, not, min, Bool, true, []}
-use Rattle.sys_abi.specs.declared.identity.VPid.{VPid}
-use Rattle.sys_abi.specs.declared.errors.TheConstants.{EBADF, ENOTCONN}
-use Rattle.sys_abi.specs.declared.transfer.TheConstants.{TRANSFER_LIMIT}
+use Rattle.plain_tables.specs.OfSysAbi.declared.identity.VPid.{VPid}
+use Rattle.plain_tables.specs.OfSysAbi.declared.errors.TheConstants.{EBADF, ENOTCONN}
+use Rattle.plain_tables.specs.OfSysAbi.declared.transfer.TheConstants.{TRANSFER_LIMIT}
 use Rattle.plain_machine.specs.declared.kernel.PlainKernel.{PlainKernel}
 use Rattle.plain_tables.specs.declared.description.Object.{Object}
 use Rattle.plain_tables.specs.declared.description.Object.TheVariants.{Console, File, Stream, Socket, Listener, Datagram, Counter}
 use Rattle.plain_tables.specs.Objects.{dir}
-use Rattle.plain_process.specs.Attempts.{Try, Fails, Gives, need, ◌>>=◌, ◌>>◌}
+use Rattle.plain_tables.specs.OfPlainProcess.Attempts.{Try, Fails, Gives, need, ◌>>=◌, ◌>>◌}
 use Rattle.plain_machine.specs.Attempts.{Served}
 use Rattle.plain_machine.specs.Channels.{direction_at}
 use Rattle.plain_machine.specs.Kernel.{Held, held}

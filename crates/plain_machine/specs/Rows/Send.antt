@@ -2,11 +2,11 @@
 -- or the thread; 0 only asks whether it is there. A process reaches those of its host. No signal that stops
 -- or goes on can be sent.
 use Rattle.std.specs.Prelude.{◌&&◌, ℕ, ◌^◌, not, nat_le, nat_lt, Bool}
-use Rattle.views.specs.Numbers.{ThreadNumber, SignalNumber}
-use Rattle.sys_abi.specs.declared.identity.VPid.{VPid}
-use Rattle.sys_abi.specs.declared.errors.TheConstants.{EINVAL, ESRCH}
+use Rattle.plain_tables.specs.OfViews.Numbers.{ThreadNumber, SignalNumber}
+use Rattle.plain_tables.specs.OfSysAbi.declared.identity.VPid.{VPid}
+use Rattle.plain_tables.specs.OfSysAbi.declared.errors.TheConstants.{EINVAL, ESRCH}
 use Rattle.plain_machine.specs.declared.kernel.PlainKernel.{PlainKernel}
-use Rattle.plain_process.specs.Attempts.{Try, need, ◌>>◌}
+use Rattle.plain_tables.specs.OfPlainProcess.Attempts.{Try, need, ◌>>◌}
 use Rattle.plain_machine.specs.Attempts.{Served, replied}
 use Rattle.plain_tables.specs.Tables.{pid}
 use Rattle.plain_machine.specs.Kernel.{is_neighbour, has_thread, after_raise, after_raise_for_all}

@@ -2,16 +2,16 @@
 -- ended is gone, and its status is told; of several the least one. Where none has ended the call waits, or
 -- answers 0 with WNOHANG. usage is the place for what it used, which this machine does not tell.
 use Rattle.std.specs.Prelude.{◌==◌, ◌&&◌, ◌||◌, ℕ, ◌-◌, ◌^◌, not, nat_le, Bool, [], Option, Some, None, if◌then◌else◌}
-use Rattle.views.specs.Numbers.{Address}
-use Rattle.sys_abi.specs.declared.identity.VPid.{VPid}
-use Rattle.sys_abi.specs.declared.reply.Reply.TheVariants.{Value}
-use Rattle.sys_abi.specs.declared.errors.TheConstants.{ECHILD, EINVAL}
+use Rattle.plain_tables.specs.OfViews.Numbers.{Address}
+use Rattle.plain_tables.specs.OfSysAbi.declared.identity.VPid.{VPid}
+use Rattle.plain_tables.specs.OfSysAbi.declared.reply.Reply.TheVariants.{Value}
+use Rattle.plain_tables.specs.OfSysAbi.declared.errors.TheConstants.{ECHILD, EINVAL}
 use Rattle.plain_machine.specs.declared.kernel.PlainKernel.{PlainKernel}
 use Rattle.plain_tables.specs.declared.waiting.Waiting.{Waiting}
 use Rattle.plain_tables.specs.declared.waiting.Waiting.TheVariants as found
 use Rattle.plain_tables.specs.Tables.{pid}
-use Rattle.plain_process.specs.Memory.{low_bytes}
-use Rattle.plain_process.specs.Attempts.{Try, Fails, NotReady, Gives, need, ◌>>◌}
+use Rattle.plain_tables.specs.OfPlainProcess.Memory.{low_bytes}
+use Rattle.plain_tables.specs.OfPlainProcess.Attempts.{Try, Fails, NotReady, Gives, need, ◌>>◌}
 use Rattle.plain_machine.specs.Attempts.{Served, replied}
 use Rattle.plain_machine.specs.Kernel.{without_process}
 use Rattle.plain_tables.specs.Waits.{wait_for, is_answered}

@@ -1,14 +1,14 @@
 -- write(fd, buffer, count) (`man 2 write`): EBADF unless the descriptor is open for writing. `given` are the
 -- bytes, of which at most 65,536 were read; t is the thread that writes. A console takes all of them.
 use Rattle.std.specs.Prelude.{ℕ, not, Bool, true, List, length}
-use Rattle.views.specs.Numbers.{ThreadNumber, Byte}
-use Rattle.sys_abi.specs.declared.identity.VPid.{VPid}
-use Rattle.sys_abi.specs.declared.errors.TheConstants.{EBADF}
+use Rattle.plain_tables.specs.OfViews.Numbers.{ThreadNumber, Byte}
+use Rattle.plain_tables.specs.OfSysAbi.declared.identity.VPid.{VPid}
+use Rattle.plain_tables.specs.OfSysAbi.declared.errors.TheConstants.{EBADF}
 use Rattle.plain_machine.specs.declared.kernel.PlainKernel.{PlainKernel}
 use Rattle.plain_tables.specs.declared.description.Object.{Object}
 use Rattle.plain_tables.specs.declared.description.Object.TheVariants.{Console, File, Stream, Socket, Listener, Datagram, Counter}
 use Rattle.plain_tables.specs.Objects.{dir}
-use Rattle.plain_process.specs.Attempts.{Try, Gives, need, ◌>>=◌, ◌>>◌}
+use Rattle.plain_tables.specs.OfPlainProcess.Attempts.{Try, Gives, need, ◌>>=◌, ◌>>◌}
 use Rattle.plain_machine.specs.Attempts.{Served, replied_on_console}
 use Rattle.plain_machine.specs.Channels.{direction_at}
 use Rattle.plain_machine.specs.Kernel.{Held, held}

@@ -3,13 +3,13 @@
 --     gave k bytes                these bytes, and how many they are
 --     broken_pipe k p t           EPIPE, and its signal is pending for the thread
 use Rattle.std.specs.Prelude.{◌==◌, ◌||◌, ◌%◌, Bool, List, [], length}
-use Rattle.views.specs.Numbers.{ThreadNumber, Flags, Byte}
-use Rattle.sys_abi.specs.declared.identity.VPid.{VPid}
-use Rattle.sys_abi.specs.declared.errors.TheConstants.{EPIPE}
-use Rattle.sys_abi.specs.declared.signals.TheConstants.{SIGPIPE}
-use Rattle.sys_abi.specs.declared.reply.Reply.TheVariants.{Value}
+use Rattle.plain_tables.specs.OfViews.Numbers.{ThreadNumber, Flags, Byte}
+use Rattle.plain_tables.specs.OfSysAbi.declared.identity.VPid.{VPid}
+use Rattle.plain_tables.specs.OfSysAbi.declared.errors.TheConstants.{EPIPE}
+use Rattle.plain_tables.specs.OfSysAbi.declared.signals.TheConstants.{SIGPIPE}
+use Rattle.plain_tables.specs.OfSysAbi.declared.reply.Reply.TheVariants.{Value}
 use Rattle.plain_machine.specs.declared.kernel.PlainKernel.{PlainKernel}
-use Rattle.plain_process.specs.Attempts.{Try, Gives}
+use Rattle.plain_tables.specs.OfPlainProcess.Attempts.{Try, Gives}
 use Rattle.plain_machine.specs.Attempts.{Served, refused}
 use Rattle.plain_machine.specs.Kernel.{after_raise}
 

@@ -4,12 +4,12 @@
 --     read_counter k h value count
 --     write_counter k h value count given
 use Rattle.std.specs.Prelude.{◌==◌, ◌||◌, ◌&&◌, ℕ, ◌+◌, ◌-◌, ◌^◌, not, nat_lt, nat_le, Bool, List, take}
-use Rattle.views.specs.Numbers.{Byte}
-use Rattle.sys_abi.specs.declared.errors.TheConstants.{EINVAL}
+use Rattle.plain_tables.specs.OfViews.Numbers.{Byte}
+use Rattle.plain_tables.specs.OfSysAbi.declared.errors.TheConstants.{EINVAL}
 use Rattle.plain_machine.specs.declared.kernel.PlainKernel.{PlainKernel}
 use Rattle.plain_tables.specs.declared.description.Object.TheVariants.{Counter}
-use Rattle.plain_process.specs.Attempts.{Try, need, ◌>>◌}
-use Rattle.plain_process.specs.Memory.{little_endian, low_bytes}
+use Rattle.plain_tables.specs.OfPlainProcess.Attempts.{Try, need, ◌>>◌}
+use Rattle.plain_tables.specs.OfPlainProcess.Memory.{little_endian, low_bytes}
 use Rattle.plain_machine.specs.Attempts.{Served, replied}
 use Rattle.plain_machine.specs.Kernel.{Held, with_object}
 use Rattle.plain_machine.specs.Transfers.Answers.{gave}

@@ -7,12 +7,12 @@
 --     write_message k peer count given
 use Rattle.std.specs.Prelude.{◌||◌, ℕ, not, nat_lt, nat_le, Bool, List, [], ◌∷◌, ◌++◌, take, length, is_some, unwrap_or}
 use Rattle.std.specs.FinMap as map
-use Rattle.views.specs.Numbers.{Byte}
-use Rattle.views.specs.Limits.{INBOX_LIMIT, MESSAGE_LIMIT}
-use Rattle.sys_abi.specs.declared.identity.DescId.{DescId}
-use Rattle.sys_abi.specs.declared.errors.TheConstants.{EMSGSIZE, ECONNREFUSED}
+use Rattle.plain_tables.specs.OfViews.Numbers.{Byte}
+use Rattle.plain_tables.specs.OfViews.Limits.{INBOX_LIMIT, MESSAGE_LIMIT}
+use Rattle.plain_tables.specs.OfSysAbi.declared.identity.DescId.{DescId}
+use Rattle.plain_tables.specs.OfSysAbi.declared.errors.TheConstants.{EMSGSIZE, ECONNREFUSED}
 use Rattle.plain_machine.specs.declared.kernel.PlainKernel.{PlainKernel}
-use Rattle.plain_process.specs.Attempts.{Try, need, found, ◌>>=◌, ◌>>◌}
+use Rattle.plain_tables.specs.OfPlainProcess.Attempts.{Try, need, found, ◌>>=◌, ◌>>◌}
 use Rattle.plain_machine.specs.Attempts.{Served, replied}
 use Rattle.plain_machine.specs.Making.{with_inbox}
 use Rattle.plain_machine.specs.Transfers.Answers.{gave}

@@ -5,15 +5,15 @@
 --     write_file k h number offset given
 use Rattle.std.specs.Prelude.{◌==◌, ℕ, ◌+◌, ◌-◌, ◌^◌, min, nat_lt, nat_le, List, ◌++◌, take, drop, length, replicate, sum_by, if◌then◌else◌}
 use Rattle.std.specs.FinMap as map
-use Rattle.views.specs.Numbers.{Flags, Byte}
-use Rattle.views.specs.Limits.{ALL_FILES_LIMIT}
-use Rattle.sys_abi.specs.declared.errors.TheConstants.{EBADF, EFBIG, ENOSPC}
-use Rattle.sys_abi.specs.declared.flags.TheConstants.{O_APPEND}
-use Rattle.sys_abi.specs.Flags.{has_flag}
+use Rattle.plain_tables.specs.OfViews.Numbers.{Flags, Byte}
+use Rattle.plain_tables.specs.OfViews.Limits.{ALL_FILES_LIMIT}
+use Rattle.plain_tables.specs.OfSysAbi.declared.errors.TheConstants.{EBADF, EFBIG, ENOSPC}
+use Rattle.plain_tables.specs.OfSysAbi.declared.flags.TheConstants.{O_APPEND}
+use Rattle.plain_tables.specs.OfSysAbi.Flags.{has_flag}
 use Rattle.plain_machine.specs.declared.kernel.PlainKernel.{PlainKernel}
 use Rattle.plain_tables.specs.declared.description.Object.TheVariants.{File}
 use Rattle.plain_tables.specs.Tables.{Files}
-use Rattle.plain_process.specs.Attempts.{Try, need, found, ◌>>=◌, ◌>>◌}
+use Rattle.plain_tables.specs.OfPlainProcess.Attempts.{Try, need, found, ◌>>=◌, ◌>>◌}
 use Rattle.plain_machine.specs.Attempts.{Served, replied}
 use Rattle.plain_machine.specs.Kernel.{Held, with_object}
 use Rattle.plain_machine.specs.Rows.Files.{OFFSET_LIMIT, with_file_bytes}

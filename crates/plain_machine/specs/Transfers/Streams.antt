@@ -4,14 +4,14 @@
 --     read_stream k from count        from the direction to the end
 --     write_stream k p t to count given      into the direction from it
 use Rattle.std.specs.Prelude.{◌==◌, ◌||◌, ◌&&◌, ℕ, ◌-◌, min, nat_lt, Bool, true, List, ◌++◌, take, drop, length, Option, Some, None, if◌then◌else◌}
-use Rattle.views.specs.Numbers.{ThreadNumber, Byte}
-use Rattle.views.specs.Limits.{DIRECTION_LIMIT}
-use Rattle.sys_abi.specs.declared.identity.VPid.{VPid}
-use Rattle.sys_abi.specs.declared.identity.Dir.{Dir}
-use Rattle.sys_abi.specs.declared.errors.TheConstants.{ENOTCONN, EPIPE}
+use Rattle.plain_tables.specs.OfViews.Numbers.{ThreadNumber, Byte}
+use Rattle.plain_tables.specs.OfViews.Limits.{DIRECTION_LIMIT}
+use Rattle.plain_tables.specs.OfSysAbi.declared.identity.VPid.{VPid}
+use Rattle.plain_tables.specs.OfSysAbi.declared.identity.Dir.{Dir}
+use Rattle.plain_tables.specs.OfSysAbi.declared.errors.TheConstants.{ENOTCONN, EPIPE}
 use Rattle.plain_machine.specs.declared.kernel.PlainKernel.{PlainKernel}
 use Rattle.plain_tables.specs.declared.channel.Direction.{Direction}
-use Rattle.plain_process.specs.Attempts.{Try, found, ◌>>=◌}
+use Rattle.plain_tables.specs.OfPlainProcess.Attempts.{Try, found, ◌>>=◌}
 use Rattle.plain_machine.specs.Attempts.{Served, replied}
 use Rattle.plain_machine.specs.Channels.{direction_at, with_direction}
 use Rattle.plain_machine.specs.Transfers.Answers.{gave, broken_pipe}

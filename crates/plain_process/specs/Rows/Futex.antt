@@ -1,8 +1,8 @@
 -- futex(address, operation, value, timeout) (`man 2 futex`): WAIT waits unless the word differs, WAKE wakes
 -- so many. Other operations are none, and no wait has a timeout.
 use Rattle.std.specs.Prelude.{◌==◌, ◌&&◌, ◌||◌, ℕ, ◌%◌, Bool, List, if◌then◌else◌}
-use Rattle.views.specs.Numbers.{Address, ThreadNumber, Byte}
-use Rattle.sys_abi.specs.declared.errors.TheConstants.{EAGAIN, EINVAL, ENOSYS}
+use Rattle.elf32.specs.OfViews.Numbers.{Address, ThreadNumber, Byte}
+use Rattle.call_table.specs.OfSysAbi.declared.errors.TheConstants.{EAGAIN, EINVAL, ENOSYS}
 use Rattle.plain_process.specs.declared.user_part.UserPart.{UserPart}
 use Rattle.plain_process.specs.Memory.{little_endian}
 use Rattle.plain_process.specs.Buffers.{is_wait}

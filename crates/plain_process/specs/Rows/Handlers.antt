@@ -3,10 +3,10 @@
 -- (4 bytes each) and its mask (8 bytes), a set 8 bytes, of which the first 4 are kept. The signals SIGKILL
 -- and SIGSTOP, and those above 31, are dropped from masks.
 use Rattle.std.specs.Prelude.{◌==◌, ◌&&◌, ◌||◌, ℕ, ◌-◌, nat_le, bit_or, Bool, not, List, ◌++◌, length, take, drop, slice_get, slice_set, Option, if◌then◌else◌}
-use Rattle.views.specs.Numbers.{Address, ThreadNumber, SignalNumber, Byte}
-use Rattle.sys_abi.specs.Signals.{is_signal, blockable, without_signals}
-use Rattle.sys_abi.specs.declared.signals.TheConstants.{SIGKILL, SIGSTOP}
-use Rattle.sys_abi.specs.declared.errors.TheConstants.{EINVAL}
+use Rattle.elf32.specs.OfViews.Numbers.{Address, ThreadNumber, SignalNumber, Byte}
+use Rattle.call_table.specs.OfSysAbi.Signals.{is_signal, blockable, without_signals}
+use Rattle.call_table.specs.OfSysAbi.declared.signals.TheConstants.{SIGKILL, SIGSTOP}
+use Rattle.call_table.specs.OfSysAbi.declared.errors.TheConstants.{EINVAL}
 use Rattle.plain_process.specs.declared.user_part.UserPart.{UserPart}
 use Rattle.plain_process.specs.declared.user_part.ThreadPart.{ThreadPart}
 use Rattle.plain_process.specs.declared.user_part.SignalAction.{SignalAction}

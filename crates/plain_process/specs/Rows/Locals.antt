@@ -1,7 +1,7 @@
 -- What a call leaves and gives that its process answers alone: the process's part, and an answer, unless the
 -- thread has none yet.
 use Rattle.std.specs.Prelude.{ℕ, List, []}
-use Rattle.views.specs.Numbers.{Byte}
+use Rattle.elf32.specs.OfViews.Numbers.{Byte}
 use Rattle.plain_process.specs.declared.user_part.UserPart.{UserPart}
 use Rattle.plain_process.specs.Attempts.{Try, Gives}
 

@@ -3,9 +3,9 @@
 -- anonymous and private, at the lowest place where it fits.
 use Rattle.std.specs.Prelude.{◌==◌, ◌&&◌, ℕ, ◌+◌, ◌-◌, ◌*◌, ◌/◌, ◌%◌, nat_le, nat_lt, Bool, not, [], Option, None, if◌then◌else◌}
 use Rattle.std.specs.FinMap as map
-use Rattle.views.specs.Numbers.{Address, Flags}
-use Rattle.views.specs.Limits.{PAGE_LIMIT, BREAK_LIMIT}
-use Rattle.sys_abi.specs.declared.errors.TheConstants.{EINVAL, ENOMEM}
+use Rattle.elf32.specs.OfViews.Numbers.{Address, Flags}
+use Rattle.elf32.specs.OfViews.Limits.{PAGE_LIMIT, BREAK_LIMIT}
+use Rattle.call_table.specs.OfSysAbi.declared.errors.TheConstants.{EINVAL, ENOMEM}
 use Rattle.plain_process.specs.declared.user_part.UserPart.{UserPart}
 use Rattle.plain_process.specs.Memory.{Memory}
 use Rattle.plain_process.specs.Start.{with_pages}

@@ -3,12 +3,12 @@
 --     AreChannels, AreStreams      a topic each, over the tables that it speaks of
 use Rattle.std.specs.Prelude.{◌≡◌, ℕ, ◌-◌, ◌==◌, ◌&&◌, ◌||◌, ◌<◌, ◌≤◌, ◌%◌, nat_lt, true, false, [], length, Option, Some, None, is_some, All, if◌then◌else◌}
 use Rattle.std.specs.FinMap as map
-use Rattle.views.specs.Numbers.{Flags}
-use Rattle.views.specs.Limits.{HOST_LIMIT, CHANNEL_LIMIT, DIRECTION_LIMIT}
-use Rattle.sys_abi.specs.declared.identity.DescId.{DescId}
-use Rattle.sys_abi.specs.declared.identity.ConnId.{ConnId}
-use Rattle.sys_abi.specs.declared.identity.Dir.{Dir}
-use Rattle.sys_abi.specs.declared.identity.VirtAddr.{VirtAddr}
+use Rattle.plain_process.specs.OfViews.Numbers.{Flags}
+use Rattle.plain_process.specs.OfViews.Limits.{HOST_LIMIT, CHANNEL_LIMIT, DIRECTION_LIMIT}
+use Rattle.id_maps.specs.OfSysAbi.declared.identity.DescId.{DescId}
+use Rattle.id_maps.specs.OfSysAbi.declared.identity.ConnId.{ConnId}
+use Rattle.id_maps.specs.OfSysAbi.declared.identity.Dir.{Dir}
+use Rattle.id_maps.specs.OfSysAbi.declared.identity.VirtAddr.{VirtAddr}
 use Rattle.plain_process.specs.Valid.{IsByte, Each}
 use Rattle.plain_tables.specs.declared.description.Description.{Description}
 use Rattle.plain_tables.specs.declared.description.Object.{Object}

@@ -3,9 +3,9 @@
 --     AreInboxes, AreCounters      a topic each, over the tables that it speaks of
 use Rattle.std.specs.Prelude.{◌≡◌, ◌-◌, ◌^◌, ◌<◌, ◌≤◌, Bool, true, false, List, length, Option, Some, None, is_some, All}
 use Rattle.std.specs.FinMap as map
-use Rattle.views.specs.Numbers.{Byte}
-use Rattle.views.specs.Limits.{INBOX_LIMIT, MESSAGE_LIMIT}
-use Rattle.sys_abi.specs.declared.identity.DescId.{DescId}
+use Rattle.plain_process.specs.OfViews.Numbers.{Byte}
+use Rattle.plain_process.specs.OfViews.Limits.{INBOX_LIMIT, MESSAGE_LIMIT}
+use Rattle.id_maps.specs.OfSysAbi.declared.identity.DescId.{DescId}
 use Rattle.plain_process.specs.Valid.{IsByte, Each}
 use Rattle.plain_tables.specs.declared.description.Description.{Description}
 use Rattle.plain_tables.specs.declared.description.Object.{Object}

@@ -4,13 +4,13 @@
 --     AreDescriptors, AreDescriptions, AreHolders, AreMade      a topic each, over its tables
 use Rattle.std.specs.Prelude.{◌≡◌, ◌≢◌, ◌⊎◌, ℕ, ◌^◌, ◌<◌, ◌%◌, bit_and, true, Some, is_some}
 use Rattle.std.specs.FinMap as map
-use Rattle.views.specs.Numbers.{Flags}
-use Rattle.views.specs.Limits.{DESCRIPTOR_LIMIT}
-use Rattle.sys_abi.specs.declared.identity.VPid.{VPid}
-use Rattle.sys_abi.specs.declared.identity.Slot.{Slot}
+use Rattle.plain_process.specs.OfViews.Numbers.{Flags}
+use Rattle.plain_process.specs.OfViews.Limits.{DESCRIPTOR_LIMIT}
+use Rattle.id_maps.specs.OfSysAbi.declared.identity.VPid.{VPid}
+use Rattle.id_maps.specs.OfSysAbi.declared.identity.Slot.{Slot}
 use Rattle.plain_process.specs.Valid.{Each}
-use Rattle.sys_abi.specs.declared.maker.Maker.{Maker}
-use Rattle.sys_abi.specs.declared.descriptor.Descriptor.{Descriptor}
+use Rattle.id_maps.specs.OfSysAbi.declared.maker.Maker.{Maker}
+use Rattle.id_maps.specs.OfSysAbi.declared.descriptor.Descriptor.{Descriptor}
 use Rattle.plain_tables.specs.declared.description.Description.{Description}
 use Rattle.plain_tables.specs.declared.description.Object.{Object}
 use Rattle.plain_tables.specs.declared.description.Object.TheVariants.{Datagram}

@@ -3,8 +3,8 @@
 --     AreFiles, AreOpenFiles      a topic each, over the tables that it speaks of
 use Rattle.std.specs.Prelude.{◌≡◌, ℕ, ◌^◌, ◌<◌, ◌≤◌, true, List, length, sum_by, Some, is_some, All}
 use Rattle.std.specs.FinMap as map
-use Rattle.views.specs.Numbers.{Byte}
-use Rattle.views.specs.Limits.{FILE_LIMIT, ALL_FILES_LIMIT, NAME_LIMIT}
+use Rattle.plain_process.specs.OfViews.Numbers.{Byte}
+use Rattle.plain_process.specs.OfViews.Limits.{FILE_LIMIT, ALL_FILES_LIMIT, NAME_LIMIT}
 use Rattle.plain_process.specs.Valid.{IsByte, Each}
 use Rattle.plain_tables.specs.declared.description.Object.{Object}
 use Rattle.plain_tables.specs.declared.description.Object.TheVariants.{File}

@@ -4,11 +4,11 @@
 use Rattle.std.specs.Prelude.{◌≡◌, ◌⊎◌, ℕ, ◌^◌, ◌<◌, ◌≤◌, true, is_some}
 use Rattle.std.specs.Ordering.{nat_cmp}
 use Rattle.std.specs.FinMap as map
-use Rattle.views.specs.Numbers.{ThreadNumber}
-use Rattle.views.specs.Limits.{HOST_LIMIT, PROCESS_LIMIT, THREAD_LIMIT}
-use Rattle.sys_abi.specs.declared.identity.VPid.{VPid}
-use Rattle.sys_abi.specs.declared.life.Life.{Life}
-use Rattle.sys_abi.specs.declared.life.Life.TheVariants.{Live, Zombie}
+use Rattle.plain_process.specs.OfViews.Numbers.{ThreadNumber}
+use Rattle.plain_process.specs.OfViews.Limits.{HOST_LIMIT, PROCESS_LIMIT, THREAD_LIMIT}
+use Rattle.id_maps.specs.OfSysAbi.declared.identity.VPid.{VPid}
+use Rattle.id_maps.specs.OfSysAbi.declared.life.Life.{Life}
+use Rattle.id_maps.specs.OfSysAbi.declared.life.Life.TheVariants.{Live, Zombie}
 use Rattle.plain_process.specs.Valid.{Each}
 use Rattle.plain_tables.specs.declared.process.Process.{Process}
 use Rattle.plain_tables.specs.Tables.{FIRST_PID, NOBODY, Processes, Makers, pid, lives_in, has_thread_in, same_host}

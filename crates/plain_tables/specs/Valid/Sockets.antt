@@ -5,14 +5,14 @@
 use Rattle.std.specs.Prelude.{◌≡◌, ◌≢◌, ℕ, ◌^◌, ◌==◌, ◌<◌, ◌≤◌, Bool, true, false, length, Option, Some, None, is_some, All, AllPairs}
 use Rattle.std.specs.List.{list_any}
 use Rattle.std.specs.FinMap as map
-use Rattle.views.specs.Limits.{HOST_LIMIT}
-use Rattle.sys_abi.specs.declared.identity.Slot.{Slot}
-use Rattle.sys_abi.specs.declared.identity.DescId.{DescId}
-use Rattle.sys_abi.specs.declared.identity.ConnId.{ConnId}
-use Rattle.sys_abi.specs.declared.identity.VirtAddr.{VirtAddr}
+use Rattle.plain_process.specs.OfViews.Limits.{HOST_LIMIT}
+use Rattle.id_maps.specs.OfSysAbi.declared.identity.Slot.{Slot}
+use Rattle.id_maps.specs.OfSysAbi.declared.identity.DescId.{DescId}
+use Rattle.id_maps.specs.OfSysAbi.declared.identity.ConnId.{ConnId}
+use Rattle.id_maps.specs.OfSysAbi.declared.identity.VirtAddr.{VirtAddr}
 use Rattle.plain_process.specs.Valid.{Each}
-use Rattle.sys_abi.specs.declared.maker.Maker.{Maker}
-use Rattle.sys_abi.specs.declared.descriptor.Descriptor.{Descriptor}
+use Rattle.id_maps.specs.OfSysAbi.declared.maker.Maker.{Maker}
+use Rattle.id_maps.specs.OfSysAbi.declared.descriptor.Descriptor.{Descriptor}
 use Rattle.plain_tables.specs.declared.description.Description.{Description}
 use Rattle.plain_tables.specs.declared.description.Object.{Object}
 use Rattle.plain_tables.specs.declared.description.Object.TheVariants.{Socket, Listener}

@@ -1,7 +1,7 @@
 use Rattle.std.proofs.Common.{ap, sym, ◌∙◌}
 use Rattle.std.specs.FinMap as map
 use Rattle.views.specs.Maps.{map_values}
-use Rattle.guest_proc.specs.Guests.{GuestPart}
+use Rattle.staged_cut.specs.OfGuestProc.Guests.{GuestPart}
 use Rattle.image_codec.specs.Sets.{IsStateOf}
 use Rattle.image_codec.proofs.ValidSets.{set_is_valid}
 use Rattle.staged_cut.specs.HandedOn.{Start, state_of}

@@ -2,7 +2,7 @@ use Rattle.std.proofs.Common.{◌≡◌, [], ◌∷◌, ◌++◌, append_assoc, 
 use Rattle.std.specs.FinMap as map
 use Rattle.views.proofs.MapValues.{EachEntry, each_entry}
 use Rattle.sys_abi.specs.declared.identity.VPid.{VPid}
-use Rattle.guest_proc.specs.Guests.{GuestPart}
+use Rattle.staged_cut.specs.OfGuestProc.Guests.{GuestPart}
 use Rattle.sys_abi.proofs.OrderLaws.{vpid_total, vpid_exact}
 use Rattle.checkpointer.specs.Images.{AreFilesOf, HasFile}
 use Rattle.checkpointer.proofs.FilesOfProcesses.{more_files, no_more_files}

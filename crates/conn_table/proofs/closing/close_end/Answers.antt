@@ -1,6 +1,6 @@
 use Rattle.std.proofs.Common.{ap, ◌∙◌}
 use Rattle.std.specs.FinMap as map
-use Rattle.views.proofs.Outcomes.{on_some}
+use Rattle.id_maps.proofs.OfViews.Outcomes.{on_some}
 use Rattle.conn_table.specs.Pairs.{stays_open}
 use Rattle.conn_table.proofs.ClosedPairs.{changed_found}
 use Rattle.conn_table.proofs.closing.close_end.Goals as goal

@@ -1,6 +1,6 @@
 use Rattle.std.proofs.Common.{ap, ◌∙◌}
 use Rattle.std.specs.FinMap as map
-use Rattle.views.proofs.Outcomes.{on_some}
+use Rattle.id_maps.proofs.OfViews.Outcomes.{on_some}
 use Rattle.conn_table.specs.Messages.{without_first}
 use Rattle.conn_table.proofs.SentMessages.{changed_at}
 use Rattle.conn_table.proofs.messages.pop_at.Goals as goal

@@ -1,6 +1,6 @@
 use Rattle.std.proofs.Common.{ap, ◌∙◌}
 use Rattle.std.specs.FinMap as map
-use Rattle.views.proofs.Outcomes.{on_some, on_ok_then, on_err_then}
+use Rattle.id_maps.proofs.OfViews.Outcomes.{on_some, on_ok_then, on_err_then}
 use Rattle.conn_table.specs.Messages.{with_sent}
 use Rattle.conn_table.proofs.SentMessages.{changed_at, same_at}
 use Rattle.conn_table.proofs.messages.push_at.Goals as goal

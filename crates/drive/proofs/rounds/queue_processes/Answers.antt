@@ -3,7 +3,7 @@ use Rattle.std.proofs.lemmas.List.{length-append, length-map}
 use Rattle.std.specs.FinMap as map
 use Rattle.views.proofs.MapValues.{keys-map_values}
 use Rattle.plain_tables.specs.Tables.{pid}
-use Rattle.guest_proc.specs.Guests.{GuestPart}
+use Rattle.checkpointer.specs.OfGuestProc.Guests.{GuestPart}
 use Rattle.checkpointer.specs.HandedOn.{plain_of}
 use Rattle.drive.proofs.FewProcesses.{few_parts}
 use Rattle.drive.proofs.Queued.{each_more}

@@ -1,5 +1,5 @@
 use Rattle.std.proofs.Common.{sym, ◌∙◌}
-use Rattle.views.proofs.TreeMaps.{values-view}
+use Rattle.sys_abi.proofs.OfViews.TreeMaps.{values-view}
 use Rattle.sys_abi.proofs.OrderLaws.{desc_total}
 use Rattle.fd_tables.proofs.descriptions.slab_keys.Goals as goal
 

@@ -1,7 +1,7 @@
 use Rattle.std.proofs.Common.{None, refl, subst}
 use Rattle.std.specs.Prelude.{IsSome}
 use Rattle.std.specs.BTreeMap as tree
-use Rattle.views.proofs.TreeMaps.{view-insert}
+use Rattle.sys_abi.proofs.OfViews.TreeMaps.{view-insert}
 use Rattle.fd_tables.proofs.TableViews.{set_told, seen_at}
 use Rattle.fd_tables.proofs.tables.set_place.Goals as goal
 use Rattle.sys_abi.specs.Orders.{real_pid_cmp}

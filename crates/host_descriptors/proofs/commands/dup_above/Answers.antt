@@ -3,7 +3,7 @@ use Rattle.std.specs.Prelude.{nat_lt}
 use Rattle.std.proofs.lemmas.Bool.Decides.{nat_tests}
 use Rattle.std.proofs.lemmas.Result.{IfOk-weaker}
 use Rattle.sys_abi.specs.declared.errors.TheConstants.{EINVAL}
-use Rattle.plain_machine.specs.Rows.Descriptors.{dup_from, dup_above}
+use Rattle.host_tables.specs.OfPlainMachine.Rows.Descriptors.{dup_from, dup_above}
 use Rattle.host_tables.specs.Serves.{Serves, ByNumber, same}
 use Rattle.host_descriptors.specs.Held.{seen_held}
 use Rattle.host_tables.proofs.Replies.{refused}

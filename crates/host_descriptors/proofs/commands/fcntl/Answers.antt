@@ -4,7 +4,7 @@ use Rattle.std.proofs.lemmas.Result.{IfOk-weaker}
 use Rattle.sys_abi.specs.declared.errors.TheConstants.{EINVAL}
 use Rattle.fd_tables.specs.Slots.{slot}
 use Rattle.plain_process.specs.declared.commands.FcntlCommand.TheVariants.{DupFd, DupFdCloexec, GetFd, SetFd, GetFl, SetFl, SetOwn, GetOwn}
-use Rattle.plain_machine.specs.Rows.Descriptors.{fcntl_by}
+use Rattle.host_tables.specs.OfPlainMachine.Rows.Descriptors.{fcntl_by}
 use Rattle.host_tables.specs.declared.attempt.Attempt.TheVariants as answer
 use Rattle.host_tables.specs.Numbers.{number_of}
 use Rattle.host_tables.specs.Serves.{ByNumber, ByPidOr, ValueOfCommand}

@@ -1,6 +1,6 @@
 use Rattle.std.proofs.Common.{ℕ, true, false, None, sym, ◌∙◌, subst}
 use Rattle.sys_abi.specs.declared.errors.TheConstants.{ESRCH}
-use Rattle.plain_machine.specs.Rows.Descriptors.{with_owner, set_owner}
+use Rattle.host_tables.specs.OfPlainMachine.Rows.Descriptors.{with_owner, set_owner}
 use Rattle.host_tables.specs.Serves.{ByNumber}
 use Rattle.host_tables.specs.Stands.{Stands}
 use Rattle.host_tables.proofs.Neighbours.{neighbour_some, neighbour_none}

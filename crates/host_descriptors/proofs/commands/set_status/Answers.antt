@@ -1,5 +1,5 @@
 use Rattle.std.proofs.Common.{ℕ, None, subst}
-use Rattle.plain_machine.specs.Rows.Descriptors.{with_flags}
+use Rattle.host_tables.specs.OfPlainMachine.Rows.Descriptors.{with_flags}
 use Rattle.host_tables.specs.Stands.{Stands}
 use Rattle.host_descriptors.specs.Held.{seen_held}
 use Rattle.host_descriptors.proofs.HeldChanges.{status_kept}

@@ -4,7 +4,7 @@ use Rattle.std.specs.FinMap as map
 use Rattle.std.proofs.lemmas.Bool.Decides.{nat_tests}
 use Rattle.std.proofs.lemmas.Result.{IfOk-weaker}
 use Rattle.fd_tables.specs.Slots.{slot}
-use Rattle.plain_machine.specs.Rows.Descriptors.{dup3_row, is_cloexec_at_most}
+use Rattle.host_tables.specs.OfPlainMachine.Rows.Descriptors.{dup3_row, is_cloexec_at_most}
 use Rattle.host_descriptors.specs.Moves.{IsTold}
 use Rattle.host_descriptors.specs.declared.moves.Moved.{Moved}
 use Rattle.host_descriptors.proofs.HeldTold.{no_slot, some_slot, there_by}

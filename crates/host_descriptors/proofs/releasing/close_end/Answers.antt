@@ -1,6 +1,6 @@
 use Rattle.std.proofs.Common.{sym, subst}
 use Rattle.std.specs.Prelude.{None}
-use Rattle.plain_machine.specs.Channels.{close_side}
+use Rattle.host_tables.specs.OfPlainMachine.Channels.{close_side}
 use Rattle.host_tables.specs.HandedOn.{Network}
 use Rattle.host_tables.specs.Stands.{Stands}
 use Rattle.host_descriptors.proofs.ClosedEnds.{end_closed}

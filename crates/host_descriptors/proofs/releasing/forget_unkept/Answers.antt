@@ -1,7 +1,7 @@
 use Rattle.std.proofs.Common.{refl, sym, ◌∙◌, subst}
-use Rattle.vfs_files.specs.FileTable.{FileTable}
-use Rattle.plain_tables.specs.Closing.{without_unkept}
-use Rattle.plain_tables.specs.Objects.{has_name}
+use Rattle.host_tables.specs.OfVfsFiles.FileTable.{FileTable}
+use Rattle.host_tables.specs.OfPlainTables.Closing.{without_unkept}
+use Rattle.host_tables.specs.OfPlainTables.Objects.{has_name}
 use Rattle.host_tables.specs.Stands.{Stands}
 use Rattle.std.specs.Prelude.{None}
 use Rattle.host_descriptors.proofs.FileCloses.{file_stays, file_goes, or_true, true_or}

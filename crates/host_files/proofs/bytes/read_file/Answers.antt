@@ -1,9 +1,9 @@
 use Rattle.std.proofs.Common.{sym}
 use Rattle.sys_abi.specs.declared.errors.TheConstants.{EBADF}
 use Rattle.plain_machine.specs.Transfers.Files.{read_file}
-use Rattle.host_tables.specs.Serves.{ByNumber}
+use Rattle.host_descriptors.specs.OfHostTables.Serves.{ByNumber}
 use Rattle.host_descriptors.specs.Held.{seen_held}
-use Rattle.host_tables.proofs.Replies.{refused}
+use Rattle.host_descriptors.proofs.OfHostTables.Replies.{refused}
 use Rattle.host_files.proofs.FileReads.{read_bad, read_done}
 use Rattle.host_files.proofs.bytes.read_file.Goals as goal
 

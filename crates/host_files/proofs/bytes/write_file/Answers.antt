@@ -6,8 +6,8 @@ use Rattle.sys_abi.specs.declared.errors.TheConstants.{EBADF}
 use Rattle.sys_abi.specs.declared.flags.TheConstants.{O_APPEND}
 use Rattle.sys_abi.specs.Flags.{has_flag}
 use Rattle.plain_machine.specs.Transfers.Files.{write_piece, write_file}
-use Rattle.host_tables.specs.Serves.{Serves, ByNumber, same}
-use Rattle.host_tables.proofs.Replies.{refused}
+use Rattle.host_descriptors.specs.OfHostTables.Serves.{Serves, ByNumber, same}
+use Rattle.host_descriptors.proofs.OfHostTables.Replies.{refused}
 use Rattle.host_descriptors.specs.Held.{seen_held}
 use Rattle.host_files.proofs.Answered.{answered}
 use Rattle.host_files.proofs.FileWrites.{write_bad, write_none, write_some, size_none, size_some}

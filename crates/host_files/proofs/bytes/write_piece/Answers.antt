@@ -5,9 +5,9 @@ use Rattle.sys_abi.specs.declared.errors.TheConstants.{EFBIG, ENOSPC}
 use Rattle.vfs_files.specs.FileTable.{FileTable, is_too_big}
 use Rattle.plain_machine.specs.Rows.Files.{OFFSET_LIMIT, with_file_bytes}
 use Rattle.plain_machine.specs.Transfers.Files.{with_piece, moved_behind, write_piece}
-use Rattle.host_tables.specs.declared.attempt.Attempt.TheVariants.{Fails}
-use Rattle.host_tables.specs.Serves.{Serves, ByNumber, same}
-use Rattle.host_tables.proofs.Replies.{refused}
+use Rattle.host_descriptors.specs.OfHostTables.declared.attempt.Attempt.TheVariants.{Fails}
+use Rattle.host_descriptors.specs.OfHostTables.Serves.{Serves, ByNumber, same}
+use Rattle.host_descriptors.proofs.OfHostTables.Replies.{refused}
 use Rattle.host_descriptors.specs.Held.{seen_held}
 use Rattle.host_files.proofs.Answered.{answered}
 use Rattle.host_files.proofs.FileWrites.{piece_far, piece_full, piece_done, written_kept, fits_by, big_by}

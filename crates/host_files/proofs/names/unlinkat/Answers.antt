@@ -5,9 +5,9 @@ use Rattle.sys_abi.specs.declared.errors.TheConstants.{ENOENT}
 use Rattle.vfs_files.specs.FileTable.{FileTable}
 use Rattle.plain_machine.specs.Making.{desc_id}
 use Rattle.plain_machine.specs.Rows.Files.{unlinkat_row, without_name}
-use Rattle.host_tables.specs.declared.attempt.Attempt.TheVariants.{Fails}
-use Rattle.host_tables.specs.Serves.{Serves, ByNumber, same}
-use Rattle.host_tables.proofs.Replies.{refused}
+use Rattle.host_descriptors.specs.OfHostTables.declared.attempt.Attempt.TheVariants.{Fails}
+use Rattle.host_descriptors.specs.OfHostTables.Serves.{Serves, ByNumber, same}
+use Rattle.host_descriptors.proofs.OfHostTables.Replies.{refused}
 use Rattle.host_files.specs.Paths.{unlink_path}
 use Rattle.host_files.proofs.Answered.{answered}
 use Rattle.host_files.proofs.Unlinks.{unlink_bad, unlink_gone, unlink_done, was_none, was_some, same_without, name_kept, still_no_empty}

@@ -3,8 +3,8 @@ use Rattle.sys_abi.specs.declared.errors.TheConstants.{EBADF, ESPIPE}
 use Rattle.fd_tables.specs.declared.description.Object.TheVariants.{File}
 use Rattle.fd_tables.specs.Slots.{slot}
 use Rattle.plain_machine.specs.Rows.Files.{lseek_row}
-use Rattle.host_tables.specs.Serves.{Serves, ByNumber, same}
-use Rattle.host_tables.proofs.Replies.{refused}
+use Rattle.host_descriptors.specs.OfHostTables.Serves.{Serves, ByNumber, same}
+use Rattle.host_descriptors.proofs.OfHostTables.Replies.{refused}
 use Rattle.host_descriptors.specs.Held.{seen_held}
 use Rattle.host_descriptors.proofs.HeldChanges.{none_held}
 use Rattle.host_files.proofs.Seeks.{lseek_bad, lseek_at, seek_other}

@@ -3,8 +3,8 @@ use Rattle.sys_abi.specs.declared.errors.TheConstants.{EINVAL}
 use Rattle.plain_tables.specs.declared.description.Object.TheVariants.{File}
 use Rattle.plain_machine.specs.Kernel.{with_object}
 use Rattle.plain_machine.specs.Rows.Files.{seek}
-use Rattle.host_tables.specs.Serves.{ByNumber}
-use Rattle.host_tables.proofs.Replies.{refused}
+use Rattle.host_descriptors.specs.OfHostTables.Serves.{ByNumber}
+use Rattle.host_descriptors.proofs.OfHostTables.Replies.{refused}
 use Rattle.host_descriptors.specs.Held.{seen_held}
 use Rattle.host_files.proofs.Answered.{answered}
 use Rattle.host_files.proofs.Moves.{size_is}

@@ -8,12 +8,12 @@ use Rattle.fd_book.specs.Books as books
 use Rattle.fd_book.specs.Books.{Books}
 use Rattle.fd_tables.specs.Slots.{slot}
 use Rattle.plain_machine.specs.Rows.Files.{status_flags, opened_number, with_opened, with_open_file}
-use Rattle.host_tables.specs.declared.kernel.Kernel.{Kernel}
-use Rattle.host_tables.specs.declared.attempt.Attempt.TheVariants.{Fails}
-use Rattle.host_tables.specs.Serves.{Serves, ByNumber, same}
-use Rattle.host_tables.specs.Stands.{Stands}
-use Rattle.host_tables.proofs.LookUps.{free_none, free_some}
-use Rattle.host_tables.proofs.Replies.{refused}
+use Rattle.host_descriptors.specs.OfHostTables.declared.kernel.Kernel.{Kernel}
+use Rattle.host_descriptors.specs.OfHostTables.declared.attempt.Attempt.TheVariants.{Fails}
+use Rattle.host_descriptors.specs.OfHostTables.Serves.{Serves, ByNumber, same}
+use Rattle.host_descriptors.specs.OfHostTables.Stands.{Stands}
+use Rattle.host_descriptors.proofs.OfHostTables.LookUps.{free_none, free_some}
+use Rattle.host_descriptors.proofs.OfHostTables.Replies.{refused}
 use Rattle.host_files.specs.Opening.{opening_at}
 use Rattle.host_files.proofs.Answered.{answered, on_err}
 use Rattle.host_files.proofs.OpenedFiles.{file_placed}

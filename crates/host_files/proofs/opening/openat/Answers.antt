@@ -3,8 +3,8 @@ use Rattle.std.proofs.lemmas.Result.{IfOk-weaker}
 use Rattle.views.specs.Numbers.{Byte}
 use Rattle.sys_abi.specs.declared.errors.TheConstants.{ENFILE}
 use Rattle.plain_machine.specs.Rows.Files.{openat_row}
-use Rattle.host_tables.specs.Serves.{Serves, ByNumber, same}
-use Rattle.host_tables.proofs.Replies.{refused}
+use Rattle.host_descriptors.specs.OfHostTables.Serves.{Serves, ByNumber, same}
+use Rattle.host_descriptors.proofs.OfHostTables.Replies.{refused}
 use Rattle.host_files.specs.Paths.{open_path}
 use Rattle.host_files.proofs.Openings.{open_bad, open_numberless, open_named}
 use Rattle.host_files.proofs.opening.openat.Goals as goal

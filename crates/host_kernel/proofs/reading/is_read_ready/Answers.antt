@@ -1,6 +1,6 @@
 use Rattle.std.proofs.Common.{sym, ◌∙◌}
 use Rattle.fd_tables.specs.Slots.{slot}
-use Rattle.host_descriptors.proofs.HeldChanges.{none_held}
+use Rattle.host_files.proofs.OfHostDescriptors.HeldChanges.{none_held}
 use Rattle.host_kernel.proofs.ReadRows.{ready_bad, ready_denied, ready_waits, ready_passes}
 use Rattle.host_kernel.proofs.reading.is_read_ready.Goals as goal
 

@@ -2,7 +2,7 @@ use Rattle.std.proofs.Common.{◌≡◌, true, refl, ap, ◌∙◌}
 use Rattle.fd_tables.specs.declared.description.Object.TheVariants as object
 use Rattle.plain_machine.specs.Rows.Read.{is_readable}
 use Rattle.plain_machine.specs.Transfers.Datagrams.{has_message}
-use Rattle.host_descriptors.specs.Held.{seen_held}
+use Rattle.host_files.specs.OfHostDescriptors.Held.{seen_held}
 use Rattle.host_kernel.proofs.Objects.{for_object}
 use Rattle.host_kernel.proofs.reading.is_readable.Goals as goal
 

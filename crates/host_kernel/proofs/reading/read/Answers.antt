@@ -1,6 +1,6 @@
 use Rattle.std.proofs.Common.{sym, ◌∙◌}
 use Rattle.fd_tables.specs.Slots.{slot}
-use Rattle.host_descriptors.proofs.HeldChanges.{none_held}
+use Rattle.host_files.proofs.OfHostDescriptors.HeldChanges.{none_held}
 use Rattle.host_kernel.proofs.ReadRows.{read_bad, read_denied, read_waits, read_passes}
 use Rattle.host_kernel.proofs.reading.read.Goals as goal
 

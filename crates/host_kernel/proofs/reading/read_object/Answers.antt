@@ -4,7 +4,7 @@ use Rattle.fd_tables.specs.declared.description.Object.TheVariants as object
 use Rattle.plain_machine.specs.Rows.Read.{read_object}
 use Rattle.host_tables.specs.declared.attempt.Attempt.TheVariants as answer
 use Rattle.host_tables.specs.Serves.{Serves, ByNumber, same}
-use Rattle.host_descriptors.specs.Held.{seen_held}
+use Rattle.host_files.specs.OfHostDescriptors.Held.{seen_held}
 use Rattle.host_kernel.proofs.Objects.{for_object}
 use Rattle.host_kernel.proofs.reading.read_object.Goals as goal
 

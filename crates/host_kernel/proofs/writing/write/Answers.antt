@@ -3,8 +3,8 @@ use Rattle.std.proofs.lemmas.Result.{IfOk-weaker}
 use Rattle.fd_tables.specs.Slots.{slot}
 use Rattle.views.specs.Numbers.{Byte}
 use Rattle.plain_machine.specs.Rows.Write.{is_writable}
-use Rattle.host_descriptors.specs.Held.{seen_held}
-use Rattle.host_descriptors.proofs.HeldChanges.{none_held}
+use Rattle.host_files.specs.OfHostDescriptors.Held.{seen_held}
+use Rattle.host_files.proofs.OfHostDescriptors.HeldChanges.{none_held}
 use Rattle.host_kernel.proofs.WriteRows.{write_bad, write_denied, write_waits, write_passes}
 use Rattle.host_kernel.proofs.writing.write.Goals as goal
 

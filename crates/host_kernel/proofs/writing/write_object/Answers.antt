@@ -7,7 +7,7 @@ use Rattle.plain_tables.specs.declared.description.Object.TheVariants as plain
 use Rattle.plain_machine.specs.Rows.Write.{write_object}
 use Rattle.host_tables.specs.declared.attempt.Attempt.TheVariants as answer
 use Rattle.host_tables.specs.Serves.{Serves, ByNumber, same}
-use Rattle.host_descriptors.specs.Held.{seen_held}
+use Rattle.host_files.specs.OfHostDescriptors.Held.{seen_held}
 use Rattle.host_kernel.proofs.Objects.{for_object}
 use Rattle.host_kernel.proofs.writing.write_object.Goals as goal
 

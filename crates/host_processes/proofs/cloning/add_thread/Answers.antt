@@ -2,8 +2,8 @@ use Rattle.std.proofs.Common.{Ok, Err, refl, sym, ap, subst}
 use Rattle.sys_abi.specs.declared.errors.TheConstants.{EAGAIN}
 use Rattle.proc_book.specs.Procs.{ProcTable, threads_at}
 use Rattle.plain_machine.specs.Rows.Clone.{clone_thread}
-use Rattle.host_tables.specs.declared.attempt.Attempt.TheVariants.{Fails}
-use Rattle.host_tables.specs.Serves.{Serves, ByPid, silent}
+use Rattle.host_descriptors.specs.OfHostTables.declared.attempt.Attempt.TheVariants.{Fails}
+use Rattle.host_descriptors.specs.OfHostTables.Serves.{Serves, ByPid, silent}
 use Rattle.host_processes.specs.Forks.{paired_with}
 use Rattle.host_processes.proofs.CloneRows.{has_room, no_room, thread_full, thread_serves}
 use Rattle.host_processes.proofs.cloning.add_thread.Goals as goal

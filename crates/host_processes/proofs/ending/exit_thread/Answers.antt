@@ -1,8 +1,8 @@
 use Rattle.std.proofs.Common.{◌<◌, sym, subst, arith}
 use Rattle.proc_book.specs.Procs.{ProcTable, threads_at}
 use Rattle.plain_machine.specs.Rows.End.{exit_row}
-use Rattle.host_tables.specs.declared.attempt.Attempt.TheVariants as answer
-use Rattle.host_tables.specs.Serves.{Serves, ByNumber, same}
+use Rattle.host_descriptors.specs.OfHostTables.declared.attempt.Attempt.TheVariants as answer
+use Rattle.host_descriptors.specs.OfHostTables.Serves.{Serves, ByNumber, same}
 use Rattle.host_processes.proofs.ThreadEnds.{exit_kept}
 use Rattle.host_processes.proofs.ending.exit_thread.Goals as goal
 

@@ -1,6 +1,6 @@
 use Rattle.std.proofs.Common.{◌≡◌, true, sym, ◌∙◌, subst}
 use Rattle.proc_book.specs.Ends.{is_live_at}
-use Rattle.host_tables.specs.declared.kernel.Kernel.{Kernel}
+use Rattle.host_descriptors.specs.OfHostTables.declared.kernel.Kernel.{Kernel}
 use Rattle.host_processes.proofs.ExitRows.{last_served}
 use Rattle.host_processes.proofs.exits.exit.Goals as goal
 

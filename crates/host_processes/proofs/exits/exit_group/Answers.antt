@@ -1,6 +1,6 @@
 use Rattle.std.proofs.Common.{subst, None}
 use Rattle.plain_machine.specs.Ends.{after_end}
-use Rattle.host_tables.specs.Stands.{Stands}
+use Rattle.host_descriptors.specs.OfHostTables.Stands.{Stands}
 use Rattle.host_processes.proofs.ExitRows.{group_served}
 use Rattle.host_processes.proofs.exits.exit_group.Goals as goal
 

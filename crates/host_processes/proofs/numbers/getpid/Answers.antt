@@ -1,8 +1,8 @@
 use Rattle.std.proofs.Common.{refl}
 use Rattle.plain_machine.specs.Rows.Numbers.{getpid_row}
-use Rattle.host_tables.specs.Serves.{ByPid}
-use Rattle.host_tables.specs.declared.attempt.Attempt.TheVariants as answer
-use Rattle.host_tables.proofs.Replies.{gave}
+use Rattle.host_descriptors.specs.OfHostTables.Serves.{ByPid}
+use Rattle.host_descriptors.specs.OfHostTables.declared.attempt.Attempt.TheVariants as answer
+use Rattle.host_descriptors.proofs.OfHostTables.Replies.{gave}
 use Rattle.host_processes.proofs.numbers.getpid.Goals as goal
 
 pub returns : goal.returns

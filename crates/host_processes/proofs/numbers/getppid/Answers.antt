@@ -3,9 +3,9 @@ use Rattle.std.specs.FinMap as map
 use Rattle.std.specs.Prelude.{option_and_then}
 use Rattle.plain_tables.specs.Tables.{NOBODY}
 use Rattle.plain_machine.specs.Rows.Numbers.{parent_in, getppid_row}
-use Rattle.host_tables.specs.declared.attempt.Attempt.TheVariants as answer
-use Rattle.host_tables.specs.Serves.{ByPidOr}
-use Rattle.host_tables.proofs.Replies.{gave}
+use Rattle.host_descriptors.specs.OfHostTables.declared.attempt.Attempt.TheVariants as answer
+use Rattle.host_descriptors.specs.OfHostTables.Serves.{ByPidOr}
+use Rattle.host_descriptors.proofs.OfHostTables.Replies.{gave}
 use Rattle.host_processes.specs.Parents.{parent_value}
 use Rattle.host_processes.proofs.Parents.{parent_told}
 use Rattle.host_processes.proofs.numbers.getppid.Goals as goal

@@ -1,4 +1,4 @@
-use Rattle.host_tables.specs.Serves.{Through}
+use Rattle.host_descriptors.specs.OfHostTables.Serves.{Through}
 use Rattle.host_processes.proofs.LowestCloses.{IsClosedBelow}
 use Rattle.host_processes.proofs.process_ends.close_all.Given as goal
 

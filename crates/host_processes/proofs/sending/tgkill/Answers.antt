@@ -1,5 +1,5 @@
 use Rattle.std.proofs.Common.{Some, sym, ◌∙◌, subst}
-use Rattle.host_tables.specs.Serves.{Serves, ByNumber, same}
+use Rattle.host_descriptors.specs.OfHostTables.Serves.{Serves, ByNumber, same}
 use Rattle.plain_machine.specs.Rows.Send.{tgkill_row}
 use Rattle.host_processes.specs.Raises.{with_raised}
 use Rattle.host_processes.proofs.SendRows.{tgkill_bad, tgkill_none, tgkill_no_thread, tgkill_sent}

@@ -1,7 +1,7 @@
 use Rattle.std.proofs.Common.{◌≡◌, Some, Ok, ap, ◌∙◌, subst}
 use Rattle.std.specs.Prelude.{IfSome}
 use Rattle.std.proofs.lemmas.Result.{IfOk-weaker}
-use Rattle.host_tables.specs.Conditions.{IsNewDesc}
+use Rattle.host_descriptors.specs.OfHostTables.Conditions.{IsNewDesc}
 use Rattle.host_sockets.specs.declared.accepting.Accepting.{Accepting}
 use Rattle.host_sockets.specs.Tests.{tried_or_waits, first_in}
 use Rattle.host_sockets.proofs.Accepts.{first_there}

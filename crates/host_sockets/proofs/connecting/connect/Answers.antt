@@ -1,6 +1,6 @@
 use Rattle.std.proofs.Common.{◌≡◌, Some, Ok, ap, ◌∙◌, subst}
 use Rattle.std.specs.Prelude.{IfSome}
-use Rattle.host_tables.specs.Conditions.{IsNewConn}
+use Rattle.host_descriptors.specs.OfHostTables.Conditions.{IsNewConn}
 use Rattle.host_sockets.specs.declared.connecting.Connecting.{Connecting}
 use Rattle.host_sockets.specs.Tests.{tried_or_waits}
 use Rattle.host_sockets.proofs.ConnectRows.{unable_connects, waiting_connects, serves_connected}

@@ -1,5 +1,5 @@
 use Rattle.std.proofs.Common.{Err, ap}
-use Rattle.host_tables.proofs.PortsLeft.{ports_left}
+use Rattle.host_descriptors.proofs.OfHostTables.PortsLeft.{ports_left}
 use Rattle.host_sockets.proofs.ListenRows.{unable_listens, serves_listening}
 use Rattle.host_sockets.proofs.listening.listen.Goals as goal
 

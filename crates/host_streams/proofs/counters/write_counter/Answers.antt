@@ -3,7 +3,7 @@ use Rattle.plain_tables.specs.declared.description.Object.TheVariants.{Counter}
 use Rattle.plain_machine.specs.Kernel.{with_object}
 use Rattle.plain_machine.specs.Transfers.Counters.{number_added}
 use Rattle.host_processes.specs.HandedOn.{seen_held}
-use Rattle.host_tables.specs.Stands.{Stands}
+use Rattle.host_processes.specs.OfHostTables.Stands.{Stands}
 use Rattle.host_streams.proofs.CounterRows.{addition_refused, counter_added, may_be}
 use Rattle.host_streams.proofs.counters.write_counter.Goals as goal
 

@@ -4,8 +4,8 @@ use Rattle.plain_machine.specs.Transfers.Streams.{read_stream}
 use Rattle.wire_channels.specs.Answers.{received_on, receive_answer_on}
 use Rattle.wire_channels.specs.Channels.{direction_at}
 use Rattle.wire_net.specs.Networks.{Network}
-use Rattle.host_tables.specs.Serves.{Serves, ByNumber, same}
-use Rattle.host_tables.specs.declared.attempt.Attempt.TheVariants as answer
+use Rattle.host_processes.specs.OfHostTables.Serves.{Serves, ByNumber, same}
+use Rattle.host_processes.specs.OfHostTables.declared.attempt.Attempt.TheVariants as answer
 use Rattle.host_streams.proofs.ReadRows.{read_refused, read_nothing, read_some, received_there, taken_told}
 use Rattle.host_streams.proofs.Readiness.{direction_gone, direction_found}
 use Rattle.host_streams.proofs.reading.read_stream.Goals as goal

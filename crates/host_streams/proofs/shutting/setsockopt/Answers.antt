@@ -1,9 +1,9 @@
 use Rattle.std.proofs.Common.{refl, sym, subst}
 use Rattle.plain_machine.specs.Rows.Sockets.{setsockopt_row}
 use Rattle.host_processes.specs.HandedOn.{seen_held}
-use Rattle.host_tables.specs.declared.attempt.Attempt.TheVariants as answer
-use Rattle.host_tables.specs.Serves.{Serves, ByNumber, same}
-use Rattle.host_tables.proofs.Replies.{gave, refused}
+use Rattle.host_processes.specs.OfHostTables.declared.attempt.Attempt.TheVariants as answer
+use Rattle.host_processes.specs.OfHostTables.Serves.{Serves, ByNumber, same}
+use Rattle.host_processes.proofs.OfHostTables.Replies.{gave, refused}
 use Rattle.host_streams.proofs.SocketLookUps.{socket_none, socket_some}
 use Rattle.host_streams.proofs.SocketRows.{setsockopt_fails, setsockopt_gives}
 use Rattle.host_streams.proofs.shutting.setsockopt.Goals as goal

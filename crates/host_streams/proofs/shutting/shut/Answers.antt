@@ -1,6 +1,6 @@
 use Rattle.std.proofs.Common.{None, sym, subst}
 use Rattle.plain_tables.specs.Tables.{Directions}
-use Rattle.host_tables.specs.Stands.{Stands}
+use Rattle.host_processes.specs.OfHostTables.Stands.{Stands}
 use Rattle.host_streams.proofs.SocketRows.{shut_both}
 use Rattle.host_streams.proofs.shutting.shut.Goals as goal
 

@@ -3,10 +3,10 @@ use Rattle.std.specs.Prelude.{nat_le}
 use Rattle.std.proofs.lemmas.Bool.Decides.{nat_tests}
 use Rattle.sys_abi.specs.declared.errors.TheConstants.{EINVAL, ENOTCONN}
 use Rattle.plain_machine.specs.Rows.Sockets.{shut, shut_object}
-use Rattle.host_tables.specs.declared.attempt.Attempt.TheVariants as answer
-use Rattle.host_tables.specs.Descriptions.{seen_object}
-use Rattle.host_tables.specs.Serves.{Serves, ByNumber, same}
-use Rattle.host_tables.proofs.Replies.{gave, refused}
+use Rattle.host_processes.specs.OfHostTables.declared.attempt.Attempt.TheVariants as answer
+use Rattle.host_processes.specs.OfHostTables.Descriptions.{seen_object}
+use Rattle.host_processes.specs.OfHostTables.Serves.{Serves, ByNumber, same}
+use Rattle.host_processes.proofs.OfHostTables.Replies.{gave, refused}
 use Rattle.host_streams.proofs.SocketRows.{shut_gives, shut_invalid, shut_refused, stream_is}
 use Rattle.host_streams.proofs.shutting.shut_object.Goals as goal
 

@@ -1,8 +1,8 @@
 use Rattle.std.proofs.Common.{sym, subst}
 use Rattle.plain_machine.specs.Rows.Sockets.{shutdown_row}
 use Rattle.host_processes.specs.HandedOn.{seen_held}
-use Rattle.host_tables.specs.Serves.{Serves, ByNumber, same}
-use Rattle.host_tables.proofs.Replies.{refused}
+use Rattle.host_processes.specs.OfHostTables.Serves.{Serves, ByNumber, same}
+use Rattle.host_processes.proofs.OfHostTables.Replies.{refused}
 use Rattle.host_streams.proofs.SocketLookUps.{socket_none, socket_some}
 use Rattle.host_streams.proofs.SocketRows.{shutdown_fails, shutdown_is}
 use Rattle.host_streams.proofs.shutting.shutdown.Goals as goal

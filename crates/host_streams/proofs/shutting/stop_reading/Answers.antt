@@ -3,7 +3,7 @@ use Rattle.plain_tables.specs.Closing.{without_reader}
 use Rattle.plain_tables.specs.Objects.{dir}
 use Rattle.plain_tables.specs.Tables.{changed_at}
 use Rattle.wire_net.specs.Networks.{Network}
-use Rattle.host_tables.specs.Stands.{Stands}
+use Rattle.host_processes.specs.OfHostTables.Stands.{Stands}
 use Rattle.host_streams.proofs.ShutEnds.{unread}
 use Rattle.host_streams.proofs.shutting.stop_reading.Goals as goal
 

@@ -5,9 +5,9 @@ use Rattle.wire_channels.specs.Answers.{send_answer_on}
 use Rattle.wire_channels.specs.Channels.{direction_at, at_direction}
 use Rattle.wire_channels.specs.Directions.{after_send}
 use Rattle.wire_net.specs.Networks.{Network}
-use Rattle.host_tables.specs.declared.attempt.Attempt.TheVariants as answer
-use Rattle.host_tables.specs.Serves.{Serves, ByNumber, same}
-use Rattle.host_tables.specs.Stands.{Stands}
+use Rattle.host_processes.specs.OfHostTables.declared.attempt.Attempt.TheVariants as answer
+use Rattle.host_processes.specs.OfHostTables.Serves.{Serves, ByNumber, same}
+use Rattle.host_processes.specs.OfHostTables.Stands.{Stands}
 use Rattle.host_streams.proofs.WriteRows.{taking, write_refused, write_sent, sent_answer}
 use Rattle.host_streams.proofs.writing.write_stream.Goals as goal
 

@@ -1,6 +1,6 @@
 use Rattle.std.proofs.Common.{◌∙◌}
-use Rattle.views.proofs.SeenKeys.{copied_seen}
-use Rattle.sys_abi.proofs.OrderLaws.{name_total}
+use Rattle.conn_maps.proofs.OfViews.SeenKeys.{copied_seen}
+use Rattle.conn_maps.proofs.OfSysAbi.OrderLaws.{name_total}
 use Rattle.id_maps.proofs.by_name.duplicate_names.Goals as goal
 
 pub loop-name-preserved-in_ok-insert : goal.loop-name-preserved-in_ok-insert

@@ -1,5 +1,5 @@
 use Rattle.std.proofs.Common.{◌≡◌, ◌++◌}
-use Rattle.sys_abi.specs.Names.{by_name}
+use Rattle.conn_maps.specs.OfSysAbi.Names.{by_name}
 use Rattle.id_maps.proofs.by_name.duplicate_names.Given as goal
 
 -- what has been copied stands after what is left

@@ -3,7 +3,7 @@ use Rattle.std.specs.FinMap as map
 use Rattle.plain_tables.specs.Closing.{with_closed}
 use Rattle.plain_tables.proofs.Lends.{changed-found}
 use Rattle.plain_tables.proofs.closing.close_at.Goals as goal
-use Rattle.views.proofs.Outcomes.{on_some}
+use Rattle.plain_process.proofs.OfViews.Outcomes.{on_some}
 
 pub returns-in-Some : goal.returns-in-Some
 returns-in-Some c =

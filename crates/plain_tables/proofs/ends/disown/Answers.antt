@@ -1,7 +1,7 @@
 use Rattle.std.proofs.Common.{rules, sym, ◌∙◌}
 use Rattle.std.specs.FinMap as map
 use Rattle.std.proofs.lemmas.Map.Made.{map_same_pairs}
-use Rattle.views.proofs.MapValues.{entries-map_values}
+use Rattle.plain_process.proofs.OfViews.MapValues.{entries-map_values}
 use Rattle.plain_tables.specs.Ends.{disown}
 use Rattle.plain_tables.proofs.ends.disown.Goals as goal
 

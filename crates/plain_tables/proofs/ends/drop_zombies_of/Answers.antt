@@ -1,7 +1,7 @@
 use Rattle.std.proofs.Common.{rules, sym, not, ◌∙◌}
 use Rattle.std.specs.FinMap as map
 use Rattle.std.proofs.lemmas.Map.Made.{filter_same_pairs}
-use Rattle.views.proofs.MapValues.{entries-retain}
+use Rattle.plain_process.proofs.OfViews.MapValues.{entries-retain}
 use Rattle.plain_tables.specs.Ends.{is_zombie_child}
 use Rattle.plain_tables.proofs.ends.drop_zombies_of.Goals as goal
 

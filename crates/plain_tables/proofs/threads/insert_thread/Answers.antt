@@ -1,11 +1,11 @@
 use Rattle.std.proofs.Common.{sym, ap, ◌∙◌}
 use Rattle.std.specs.FinMap as map
-use Rattle.views.proofs.MapLaws.{insert_same}
-use Rattle.sys_abi.proofs.OrderLaws.{vpid_total, vpid_exact}
+use Rattle.plain_process.proofs.OfViews.MapLaws.{insert_same}
+use Rattle.id_maps.proofs.OfSysAbi.OrderLaws.{vpid_total, vpid_exact}
 use Rattle.plain_tables.specs.Tables.{with_thread_entry}
 use Rattle.plain_tables.proofs.Lends.{changed-found}
 use Rattle.plain_tables.proofs.threads.insert_thread.Goals as goal
-use Rattle.views.proofs.Outcomes.{on_some, on_ok_then, on_err_then}
+use Rattle.plain_process.proofs.OfViews.Outcomes.{on_some, on_ok_then, on_err_then}
 
 pub returns-in-Some-clause-ok : goal.returns-in-Some-clause-ok
 returns-in-Some-clause-ok c = on_ok_then c.add_thread.result c.add_thread.ensures.ok (λ is.

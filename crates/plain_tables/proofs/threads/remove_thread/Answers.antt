@@ -3,7 +3,7 @@ use Rattle.std.specs.FinMap as map
 use Rattle.plain_tables.specs.Tables.{without_thread_entry}
 use Rattle.plain_tables.proofs.Lends.{changed-found}
 use Rattle.plain_tables.proofs.threads.remove_thread.Goals as goal
-use Rattle.views.proofs.Outcomes.{on_some}
+use Rattle.plain_process.proofs.OfViews.Outcomes.{on_some}
 
 pub returns-in-Some : goal.returns-in-Some
 returns-in-Some c =

@@ -1,7 +1,7 @@
 use Rattle.std.proofs.Common.{ap, ◌∙◌}
 use Rattle.std.specs.Prelude.{[], ◌∷◌, ◌++◌}
 use Rattle.std.specs.FinMap as map
-use Rattle.plain_tables.proofs.Lends.{changed-found}
+use Rattle.plain_machine.proofs.OfPlainTables.Lends.{changed-found}
 use Rattle.views.proofs.Outcomes.{on_some, on_ok_then}
 use Rattle.plain_transfers.proofs.datagrams.push_message.Goals as goal
 

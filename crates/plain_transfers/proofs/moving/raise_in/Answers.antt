@@ -1,7 +1,7 @@
 use Rattle.std.proofs.Common.{ap, ◌∙◌}
 use Rattle.std.specs.FinMap as map
-use Rattle.plain_tables.specs.Tables.{raised_at}
-use Rattle.plain_tables.proofs.Lends.{changed-found}
+use Rattle.plain_machine.specs.OfPlainTables.Tables.{raised_at}
+use Rattle.plain_machine.proofs.OfPlainTables.Lends.{changed-found}
 use Rattle.views.proofs.Outcomes.{on_some, on_ok_then}
 use Rattle.plain_transfers.proofs.moving.raise_in.Goals as goal
 

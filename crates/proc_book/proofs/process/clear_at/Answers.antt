@@ -1,6 +1,6 @@
 use Rattle.std.proofs.Common.{ap, ◌∙◌}
 use Rattle.std.specs.FinMap as map
-use Rattle.sys_abi.specs.Signals.{without_signal}
+use Rattle.virt_ids.specs.OfSysAbi.Signals.{without_signal}
 use Rattle.virt_ids.proofs.Lends.{changed-found}
 use Rattle.proc_book.proofs.process.clear_at.Goals as goal
 use Rattle.views.proofs.Outcomes.{on_some}

@@ -2,7 +2,7 @@ use Rattle.std.proofs.Common.{sym, ap, ◌∙◌}
 use Rattle.std.specs.FinMap as map
 use Rattle.views.proofs.MapLaws.{insert_same}
 use Rattle.proc_book.specs.Procs.{with_thread}
-use Rattle.sys_abi.proofs.OrderLaws.{real_pid_total, real_pid_exact}
+use Rattle.virt_ids.proofs.OfSysAbi.OrderLaws.{real_pid_total, real_pid_exact}
 use Rattle.virt_ids.proofs.Lends.{changed-found}
 use Rattle.proc_book.proofs.procs.add_thread_at.Goals as goal
 use Rattle.views.proofs.Outcomes.{on_some, on_ok_then, on_err_then}

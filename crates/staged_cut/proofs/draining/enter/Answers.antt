@@ -1,7 +1,7 @@
 use Rattle.std.proofs.Common.{None, sym, subst}
 use Rattle.plain_machine.specs.declared.kernel.PlainKernel.{PlainKernel}
 use Rattle.host_tables.specs.declared.system.System.{System}
-use Rattle.wrap_names.specs.Wrapping.{IsWrapped}
+use Rattle.ckpt_stages.specs.OfWrapNames.Wrapping.{IsWrapped}
 use Rattle.ckpt_stages.specs.Faults.{FindsUnsupported, IsFault}
 use Rattle.ckpt_stages.specs.Suspensions.{IsEntered}
 use Rattle.staged_cut.proofs.draining.enter.Goals as goal

@@ -1,7 +1,7 @@
 use Rattle.std.proofs.Common.{◌≡◌, ℕ, None, sym, subst}
 use Rattle.std.specs.Prelude.{IfOk, IfErr}
 use Rattle.plain_machine.specs.declared.kernel.PlainKernel.{PlainKernel}
-use Rattle.wrap_names.specs.Wrapping.{IsWrapped}
+use Rattle.ckpt_stages.specs.OfWrapNames.Wrapping.{IsWrapped}
 use Rattle.ckpt_stages.specs.Faults.{FindsUnsupported, IsFault}
 use Rattle.ckpt_stages.specs.Suspensions.{IsEntered}
 use Rattle.staged_cut.proofs.draining.suspend.Goals as goal

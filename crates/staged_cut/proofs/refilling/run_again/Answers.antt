@@ -1,6 +1,6 @@
 use Rattle.std.proofs.Common.{ℕ, sym, subst, ◌∙◌}
 use Rattle.plain_machine.specs.declared.kernel.PlainKernel.{PlainKernel}
-use Rattle.wrap_names.specs.Wrapping.{IsWrapped}
+use Rattle.ckpt_stages.specs.OfWrapNames.Wrapping.{IsWrapped}
 use Rattle.seen_kernel.specs.Seen.{all_in}
 use Rattle.staged_cut.proofs.refilling.run_again.Goals as goal
 

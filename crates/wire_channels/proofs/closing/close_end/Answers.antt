@@ -1,6 +1,6 @@
 use Rattle.std.proofs.Common.{ap, ◌∙◌}
 use Rattle.std.specs.FinMap as map
-use Rattle.views.proofs.Outcomes.{on_some}
+use Rattle.virt_ids.proofs.OfViews.Outcomes.{on_some}
 use Rattle.wire_channels.specs.Channels.{without_end, stays_open}
 use Rattle.virt_ids.proofs.Lends.{changed-found}
 use Rattle.wire_channels.proofs.closing.close_end.Goals as goal

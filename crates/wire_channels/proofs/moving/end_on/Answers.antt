@@ -1,6 +1,6 @@
 use Rattle.std.proofs.Common.{ap, ◌∙◌}
 use Rattle.std.specs.FinMap as map
-use Rattle.views.proofs.Outcomes.{on_some}
+use Rattle.virt_ids.proofs.OfViews.Outcomes.{on_some}
 use Rattle.wire_channels.specs.Directions.{after_end}
 use Rattle.wire_channels.specs.Channels.{at_side}
 use Rattle.virt_ids.proofs.Lends.{changed-found}

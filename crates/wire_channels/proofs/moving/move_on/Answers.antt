@@ -2,7 +2,7 @@ use Rattle.std.proofs.Common.{length, sym, ap, subst, ◌∙◌}
 use Rattle.std.specs.Prelude.{min}
 use Rattle.std.specs.Option.{option_map}
 use Rattle.std.specs.FinMap as map
-use Rattle.views.proofs.Outcomes.{on_some}
+use Rattle.virt_ids.proofs.OfViews.Outcomes.{on_some}
 use Rattle.wire_channels.specs.Directions.{after_move}
 use Rattle.wire_channels.specs.Channels.{direction_of, at_side}
 use Rattle.wire_channels.specs.Frames.{SameFrames}

@@ -2,9 +2,9 @@ use Rattle.std.proofs.Common.{length, take, sym, ap, ◌∙◌}
 use Rattle.std.specs.Option.{option_map}
 use Rattle.std.specs.FinMap as map
 use Rattle.std.proofs.lemmas.Result.{IfOk-weaker}
-use Rattle.views.proofs.MapLaws.{insert_same}
-use Rattle.views.proofs.Outcomes.{on_some, on_err_then}
-use Rattle.sys_abi.proofs.OrderLaws.{conn_total, conn_exact}
+use Rattle.virt_ids.proofs.OfViews.MapLaws.{insert_same}
+use Rattle.virt_ids.proofs.OfViews.Outcomes.{on_some, on_err_then}
+use Rattle.virt_ids.proofs.OfSysAbi.OrderLaws.{conn_total, conn_exact}
 use Rattle.wire_channels.specs.Directions.{after_send}
 use Rattle.wire_channels.specs.Channels.{direction_of, at_side}
 use Rattle.wire_channels.specs.Answers.{send_answer_on}

@@ -5,7 +5,7 @@ use Rattle.views.proofs.Outcomes.{on_some}
 use Rattle.sys_abi.specs.declared.identity.ConnId.{ConnId}
 use Rattle.wire_channels.specs.Listeners.{without_first}
 use Rattle.wire_channels.proofs.ClosedEnds.{rest-none}
-use Rattle.virt_ids.proofs.Lends.{changed-found}
+use Rattle.wire_channels.proofs.OfVirtIds.Lends.{changed-found}
 use Rattle.sys_abi.proofs.OrderLaws.{real_address_total, real_address_exact}
 use Rattle.wire_net.proofs.listening.accept_at.Goals as goal
 

@@ -4,7 +4,7 @@ use Rattle.views.proofs.MapLaws.{insert_same}
 use Rattle.views.proofs.Outcomes.{on_some, on_ok_then, on_err_then}
 use Rattle.sys_abi.specs.declared.identity.ConnId.{ConnId}
 use Rattle.wire_channels.specs.Listeners.{with_last}
-use Rattle.virt_ids.proofs.Lends.{changed-found}
+use Rattle.wire_channels.proofs.OfVirtIds.Lends.{changed-found}
 use Rattle.sys_abi.proofs.OrderLaws.{real_address_total, real_address_exact}
 use Rattle.wire_net.proofs.listening.wait_at.Goals as goal
 

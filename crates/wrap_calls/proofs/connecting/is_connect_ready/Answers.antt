@@ -2,7 +2,7 @@ use Rattle.std.proofs.Common.{◌≡◌, sym, ap, ◌∙◌}
 use Rattle.plain_machine.specs.Kernel.{held}
 use Rattle.host_tables.specs.Requests.{ConnectNames, target_of, has_port}
 use Rattle.host_tables.specs.Systems.{given_of}
-use Rattle.wrap_names.proofs.Named.{pipe_is}
+use Rattle.wrap_passing.proofs.OfWrapNames.Named.{pipe_is}
 use Rattle.wrap_calls.proofs.ConnectNames.{if_held, conn_is}
 use Rattle.wrap_calls.proofs.connecting.is_connect_ready.Goals as goal
 

@@ -4,8 +4,8 @@ use Rattle.wire_channels.specs.Answers.{bytes_on}
 use Rattle.wire_channels.specs.Channels.{direction_at}
 use Rattle.wire_channels.specs.declared.place.Place.TheVariants.{Wire}
 use Rattle.wire_net.specs.Networks.{Network}
-use Rattle.wrap_names.specs.Changes.{after_arrival}
-use Rattle.wrap_names.specs.Wrapping.{IsWrapped}
+use Rattle.wrap_passing.specs.OfWrapNames.Changes.{after_arrival}
+use Rattle.wrap_passing.specs.OfWrapNames.Wrapping.{IsWrapped}
 use Rattle.wrap_calls.proofs.ArrivedBytes.{count_passed, arrived_wrapped, two_moves}
 use Rattle.wrap_calls.proofs.direction_arriving.arrive.Goals as goal
 

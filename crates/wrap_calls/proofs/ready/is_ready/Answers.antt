@@ -3,8 +3,8 @@ use Rattle.std.specs.FinMap as map
 use Rattle.plain_machine.specs.Serve.{is_ready}
 use Rattle.host_tables.specs.Systems.{given_of}
 use Rattle.plain_tables.specs.Tables.{Makers}
-use Rattle.wrap_names.specs.Naming.{desc_in}
-use Rattle.wrap_names.proofs.Named.{neighbour_is, pipe_is}
+use Rattle.wrap_passing.specs.OfWrapNames.Naming.{desc_in}
+use Rattle.wrap_passing.proofs.OfWrapNames.Named.{neighbour_is, pipe_is}
 use Rattle.wrap_calls.proofs.PairLooks.{found_pair, no_pair}
 use Rattle.wrap_calls.proofs.ReadyStrangers.{others_ready}
 use Rattle.wrap_calls.proofs.ready.is_ready.Goals as goal

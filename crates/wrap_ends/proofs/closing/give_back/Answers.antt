@@ -1,4 +1,4 @@
-use Rattle.host_processes.proofs.LowestCloses.{nothing_closed}
+use Rattle.wrap_names.proofs.OfHostProcesses.LowestCloses.{nothing_closed}
 use Rattle.wrap_ends.proofs.closing.give_back.Goals as goal
 
 pub returns : goal.returns

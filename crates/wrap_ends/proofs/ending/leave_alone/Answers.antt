@@ -5,7 +5,7 @@ use Rattle.conn_table.specs.declared.table.ConnTable.{ConnTable}
 use Rattle.virt_ids.specs.Pairs.{Pairs}
 use Rattle.host_tables.specs.Systems.{given_of}
 use Rattle.host_tables.proofs.LookUps.{lives_of}
-use Rattle.host_processes.specs.Leaves.{after_leave}
+use Rattle.wrap_names.specs.OfHostProcesses.Leaves.{after_leave}
 use Rattle.wrap_names.specs.Wrapping.{IsWrapped}
 use Rattle.wrap_ends.proofs.Leaving.{stays_zombie, is_nobody}
 use Rattle.wrap_ends.proofs.ThreadEnds.{thread_found, thread_there}

@@ -1,6 +1,6 @@
 use Rattle.std.proofs.Common.{◌≡◌, Ok, Err, subst}
 use Rattle.plain_machine.specs.Rows.Sockets.{bind_row}
-use Rattle.host_tables.specs.Systems.{given_of}
+use Rattle.host_streams.specs.OfHostTables.Systems.{given_of}
 use Rattle.wrap_names.specs.Binding.{bound_told}
 use Rattle.wrap_names.proofs.BoundRow.{bind_unable, bind_done, bind_starved}
 use Rattle.wrap_names.proofs.binding.bind.Goals as goal

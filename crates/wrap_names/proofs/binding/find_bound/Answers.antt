@@ -2,7 +2,7 @@ use Rattle.std.proofs.Common.{◌≡◌, Result, sym, subst}
 use Rattle.sys_abi.specs.declared.reply.Errno.{Errno}
 use Rattle.plain_machine.specs.Rows.Sockets.{bind_row}
 use Rattle.host_streams.specs.HandedOn.{seen_held}
-use Rattle.host_tables.specs.Systems.{given_of}
+use Rattle.host_streams.specs.OfHostTables.Systems.{given_of}
 use Rattle.wrap_names.specs.declared.binding.Bound.{Bound}
 use Rattle.wrap_names.specs.Binding.{bound_told}
 use Rattle.wrap_names.proofs.BindRow.{bind_fails, bind_refused, no_address, bind_gives}

@@ -1,5 +1,5 @@
 use Rattle.std.proofs.Common.{sym, ◌∙◌}
-use Rattle.host_tables.specs.Descriptions.{seen_object}
+use Rattle.host_streams.specs.OfHostTables.Descriptions.{seen_object}
 use Rattle.wrap_names.proofs.HostsFor.{host_short, host_found, host_bound}
 use Rattle.wrap_names.proofs.binding.host_for.Goals as goal
 

@@ -7,7 +7,7 @@ use Rattle.plain_ports.specs.Told.{told}
 use Rattle.host_streams.specs.HandedOn.{Held}
 use Rattle.host_streams.specs.HandedOn.{held_in, seen_held}
 use Rattle.host_streams.specs.PipeEnds.{socket_in}
-use Rattle.host_tables.specs.Systems.{given_of}
+use Rattle.host_streams.specs.OfHostTables.Systems.{given_of}
 use Rattle.wrap_names.proofs.Sockets.{socket_told, socket_there}
 use Rattle.wrap_names.proofs.look_ups.socket_at.Goals as goal
 

@@ -2,7 +2,7 @@ use Rattle.std.proofs.Common.{sym, ap, ◌∙◌}
 use Rattle.plain_machine.specs.Addresses.{pair_bytes, unbound_bytes, cut_to}
 use Rattle.plain_machine.specs.Rows.Sockets.{own_name}
 use Rattle.plain_machine.specs.SocketWords.{shown_as}
-use Rattle.host_tables.specs.Descriptions.{seen_object}
+use Rattle.host_streams.specs.OfHostTables.Descriptions.{seen_object}
 use Rattle.wrap_names.proofs.Ends.{end_name_is}
 use Rattle.wrap_names.proofs.OwnNames.{own_other}
 use Rattle.wrap_names.proofs.names.put_own_name.Goals as goal

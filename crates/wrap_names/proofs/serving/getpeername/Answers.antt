@@ -1,7 +1,7 @@
 use Rattle.std.proofs.Common.{refl, sym, subst}
 use Rattle.plain_machine.specs.Rows.Sockets.{getpeername_row}
 use Rattle.host_streams.specs.HandedOn.{seen_held}
-use Rattle.host_tables.specs.Systems.{given_of}
+use Rattle.host_streams.specs.OfHostTables.Systems.{given_of}
 use Rattle.wrap_names.specs.Wrapping.{Answers}
 use Rattle.wrap_names.proofs.OwnNames.{getpeername_fails, getpeername_is}
 use Rattle.wrap_names.proofs.Unchanged.{name_refused}

@@ -1,7 +1,7 @@
 use Rattle.std.proofs.Common.{refl}
 use Rattle.plain_machine.specs.Rows.Sockets.{own_name, getsockname_row}
 use Rattle.host_streams.specs.HandedOn.{seen_held}
-use Rattle.host_tables.specs.Systems.{given_of}
+use Rattle.host_streams.specs.OfHostTables.Systems.{given_of}
 use Rattle.wrap_names.proofs.OwnNames.{getsockname_fails, getsockname_is}
 use Rattle.wrap_names.proofs.Unchanged.{name_told, name_refused}
 use Rattle.wrap_names.proofs.serving.getsockname.Goals as goal

@@ -3,7 +3,7 @@ use Rattle.std.specs.FinMap as map
 use Rattle.sys_abi.specs.declared.errors.TheConstants.{ENOTCONN}
 use Rattle.plain_machine.specs.Addresses.{pair_bytes, cut_to}
 use Rattle.plain_machine.specs.SocketWords.{shown_as, end_name}
-use Rattle.host_tables.specs.Descriptions.{seen_object}
+use Rattle.host_streams.specs.OfHostTables.Descriptions.{seen_object}
 use Rattle.wrap_names.specs.Calls.{peer_named}
 use Rattle.wrap_names.specs.Ends.{end_in}
 use Rattle.wrap_names.proofs.Ends.{end_name_is}

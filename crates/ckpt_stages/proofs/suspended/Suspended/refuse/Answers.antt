@@ -1,7 +1,7 @@
 use Rattle.std.proofs.Common.{sym, subst}
 use Rattle.std.specs.FinMap as map
 use Rattle.host_tables.specs.declared.system.System.{System}
-use Rattle.wrap_names.specs.Wrapping.{IsWrapped}
+use Rattle.cut_stages.specs.OfWrapNames.Wrapping.{IsWrapped}
 use Rattle.ckpt_stages.specs.Suspensions.{Suspension}
 use Rattle.cut_stages.proofs.GivenUp.{given_up}
 use Rattle.ckpt_stages.proofs.suspended.Suspended.refuse.Goals as goal

@@ -1,7 +1,7 @@
 use Rattle.std.proofs.Common.{ap, ◌∙◌}
 use Rattle.sys_abi.proofs.OrderLaws.{address_total, address_exact}
 use Rattle.std.specs.FinMap as map
-use Rattle.views.proofs.TreeMaps.{get-seen, view-insert}
+use Rattle.sys_abi.proofs.OfViews.TreeMaps.{get-seen, view-insert}
 use Rattle.conn_maps.proofs.by_address.ByAddress.insert.Goals as goal
 
 pub returns-clause-before : goal.returns-clause-before

@@ -1,7 +1,7 @@
 use Rattle.std.proofs.Common.{sym, ap, ◌∙◌}
 use Rattle.sys_abi.proofs.OrderLaws.{address_total}
 use Rattle.std.specs.FinMap as map
-use Rattle.views.proofs.TreeMaps.{keys-view}
+use Rattle.sys_abi.proofs.OfViews.TreeMaps.{keys-view}
 use Rattle.conn_maps.proofs.by_address.ByAddress.keys.Goals as goal
 
 pub returns : goal.returns

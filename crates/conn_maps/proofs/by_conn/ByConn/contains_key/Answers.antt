@@ -2,7 +2,7 @@ use Rattle.std.proofs.Common.{sym, ap, ◌∙◌}
 use Rattle.sys_abi.proofs.OrderLaws.{conn_total}
 use Rattle.std.specs.FinMap as map
 use Rattle.std.specs.Prelude.{is_some}
-use Rattle.views.proofs.TreeMaps.{get-view}
+use Rattle.sys_abi.proofs.OfViews.TreeMaps.{get-view}
 use Rattle.conn_maps.proofs.by_conn.ByConn.contains_key.Goals as goal
 
 pub returns : goal.returns

@@ -1,5 +1,5 @@
 use Rattle.sys_abi.proofs.OrderLaws.{conn_total}
-use Rattle.views.proofs.TreeMaps.{get-seen}
+use Rattle.sys_abi.proofs.OfViews.TreeMaps.{get-seen}
 use Rattle.conn_maps.proofs.by_conn.ByConn.get.Goals as goal
 
 pub returns : goal.returns

@@ -1,7 +1,7 @@
 use Rattle.std.proofs.Common.{arith, sym, ◌∙◌}
 use Rattle.std.proofs.lemmas.Bool.Decides.{nat_tests}
 use Rattle.sys_abi.proofs.OrderLaws.{conn_total}
-use Rattle.views.proofs.TreeMaps.{empty-view, len-empty_view}
+use Rattle.sys_abi.proofs.OfViews.TreeMaps.{empty-view, len-empty_view}
 use Rattle.conn_maps.proofs.by_conn.ByConn.is_empty.Goals as goal
 
 pub returns : goal.returns

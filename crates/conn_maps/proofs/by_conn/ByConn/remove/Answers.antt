@@ -1,7 +1,7 @@
 use Rattle.std.proofs.Common.{ap, ◌∙◌}
 use Rattle.sys_abi.proofs.OrderLaws.{conn_total, conn_exact}
 use Rattle.std.specs.FinMap as map
-use Rattle.views.proofs.TreeMaps.{get-seen, view-remove}
+use Rattle.sys_abi.proofs.OfViews.TreeMaps.{get-seen, view-remove}
 use Rattle.conn_maps.proofs.by_conn.ByConn.remove.Goals as goal
 
 pub returns-clause-before : goal.returns-clause-before

@@ -1,7 +1,7 @@
 use Rattle.std.proofs.Common.{sym, ap, ◌∙◌}
 use Rattle.sys_abi.proofs.OrderLaws.{conn_total}
 use Rattle.std.specs.FinMap as map
-use Rattle.views.proofs.TreeMaps.{values-view}
+use Rattle.sys_abi.proofs.OfViews.TreeMaps.{values-view}
 use Rattle.conn_maps.proofs.by_conn.ByConn.values.Goals as goal
 
 pub returns : goal.returns

@@ -1,5 +1,5 @@
 use Rattle.sys_abi.proofs.OrderLaws.{dir_total}
-use Rattle.views.proofs.TreeMaps.{get-seen}
+use Rattle.sys_abi.proofs.OfViews.TreeMaps.{get-seen}
 use Rattle.conn_maps.proofs.by_dir.ByDir.get.Goals as goal
 
 pub returns : goal.returns

@@ -1,7 +1,7 @@
 use Rattle.std.proofs.Common.{refl, ap, ◌∙◌}
 use Rattle.sys_abi.specs.Orders.{dir_cmp}
 use Rattle.sys_abi.proofs.OrderLaws.{dir_total, dir_exact}
-use Rattle.views.proofs.TreeMaps.{view, get-seen, view-lent}
+use Rattle.sys_abi.proofs.OfViews.TreeMaps.{view, get-seen, view-lent}
 use Rattle.conn_maps.proofs.by_dir.ByDir.get_mut.Goals as goal
 
 pub returns : goal.returns

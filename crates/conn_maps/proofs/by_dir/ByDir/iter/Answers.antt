@@ -1,7 +1,7 @@
 use Rattle.std.proofs.Common.{sym, ap, ◌∙◌}
 use Rattle.sys_abi.proofs.OrderLaws.{dir_total}
 use Rattle.std.specs.FinMap as map
-use Rattle.views.proofs.TreeMaps.{entries-view}
+use Rattle.sys_abi.proofs.OfViews.TreeMaps.{entries-view}
 use Rattle.conn_maps.proofs.by_dir.ByDir.iter.Goals as goal
 
 pub returns : goal.returns

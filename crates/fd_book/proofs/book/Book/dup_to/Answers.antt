@@ -1,6 +1,6 @@
 use Rattle.std.proofs.Common.{◌≡◌, sym, ap, ◌∙◌}
 use Rattle.std.specs.FinMap as map
-use Rattle.sys_abi.specs.declared.descriptor.Descriptor.{Descriptor}
+use Rattle.fd_tables.specs.OfSysAbi.declared.descriptor.Descriptor.{Descriptor}
 use Rattle.fd_tables.specs.Slots.{slot}
 use Rattle.fd_book.specs.Books.{with_descriptor, after_close}
 use Rattle.fd_book.proofs.BookLaws.{other_held}

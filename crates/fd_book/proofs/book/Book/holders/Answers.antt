@@ -1,6 +1,6 @@
 use Rattle.std.proofs.Common.{◌↔◌, Contains, subst}
 use Rattle.std.specs.Prelude.{IfOk}
-use Rattle.sys_abi.specs.declared.identity.RealPid.{RealPid}
+use Rattle.fd_tables.specs.OfSysAbi.declared.identity.RealPid.{RealPid}
 use Rattle.fd_book.specs.Books.{Books}
 use Rattle.fd_tables.specs.Slots.{IsHolder}
 use Rattle.fd_book.proofs.book.Book.holders.Goals as goal

@@ -1,7 +1,7 @@
 use Rattle.std.proofs.Common.{sym, ap, ◌∙◌}
 use Rattle.std.specs.Prelude.{find}
 use Rattle.std.specs.FinMap as map
-use Rattle.views.proofs.MapValues.{keys-map_values}
+use Rattle.fd_tables.proofs.OfViews.MapValues.{keys-map_values}
 use Rattle.fd_tables.specs.Parts.{is_after}
 use Rattle.fd_book.specs.Counted.{desc_of}
 use Rattle.fd_book.proofs.book.Book.next_desc.Goals as goal

@@ -1,6 +1,6 @@
 use Rattle.std.proofs.Common.{◌+◌, refl, sym, ap, ◌∙◌}
 use Rattle.std.specs.FinMap as map
-use Rattle.views.proofs.MapLaws.{remove_insert_new}
+use Rattle.fd_tables.proofs.OfViews.MapLaws.{remove_insert_new}
 use Rattle.fd_book.specs.Books.{Books, with_descriptor}
 use Rattle.fd_tables.specs.Slots.{slot}
 use Rattle.fd_tables.specs.Counts.{holders_of}

@@ -1,6 +1,6 @@
 use Rattle.std.proofs.Common.{refl, sym}
 use Rattle.std.specs.FinMap as map
-use Rattle.sys_abi.specs.declared.descriptor.Descriptor.{Descriptor}
+use Rattle.fd_tables.specs.OfSysAbi.declared.descriptor.Descriptor.{Descriptor}
 use Rattle.fd_tables.specs.Slots.{slot}
 use Rattle.fd_book.proofs.BookLaws.{replaced_book, moved_book}
 use Rattle.fd_book.proofs.book.Book.set_cloexec.Goals as goal

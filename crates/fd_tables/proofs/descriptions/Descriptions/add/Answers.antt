@@ -1,5 +1,5 @@
 use Rattle.std.proofs.Common.{sym, ◌∙◌}
-use Rattle.views.proofs.TreeMaps.{view-insert}
+use Rattle.sys_abi.proofs.OfViews.TreeMaps.{view-insert}
 use Rattle.sys_abi.proofs.OrderLaws.{desc_total, desc_exact}
 use Rattle.fd_tables.proofs.DescriptionViews.{on_err, roomier_same, entries_same, added_good, added_seen}
 use Rattle.fd_tables.proofs.descriptions.Descriptions.add.Goals as goal

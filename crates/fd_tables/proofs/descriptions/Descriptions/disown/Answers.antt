@@ -1,4 +1,4 @@
-use Rattle.views.proofs.TreeMaps.{view}
+use Rattle.sys_abi.proofs.OfViews.TreeMaps.{view}
 use Rattle.sys_abi.specs.Orders.{desc_cmp}
 use Rattle.fd_tables.proofs.SlabLaws.{disowned_seen, disowned_good}
 use Rattle.fd_tables.proofs.descriptions.Descriptions.disown.Goals as goal

@@ -1,5 +1,5 @@
 use Rattle.std.proofs.Common.{sym, ◌∙◌}
-use Rattle.views.proofs.TreeMaps.{view, get-view}
+use Rattle.sys_abi.proofs.OfViews.TreeMaps.{view, get-view}
 use Rattle.sys_abi.specs.Orders.{desc_cmp}
 use Rattle.sys_abi.proofs.OrderLaws.{desc_total}
 use Rattle.fd_tables.proofs.IndexLaws.{found_there, found_none}

@@ -1,5 +1,5 @@
 use Rattle.std.proofs.Common.{◌∙◌}
-use Rattle.views.proofs.TreeMaps.{view}
+use Rattle.sys_abi.proofs.OfViews.TreeMaps.{view}
 use Rattle.sys_abi.specs.Orders.{desc_cmp}
 use Rattle.fd_tables.specs.Parts.{is_of_file}
 use Rattle.fd_tables.proofs.SlabLaws.{any-described}

@@ -1,4 +1,4 @@
-use Rattle.views.proofs.TreeMaps.{view-remove}
+use Rattle.sys_abi.proofs.OfViews.TreeMaps.{view-remove}
 use Rattle.sys_abi.proofs.OrderLaws.{desc_total, desc_exact}
 use Rattle.fd_tables.proofs.DescriptionViews.{take_described, taken_good, take_none}
 use Rattle.fd_tables.proofs.descriptions.Descriptions.take.Goals as goal

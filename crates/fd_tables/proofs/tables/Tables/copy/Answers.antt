@@ -1,5 +1,5 @@
 use Rattle.std.proofs.Common.{None, sym, ◌∙◌, arith}
-use Rattle.views.proofs.TreeMaps.{view-insert}
+use Rattle.sys_abi.proofs.OfViews.TreeMaps.{view-insert}
 use Rattle.fd_tables.proofs.TableViews.{seen_at, copied_same, copied_others}
 use Rattle.std.proofs.Common.{refl}
 use Rattle.fd_tables.proofs.TableViews.{seen}

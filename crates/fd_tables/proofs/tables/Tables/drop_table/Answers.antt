@@ -1,4 +1,4 @@
-use Rattle.views.proofs.TreeMaps.{view-remove}
+use Rattle.sys_abi.proofs.OfViews.TreeMaps.{view-remove}
 use Rattle.fd_tables.proofs.TableViews.{dropped_same}
 use Rattle.std.proofs.Common.{sym, ◌∙◌, subst}
 use Rattle.fd_tables.specs.Slots.{AreInRange}

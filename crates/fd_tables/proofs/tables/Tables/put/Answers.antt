@@ -1,4 +1,4 @@
-use Rattle.views.proofs.TreeMaps.{view-insert}
+use Rattle.sys_abi.proofs.OfViews.TreeMaps.{view-insert}
 use Rattle.fd_tables.specs.Slots.{slot}
 use Rattle.fd_tables.proofs.TableViews.{seen, told_insert, put_new}
 use Rattle.std.proofs.Common.{refl}

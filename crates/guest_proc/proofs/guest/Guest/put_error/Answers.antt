@@ -2,7 +2,7 @@ use Rattle.std.proofs.Common.{◌≡◌, ◌≤◌, sym, subst}
 use Rattle.std.specs.Prelude.{IfSome, IfNone}
 use Rattle.plain_process.specs.Buffers.{filled_spans}
 use Rattle.plain_process.specs.Valid.{CanAddAs}
-use Rattle.process_memory.proofs.Taking.{takes_nothing}
+use Rattle.thread_group.proofs.OfProcessMemory.Taking.{takes_nothing}
 use Rattle.guest_proc.proofs.LocalAnswers.{error_adds_nothing}
 use Rattle.guest_proc.proofs.guest.Guest.put_error.Goals as goal
 

@@ -1,7 +1,7 @@
 use Rattle.std.proofs.Common.{ap, sym, ◌∙◌}
 use Rattle.std.specs.Prelude.{is_some}
 use Rattle.plain_process.specs.Buffers.{lent}
-use Rattle.process_memory.proofs.ChildPlaces.{child_place}
+use Rattle.thread_group.proofs.OfProcessMemory.ChildPlaces.{child_place}
 use Rattle.guest_proc.proofs.guest.Guest.settle.Goals as goal
 
 pub put_number-requires : goal.put_number-requires

@@ -1,7 +1,7 @@
 use Rattle.std.proofs.Common.{refl, ap, ◌∙◌}
-use Rattle.sys_abi.specs.Orders.{desc_cmp}
-use Rattle.sys_abi.proofs.OrderLaws.{desc_total, desc_exact}
-use Rattle.views.proofs.TreeMaps.{view, get-seen, view-lent}
+use Rattle.conn_maps.specs.OfSysAbi.Orders.{desc_cmp}
+use Rattle.conn_maps.proofs.OfSysAbi.OrderLaws.{desc_total, desc_exact}
+use Rattle.conn_maps.proofs.OfViews.TreeMaps.{view, get-seen, view-lent}
 use Rattle.id_maps.proofs.by_desc.ByDesc.get_mut.Goals as goal
 
 pub returns : goal.returns

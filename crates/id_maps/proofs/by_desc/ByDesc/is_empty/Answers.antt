@@ -1,7 +1,7 @@
 use Rattle.std.proofs.Common.{arith, sym, ◌∙◌}
 use Rattle.std.proofs.lemmas.Bool.Decides.{nat_tests}
-use Rattle.sys_abi.proofs.OrderLaws.{desc_total}
-use Rattle.views.proofs.TreeMaps.{empty-view, len-empty_view}
+use Rattle.conn_maps.proofs.OfSysAbi.OrderLaws.{desc_total}
+use Rattle.conn_maps.proofs.OfViews.TreeMaps.{empty-view, len-empty_view}
 use Rattle.id_maps.proofs.by_desc.ByDesc.is_empty.Goals as goal
 
 pub returns : goal.returns

@@ -1,7 +1,7 @@
 use Rattle.std.proofs.Common.{sym, ap, ◌∙◌}
-use Rattle.sys_abi.proofs.OrderLaws.{desc_total}
+use Rattle.conn_maps.proofs.OfSysAbi.OrderLaws.{desc_total}
 use Rattle.std.specs.FinMap as map
-use Rattle.views.proofs.TreeMaps.{keys-view}
+use Rattle.conn_maps.proofs.OfViews.TreeMaps.{keys-view}
 use Rattle.id_maps.proofs.by_desc.ByDesc.keys.Goals as goal
 
 pub returns : goal.returns

@@ -1,5 +1,5 @@
 use Rattle.std.proofs.Common.{rules, ap, ◌∙◌}
-use Rattle.sys_abi.proofs.OrderLaws.{desc_total, desc_exact}
+use Rattle.conn_maps.proofs.OfSysAbi.OrderLaws.{desc_total, desc_exact}
 use Rattle.std.specs.FinMap as map
 use Rattle.std.proofs.lemmas.Map.Made.{filter_same_pairs}
 use Rattle.conn_maps.proofs.RetainedKeys.{view-retain}

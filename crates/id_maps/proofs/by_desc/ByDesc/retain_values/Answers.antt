@@ -1,9 +1,9 @@
 use Rattle.std.proofs.Common.{◌≡◌, sym, ap, subst, ◌∙◌}
 use Rattle.std.specs.FinMap as map
 use Rattle.std.specs.Map.Calls.{CalledAtPair, RetainsPairs}
-use Rattle.sys_abi.proofs.OrderLaws.{desc_total}
-use Rattle.views.proofs.TreeMaps.{view, entries-view}
-use Rattle.sys_abi.specs.Orders.{desc_cmp}
+use Rattle.conn_maps.proofs.OfSysAbi.OrderLaws.{desc_total}
+use Rattle.conn_maps.proofs.OfViews.TreeMaps.{view, entries-view}
+use Rattle.conn_maps.specs.OfSysAbi.Orders.{desc_cmp}
 use Rattle.id_maps.proofs.by_desc.ByDesc.retain_values.Goals as goal
 
 pub returns : goal.returns

@@ -1,6 +1,6 @@
 use Rattle.std.proofs.Common.{refl}
-use Rattle.views.proofs.SeenKeys.{get-found}
-use Rattle.sys_abi.proofs.OrderLaws.{name_total}
+use Rattle.conn_maps.proofs.OfViews.SeenKeys.{get-found}
+use Rattle.conn_maps.proofs.OfSysAbi.OrderLaws.{name_total}
 use Rattle.id_maps.proofs.by_name.ByName.get.Goals as goal
 
 pub returns : goal.returns

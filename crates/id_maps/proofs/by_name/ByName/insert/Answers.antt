@@ -1,7 +1,7 @@
 use Rattle.std.proofs.Common.{◌∙◌}
 use Rattle.std.specs.FinMap as map
-use Rattle.views.proofs.SeenKeys.{get-found, inserted_seen}
-use Rattle.sys_abi.proofs.OrderLaws.{name_total, name_exact}
+use Rattle.conn_maps.proofs.OfViews.SeenKeys.{get-found, inserted_seen}
+use Rattle.conn_maps.proofs.OfSysAbi.OrderLaws.{name_total, name_exact}
 use Rattle.id_maps.proofs.by_name.ByName.insert.Goals as goal
 
 pub returns-clause-before : goal.returns-clause-before

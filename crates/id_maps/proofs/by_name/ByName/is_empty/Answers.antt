@@ -1,9 +1,9 @@
 use Rattle.std.proofs.Common.{arith, ap, ◌∙◌}
 use Rattle.std.proofs.lemmas.Bool.Decides.{nat_tests}
 use Rattle.std.specs.FinMap as map
-use Rattle.views.proofs.SeenKeys.{len-seen}
-use Rattle.sys_abi.specs.Names.{name_cmp}
-use Rattle.sys_abi.proofs.OrderLaws.{name_total}
+use Rattle.conn_maps.proofs.OfViews.SeenKeys.{len-seen}
+use Rattle.conn_maps.specs.OfSysAbi.Names.{name_cmp}
+use Rattle.conn_maps.proofs.OfSysAbi.OrderLaws.{name_total}
 use Rattle.id_maps.proofs.by_name.ByName.is_empty.Goals as goal
 
 pub returns : goal.returns

@@ -1,8 +1,8 @@
 use Rattle.std.proofs.Common.{sym, ap, ◌∙◌}
 use Rattle.std.specs.FinMap as map
-use Rattle.views.proofs.SeenKeys.{entries-seen}
-use Rattle.sys_abi.specs.Names.{by_name}
-use Rattle.sys_abi.proofs.OrderLaws.{name_total, name_exact}
+use Rattle.conn_maps.proofs.OfViews.SeenKeys.{entries-seen}
+use Rattle.conn_maps.specs.OfSysAbi.Names.{by_name}
+use Rattle.conn_maps.proofs.OfSysAbi.OrderLaws.{name_total, name_exact}
 use Rattle.id_maps.proofs.by_name.ByName.iter.Goals as goal
 
 pub returns : goal.returns

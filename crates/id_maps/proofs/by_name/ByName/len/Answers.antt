@@ -1,6 +1,6 @@
 use Rattle.std.proofs.Common.{◌∙◌}
-use Rattle.views.proofs.SeenKeys.{len-seen}
-use Rattle.sys_abi.proofs.OrderLaws.{name_total}
+use Rattle.conn_maps.proofs.OfViews.SeenKeys.{len-seen}
+use Rattle.conn_maps.proofs.OfSysAbi.OrderLaws.{name_total}
 use Rattle.id_maps.proofs.by_name.ByName.len.Goals as goal
 
 pub returns : goal.returns

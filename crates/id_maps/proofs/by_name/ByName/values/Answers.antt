@@ -1,6 +1,6 @@
 use Rattle.std.proofs.Common.{◌∙◌}
-use Rattle.views.proofs.SeenKeys.{values-seen}
-use Rattle.sys_abi.proofs.OrderLaws.{name_total}
+use Rattle.conn_maps.proofs.OfViews.SeenKeys.{values-seen}
+use Rattle.conn_maps.proofs.OfSysAbi.OrderLaws.{name_total}
 use Rattle.id_maps.proofs.by_name.ByName.values.Goals as goal
 
 pub returns : goal.returns

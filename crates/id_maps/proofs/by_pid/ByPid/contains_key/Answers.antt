@@ -1,8 +1,8 @@
 use Rattle.std.proofs.Common.{sym, ap, ◌∙◌}
-use Rattle.sys_abi.proofs.OrderLaws.{vpid_total}
+use Rattle.conn_maps.proofs.OfSysAbi.OrderLaws.{vpid_total}
 use Rattle.std.specs.FinMap as map
 use Rattle.std.specs.Prelude.{is_some}
-use Rattle.views.proofs.TreeMaps.{get-view}
+use Rattle.conn_maps.proofs.OfViews.TreeMaps.{get-view}
 use Rattle.id_maps.proofs.by_pid.ByPid.contains_key.Goals as goal
 
 pub returns : goal.returns

@@ -1,5 +1,5 @@
-use Rattle.sys_abi.proofs.OrderLaws.{vpid_total}
-use Rattle.views.proofs.TreeMaps.{get-seen}
+use Rattle.conn_maps.proofs.OfSysAbi.OrderLaws.{vpid_total}
+use Rattle.conn_maps.proofs.OfViews.TreeMaps.{get-seen}
 use Rattle.id_maps.proofs.by_pid.ByPid.get.Goals as goal
 
 pub returns : goal.returns

@@ -1,7 +1,7 @@
 use Rattle.std.proofs.Common.{refl, ap, ◌∙◌}
-use Rattle.sys_abi.specs.Orders.{vpid_cmp}
-use Rattle.sys_abi.proofs.OrderLaws.{vpid_total, vpid_exact}
-use Rattle.views.proofs.TreeMaps.{view, get-seen, view-lent}
+use Rattle.conn_maps.specs.OfSysAbi.Orders.{vpid_cmp}
+use Rattle.conn_maps.proofs.OfSysAbi.OrderLaws.{vpid_total, vpid_exact}
+use Rattle.conn_maps.proofs.OfViews.TreeMaps.{view, get-seen, view-lent}
 use Rattle.id_maps.proofs.by_pid.ByPid.get_mut.Goals as goal
 
 pub returns : goal.returns

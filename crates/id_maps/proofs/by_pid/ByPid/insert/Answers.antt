@@ -1,7 +1,7 @@
 use Rattle.std.proofs.Common.{ap, ◌∙◌}
-use Rattle.sys_abi.proofs.OrderLaws.{vpid_total, vpid_exact}
+use Rattle.conn_maps.proofs.OfSysAbi.OrderLaws.{vpid_total, vpid_exact}
 use Rattle.std.specs.FinMap as map
-use Rattle.views.proofs.TreeMaps.{get-seen, view-insert}
+use Rattle.conn_maps.proofs.OfViews.TreeMaps.{get-seen, view-insert}
 use Rattle.id_maps.proofs.by_pid.ByPid.insert.Goals as goal
 
 pub returns-clause-before : goal.returns-clause-before

@@ -1,5 +1,5 @@
 use Rattle.std.proofs.Common.{rules, ap, ◌∙◌}
-use Rattle.sys_abi.proofs.OrderLaws.{vpid_total, vpid_exact}
+use Rattle.conn_maps.proofs.OfSysAbi.OrderLaws.{vpid_total, vpid_exact}
 use Rattle.std.specs.FinMap as map
 use Rattle.std.proofs.lemmas.Map.Made.{filter_same_pairs}
 use Rattle.conn_maps.proofs.RetainedKeys.{view-retain}

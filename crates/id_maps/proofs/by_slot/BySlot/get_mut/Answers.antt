@@ -1,7 +1,7 @@
 use Rattle.std.proofs.Common.{refl, ap, ◌∙◌}
-use Rattle.sys_abi.specs.Orders.{slot_cmp}
-use Rattle.sys_abi.proofs.OrderLaws.{slot_total, slot_exact}
-use Rattle.views.proofs.TreeMaps.{view, get-seen, view-lent}
+use Rattle.conn_maps.specs.OfSysAbi.Orders.{slot_cmp}
+use Rattle.conn_maps.proofs.OfSysAbi.OrderLaws.{slot_total, slot_exact}
+use Rattle.conn_maps.proofs.OfViews.TreeMaps.{view, get-seen, view-lent}
 use Rattle.id_maps.proofs.by_slot.BySlot.get_mut.Goals as goal
 
 pub returns : goal.returns

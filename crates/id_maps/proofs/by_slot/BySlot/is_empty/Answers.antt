@@ -1,7 +1,7 @@
 use Rattle.std.proofs.Common.{arith, sym, ◌∙◌}
 use Rattle.std.proofs.lemmas.Bool.Decides.{nat_tests}
-use Rattle.sys_abi.proofs.OrderLaws.{slot_total}
-use Rattle.views.proofs.TreeMaps.{empty-view, len-empty_view}
+use Rattle.conn_maps.proofs.OfSysAbi.OrderLaws.{slot_total}
+use Rattle.conn_maps.proofs.OfViews.TreeMaps.{empty-view, len-empty_view}
 use Rattle.id_maps.proofs.by_slot.BySlot.is_empty.Goals as goal
 
 pub returns : goal.returns

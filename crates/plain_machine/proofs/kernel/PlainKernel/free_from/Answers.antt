@@ -1,7 +1,7 @@
 use Rattle.std.proofs.Common.{sym, ap, ◌∙◌, ◌+◌, ◌-◌, cond, arith}
 use Rattle.std.specs.Prelude.{Some}
-use Rattle.sys_abi.specs.declared.errors.TheConstants.{EMFILE}
-use Rattle.plain_process.specs.Attempts.{found}
+use Rattle.plain_tables.specs.OfSysAbi.declared.errors.TheConstants.{EMFILE}
+use Rattle.plain_tables.specs.OfPlainProcess.Attempts.{found}
 use Rattle.plain_machine.specs.Kernel.{free_among, free_from}
 use Rattle.plain_machine.proofs.FreeNumbers.{free_among_more, free_among_none}
 use Rattle.plain_machine.proofs.kernel.PlainKernel.free_from.Goals as goal

@@ -1,6 +1,6 @@
 use Rattle.std.proofs.Common.{◌≤◌, [], ◌∷◌, ◌++◌, length, sym, ap, subst, arith}
 use Rattle.std.proofs.lemmas.Grind.{common_steps}
-use Rattle.guest_proc.specs.Guests.{GuestPart}
+use Rattle.computation.specs.OfGuestProc.Guests.{GuestPart}
 use Rattle.plain_process.specs.Start.{Launched}
 use Rattle.plain_machine.specs.Valid.{IsValid}
 use Rattle.plain_machine.proofs.StartKernels.{start_is_valid}

@@ -2,7 +2,7 @@ use Rattle.std.proofs.Common.{[], sym, ap, subst, ◌∙◌, arith}
 use Rattle.std.specs.FinMap as map
 use Rattle.std.proofs.lemmas.List.Elements.{All-nil}
 use Rattle.sys_abi.specs.Orders.{vpid_cmp}
-use Rattle.guest_proc.specs.Guests.{GuestPart}
+use Rattle.computation.specs.OfGuestProc.Guests.{GuestPart}
 use Rattle.plain_machine.specs.Valid.{IsValid}
 use Rattle.plain_machine.proofs.StartKernels.{start_is_valid}
 use Rattle.run_start.proofs.Starts.{nothing_starts, nothing_named, all_arrived_at, no_datagrams_at}

@@ -1,5 +1,5 @@
-use Rattle.sys_abi.proofs.OrderLaws.{real_address_total}
-use Rattle.views.proofs.TreeMaps.{get-seen}
+use Rattle.id_maps.proofs.OfSysAbi.OrderLaws.{real_address_total}
+use Rattle.id_maps.proofs.OfViews.TreeMaps.{get-seen}
 use Rattle.virt_ids.proofs.by_real_address.ByRealAddress.get.Goals as goal
 
 pub returns : goal.returns

@@ -1,7 +1,7 @@
 use Rattle.std.proofs.Common.{refl, ap, ◌∙◌}
-use Rattle.sys_abi.specs.Orders.{real_address_cmp}
-use Rattle.sys_abi.proofs.OrderLaws.{real_address_total, real_address_exact}
-use Rattle.views.proofs.TreeMaps.{view, get-seen, view-lent}
+use Rattle.id_maps.specs.OfSysAbi.Orders.{real_address_cmp}
+use Rattle.id_maps.proofs.OfSysAbi.OrderLaws.{real_address_total, real_address_exact}
+use Rattle.id_maps.proofs.OfViews.TreeMaps.{view, get-seen, view-lent}
 use Rattle.virt_ids.proofs.by_real_address.ByRealAddress.get_mut.Goals as goal
 
 pub returns : goal.returns

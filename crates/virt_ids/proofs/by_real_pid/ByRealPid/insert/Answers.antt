@@ -1,7 +1,7 @@
 use Rattle.std.proofs.Common.{ap, ◌∙◌}
-use Rattle.sys_abi.proofs.OrderLaws.{real_pid_total, real_pid_exact}
+use Rattle.id_maps.proofs.OfSysAbi.OrderLaws.{real_pid_total, real_pid_exact}
 use Rattle.std.specs.FinMap as map
-use Rattle.views.proofs.TreeMaps.{get-seen, view-insert}
+use Rattle.id_maps.proofs.OfViews.TreeMaps.{get-seen, view-insert}
 use Rattle.virt_ids.proofs.by_real_pid.ByRealPid.insert.Goals as goal
 
 pub returns-clause-before : goal.returns-clause-before

@@ -1,7 +1,7 @@
 use Rattle.std.proofs.Common.{sym, ap, ◌∙◌}
-use Rattle.sys_abi.proofs.OrderLaws.{real_pid_total}
+use Rattle.id_maps.proofs.OfSysAbi.OrderLaws.{real_pid_total}
 use Rattle.std.specs.FinMap as map
-use Rattle.views.proofs.TreeMaps.{len-view}
+use Rattle.id_maps.proofs.OfViews.TreeMaps.{len-view}
 use Rattle.virt_ids.proofs.by_real_pid.ByRealPid.len.Goals as goal
 
 pub returns : goal.returns

@@ -1,9 +1,9 @@
 use Rattle.std.proofs.Common.{sym, ap, subst, ◌∙◌}
 use Rattle.std.specs.FinMap as map
 use Rattle.std.specs.Map.Calls.{CalledAtPair, RetainsPairs}
-use Rattle.sys_abi.proofs.OrderLaws.{real_pid_total}
-use Rattle.views.proofs.TreeMaps.{view, entries-view}
-use Rattle.sys_abi.specs.Orders.{real_pid_cmp}
+use Rattle.id_maps.proofs.OfSysAbi.OrderLaws.{real_pid_total}
+use Rattle.id_maps.proofs.OfViews.TreeMaps.{view, entries-view}
+use Rattle.id_maps.specs.OfSysAbi.Orders.{real_pid_cmp}
 use Rattle.virt_ids.proofs.by_real_pid.ByRealPid.retain_values.Goals as goal
 
 pub returns : goal.returns

@@ -1,5 +1,5 @@
 use Rattle.std.proofs.Common.{refl, sym, ap, subst, ◌∙◌}
-use Rattle.sys_abi.proofs.OrderLaws.{address_total, address_exact, real_address_total, real_address_exact}
+use Rattle.id_maps.proofs.OfSysAbi.OrderLaws.{address_total, address_exact, real_address_total, real_address_exact}
 use Rattle.virt_ids.specs.Pairs.{AreInverse}
 use Rattle.virt_ids.proofs.PairLaws.{paired, undone}
 use Rattle.virt_ids.proofs.ids.Ids.add_addr.Goals as goal

@@ -4,7 +4,7 @@ use Rattle.std.specs.FinMap.{nat_cmp-IsAntisymmetric}
 use Rattle.virt_ids.specs.Pairs.{AreInverse}
 use Rattle.virt_ids.proofs.PairLaws.{paired, undone}
 use Rattle.virt_ids.proofs.ids.Ids.add_pid.Goals as goal
-use Rattle.sys_abi.proofs.OrderLaws.{real_pid_total, real_pid_exact}
+use Rattle.id_maps.proofs.OfSysAbi.OrderLaws.{real_pid_total, real_pid_exact}
 
 pub invariant_of-self-in-Ok : goal.invariant_of-self-in-Ok
 invariant_of-self-in-Ok c = (

@@ -1,5 +1,5 @@
 use Rattle.std.proofs.Common.{refl}
-use Rattle.sys_abi.proofs.OrderLaws.{address_total, address_exact, real_address_total, real_address_exact}
+use Rattle.id_maps.proofs.OfSysAbi.OrderLaws.{address_total, address_exact, real_address_total, real_address_exact}
 use Rattle.virt_ids.proofs.PairLaws.{unpaired, unpaired_none}
 use Rattle.virt_ids.proofs.ids.Ids.drop_addr.Goals as goal
 

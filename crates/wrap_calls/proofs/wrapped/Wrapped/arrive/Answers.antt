@@ -1,7 +1,7 @@
 use Rattle.std.proofs.Common.{sym, ap, ◌∙◌, subst}
 use Rattle.plain_machine.specs.declared.kernel.PlainKernel.{PlainKernel}
-use Rattle.wrap_names.specs.Changes.{after_arrival, changed}
-use Rattle.wrap_names.specs.Wrapping.{IsWrapped}
+use Rattle.wrap_passing.specs.OfWrapNames.Changes.{after_arrival, changed}
+use Rattle.wrap_passing.specs.OfWrapNames.Wrapping.{IsWrapped}
 use Rattle.wrap_calls.proofs.wrapped.Wrapped.arrive.Goals as goal
 
 pub invariant_of-self : goal.invariant_of-self

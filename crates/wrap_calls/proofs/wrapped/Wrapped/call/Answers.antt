@@ -3,8 +3,8 @@ use Rattle.views.specs.Numbers.{Byte}
 use Rattle.std.specs.Prelude.{List}
 use Rattle.plain_machine.specs.declared.kernel.PlainKernel.{PlainKernel}
 use Rattle.plain_machine.specs.Serve.{row}
-use Rattle.wrap_names.specs.Changes.{changed}
-use Rattle.wrap_names.specs.Wrapping.{Answers, IsWrapped, kernel_left}
+use Rattle.wrap_passing.specs.OfWrapNames.Changes.{changed}
+use Rattle.wrap_passing.specs.OfWrapNames.Wrapping.{Answers, IsWrapped, kernel_left}
 use Rattle.wrap_calls.proofs.Answered.{stands_then, answers_then}
 use Rattle.wrap_calls.proofs.wrapped.Wrapped.call.Goals as goal
 
