@@ -1,5 +1,6 @@
 #!/usr/bin/env bash
-# Runs the built program once for each status that it can end with but 20, and compares its console and its log's last line.
+# Runs the built program once or more for each status that it can end with but 20, and compares its console and its log's
+# last line.
 #
 # Usage: tools/each_status.sh [DMTCP]
 #

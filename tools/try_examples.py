@@ -5,8 +5,8 @@
 
 DMTCP is a built program, else crates/dmtcp/out/dmtcp, which `cd crates/dmtcp && rt run -- --version` proves and builds.
 A command is a line of four blanks, and what it prints the block below it, in which `..` stands for any lines. Each
-section of the page begins without sets, and so does each launch with checkpoints. It ends with status 1 where a command
-prints anything else.
+section of the page begins without sets, and where the line above a command is `rm -r dmtcp_set` they are removed there.
+It ends with status 1 where a command prints anything else.
 """
 
 import re
@@ -19,7 +19,9 @@ from pathlib import Path
 from built import HOME, built_program
 
 EXAMPLES = HOME / "examples"
-COMMAND = re.compile(r"^    ((?:dmtcp|\.\./tools/show\.py) [^\n]*)\n\n```\n(.*?)^```", re.M | re.S)
+COMMAND = re.compile(
+    r"^(    rm -r dmtcp_set\n)?    ((?:dmtcp|\.\./tools/show\.py) [^\n]*)\n\n```\n(.*?)^```", re.M | re.S
+)
 ANY_LINES = re.compile(r"^\.\.\n", re.M)
 LONGEST_RUN = 300  # seconds
 
@@ -33,8 +35,6 @@ def fits(printed: str, wanted: str) -> bool:
 def run(command: str, program: str, folder: Path) -> str:
     """What a command prints, the console before the log."""
     name, *words = command.split()
-    if words[0] == "launch" and "--every" in words:
-        shutil.rmtree(folder / "dmtcp_set", ignore_errors=True)
     path = program if name == "dmtcp" else str(HOME / "tools" / "show.py")
     done = subprocess.run(
         [path, *words], cwd=folder, capture_output=True, text=True, timeout=LONGEST_RUN, check=False
@@ -49,7 +49,9 @@ def try_section(section: str, program: str) -> tuple[int, int]:
         folder = Path(name)
         for guest in [*EXAMPLES.glob("*.elf"), EXAMPLES / "script"]:
             shutil.copy(guest, folder)
-        for command, wanted in commands:
+        for removal, command, wanted in commands:
+            if removal:
+                shutil.rmtree(folder / "dmtcp_set")
             printed = run(command, program, folder)
             if not fits(printed, wanted):
                 failures += 1

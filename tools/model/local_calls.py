@@ -66,7 +66,7 @@ def _rt_sigaction(process: Process, thread: Thread) -> int:
     if new:
         process.actions[signal] = Action(_word(process, new), _word(process, new + 4), _set_at(process, new + 8))
     if old:
-        # The last 4 bytes "are read as 0": as 0 they are written here, and left out of account above.
+        # The last 4 bytes of the old action are 0, and those of the new one are not looked at.
         fields = [before.handler, before.flags, before.mask, 0]
         process.memory.poke(old, b"".join(word_bytes(word) for word in fields))
     return 0

@@ -13,7 +13,7 @@ STACK_END = 0x80000000
 RETURN_PAGE = STACK_END >> PAGE_SHIFT
 RETURN_ADDRESS = STACK_END
 RETURN_CODE = words_bytes([0x08B00893, 0x00000073])
-"""`li a7, 139; ecall`, to which a signal handler returns."""
+"""`addi a7, x0, 139` and `ecall`, to which a signal handler returns."""
 STANDARD_DESCRIPTORS = (0, 1, 2)
 FIRST_FILE = 1
 

@@ -15,8 +15,9 @@ and cut off by --records, and goes on from its last set, cut off in the same way
 each restart is on other nodes, with other numbers of processes and ports, than the one before. At last it is
 begun anew, killed a few times while it runs, and brought to its end. It ends with status 1 where the host's
 own program writes other bytes than the undisturbed run, where a byte of the console is missing, comes twice
-or is another one in what the calls wrote up to the cuts, or where the files in the last set are not what the
-host's own program makes. --small gives each of them little to do, for a slow build. """
+or is another one in what the calls wrote up to the cuts, or where, in the last set on other nodes, the file
+of bzip2 is not what the host's own program makes, or the host's own sqlite3 finds other answers in the
+database of sqlite. --small gives each of them little to do, for a slow build. """
 
 import argparse
 import itertools
