@@ -1,7 +1,12 @@
-ghost use Rattle.std.specs.Prelude.{◌≡◌, ◌≤◌, ◌⊎◌, ◌||◌, [], Some, None, IsSome, false, length, option_map, IfOk, OnOk, OnErr, string_bytes};
+ghost use Rattle.std.specs.Prelude.{◌≡◌, ◌≤◌, ◌⊎◌, ◌||◌, [], Some, None, false, length, option_map, if◌then◌else◌, IsTrue, MatchBool, IsSome, IfSome, IfOk, OnOk, OnErr, ⊤, string_bytes};
+ghost use Rattle.std.specs.FinMap as map;
+ghost use Rattle.std.specs.Result.{result_err};
+ghost use Rattle.disk_folder.specs.Files.{contents, with_write, with_cut};
+ghost use Rattle.disk_folder.specs.Crash.{CutOrNot, IsSettled, Same, Takes, Torn};
 ghost use Rattle.disk_folder.specs.Faults.{HasCause};
+ghost use Rattle.disk_folder.specs.Moments.{Passes};
 ghost use Rattle.set_disk.specs.HostNames.{host_path};
-ghost use Rattle.set_disk.specs.Owed.{files_owed, owes_folder, with_file, cut_to};
+ghost use Rattle.set_disk.specs.Owed.{files_owed, owes_folder, with_file, cut_to, is_at_cut, MadeOrKept, MayOwe};
 ghost use Rattle.set_disk.specs.Untold.{without_content};
 ghost use Rattle.set_disk.specs.declared.owed.Owed.TheVariants.{All};
 
@@ -64,9 +69,8 @@ impl<R: Files<File = File> + AllocGlobal + Clone + Drop> HostFolder<R> {
     /// Makes the cut that was put off. Until then, also after a failure, it is to be made.
     fn make_cut(&mut self) -> Result<(), DiskFault>
         ensures done { OnOk result (self.new.cut ≡ None) }
-        ensures owed { self.new.owed ≡ self.old.owed }
-        ensures place { self.new.path ≡ self.old.path }
-        ensures faults { self.new.faults ≡ self.old.faults }
+        ensures kept { OnErr result (self.new.cut ≡ self.old.cut) }
+        ensures rest { self.new ≡ record self.old { cut = self.new.cut } }
     {
         let Some(cut) = self.cut else {
             return Ok(());
@@ -80,11 +84,13 @@ impl<R: Files<File = File> + AllocGlobal + Clone + Drop> HostFolder<R> {
     /// The path of a file that is to be read, once the folder is as calls have left it.
     fn path_to_read(&mut self, name: FileName) -> Result<String, DiskFault>
         ensures path { IfOk result (λ path. string_bytes path ≡ host_path (string_bytes self.old.path) name) }
-        ensures place { self.new.path ≡ self.old.path }
-        ensures faults { self.new.faults ≡ self.old.faults }
+        ensures done { OnOk result (self.new.cut ≡ None) }
+        ensures kept { OnErr result (self.new.cut ≡ self.old.cut) }
+        ensures rest { self.new ≡ record self.old { cut = self.new.cut } }
     {
+        let path = self.path_of(name)?;
         self.make_cut()?;
-        self.path_of(name)
+        Ok(path)
     }
 
     /// The path of a file that is to be changed, once the folder is there. The next sync owes the file.
@@ -92,8 +98,11 @@ impl<R: Files<File = File> + AllocGlobal + Clone + Drop> HostFolder<R> {
         ensures path { IfOk result (λ path. string_bytes path ≡ host_path (string_bytes self.old.path) name) }
         ensures owes { OnOk result
             (files_owed self.new.owed ≡ option_map (with_file name) (files_owed self.old.owed)) }
-        ensures place { self.new.path ≡ self.old.path }
-        ensures faults { self.new.faults ≡ self.old.faults }
+        ensures failed { OnErr result (MayOwe name self.old.owed self.new.owed) }
+        ensures folder { owes_folder self.new.owed ≡ owes_folder self.old.owed }
+        ensures held { OnOk result (IsSome self.new.held) }
+        ensures stays { IsSome self.old.held → self.new.held ≡ self.old.held }
+        ensures rest { self.new ≡ record self.old { owed = self.new.owed; held = self.new.held } }
     {
         let path = self.path_of(name)?;
         self.owed.add_file(name)?;
@@ -104,9 +113,8 @@ impl<R: Files<File = File> + AllocGlobal + Clone + Drop> HostFolder<R> {
     /// Makes the folder where it is missing, and takes it, at the first sync or change.
     fn take(&mut self) -> Result<(), DiskFault>
         ensures held { OnOk result (IsSome self.new.held) }
-        ensures owed { self.new.owed ≡ self.old.owed }
-        ensures place { self.new.path ≡ self.old.path }
-        ensures faults { self.new.faults ≡ self.old.faults }
+        ensures stays { IsSome self.old.held → self.new.held ≡ self.old.held }
+        ensures rest { self.new ≡ record self.old { held = self.new.held } }
     {
         if self.held.is_none() {
             self.held = Some(take_folder(&self.rt, self.path.as_str())?);
@@ -114,46 +122,79 @@ impl<R: Files<File = File> + AllocGlobal + Clone + Drop> HostFolder<R> {
         Ok(())
     }
 
-    /// Takes down a cut that the next call makes.
+    /// Takes down a cut that the next call makes, once the one before it was made.
     fn put_off(&mut self, name: FileName, len: u64) -> Result<(), DiskFault>
         ensures cut { OnOk result (self.new.cut ≡ Some (cut_to name len)) }
+        ensures kept { OnErr result (self.new.cut ≡ self.old.cut) }
         ensures owes { OnOk result
             (files_owed self.new.owed ≡ option_map (with_file name) (files_owed self.old.owed)) }
+        ensures failed { OnErr result (MayOwe name self.old.owed self.new.owed) }
+        ensures folder { owes_folder self.new.owed ≡ owes_folder self.old.owed }
+        ensures held { OnOk result (IsSome self.new.held) }
+        ensures stays { IsSome self.old.held → self.new.held ≡ self.old.held }
         ensures place { self.new.path ≡ self.old.path }
         ensures faults { self.new.faults ≡ self.old.faults }
     {
-        self.make_cut()?;
         self.path_to_change(name)?;
+        self.make_cut()?;
         self.cut = Some(PutOff { name, len });
         Ok(())
     }
 
-    /// Writes, and answers whether the file was made. A cut to where the write begins is made with it.
+    /// Whether the cut that was put off is of this file, to this length.
+    fn is_at_cut(&self, name: FileName, at: u64) -> bool
+        ensures { result ≡ is_at_cut self.now.cut name at }
+    {
+        self.cut
+            .is_some_and(|cut| cut.name == name && cut.len == at)
+    }
+
+    /// Makes the cut that was put off, unless a write there makes it.
+    fn make_cut_before(&mut self, name: FileName, at: u64) -> Result<(), DiskFault>
+        ensures left { OnOk result
+            (self.new.cut ≡ (if is_at_cut self.old.cut name at then self.old.cut else None)) }
+        ensures kept { OnErr result (self.new.cut ≡ self.old.cut) }
+        ensures rest { self.new ≡ record self.old { cut = self.new.cut } }
+    {
+        if self.is_at_cut(name, at) {
+            return Ok(());
+        }
+        self.make_cut()
+    }
+
+    /// Writes, and answers whether the file was made. A cut to where the write begins is made with it, any
+    /// other before it.
     fn write(&mut self, name: FileName, at: u64, bytes: &[u8]) -> Result<bool, DiskFault>
         ensures cut { OnOk result (self.new.cut ≡ None) }
+        ensures kept { OnErr result (MatchBool (is_at_cut self.old.cut name at)
+            (self.new.cut ≡ self.old.cut) (MadeOrKept self.old.cut self.new.cut)) }
         ensures owes { OnOk result
             (files_owed self.new.owed ≡ option_map (with_file name) (files_owed self.old.owed)) }
+        ensures folder { owes_folder self.new.owed ≡ owes_folder self.old.owed }
+        ensures held { OnOk result (IsSome self.new.held) }
+        ensures stays { IsSome self.old.held → self.new.held ≡ self.old.held }
         ensures place { self.new.path ≡ self.old.path }
         ensures faults { self.new.faults ≡ self.old.faults }
     {
         let path = self.path_to_change(name)?;
-        if let Some(cut) = self.cut
-            && cut.name == name
-            && cut.len == at
-        {
-            let is_made = overwrite_file(&self.rt, path.as_str(), at, bytes)?;
-            self.cut = None;
-            return Ok(is_made);
-        }
-        self.make_cut()?;
-        write_file(&self.rt, path.as_str(), at, bytes)
+        self.make_cut_before(name, at)?;
+        let is_made = match self.cut {
+            Some(_) => overwrite_file(&self.rt, path.as_str(), at, bytes)?,
+            None => write_file(&self.rt, path.as_str(), at, bytes)?,
+        };
+        self.cut = None;
+        Ok(is_made)
     }
 
-    /// Makes durable what is owed. After a failure all is owed, or, where the folder can't be taken, what was.
+    /// Makes durable what is owed. After a failure all is owed, or what was, where the folder can't be taken.
     fn sync_owed(&mut self) -> Result<(), DiskFault>
         ensures files { OnOk result (files_owed self.new.owed ≡ Some []) }
         ensures folder { OnOk result (owes_folder self.new.owed ≡ false) }
+        ensures cut { OnOk result (self.new.cut ≡ None) }
         ensures failed { OnErr result ((self.new.owed ≡ All) ⊎ (self.new.owed ≡ self.old.owed)) }
+        ensures kept { OnErr result (MadeOrKept self.old.cut self.new.cut) }
+        ensures held { OnOk result (IsSome self.new.held) }
+        ensures stays { IsSome self.old.held → self.new.held ≡ self.old.held }
         ensures place { self.new.path ≡ self.old.path }
         ensures faults { self.new.faults ≡ self.old.faults }
     {
@@ -175,7 +216,8 @@ impl<R: Files<File = File> + AllocGlobal + Clone + Drop> HostFolder<R> {
         ensures folder { IfOk answer (λ is_made.
             owes_folder self.new.owed ≡ (is_made || owes_folder self.old.owed)) }
         ensures failed { OnErr result (self.new.owed ≡ All) }
-        ensures place { self.new.path ≡ self.old.path }
+        ensures same { result_err result ≡ result_err answer }
+        ensures rest { self.new ≡ record self.old { owed = self.new.owed; faults = self.new.faults } }
         ensures cause { HasCause result self.old.faults self.new.faults }
     {
         match self.count(answer) {
@@ -192,8 +234,7 @@ impl<R: Files<File = File> + AllocGlobal + Clone + Drop> HostFolder<R> {
     /// Counts the answer, if it is a fault.
     fn count<T: Drop>(&mut self, answer: Result<T, DiskFault>) -> Result<T, DiskFault>
         ensures same { result ≡ answer }
-        ensures owed { self.new.owed ≡ self.old.owed }
-        ensures place { self.new.path ≡ self.old.path }
+        ensures rest { self.new ≡ record self.old { faults = self.new.faults } }
         ensures cause { HasCause result self.old.faults self.new.faults }
     {
         let _in_range = self.faults;
@@ -207,7 +248,18 @@ impl<R: Files<File = File> + AllocGlobal + Clone + Drop> HostFolder<R> {
 impl<R: Files<File = File> + AllocGlobal + Clone + Drop> Folder for HostFolder<R> {
     ghost seen = { λ folder. without_content folder.faults };
 
-    fn len(&mut self, name: FileName) -> Result<Option<u64>, DiskFault> {
+    fn len(&mut self, name: FileName) -> Result<Option<u64>, DiskFault>
+        ensures done { OnOk result (self.new.cut ≡ None) }
+        ensures kept { OnErr result (MadeOrKept self.old.cut self.new.cut) }
+        ensures rest { self.new ≡ record self.old { cut = self.new.cut; faults = self.new.faults } }
+
+        ensures told { IfOk result (λ len. IfSome (without_content self.old.faults).files
+            (λ files. len ≡ option_map length (map.get files name))) }
+        ensures same { (without_content self.new.faults).files ≡ (without_content self.old.faults).files }
+        ensures crash { Passes Same (without_content self.old.faults) (without_content self.new.faults) }
+        ensures cause { HasCause result self.old.faults self.new.faults }
+        ensures want { result ≡ Err DiskFault.Memory → ⊤ }
+    {
         let answer = match self.path_to_read(name) {
             Ok(path) => length_of(&self.rt, path.as_str()),
             Err(fault) => Err(fault),
@@ -215,7 +267,19 @@ impl<R: Files<File = File> + AllocGlobal + Clone + Drop> Folder for HostFolder<R
         self.count(answer)
     }
 
-    fn read_at(&mut self, name: FileName, at: u64, buf: &mut [u8]) -> Result<usize, DiskFault> {
+    fn read_at(&mut self, name: FileName, at: u64, buf: &mut [u8]) -> Result<usize, DiskFault>
+        ensures done { OnOk result (self.new.cut ≡ None) }
+        ensures kept { OnErr result (MadeOrKept self.old.cut self.new.cut) }
+        ensures rest { self.new ≡ record self.old { cut = self.new.cut; faults = self.new.faults } }
+
+        // Of the bytes themselves it tells nothing, so nothing is left of `placed` and `bytes`.
+        ensures fits { IfOk result (λ n. n ≤ length buf.old) }
+        ensures memory { result ≡ Err DiskFault.Memory → buf.new ≡ buf.old }
+        ensures same { (without_content self.new.faults).files ≡ (without_content self.old.faults).files }
+        ensures crash { Passes Same (without_content self.old.faults) (without_content self.new.faults) }
+        ensures cause { HasCause result self.old.faults self.new.faults }
+        ensures want { result ≡ Err DiskFault.Memory → ⊤ }
+    {
         let answer = match self.path_to_read(name) {
             Ok(path) => read_file(&self.rt, path.as_str(), at, buf),
             Err(fault) => Err(fault),
@@ -223,17 +287,84 @@ impl<R: Files<File = File> + AllocGlobal + Clone + Drop> Folder for HostFolder<R
         self.count(answer)
     }
 
-    fn write_at(&mut self, name: FileName, at: u64, bytes: &[u8]) -> Result<(), DiskFault> {
+    fn write_at(&mut self, name: FileName, at: u64, bytes: &[u8]) -> Result<(), DiskFault>
+        ensures owes { OnOk result
+            (files_owed self.new.owed ≡ option_map (with_file name) (files_owed self.old.owed)) }
+        ensures folder { OnOk result
+            (IsTrue (owes_folder self.old.owed) → IsTrue (owes_folder self.new.owed)) }
+        ensures owes_all { OnErr result (self.new.owed ≡ All) }
+        ensures done { OnOk result (self.new.cut ≡ None) }
+        ensures kept { OnErr result (MatchBool (is_at_cut self.old.cut name at)
+            (self.new.cut ≡ self.old.cut) (MadeOrKept self.old.cut self.new.cut)) }
+        ensures held { OnOk result (IsSome self.new.held) }
+        ensures stays { IsSome self.old.held → self.new.held ≡ self.old.held }
+        ensures place { self.new.path ≡ self.old.path }
+
+        ensures written { OnOk result
+            ((without_content self.new.faults).files ≡ option_map
+            (λ files. with_write files name at bytes.now) (without_content self.old.faults).files) }
+        ensures failed { result ≡ Err DiskFault.Failed
+            → Takes (Torn name at (length bytes.now))
+            (without_content self.old.faults).files (without_content self.new.faults).files }
+        ensures memory { result ≡ Err DiskFault.Memory
+            → (without_content self.new.faults).files ≡ (without_content self.old.faults).files }
+        ensures crash { Passes (Torn name at (length bytes.now))
+            (without_content self.old.faults) (without_content self.new.faults) }
+        ensures memory_crash { result ≡ Err DiskFault.Memory
+            → Passes Same (without_content self.old.faults) (without_content self.new.faults) }
+        ensures cause { HasCause result self.old.faults self.new.faults }
+        ensures want { result ≡ Err DiskFault.Memory → ⊤ }
+    {
         let answer = self.write(name, at, bytes);
         self.count_write(answer)
     }
 
-    fn cut(&mut self, name: FileName, len: u64) -> Result<(), DiskFault> {
+    fn cut(&mut self, name: FileName, len: u64) -> Result<(), DiskFault>
+        ensures owes { OnOk result
+            (files_owed self.new.owed ≡ option_map (with_file name) (files_owed self.old.owed)) }
+        ensures may_owe { OnErr result (MayOwe name self.old.owed self.new.owed) }
+        ensures folder { owes_folder self.new.owed ≡ owes_folder self.old.owed }
+        ensures put_off { OnOk result (self.new.cut ≡ Some (cut_to name len)) }
+        ensures kept { OnErr result (self.new.cut ≡ self.old.cut) }
+        ensures held { OnOk result (IsSome self.new.held) }
+        ensures stays { IsSome self.old.held → self.new.held ≡ self.old.held }
+        ensures place { self.new.path ≡ self.old.path }
+
+        ensures cut { OnOk result
+            ((without_content self.new.faults).files ≡ option_map
+            (λ files. with_cut files name len) (without_content self.old.faults).files) }
+        ensures failed { result ≡ Err DiskFault.Failed
+            → Takes (CutOrNot name len)
+            (without_content self.old.faults).files (without_content self.new.faults).files }
+        ensures memory { result ≡ Err DiskFault.Memory
+            → (without_content self.new.faults).files ≡ (without_content self.old.faults).files }
+        ensures crash { Passes (CutOrNot name len)
+            (without_content self.old.faults) (without_content self.new.faults) }
+        ensures memory_crash { result ≡ Err DiskFault.Memory
+            → Passes Same (without_content self.old.faults) (without_content self.new.faults) }
+        ensures cause { HasCause result self.old.faults self.new.faults }
+        ensures want { result ≡ Err DiskFault.Memory → ⊤ }
+    {
         let answer = self.put_off(name, len);
         self.count(answer)
     }
 
-    fn sync(&mut self) -> Result<(), DiskFault> {
+    fn sync(&mut self) -> Result<(), DiskFault>
+        ensures files { OnOk result (files_owed self.new.owed ≡ Some []) }
+        ensures folder { OnOk result (owes_folder self.new.owed ≡ false) }
+        ensures done { OnOk result (self.new.cut ≡ None) }
+        ensures failed { OnErr result ((self.new.owed ≡ All) ⊎ (self.new.owed ≡ self.old.owed)) }
+        ensures kept { OnErr result (MadeOrKept self.old.cut self.new.cut) }
+        ensures held { OnOk result (IsSome self.new.held) }
+        ensures stays { IsSome self.old.held → self.new.held ≡ self.old.held }
+        ensures place { self.new.path ≡ self.old.path }
+
+        ensures durable { OnOk result (IsSettled (without_content self.new.faults)) }
+        ensures same { (without_content self.new.faults).files ≡ (without_content self.old.faults).files }
+        ensures crash { Passes Same (without_content self.old.faults) (without_content self.new.faults) }
+        ensures cause { HasCause result self.old.faults self.new.faults }
+        ensures want { result ≡ Err DiskFault.Memory → ⊤ }
+    {
         let answer = self.sync_owed();
         self.count(answer)
     }
