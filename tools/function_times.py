@@ -1,7 +1,7 @@
 #!/usr/bin/env python3
 """Tells which functions take the checks of a command longest.
 
-    tools/function_times.py [--over SECONDS] [COMMAND ..]
+    tools/function_times.py [--over SECONDS] [--so-far FILE] [COMMAND ..]
 
 The command is `rt ci` where none is given, and may be `tools/gate_cost.py ..`. A check from nothing, as that
 command makes them, writes a file for each part of what it proves of a function, into a folder of the
@@ -9,8 +9,8 @@ temporary folder whose name has the number of its process; this looks at all suc
 runs. A part took from the file before it to its own, in seconds of the processor that the process used, as
 far as two looks a second tell; where checks share a processor with others, these are some more.
 Standard output gets a table in Markdown of the functions, tests and files of lemmas that took longer (than
-10 s where nothing else is said), or a line that none did; what the command writes goes to standard error. The
-status is the command's.
+10 s where nothing else is said), or a line that none did; with --so-far the file gets it each minute too. What
+the command writes goes to standard error. The status is the command's.
 """
 
 import argparse
@@ -25,6 +25,7 @@ from collections import defaultdict
 from pathlib import Path
 
 PERIOD = 0.5  # seconds from look to look
+TELLING = 60  # seconds from one table so far to the next
 FOLDERS = "rattle-logic-built-locked-*"  # of a check each
 PROCESS = re.compile(r"-(\d+)-\d+$")  # at the end of a folder's name
 TICKS = os.sysconf("SC_CLK_TCK")
@@ -106,18 +107,27 @@ def table(rows):
     return "\n".join(["| Function | Seconds |", "| --- | --- |", *lines])
 
 
+def told(watch, over):
+    rows = [row for row in watch.seconds() if row[1] > over]
+    return table(rows) if rows else f"No function took more than {over:g} s."
+
+
 def main():
     reader = argparse.ArgumentParser(description="Tells which functions take a command's checks longest.")
     reader.add_argument("--over", type=float, default=10, metavar="SECONDS", help="none: 10")
+    reader.add_argument("--so-far", metavar="FILE", help="where the table stands while the command runs")
     reader.add_argument("command", nargs=argparse.REMAINDER, metavar="COMMAND", help="none: rt ci")
     options = reader.parse_args()
     watch = Watch()
     running = subprocess.Popen(options.command or ["rt", "ci"], stdout=sys.stderr)
+    next_told = time.monotonic() + TELLING
     while running.poll() is None:
         watch.look()
+        if options.so_far and time.monotonic() > next_told:
+            Path(options.so_far).write_text(told(watch, options.over) + "\n")
+            next_told = time.monotonic() + TELLING
         time.sleep(PERIOD)
-    rows = [row for row in watch.seconds() if row[1] > options.over]
-    print(table(rows) if rows else f"No function took more than {options.over:g} s.")
+    print(told(watch, options.over))
     return running.returncode if running.returncode >= 0 else 128 - running.returncode
 
 

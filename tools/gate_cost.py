@@ -5,8 +5,10 @@
 
 The command is `rt ci` where none is given. What an earlier run on this machine passed is not done again
 and costs nothing here; `rt ci --anew` does all. What the command writes goes to standard error. Standard
-output gets a table in Markdown, the longest chain of crates that wait for one another, and what is over
-the budget. --raw writes the figures as JSON. The status is the command's.
+output gets how long it took, a table in Markdown, the longest chain of crates that wait for one another, and
+what is over the budget; and how long the host of this machine, where it is a virtual one, had the processors do
+something else meanwhile (the kernel's "steal"), by which the clock says more than the work takes. --raw writes
+the figures as JSON. The status is the command's.
 
 A process belongs to the crate that its words name: to the edits where it runs in a copy with an edit, to
 the tests where it proves or runs those, and else to the proof, with the builds of a program. What belongs
@@ -20,7 +22,7 @@ import re
 import sys
 from pathlib import Path
 
-from process_times import measure
+from process_times import TICK, measure
 
 TOP = Path(__file__).resolve().parent.parent
 PHASES = ["proof", "tests", "edits"]
@@ -114,18 +116,25 @@ def over_budget(crates, cost):
     return over + [f"in all: {cost.usage.total:,.0f} s of {TOTAL_MOST:,}"] * (cost.usage.total > TOTAL_MOST)
 
 
-def report(command, cost):
+def stolen():
+    """The seconds for which this machine's host had its processors do something else, those that are used here."""
+    mine = {f"cpu{it}" for it in os.sched_getaffinity(0)}
+    rows = [line.split() for line in Path("/proc/stat").read_text().splitlines()]
+    return sum(int(row[8]) for row in rows if row and row[0] in mine) / TICK
+
+
+def report(command, cost, taken):
     crates = dependencies()
     chain, seconds = longest_chain(crates, cost)
     minutes, processors = cost.usage.clock / 60, len(os.sched_getaffinity(0))
     took = f"{minutes:,.1f} minutes on {processors} processors, and {cost.usage.total:,.0f} s of them"
-    print(f"`{' '.join(command)}` took {took}:\n\n{table(crates, cost)}\n")
+    print(f"`{' '.join(command)}` took {took}; the host took {taken:,.0f} s:\n\n{table(crates, cost)}\n")
     print(f"The longest chain of proofs takes {seconds:,.0f} s: {', '.join(f'`{it}`' for it in chain)}.\n")
     over = over_budget(crates, cost)
     print("Over the budget: " + "; ".join(over) + "." if over else "Nothing is over the budget.")
 
 
-def write_raw(file, command, cost):
+def write_raw(file, command, cost, taken):
     usage = cost.usage
     places = [place for place in usage.seconds if place]
     figures = {
@@ -133,6 +142,7 @@ def write_raw(file, command, cost):
         "status": usage.status,
         "clock": usage.clock,
         "total": usage.total,
+        "stolen": taken,
         "other": cost.other(),
         "seconds": {" ".join(place): usage.seconds[place] for place in sorted(places)},
         "memory": {" ".join(place): usage.memory[place] for place in sorted(places)},
@@ -146,10 +156,12 @@ def main():
     reader.add_argument("command", nargs=argparse.REMAINDER, metavar="COMMAND", help="none: rt ci")
     options = reader.parse_args()
     command = options.command or ["rt", "ci"]
+    before = stolen()
     cost = Cost(measure(command, place_of))
-    report(command, cost)
+    taken = stolen() - before
+    report(command, cost, taken)
     if options.raw:
-        write_raw(options.raw, command, cost)
+        write_raw(options.raw, command, cost, taken)
     return cost.usage.status if cost.usage.status >= 0 else 128 - cost.usage.status
 
 
