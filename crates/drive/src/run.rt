@@ -98,24 +98,79 @@ impl Start {
     {
         let room = trace.room();
         for _record in 0..room {
-            if !self.computation.lives() {
-                return LoopEnd::Done;
-            }
-            if trace.room() == 0 {
-                return LoopEnd::Budget;
-            }
-            let Some(choice) = rounds.choose(&self.computation) else {
-                return LoopEnd::Stuck;
-            };
-            match self.step(alloc, rounds, choice, out, log, disk, trace) {
+            match self.make_record(alloc, rounds, out, log, disk, trace) {
                 Ok(()) => {}
-                Err(stop) => return ended_by(stop),
+                Err(end) => return end,
             }
         }
         if self.computation.lives() {
             LoopEnd::Budget
         } else {
             LoopEnd::Done
+        }
+    }
+
+    /// Makes the next record and the checkpoint that it asks for, or tells how the run ends here.
+    fn make_record<O: Sink, L: Sink, F: Folder>(
+        &mut self,
+        alloc: Global,
+        rounds: &mut Rounds,
+        out: &mut O,
+        log: &mut L,
+        disk: &mut F,
+        trace: &mut Trace,
+    ) -> Result<(), LoopEnd>
+        requires ready { IsReady self.old.computation }
+        requires told { IsToldOf rounds.old.come (plain_of self.old.computation).users }
+        requires every { IfSome self.old.checkpointer.schedule.every (λ every. 0 < every) }
+        requires work { self.old.checkpointer.tally.work + 3 < 2 ^ 64 }
+        requires request { self.old.checkpointer.lines.request + 1 < 2 ^ 64 }
+        requires drained { self.old.checkpointer.lines.drained ≡ 0 }
+        requires kept { self.old.checkpointer.schedule.every ≢ None
+            → IsKept self.old.checkpointer (F.seen disk.old) }
+        ensures going { OnOk result ((schedule : Schedule) (g : Plain) (had told : Option (List ℕ)) (first : F)
+            → IsGoing schedule g self.old rounds.old trace.old
+            (sunk had (O.seen out.old).taken) (sunk told (L.seen log.old).taken) (F.seen first)
+            (F.seen disk.old)
+            → IsGoing schedule g self.new rounds.new trace.new
+            (sunk had (O.seen out.new).taken) (sunk told (L.seen log.new).taken) (F.seen first)
+            (F.seen disk.new)) }
+        ensures ready { OnOk result (IsReady self.new.computation) }
+        ensures told { OnOk result (IsToldOf rounds.new.come (plain_of self.new.computation).users) }
+        ensures kept { OnOk result (self.old.checkpointer.schedule.every ≢ None
+            → IsKept self.new.checkpointer (F.seen disk.new)) }
+        ensures ended { IfErr result (λ end. (schedule : Schedule) (g : Plain) (room : ℕ)
+            (had told : Option (List ℕ)) (first : F)
+            → IsGoing schedule g self.old rounds.old trace.old
+            (sunk had (O.seen out.old).taken) (sunk told (L.seen log.old).taken) (F.seen first)
+            (F.seen disk.old)
+            → length trace.old.records + trace.old.room ≡ room
+            → HasEnded end schedule g room trace.new.records (plain_of self.new.computation)
+            (sunk had (O.seen out.new).taken) (sunk told (L.seen log.new).taken) (F.seen first)
+            (F.seen disk.new)) }
+        ensures size { OnOk result (length trace.new.records + trace.new.room
+            ≡ length trace.old.records + trace.old.room) }
+        ensures less { OnOk result (trace.new.room < trace.old.room) }
+        ensures schedule { self.new.checkpointer.schedule ≡ self.old.checkpointer.schedule }
+        ensures untouched { self.old.checkpointer.schedule.every ≡ None → disk.new ≡ disk.old }
+        ensures cause { IsErrOf result LoopEnd.SinkFault
+            → Rose (O.seen out.old).faults (O.seen out.new).faults
+            ⊎ Rose (L.seen log.old).faults (L.seen log.new).faults }
+        ensures later { (O.seen out.old).faults ≤ (O.seen out.new).faults }
+        ensures log_later { (L.seen log.old).faults ≤ (L.seen log.new).faults }
+    {
+        if !self.computation.lives() {
+            return Err(LoopEnd::Done);
+        }
+        if trace.room() == 0 {
+            return Err(LoopEnd::Budget);
+        }
+        let Some(choice) = rounds.choose(&self.computation) else {
+            return Err(LoopEnd::Stuck);
+        };
+        match self.step(alloc, rounds, choice, out, log, disk, trace) {
+            Ok(()) => Ok(()),
+            Err(stop) => Err(ended_by(stop)),
         }
     }
 

@@ -1,12 +1,11 @@
 -- The answers of the loop of a run: how it begins, what each record keeps, and how the run ends.
-use Rattle.std.proofs.Common.{◌≡◌, ◌<◌, length, inl, refl, sym, ap, ◌∙◌, arith}
+use Rattle.std.proofs.Common.{◌≡◌, length, inl, refl, sym, ap, ◌∙◌, arith}
 use Rattle.trace_log.specs.declared.requests.Schedule.{Schedule}
 use Rattle.trace_log.specs.Turns.{NewRound}
 use Rattle.plain_machine.specs.Tests.{ended}
 use Rattle.drive.specs.HandedOn.{plain_of}
-use Rattle.drive.proofs.Choosing.{chosen_so, ended_if, goes_on_if, is_free, none_left, work_is_few}
-use Rattle.drive.proofs.Ended.{at_end, at_full, at_rest, ended_so}
-use Rattle.drive.proofs.Standstill.{stands_still}
+use Rattle.drive.proofs.Choosing.{ended_if, goes_on_if, work_is_few}
+use Rattle.drive.proofs.Ended.{at_end, at_full}
 use Rattle.drive.proofs.Starting.{starting}
 use Rattle.drive.proofs.start.Start.go_on.Goals as goal
 
@@ -29,33 +28,8 @@ loop-record-init g c =
       log_later = omega arith;
     }
 
-pub returns-then-not-lives-clause-ended : goal.returns-then-not-lives-clause-ended
-returns-then-not-lives-clause-ended g c =
-    let l = c.loop-record in
-    let going = l.invariant.going in
-    let over = ended_if (ended (plain_of l.self.computation)) (sym c.lives.ensures ∙ c.if-not-lives.true) in
-    at_end _ (plain_of c.args.self.now.computation) (plain_of l.self.computation) going.upcoming l.trace _ c.args.trace.now.room l.self.checkpointer _ _ _ going.under going.settled (l.invariant.size ∙ c.room-room.ensures) over
-
-pub returns-then-room-eq0-clause-ended : goal.returns-then-room-eq0-clause-ended
-returns-then-room-eq0-clause-ended g c =
-    let l = c.loop-record in
-    let going = l.invariant.going in
-    let on = goes_on_if (ended (plain_of l.self.computation)) (sym c.lives.ensures ∙ c.if-not-lives.false) in
-    at_full _ (plain_of c.args.self.now.computation) (plain_of l.self.computation) going.upcoming l.trace _ c.args.trace.now.room l.self.checkpointer _ _ _ going.under (sym c.room.ensures ∙ c.if-room-eq0.true) (l.invariant.size ∙ c.room-room.ensures) on
-
-pub returns-in_default-clause-ended : goal.returns-in_default-clause-ended
-returns-in_default-clause-ended g c =
-    let l = c.loop-record in
-    let going = l.invariant.going in
-    let h = plain_of l.self.computation in
-    let some : 0 < l.trace.room = let room = c.room.ensures in let not_none = c.if-room-eq0.false in omega arith in
-    let on = goes_on_if (ended h) (sym c.lives.ensures ∙ c.if-not-lives.false) in
-    let nothing = none_left l.rounds h going.upcoming going.come (c.in_default.ensures.due going.upcoming going.come) in
-    let still = stands_still h l.invariant.ready.valid on nothing in
-    at_rest _ (plain_of c.args.self.now.computation) h going.upcoming l.trace _ c.args.trace.now.room l.self.checkpointer _ _ _ going.under (is_free _ _ _ _ l.trace _ _ _ _ going some) some (l.invariant.size ∙ c.room-room.ensures) still.0 still.1
-
-pub step-requires-clause-work : goal.step-requires-clause-work
-step-requires-clause-work g c =
+pub make_record-requires-clause-work : goal.make_record-requires-clause-work
+make_record-requires-clause-work g c =
     let l = c.loop-record in
     let few = work_is_few _ _ _ _ _ _ _ _ _ l.invariant.going in
     let size = l.invariant.size in
@@ -66,30 +40,23 @@ pub returns-in-Err-clause-ended : goal.returns-in-Err-clause-ended
 returns-in-Err-clause-ended g c =
     let l = c.loop-record in
     let s = c.args.self.now in
-    let going = l.invariant.going in
-    let some : 0 < l.trace.room = let room = c.room.ensures in let not_none = c.if-room-eq0.false in omega arith in
-    let chosen = chosen_so s.checkpointer.schedule (plain_of s.computation) l.self l.rounds l.trace _ _ _ _ going c.choose.new.self c.choose.result c.in-Some.choice some c.in-Some.is (c.choose.ensures.due going.upcoming going.come) in
-    let ended = c.in-Err.ensures.ended s.checkpointer.schedule (plain_of s.computation) c.args.trace.now.room (g.O.Sink.seen c.args.out.now).taken (g.L.Sink.seen c.args.log.now).taken c.args.disk.now chosen (l.invariant.size ∙ c.room-room.ensures) in
-    ended_so _ _ c.ended_by.ensures ended
+    c.in-Err.ensures.ended s.checkpointer.schedule (plain_of s.computation) c.args.trace.now.room (g.O.Sink.seen c.args.out.now).taken (g.L.Sink.seen c.args.log.now).taken c.args.disk.now l.invariant.going (l.invariant.size ∙ c.room-room.ensures)
 
 pub loop-record-preserved : goal.loop-record-preserved
 loop-record-preserved g c =
     let l = c.loop-record in
     let s = c.args.self.now in
-    let going = l.invariant.going in
-    let some : 0 < l.trace.room = let room = c.room.ensures in let not_none = c.if-room-eq0.false in omega arith in
-    let chosen = chosen_so s.checkpointer.schedule (plain_of s.computation) l.self l.rounds l.trace _ _ _ _ going c.choose.new.self c.choose.result c.in-Some.choice some c.in-Some.is (c.choose.ensures.due going.upcoming going.come) in
     record {
-      going = c.in-Ok.ensures.ok s.checkpointer.schedule (plain_of s.computation) (g.O.Sink.seen c.args.out.now).taken (g.L.Sink.seen c.args.log.now).taken c.args.disk.now chosen;
+      going = c.in-Ok.ensures.going s.checkpointer.schedule (plain_of s.computation) (g.O.Sink.seen c.args.out.now).taken (g.L.Sink.seen c.args.log.now).taken c.args.disk.now l.invariant.going;
       ready = c.in-Ok.ensures.ready;
       told = c.in-Ok.ensures.told;
-      scheduled = c.step.ensures.schedule ∙ l.invariant.scheduled;
-      kept = λ some_every. c.in-Ok.ensures.kept (λ none. some_every (ap (λ (x : Schedule). x.every) c.step.ensures.schedule ∙ none));
-      untouched = λ none. c.step.ensures.untouched (ap (λ (x : Schedule). x.every) l.invariant.scheduled ∙ none) ∙ l.invariant.untouched none;
+      scheduled = c.make_record.ensures.schedule ∙ l.invariant.scheduled;
+      kept = λ some_every. c.in-Ok.ensures.kept (λ none. some_every (ap (λ (x : Schedule). x.every) c.make_record.ensures.schedule ∙ none));
+      untouched = λ none. c.make_record.ensures.untouched (ap (λ (x : Schedule). x.every) l.invariant.scheduled ∙ none) ∙ l.invariant.untouched none;
       size = let same = c.in-Ok.ensures.size in let whole = l.invariant.size in omega arith;
       left = let less = c.in-Ok.ensures.less in let left = l.invariant.left in omega arith;
-      later = let first = l.invariant.later in let second = c.step.ensures.later in omega arith;
-      log_later = let first = l.invariant.log_later in let second = c.step.ensures.log_later in omega arith;
+      later = let first = l.invariant.later in let second = c.make_record.ensures.later in omega arith;
+      log_later = let first = l.invariant.log_later in let second = c.make_record.ensures.log_later in omega arith;
     }
 
 pub returns-then-lives-clause-ended : goal.returns-then-lives-clause-ended
