@@ -6,9 +6,11 @@
 The command is `rt ci` where none is given. What an earlier run on this machine passed is not done again
 and costs nothing here; `rt ci --anew` does all. What the command writes goes to standard error. Standard
 output gets how long it took, a table in Markdown, the longest chain of crates that wait for one another, and
-what is over the budget; and how long the host of this machine, where it is a virtual one, had the processors do
-something else meanwhile (the kernel's "steal"), by which the clock says more than the work takes. --raw writes
-the figures as JSON. The status is the command's.
+what is over the budget. It also gets how long the host of this machine, where it is a virtual one, had the
+processors do something else meanwhile (the kernel's "steal"), by which the clock says more than the work
+takes; and how long one small task, done each minute, took the processor, so that runs on two machines can be
+compared, and one on a machine whose host is busy can be told. --raw writes the figures as JSON. The status is
+the command's.
 
 A process belongs to the crate that its words name: to the edits where it runs in a copy with an edit, to
 the tests where it proves or runs those, to the builds where a compiler takes what was proved of a program,
@@ -19,7 +21,10 @@ import argparse
 import json
 import os
 import re
+import statistics
 import sys
+import threading
+import time
 from pathlib import Path
 
 from process_times import TICK, measure
@@ -29,6 +34,8 @@ PHASES = ["proof", "builds", "tests", "edits"]
 # The budget, in processor seconds.
 MOST, MEAN, PROOF_MOST, TESTS_MOST, TOTAL_MOST = 600, 400, 150, 400, 18_000
 OF_TESTS = re.compile(r"worked_|bench_")
+STEPS = 500_000  # of the small task
+PAUSE = 60  # seconds from one such task to the next
 NAMED = re.compile(r"\0--crate-name\0(\w+)\0")
 RUN_TESTS = re.compile(r"/rt-run-[^/\0]*/bin/(\w+)_tests\0")
 
@@ -128,24 +135,50 @@ def over_budget(crates, cost):
 
 
 def stolen():
-    """The seconds for which this machine's host had its processors do something else, those that are used here."""
+    """The seconds for which this machine's host had the processors that are used here do something else."""
     mine = {f"cpu{it}" for it in os.sched_getaffinity(0)}
     rows = [line.split() for line in Path("/proc/stat").read_text().splitlines()]
     return sum(int(row[8]) for row in rows if row and row[0] in mine) / TICK
 
 
-def report(command, cost, taken):
+class Speed(threading.Thread):
+    """How many seconds of the processor one small task takes, done again and again."""
+
+    def __init__(self):
+        super().__init__(daemon=True)
+        self.seconds = []
+        self.is_over = threading.Event()
+
+    def run(self):
+        while True:
+            self.seconds.append(self.task())
+            if self.is_over.wait(PAUSE):
+                return
+
+    def task(self):
+        begun, sum = time.thread_time(), 0
+        for step in range(STEPS):
+            sum = (sum * 31 + step) & 0xFFFF_FFFF
+        return time.thread_time() - begun
+
+    def told(self):
+        least, middle, most = min(self.seconds), statistics.median(self.seconds), max(self.seconds)
+        return f"{STEPS:,} steps of a loop took {middle:.2f} s in the middle, {least:.2f} to {most:.2f}"
+
+
+def report(command, cost, taken, speed):
     crates = dependencies()
     chain, seconds = longest_chain(crates, cost)
     minutes, processors = cost.usage.clock / 60, len(os.sched_getaffinity(0))
     took = f"{minutes:,.1f} minutes on {processors} processors, and {cost.usage.total:,.0f} s of them"
-    print(f"`{' '.join(command)}` took {took}; the host took {taken:,.0f} s:\n\n{table(crates, cost)}\n")
+    beside = f"the host took {taken:,.0f} s, and {speed.told()}"
+    print(f"`{' '.join(command)}` took {took}; {beside}:\n\n{table(crates, cost)}\n")
     print(f"The longest chain of proofs takes {seconds:,.0f} s: {', '.join(f'`{it}`' for it in chain)}.\n")
     over = over_budget(crates, cost)
     print("Over the budget: " + "; ".join(over) + "." if over else "Nothing is over the budget.")
 
 
-def write_raw(file, command, cost, taken):
+def write_raw(file, command, cost, taken, speed):
     usage = cost.usage
     places = [place for place in usage.seconds if place]
     figures = {
@@ -154,6 +187,7 @@ def write_raw(file, command, cost, taken):
         "clock": usage.clock,
         "total": usage.total,
         "stolen": taken,
+        "speed": speed.seconds,
         "other": cost.other(),
         "seconds": {" ".join(place): usage.seconds[place] for place in sorted(places)},
         "memory": {" ".join(place): usage.memory[place] for place in sorted(places)},
@@ -167,12 +201,14 @@ def main():
     reader.add_argument("command", nargs=argparse.REMAINDER, metavar="COMMAND", help="none: rt ci")
     options = reader.parse_args()
     command = options.command or ["rt", "ci"]
-    before = stolen()
+    before, speed = stolen(), Speed()
+    speed.start()
     cost = Cost(measure(command, place_of))
+    speed.is_over.set()
     taken = stolen() - before
-    report(command, cost, taken)
+    report(command, cost, taken, speed)
     if options.raw:
-        write_raw(options.raw, command, cost, taken)
+        write_raw(options.raw, command, cost, taken, speed)
     return cost.usage.status if cost.usage.status >= 0 else 128 - cost.usage.status
 
 
