@@ -125,7 +125,7 @@ impl Start {
         requires every { IfSome self.old.checkpointer.schedule.every (λ every. 0 < every) }
         requires work { self.old.checkpointer.tally.work + 3 < 2 ^ 64 }
         requires request { self.old.checkpointer.lines.request + 1 < 2 ^ 64 }
-        requires drained { self.old.checkpointer.lines.drained ≡ 0 }
+        requires drained { 0 < trace.old.room → self.old.checkpointer.lines.drained ≡ 0 }
         requires kept { self.old.checkpointer.schedule.every ≢ None
             → IsKept self.old.checkpointer (F.seen disk.old) }
         ensures going { OnOk result ((schedule : Schedule) (g : Plain) (had told : Option (List ℕ)) (first : F)

@@ -4,7 +4,7 @@ use Rattle.trace_log.specs.declared.requests.Schedule.{Schedule}
 use Rattle.trace_log.specs.Turns.{NewRound}
 use Rattle.plain_machine.specs.Tests.{ended}
 use Rattle.drive.specs.HandedOn.{plain_of}
-use Rattle.drive.proofs.Choosing.{ended_if, goes_on_if, work_is_few}
+use Rattle.drive.proofs.Choosing.{ended_if, goes_on_if, is_free, work_is_few}
 use Rattle.drive.proofs.Ended.{at_end, at_full}
 use Rattle.drive.proofs.Starting.{starting}
 use Rattle.drive.proofs.start.Start.go_on.Goals as goal
@@ -36,6 +36,11 @@ make_record-requires-clause-work g c =
     let limit = c.room-room.auto in
     omega arith
 
+pub make_record-requires-clause-drained : goal.make_record-requires-clause-drained
+make_record-requires-clause-drained g c = λ some.
+    let going = c.loop-record.invariant.going in
+    going.under.noted.dry (is_free _ _ _ _ c.loop-record.trace _ _ _ _ going some)
+
 pub returns-in-Err-clause-ended : goal.returns-in-Err-clause-ended
 returns-in-Err-clause-ended g c =
     let l = c.loop-record in
@@ -63,7 +68,7 @@ pub returns-then-lives-clause-ended : goal.returns-then-lives-clause-ended
 returns-then-lives-clause-ended g c =
     let l = c.loop-record in
     let going = l.invariant.going in
-    let on = goes_on_if (ended (plain_of l.self.computation)) (sym c.lives-2.ensures ∙ c.if-lives.true) in
+    let on = goes_on_if (ended (plain_of l.self.computation)) (sym c.lives.ensures ∙ c.if-lives.true) in
     let none : l.trace.room ≡ 0 = let left = l.invariant.left in let over = c.loop-record-test.false in omega arith in
     at_full _ (plain_of c.args.self.now.computation) (plain_of l.self.computation) going.upcoming l.trace _ c.args.trace.now.room l.self.checkpointer _ _ _ going.under none (l.invariant.size ∙ c.room-room.ensures) on
 
@@ -71,5 +76,5 @@ pub returns-else-lives-clause-ended : goal.returns-else-lives-clause-ended
 returns-else-lives-clause-ended g c =
     let l = c.loop-record in
     let going = l.invariant.going in
-    let over = ended_if (ended (plain_of l.self.computation)) (sym c.lives-2.ensures ∙ c.if-lives.false) in
+    let over = ended_if (ended (plain_of l.self.computation)) (sym c.lives.ensures ∙ c.if-lives.false) in
     at_end _ (plain_of c.args.self.now.computation) (plain_of l.self.computation) going.upcoming l.trace _ c.args.trace.now.room l.self.checkpointer _ _ _ going.under going.settled (l.invariant.size ∙ c.room-room.ensures) over

@@ -1,5 +1,5 @@
 -- The answers of the call that makes the next record: how the run ends before it, and what is said once it is made.
-use Rattle.std.proofs.Common.{◌≡◌, ◌<◌, refl, sym, ap, ◌∙◌, arith}
+use Rattle.std.proofs.Common.{◌<◌, sym, ◌∙◌, arith}
 use Rattle.plain_machine.specs.Tests.{ended}
 use Rattle.drive.specs.HandedOn.{plain_of}
 use Rattle.drive.proofs.Choosing.{chosen_so, ended_if, goes_on_if, is_free, none_left}
@@ -28,6 +28,11 @@ returns-in_default-clause-ended g c = λ schedule start room had told first goin
     let nothing = none_left c.args.rounds.now h going.upcoming going.come (c.in_default.ensures.due going.upcoming going.come) in
     let still = stands_still h c.requires.ready.valid on nothing in
     at_rest schedule start h going.upcoming c.args.trace.now _ room s.checkpointer _ _ _ going.under (is_free _ _ _ _ c.args.trace.now _ _ _ _ going some) some whole still.0 still.1
+
+pub step-requires-clause-drained : goal.step-requires-clause-drained
+step-requires-clause-drained g c =
+    let some : 0 < c.args.trace.now.room = let room = c.room.ensures in let not_none = c.if-room-eq0.false in omega arith in
+    c.requires.drained some
 
 pub returns-in-Ok-clause-going : goal.returns-in-Ok-clause-going
 returns-in-Ok-clause-going g c = λ schedule start had told first going.
