@@ -17,6 +17,21 @@ pub fn prepare(
     directive: &str,
     words: &[String],
 ) -> Result<bool, CaseFault> {
+    if prepare_file(alloc, bench, numbers, guests, directive, words)? {
+        return Ok(true);
+    }
+    prepare_folder(alloc, bench, directive, words)
+}
+
+/// Carries out a directive that prepares a file, and answers whether it is one.
+fn prepare_file(
+    alloc: Global,
+    bench: &mut Bench,
+    numbers: &Numbers,
+    guests: &Guests,
+    directive: &str,
+    words: &[String],
+) -> Result<bool, CaseFault> {
     match (directive, words) {
         ("file", [name, guest]) => put_program(
             alloc,
@@ -38,6 +53,20 @@ pub fn prepare(
         ("append", [name, other, start]) => {
             append(alloc, bench, name.as_str(), other.as_str(), start.as_str())?;
         }
+        _ => return Ok(false),
+    }
+    Ok(true)
+}
+
+/// Carries out a directive that prepares what fails or the folder of sets, a call of which nothing is shown
+/// among them, and answers whether it is one.
+fn prepare_folder(
+    alloc: Global,
+    bench: &mut Bench,
+    directive: &str,
+    words: &[String],
+) -> Result<bool, CaseFault> {
+    match (directive, words) {
         ("fails", []) => bench.setting.fail_nowhere(),
         ("fails", [stream, call]) => bench.setting.fail(stream.as_str(), long(call.as_str())?)?,
         ("folder", fails) => set_folder(alloc, bench, fails)?,
