@@ -141,16 +141,34 @@ def put_back(whole):
             path.write_text(text)
 
 
-def apply_all(bugs, crate_folder):
-    """Applies bugs, and returns for each where its new texts stand, as paths and lines."""
-    for path, old, new in (pair for bug in bugs for pair in bug.pairs):
-        file = crate_folder / path
-        file.write_text(file.read_text().replace(old, new))
-    places = {}
+def changes_of(bug, crate_folder, whole):
+    """What a bug changes in the files' own texts, each as a path, a place, and the texts that it has before
+    and after. A pair may change what one before it put in."""
+    changes = []
+    for path, old, new in bug.pairs:
+        at = whole[crate_folder / path].find(old)
+        if at >= 0:
+            changes.append([path, at, old, new])
+        else:
+            before = next(it for it in reversed(changes) if it[0] == path and old in it[3])
+            before[3] = before[3].replace(old, new)
+    return changes
+
+
+def apply_all(bugs, crate_folder, whole):
+    """Applies bugs, each to the files' own texts, so that none changes what another one put in. Returns for
+    each where its new texts stand, as paths and lines."""
+    found, places = {}, {}
     for bug in bugs:
-        for path, _, new in bug.pairs:
-            text = (crate_folder / path).read_text()
-            places.setdefault(bug.name, []).append((path, text.count("\n", 0, max(text.find(new), 0)) + 1))
+        for path, *change in changes_of(bug, crate_folder, whole):
+            found.setdefault(path, []).append((*change, bug.name))
+    for path, changes in found.items():
+        text, done, end = whole[crate_folder / path], "", 0
+        for at, old, new, name in sorted(changes):
+            done += text[end:at]
+            places.setdefault(name, []).append((path, done.count("\n") + 1))
+            done, end = done + new, at + len(old)
+        (crate_folder / path).write_text(done + text[end:])
     return places
 
 
@@ -174,7 +192,7 @@ def try_batch(bugs, crate, crate_folder, check, whole):
     told, left = {}, list(bugs)
     while left:
         put_back(whole)
-        places = apply_all(left, crate_folder)
+        places = apply_all(left, crate_folder, whole)
         said = check(crate_folder, modules_of(left))
         if JUDGED.search(said):
             answers = {it.name: judge(it, said, crate) for it in left}
