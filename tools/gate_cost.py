@@ -155,11 +155,17 @@ class Speed(threading.Thread):
             if self.is_over.wait(PAUSE):
                 return
 
-    def task(self):
-        begun, sum = time.thread_time(), 0
+    @staticmethod
+    def task():
+        begun, value = time.thread_time(), 0
         for step in range(STEPS):
-            sum = (sum * 31 + step) & 0xFFFF_FFFF
+            value = (value * 31 + step) & 0xFFFF_FFFF
         return time.thread_time() - begun
+
+    def stop(self):
+        """Ends after the task that is under way, of which there is one at least."""
+        self.is_over.set()
+        self.join()
 
     def told(self):
         least, middle, most = min(self.seconds), statistics.median(self.seconds), max(self.seconds)
@@ -204,7 +210,7 @@ def main():
     before, speed = stolen(), Speed()
     speed.start()
     cost = Cost(measure(command, place_of))
-    speed.is_over.set()
+    speed.stop()
     taken = stolen() - before
     report(command, cost, taken, speed)
     if options.raw:

@@ -46,6 +46,17 @@ class Bug:
     why: str = ""
 
 
+@dataclass
+class Change:
+    """What a bug changes at a place of a file."""
+
+    bug: str
+    path: str
+    at: int
+    old: str
+    new: str
+
+
 def texts_of(folder):
     """The bugs of a crate as texts, by their names: a file each, and a section `## NAME` of the list each."""
     files = sorted(folder.iterdir()) if folder.is_dir() else []
@@ -142,32 +153,27 @@ def put_back(whole):
 
 
 def changes_of(bug, crate_folder, whole):
-    """What a bug changes in the files' own texts, each as a path, a place, and the texts that it has before
-    and after. A pair may change what one before it put in."""
+    """What a bug changes in the files' own texts. A pair may change what one before it put in."""
     changes = []
     for path, old, new in bug.pairs:
-        at = whole[crate_folder / path].find(old)
-        if at >= 0:
-            changes.append([path, at, old, new])
+        before = next((it for it in changes if it.path == path and old in it.new), None)
+        if before:
+            before.new = before.new.replace(old, new)
         else:
-            before = next(it for it in reversed(changes) if it[0] == path and old in it[3])
-            before[3] = before[3].replace(old, new)
+            changes.append(Change(bug.name, path, whole[crate_folder / path].index(old), old, new))
     return changes
 
 
 def apply_all(bugs, crate_folder, whole):
     """Applies bugs, each to the files' own texts, so that none changes what another one put in. Returns for
     each where its new texts stand, as paths and lines."""
-    found, places = {}, {}
-    for bug in bugs:
-        for path, *change in changes_of(bug, crate_folder, whole):
-            found.setdefault(path, []).append((*change, bug.name))
-    for path, changes in found.items():
+    places, changes = {}, [it for bug in bugs for it in changes_of(bug, crate_folder, whole)]
+    for path in {it.path for it in changes}:
         text, done, end = whole[crate_folder / path], "", 0
-        for at, old, new, name in sorted(changes):
-            done += text[end:at]
-            places.setdefault(name, []).append((path, done.count("\n") + 1))
-            done, end = done + new, at + len(old)
+        for change in sorted((it for it in changes if it.path == path), key=lambda it: it.at):
+            done += text[end : change.at]
+            places.setdefault(change.bug, []).append((path, done.count("\n") + 1))
+            done, end = done + change.new, change.at + len(change.old)
         (crate_folder / path).write_text(done + text[end:])
     return places
 
