@@ -128,7 +128,8 @@ impl Start {
         requires drained { 0 < trace.old.room → self.old.checkpointer.lines.drained ≡ 0 }
         requires kept { self.old.checkpointer.schedule.every ≢ None
             → IsKept self.old.checkpointer (F.seen disk.old) }
-        ensures going { OnOk result ((schedule : Schedule) (g : Plain) (had told : Option (List ℕ)) (first : F)
+        ensures going { OnOk result (
+            (schedule : Schedule) (g : Plain) (had told : Option (List ℕ)) (first : F)
             → IsGoing schedule g self.old rounds.old trace.old
             (sunk had (O.seen out.old).taken) (sunk told (L.seen log.old).taken) (F.seen first)
             (F.seen disk.old)
