@@ -4,7 +4,7 @@
     tools/compare_with_binutils.py [TEXTS [FIRST_SEED]]
 
 It wants `riscv64-unknown-elf-as`, `-ld` and `-objcopy` (Debian's package binutils-riscv64-unknown-elf). The texts are those
-of crates/worked_asm/stdin that have a file, and random ones. Each is put into the GNU assembler's language line by line:
+of crates/worked_lines/stdin that have a file, and random ones. Each is put into the GNU assembler's language line by line:
 `li`, `la` and `call` are written as the instructions that they stand for, since the GNU assembler chooses others, and
 `.align` as `.balign 4`. The bytes behind the headers must be the same. It ends with status 1 where they differ.
 """
@@ -67,7 +67,7 @@ def by_gnu(text, folder):
 def main():
     count = int(sys.argv[1]) if len(sys.argv) > 1 else 200
     seed = int(sys.argv[2]) if len(sys.argv) > 2 else 1
-    texts = [text for _, text in read_cases(HOME / "crates/worked_asm/stdin")]
+    texts = [text for _, text in read_cases()]
     texts += [random_text(random.Random(seed + n)) for n in range(count)]
     compared = 0
     with tempfile.TemporaryDirectory() as name:

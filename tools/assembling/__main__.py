@@ -1,6 +1,6 @@
-"""Prints what crates/worked_asm must print for the cases of its standard input, or makes the file of a text.
+"""Prints what crates/worked_lines must print for the texts of its standard input, or makes the file of a text.
 
-    python3 tools/assembling > crates/worked_asm/stdout
+    python3 tools/assembling
     python3 tools/assembling examples/ring.s examples/ring.elf
 """
 
@@ -22,5 +22,5 @@ def make(text, file):
 if len(sys.argv) == 3:
     make(*sys.argv[1:])
 else:
-    for name, text in read_cases(pathlib.Path(__file__).parents[2] / "crates/worked_asm/stdin"):
+    for name, text in read_cases():
         print(said(name, text))

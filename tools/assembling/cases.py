@@ -1,16 +1,19 @@
-"""The worked cases of crates/worked_asm: its standard input, and what it must print."""
+"""The worked cases of the assembler, a part of those of crates/worked_lines: texts, and what is to be printed."""
 
 import pathlib
 
 import model
 
-RING = (pathlib.Path(__file__).parents[2] / "examples/ring.elf").read_bytes()
+HOME = pathlib.Path(__file__).parents[2]
+CASES = HOME / "crates/worked_lines/stdin"
+PART = b"== what texts assemble to\n"  # is the last one
+RING = (HOME / "examples/ring.elf").read_bytes()
 
 
-def read_cases(path):
-    """The cases of a file: each a name and a text. `= NAME` begins a case, `- NAME` one without its last newline."""
+def read_cases():
+    """The cases: each a name and a text. `= NAME` begins a case, `- NAME` one without its last newline."""
     cases = []
-    for line in path.read_bytes().split(b"\n")[:-1]:
+    for line in CASES.read_bytes().partition(PART)[2].split(b"\n")[:-1]:
         if line[:2] in (b"= ", b"- "):
             cases.append([line[2:].decode(), line[:1] == b"-", []])
         else:

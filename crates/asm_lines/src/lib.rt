@@ -7,7 +7,7 @@
 //!
 //! Proved: the statements are those of the definitions, line by line; where a line has none it is none of
 //! the language. Whether operands fit their fields, and where labels are, is left to who makes words of
-//! them. Not proved: that memory is wanted only where there is none (`worked_asm` reads texts with ample
+//! them. Not proved: that memory is wanted only where there is none (`worked_lines` reads texts with ample
 //! memory). The language is a part of the GNU assembler's, with rules of its own where `docs/PROGRAMS.md`
 //! says so.
 //!

@@ -9,7 +9,7 @@
 //! it; `Line` names the least line that breaks a rule, and comes only where there is one. An instruction's
 //! word is the one of `rv_words`, so that it is decoded as that instruction, and the two of `li` and `la`
 //! always fit and add up to their number ([`word_laws`]). Not proved: that memory is wanted only where there
-//! is none (`worked_asm` has ample memory).
+//! is none (`worked_lines` has ample memory).
 //!
 //! Source: RISC-V unprivileged manual, chapters 2, 13 and 35; System V ABI, chapters 4 and 5.
 #![tactic(auto)]

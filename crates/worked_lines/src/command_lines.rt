@@ -36,17 +36,17 @@ fn program(alloc: Global, program: &NamedProgram) -> Result<String, AllocError> 
     )
 }
 
-fn file(alloc: Global, name: FileName) -> Result<String, AllocError> {
-    format!(in alloc; ", file {}", name.into_string())
+fn file(alloc: Global, name: &FileName) -> Result<String, AllocError> {
+    format!(in alloc; ", file {}", name.as_str())
 }
 
-fn launch(alloc: Global, job: LaunchJob) -> Result<String, AllocError> {
+fn launch(alloc: Global, job: &LaunchJob) -> Result<String, AllocError> {
     let rate = rate(alloc, job.every)?;
     let mut text = format!(in alloc;
         "launch: nodes {}, workers {}, {rate}, records {}",
         job.nodes, job.workers, job.records
     )?;
-    for name in job.file.into_vec() {
+    for name in job.file.as_slice() {
         text.push_str(file(alloc, name)?.as_str())?;
     }
     for named in job.programs.as_slice() {
@@ -77,7 +77,7 @@ fn ring(alloc: Global, job: RingJob) -> Result<String, AllocError> {
 
 fn said(alloc: Global, found: Result<Job, WordFault>) -> Result<String, AllocError> {
     match found {
-        Ok(Job::Launch(job)) => launch(alloc, job),
+        Ok(Job::Launch(job)) => launch(alloc, &job),
         Ok(Job::Restart(job)) => restart(alloc, job),
         Ok(Job::Ring(job)) => ring(alloc, job),
         Ok(Job::Help) => format!(in alloc; "help"),

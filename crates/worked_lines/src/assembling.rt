@@ -1,17 +1,13 @@
-//! Assembles each text on standard input, and prints the file's bytes behind its headers or the line that
-//! breaks a rule.
+//! Texts for the assembler: the file's bytes behind its headers, or the line that breaks a rule.
 //!
 //! A line `= NAME` begins a case, whose text is the lines up to the next one; `- NAME` begins one whose last
 //! line has no newline at its end. A file of more than 400 bytes behind the headers is told by the sum of its
-//! bytes, and that of `ring_program`, whose text is `examples/ring.s`, is told to be it. `stdout` was made by
-//! `tools/assembling`, a model written from the words of the documentation, which
-//! `tools/compare_with_binutils.py` compares with the GNU assembler. Nothing is proved here but that the
-//! program is safe and ends.
-#![tactic(auto)]
+//! bytes, and that of `ring_program`, whose text is `examples/ring.s`, is told to be it. What is expected was
+//! made by `tools/assembling`, a model written from the words of the documentation, which
+//! `tools/compare_with_binutils.py` compares with the GNU assembler.
 
 use rv_asm::{AsmFault, assemble, ring_program};
 use std::alloc::{AllocError, Global};
-use std::io;
 
 /// The size of a file's headers.
 const HEADERS: usize = 84;
@@ -21,14 +17,14 @@ const SHOWN: usize = 400;
 
 /// A case: its name, its text, and whether its last newline is left out.
 #[derive(Drop)]
-struct Case {
+pub struct Case {
     name: String,
     text: String,
     is_cut: bool,
 }
 
 impl Case {
-    fn new(alloc: Global, name: &str, is_cut: bool) -> Result<Self, AllocError> {
+    pub fn new(alloc: Global, name: &str, is_cut: bool) -> Result<Self, AllocError> {
         Ok(Case {
             name: String::from_str(alloc, name)?,
             text: String::new(alloc),
@@ -51,7 +47,7 @@ impl Case {
     }
 
     /// The line that tells what the text makes; nothing of the case before the first.
-    fn told(&self, alloc: Global) -> Result<String, AllocError> {
+    pub fn told(&self, alloc: Global) -> Result<String, AllocError> {
         if self.name.is_empty() {
             return Ok(String::new(alloc));
         }
@@ -114,19 +110,13 @@ fn begun(line: &str) -> Option<(&str, bool)> {
     Some((name, true))
 }
 
-fn main(rt: HostRuntime) -> io::Result<()> {
-    let mut case = Case::new(rt.alloc(), "", false)?;
-    for line in rt.lines(rt.alloc()) {
-        let line = line?;
-        match begun(line.as_str()) {
-            Some((name, is_cut)) => {
-                let told = case.told(rt.alloc())?;
-                print!(rt; "{told}")?;
-                case = Case::new(rt.alloc(), name, is_cut)?;
-            }
-            None => case.add(line.as_str())?,
-        }
-    }
-    let told = case.told(rt.alloc())?;
-    print!(rt; "{told}")
+/// What is to be told once the line is read: where it begins a case, what the one before it makes.
+pub fn answer(alloc: Global, line: &str, case: &mut Case) -> Result<String, AllocError> {
+    let Some((name, is_cut)) = begun(line) else {
+        case.add(line)?;
+        return Ok(String::new(alloc));
+    };
+    let told = case.told(alloc)?;
+    *case = Case::new(alloc, name, is_cut)?;
+    Ok(told)
 }
