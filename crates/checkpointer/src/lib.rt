@@ -24,5 +24,5 @@ pub mod unsupported;
 pub use checkpointer::Checkpointer;
 pub use restoring::restored;
 pub use set_files::images;
-pub use staged_cut::{Computation, Did, Next, Stop, Wrapped, guest_proc};
+pub use staged_cut::{Computation, Did, Guest, Next, Ran, Stop, Wrapped};
 pub use unsupported::{Unsupported, first_unsupported};

@@ -8,8 +8,7 @@ ghost use Rattle.checkpointer.specs.Images.{IsWithin, guest_entry};
 use id_maps::ByPid;
 use image_codec::{ProcImage, restored_kernel};
 use rebuild::Decoded;
-use staged_cut::Start;
-use staged_cut::guest_proc::Guest;
+use staged_cut::{Guest, Start};
 use std::alloc::{AllocError, Global};
 use views::list_of::ListOf;
 

@@ -13,8 +13,7 @@ ghost use Rattle.checkpointer.specs.Sets.{SpellsState};
 use id_maps::ByPid;
 use image_codec::{SetBytes, shared_image, write_process, write_shared};
 use plain_machine::PlainKernel;
-use staged_cut::Start;
-use staged_cut::guest_proc::Guest;
+use staged_cut::{Guest, Start};
 use std::alloc::{AllocError, Global};
 use views::list_of::ListOf;
 

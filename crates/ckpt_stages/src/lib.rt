@@ -32,7 +32,7 @@ pub mod reserving;
 pub mod suspended;
 
 pub use barrier_core::{Barrier, Message, Stage};
-pub use cut_stages::{DrainedSet, PutOutcome, Refilled, Written, wrap_names};
+pub use cut_stages::{DrainedSet, PutOutcome, Refilled, Stood, Written};
 pub use elected::Elected;
 pub use fault::StageFault;
 pub use suspended::Suspended;

@@ -19,5 +19,5 @@ mod serving;
 mod work;
 
 pub use computation::{Computation, Did, Next, Stop};
-pub use guest_proc;
+pub use guest_proc::{Guest, Ran};
 pub use wrap_calls::Wrapped;

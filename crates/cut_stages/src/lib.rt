@@ -28,5 +28,5 @@ pub mod written;
 pub use drained::DrainedSet;
 pub use outcome::PutOutcome;
 pub use refilled::Refilled;
-pub use wrap_names;
+pub use wrap_names::stood::Stood;
 pub use written::Written;

@@ -8,7 +8,7 @@ ghost use Rattle.drive.specs.Driving.{schedule_of, state_of, end_told, CanDrive,
 
 use crate::run_status::{RunEnd, RunStatus, status_of};
 use crate::{Checkpointer, Computation, Start, Wrapped};
-use checkpointer::guest_proc::Guest;
+use checkpointer::Guest;
 use disk_folder::Folder;
 use edge_io::Sink;
 use id_maps::ByPid;

@@ -13,8 +13,7 @@ ghost use Rattle.trace_log.specs.Turns.{Place, Upcoming, threads_in, turn_of, fi
 ghost use Rattle.drive.specs.Scheduling.{place_of, place_in, chosen, CanTake, CanTurn, IsCome, IsPast, IsToldOf, Notes, Spoils};
 
 use crate::queue::Queue;
-use checkpointer::guest_proc::Ran;
-use checkpointer::{Computation, Did, Next, Stop};
+use checkpointer::{Computation, Did, Next, Ran, Stop};
 use edge_io::Sink;
 use std::alloc::{AllocError, Global};
 use sys_abi::{Dir, Tid, VPid};

@@ -18,8 +18,7 @@ ghost use Rattle.host_descriptors.specs.Held.{held_in, seen_held, owner_value};
 
 use crate::copies::dup_from;
 use crate::held::{Held, held_at};
-use host_tables::plain_machine::end::DESCRIPTOR_LIMIT;
-use host_tables::{Attempt, Kernel, RowResult};
+use host_tables::{Attempt, DESCRIPTOR_LIMIT, Kernel, RowResult};
 use plain_process::commands::FcntlCommand;
 use sys_abi::errors::{EBADF, EINVAL, ESRCH};
 use sys_abi::{Errno, Fd, RealPid};

@@ -25,6 +25,6 @@ pub use closing::{Closed, close_one, finish, object_at};
 pub use commands::fcntl;
 pub use copies::{close, dup};
 pub use held::{Held, held_at};
-pub use host_tables;
+pub use host_tables::{Attempt, Kernel, KernelReply, RowResult, System};
 pub use moves::{Moved, dup3};
 pub use releasing::let_go;

@@ -13,8 +13,7 @@ ghost use Rattle.host_descriptors.specs.Moves.{IsTold};
 
 use crate::{Closed, finish, object_at};
 use fd_book::BookFault;
-use host_tables::plain_machine::end::DESCRIPTOR_LIMIT;
-use host_tables::{Attempt, Kernel};
+use host_tables::{Attempt, DESCRIPTOR_LIMIT, Kernel};
 use std::alloc::AllocError;
 use sys_abi::errors::{EBADF, EINVAL};
 use sys_abi::flags::O_CLOEXEC;

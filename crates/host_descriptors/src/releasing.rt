@@ -9,8 +9,7 @@ ghost use Rattle.host_tables.specs.Stands.{Given, Stands};
 ghost use Rattle.host_descriptors.specs.LetGo.{HasLetGo};
 
 use fd_book::Object;
-use host_tables::Kernel;
-use host_tables::vfs_files::Files;
+use host_tables::{Files, Kernel};
 use sys_abi::ConnId;
 
 /// What the object names goes with its description, which is not there any more. Takes no memory.

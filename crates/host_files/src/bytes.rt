@@ -13,8 +13,7 @@ ghost use Rattle.host_descriptors.specs.OfHostTables.Stands.{Given, Stands};
 ghost use Rattle.host_descriptors.specs.Held.{seen_held};
 
 use crate::offsets::move_to;
-use host_descriptors::Held;
-use host_descriptors::host_tables::{Attempt, Kernel, RowResult};
+use host_descriptors::{Attempt, Held, Kernel, RowResult};
 use std::alloc::AllocError;
 use sys_abi::errors::{EBADF, EFBIG, ENOSPC};
 use sys_abi::flags::O_APPEND;

@@ -13,7 +13,7 @@ mod opening;
 mod paths;
 
 pub use bytes::{read_file, write_file};
-pub use host_descriptors;
+pub use host_descriptors::{Held, close, dup, dup3, fcntl, held_at};
 pub use names::unlinkat;
 pub use offsets::lseek;
 pub use opening::openat;

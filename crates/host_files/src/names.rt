@@ -9,8 +9,7 @@ ghost use Rattle.host_descriptors.specs.OfHostTables.Stands.{Given, Stands};
 
 use crate::paths::unlink_end;
 use fd_book::Object;
-use host_descriptors::host_tables::{Attempt, Kernel};
-use host_descriptors::let_go;
+use host_descriptors::{Attempt, Kernel, let_go};
 use sys_abi::errors::ENOENT;
 use sys_abi::{Errno, Transfer};
 

@@ -13,8 +13,7 @@ ghost use Rattle.host_descriptors.specs.Held.{seen_held};
 ghost use Rattle.host_files.specs.Sizes.{size_in};
 
 use fd_book::Object;
-use host_descriptors::host_tables::{Attempt, Kernel};
-use host_descriptors::{Held, held_at};
+use host_descriptors::{Attempt, Held, Kernel, held_at};
 use sys_abi::errors::{EBADF, EINVAL, ESPIPE};
 use sys_abi::{Errno, RealPid};
 use vfs_files::Files;

@@ -11,7 +11,7 @@ ghost use Rattle.host_files.specs.Opening.{file_at_start, IsOpened, opening_at, 
 
 use crate::paths::open_end;
 use fd_book::{BookFault, Desc, Object};
-use host_descriptors::host_tables::{Attempt, Kernel, RowResult};
+use host_descriptors::{Attempt, Kernel, RowResult};
 use std::alloc::AllocError;
 use sys_abi::errors::{EEXIST, EMFILE, ENFILE, ENOENT, ENOSPC};
 use sys_abi::flags::{O_CLOEXEC, O_TRUNC};

@@ -5,12 +5,12 @@ ghost use Rattle.host_tables.specs.Serves.{ServesAttempt, ServesCall};
 ghost use Rattle.host_kernel.specs.Groups.{IsNoDescriptorCall, IsNoFileCall, IsSocketCall};
 
 use crate::{read, write};
-use host_files::host_descriptors::{close, dup, dup3, fcntl};
-use host_files::{lseek, openat, unlinkat};
+use host_files::{close, dup, dup3, fcntl, lseek, openat, unlinkat};
 use host_makers::{eventfd2, pipe2, socket, socketpair};
 use host_sockets::{accept, connect, listen};
-use host_streams::host_processes::{clone, exit, exit_group, getpid, getppid, kill, tgkill, wait4};
-use host_streams::{setsockopt, shutdown};
+use host_streams::{
+    clone, exit, exit_group, getpid, getppid, kill, setsockopt, shutdown, tgkill, wait4,
+};
 use host_tables::{Attempt, Kernel, KernelReply, RealRequest, RowResult};
 use sys_abi::errors::ENOSYS;
 use sys_abi::transfer::Transfer;

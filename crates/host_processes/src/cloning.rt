@@ -11,7 +11,7 @@ ghost use Rattle.host_descriptors.specs.OfHostTables.Serves.{Through, Serves, By
 ghost use Rattle.host_processes.specs.Forks.{paired_with, IsNext};
 
 use crate::forking::start_child;
-use host_descriptors::host_tables::{Attempt, Kernel, RowResult};
+use host_descriptors::{Attempt, Kernel, RowResult};
 use proc_book::ProcFault;
 use std::alloc::AllocError;
 use sys_abi::errors::{EAGAIN, EINVAL};

@@ -8,7 +8,7 @@ ghost use Rattle.host_descriptors.specs.OfHostTables.declared.attempt.Attempt.Th
 ghost use Rattle.host_descriptors.specs.OfHostTables.Numbers.{real};
 ghost use Rattle.host_descriptors.specs.OfHostTables.Serves.{Through, Serves, ByNumber, same};
 
-use host_descriptors::host_tables::Kernel;
+use host_descriptors::Kernel;
 use sys_abi::RealPid;
 
 /// exit (`man 2 exit`) of a thread whose process has others: the thread is gone, and the call gives 0.

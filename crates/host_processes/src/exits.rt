@@ -9,7 +9,7 @@ ghost use Rattle.host_descriptors.specs.OfHostTables.Serves.{Through, Serves, By
 
 use crate::exit_thread;
 use crate::process_ends::end_process;
-use host_descriptors::host_tables::{Attempt, Kernel};
+use host_descriptors::{Attempt, Kernel};
 use plain_machine::end::exit_status;
 use sys_abi::RealPid;
 

@@ -37,7 +37,7 @@ mod waiting;
 pub use cloning::clone;
 pub use ending::exit_thread;
 pub use exits::{exit, exit_group};
-pub use host_descriptors::{Held, held_at, host_tables};
+pub use host_descriptors::{Attempt, Held, Kernel, KernelReply, RowResult, System, held_at};
 pub use numbers::{getpid, getppid};
 pub use process_ends::{close_lowest, end_process, leave};
 pub use sending::{kill, tgkill};

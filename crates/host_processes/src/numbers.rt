@@ -7,7 +7,7 @@ ghost use Rattle.host_descriptors.specs.OfHostTables.declared.kernel.Kernel.{Ker
 ghost use Rattle.host_descriptors.specs.OfHostTables.Serves.{Through, Serves, ByPid, ByPidOr, same};
 ghost use Rattle.host_processes.specs.Parents.{parent_value};
 
-use host_descriptors::host_tables::{Attempt, Kernel};
+use host_descriptors::{Attempt, Kernel};
 use sys_abi::RealPid;
 
 /// getpid (`man 2 getpid`).

@@ -12,8 +12,7 @@ ghost use Rattle.host_descriptors.specs.OfHostTables.Stands.{Stands};
 ghost use Rattle.host_processes.specs.Leaves.{after_leave};
 
 use fd_book::Book;
-use host_descriptors::host_tables::Kernel;
-use host_descriptors::{Closed, close_one};
+use host_descriptors::{Closed, Kernel, close_one};
 use plain_machine::end::DESCRIPTOR_LIMIT;
 use sys_abi::{Fd, RealPid};
 

@@ -8,7 +8,7 @@ ghost use Rattle.host_descriptors.specs.OfHostTables.Requests.{neighbour_of};
 ghost use Rattle.host_descriptors.specs.OfHostTables.Serves.{Through, Serves, ByNumber, same};
 ghost use Rattle.host_processes.specs.Raises.{raise_answer, with_raised};
 
-use host_descriptors::host_tables::{Attempt, Kernel};
+use host_descriptors::{Attempt, Kernel};
 use sys_abi::errors::{EINVAL, ESRCH};
 use sys_abi::{Errno, RealPid, Signal};
 

@@ -8,7 +8,7 @@ ghost use Rattle.host_descriptors.specs.OfHostTables.Serves.{Through, Serves, By
 ghost use Rattle.host_processes.specs.Waits as words;
 ghost use Rattle.host_processes.specs.Waits.{wait_answer, wait_bytes, with_waited};
 
-use host_descriptors::host_tables::{Attempt, Kernel};
+use host_descriptors::{Attempt, Kernel};
 use proc_book::{ProcFault, Waiting};
 use sys_abi::errors::{ECHILD, EINVAL};
 use sys_abi::transfer::Transfer;

@@ -11,7 +11,7 @@ ghost use Rattle.host_sockets.specs.Changes.{Takes};
 
 use crate::look_ups::{is_nonblocking, socket_at};
 use fd_book::{BookFault, Desc, Object};
-use host_descriptors::host_tables::{Attempt, Kernel, RowResult};
+use host_descriptors::{Attempt, Kernel, RowResult};
 use std::alloc::AllocError;
 use sys_abi::errors::{EAGAIN, EINVAL, EMFILE, ENFILE};
 use sys_abi::flags::O_RDWR;

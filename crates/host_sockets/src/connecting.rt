@@ -14,8 +14,7 @@ ghost use Rattle.host_sockets.specs.Changes.{with_connected};
 
 use crate::look_ups::{is_nonblocking, socket_at};
 use fd_book::Object;
-use host_descriptors::Held;
-use host_descriptors::host_tables::{Attempt, Kernel, RowResult};
+use host_descriptors::{Attempt, Held, Kernel, RowResult};
 use std::alloc::AllocError;
 use sys_abi::errors::{EADDRNOTAVAIL, EAGAIN, ECONNREFUSED, EISCONN, ENFILE, EOPNOTSUPP};
 use sys_abi::{ConnId, Errno, RealAddr, RealPid};

@@ -13,8 +13,7 @@ ghost use Rattle.host_sockets.specs.Changes.{with_listener};
 
 use crate::look_ups::socket_at;
 use fd_book::Object;
-use host_descriptors::Held;
-use host_descriptors::host_tables::{Attempt, Kernel, RowResult};
+use host_descriptors::{Attempt, Held, Kernel, RowResult};
 use std::alloc::AllocError;
 use sys_abi::errors::{EADDRINUSE, EINVAL, EOPNOTSUPP};
 use sys_abi::{Errno, RealAddr, RealPid};

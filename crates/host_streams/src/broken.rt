@@ -7,7 +7,7 @@ ghost use Rattle.host_processes.specs.OfHostTables.Conditions.{IsAsking};
 ghost use Rattle.host_processes.specs.OfHostTables.Numbers.{real};
 ghost use Rattle.host_processes.specs.OfHostTables.Serves.{Through, Serves, ByNumber, same};
 
-use host_processes::host_tables::{Attempt, Kernel};
+use host_processes::{Attempt, Kernel};
 use sys_abi::errors::EPIPE;
 use sys_abi::signals::SIGPIPE;
 use sys_abi::{Errno, RealPid, Signal};

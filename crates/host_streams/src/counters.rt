@@ -12,8 +12,7 @@ ghost use Rattle.host_processes.specs.OfHostTables.Stands.{Given, Stands};
 ghost use Rattle.host_processes.specs.HandedOn.{seen_held};
 
 use fd_book::Object;
-use host_processes::Held;
-use host_processes::host_tables::{Attempt, Kernel};
+use host_processes::{Attempt, Held, Kernel};
 use sys_abi::errors::EINVAL;
 use sys_abi::{Errno, Transfer};
 

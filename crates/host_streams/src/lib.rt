@@ -18,8 +18,10 @@ mod writing;
 
 pub use broken::broken_pipe;
 pub use counters::{read_counter, write_counter};
-pub use host_processes;
-pub use host_processes::{Held, held_at, host_tables};
+pub use host_processes::{
+    Held, KernelReply, System, clone, exit, exit_group, exit_thread, getpid, getppid, held_at,
+    is_wait4_ready, kill, leave, tgkill, wait4,
+};
 pub use plain_transfers::counters::{is_counted, takes_more};
 pub use reading::{is_receivable, read_stream};
 pub use shutting::{setsockopt, shutdown};

@@ -9,7 +9,7 @@ ghost use Rattle.host_processes.specs.OfHostTables.Stands.{Given, Stands};
 ghost use Rattle.host_streams.specs.Lanes as words;
 
 use crate::lanes::{is_broken_at, received_at, standing_at};
-use host_processes::host_tables::{Attempt, Kernel};
+use host_processes::{Attempt, Kernel};
 use plain_transfers::moving::across;
 use sys_abi::errors::ENOTCONN;
 use sys_abi::{ConnId, Dir, Errno, Transfer};

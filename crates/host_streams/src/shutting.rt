@@ -14,7 +14,7 @@ ghost use Rattle.host_processes.specs.OfHostTables.Stands.{Given, Stands};
 
 use crate::sockets::socket_at;
 use fd_book::Object;
-use host_processes::host_tables::{Attempt, Kernel};
+use host_processes::{Attempt, Kernel};
 use plain_transfers::moving::across;
 use sys_abi::errors::{EINVAL, ENOTCONN, EOPNOTSUPP};
 use sys_abi::{ConnId, Dir, Errno, RealPid};

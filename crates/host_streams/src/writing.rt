@@ -14,7 +14,7 @@ ghost use Rattle.host_streams.specs.Lanes as words;
 
 use crate::broken::broken_pipe;
 use crate::lanes::{is_broken_at, standing_at};
-use host_processes::host_tables::{Attempt, Kernel};
+use host_processes::{Attempt, Kernel};
 use sys_abi::errors::EPIPE;
 use sys_abi::{ConnId, Dir, Errno, RealPid, Transfer};
 use wire_net::Net;

@@ -17,8 +17,8 @@ pub mod system;
 
 pub use attempt::{Attempt, RowResult};
 pub use kernel::{HOST_COUNT, Hosts, Kernel};
-pub use plain_machine;
+pub use plain_machine::end::DESCRIPTOR_LIMIT;
 pub use reply::KernelReply;
 pub use request::{ChannelIds, PairIds, RealRequest};
 pub use system::System;
-pub use vfs_files;
+pub use vfs_files::Files;

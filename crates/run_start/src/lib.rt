@@ -9,6 +9,5 @@
 mod listing;
 pub mod start;
 
-pub use computation::guest_proc::Guest;
-pub use computation::{Computation, Did, Next, Stop, Wrapped, guest_proc};
+pub use computation::{Computation, Did, Guest, Next, Ran, Stop, Wrapped};
 pub use start::Start;

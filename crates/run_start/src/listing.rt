@@ -3,7 +3,7 @@ ghost use Rattle.std.specs.Prelude.{◌≡◌, All, None, Some, IfOk, IfSome, Is
 ghost use Rattle.std.specs.FinMap as map;
 ghost use Rattle.run_start.specs.Starts.{AreNumbered};
 
-use computation::guest_proc::Guest;
+use computation::Guest;
 use id_maps::ByPid;
 use std::alloc::{AllocError, Global};
 use sys_abi::VPid;

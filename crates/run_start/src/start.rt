@@ -13,8 +13,7 @@ ghost use Rattle.computation.specs.HandedOn.{IsWrapped};
 ghost use Rattle.computation.specs.Computations.{plain_of, IsReady};
 
 use crate::listing::listed;
-use computation::guest_proc::Guest;
-use computation::{Computation, Wrapped};
+use computation::{Computation, Guest, Wrapped};
 use discovery::Directory;
 use elf32::Program;
 use host_tables::{Hosts, System};

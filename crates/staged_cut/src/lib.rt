@@ -30,4 +30,4 @@ pub use ckpt_stages::{PutOutcome, first_unsupported};
 pub use draining::drain;
 pub use holding::{Held, hold, release};
 pub use refilling::refill;
-pub use run_start::{Computation, Did, Next, Start, Stop, Wrapped, guest_proc};
+pub use run_start::{Computation, Did, Guest, Next, Ran, Start, Stop, Wrapped};

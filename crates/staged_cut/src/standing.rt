@@ -3,8 +3,7 @@ ghost use Rattle.std.specs.Prelude.{◌≡◌};
 ghost use Rattle.plain_machine.specs.declared.kernel.PlainKernel.{PlainKernel};
 ghost use Rattle.ckpt_stages.specs.OfWrapNames.Wrapping.{IsWrapped};
 
-use ckpt_stages::Refilled;
-use ckpt_stages::wrap_names::stood::Stood;
+use ckpt_stages::{Refilled, Stood};
 use host_tables::System;
 use run_start::Wrapped;
 

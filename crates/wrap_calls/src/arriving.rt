@@ -6,7 +6,7 @@ ghost use Rattle.wrap_passing.specs.OfWrapNames.Changes.{missing_in, after_arriv
 use crate::direction_arriving::arrive;
 use crate::wrapped::Wrapped;
 use sys_abi::Dir;
-use wrap_passing::wrap_names::stood::Change;
+use wrap_passing::Change;
 
 impl Wrapped {
     /// Has so many bytes of the direction arrive, at most those that are on the way, and tells how many.

@@ -16,9 +16,7 @@ use plain_ports::addresses::{ADDRESS_SIZE, AF_INET, family_of, named_host, port_
 use sys_abi::errors::{EAFNOSUPPORT, EINVAL};
 use sys_abi::{ConnId, Errno, RealAddr, RealPid, VPid, VirtAddr};
 use virt_ids::Ids;
-use wrap_passing::wrap_names::look_ups::address_of;
-use wrap_passing::wrap_names::naming::{leads_to_pipe, made_by};
-use wrap_passing::wrap_names::ports::has_port;
+use wrap_passing::{address_of, has_port, leads_to_pipe, made_by};
 
 /// Numbers of what a process makes are below this one, so that a call has room for those that it takes.
 const LAST_MADE: u32 = 0xFFFF_FFFC;

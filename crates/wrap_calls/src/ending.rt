@@ -6,7 +6,7 @@ ghost use Rattle.plain_machine.specs.Kernel as plain;
 use crate::wrapped::Wrapped;
 use sys_abi::VPid;
 use wrap_ends::end_process;
-use wrap_passing::wrap_names::stood::Change;
+use wrap_passing::Change;
 
 impl Wrapped {
     /// Ends a process: its descriptors close, what it owned has no owner, its children have no parent and its

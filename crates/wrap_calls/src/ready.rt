@@ -10,8 +10,7 @@ use call_table::Request;
 use host_tables::System;
 use sys_abi::{Tid, VPid};
 use wrap_ends::is_wait4_ready;
-use wrap_passing::wrap_names::naming::{leads_to_pipe, named, next_desc};
-use wrap_passing::{is_read_ready, is_write_ready};
+use wrap_passing::{is_read_ready, is_write_ready, leads_to_pipe, named, next_desc};
 use wrap_sockets::is_accept_ready;
 
 /// Whether a call of a thread doesn't wait, by the first 16 bytes that it reads, with zeros where it reads

@@ -12,9 +12,7 @@ use sys_abi::errors::ENOSYS;
 use sys_abi::transfer::Transfer;
 use sys_abi::{Errno, Tid, VPid};
 use wrap_makers::serving as making;
-use wrap_passing::serving as passing;
-use wrap_passing::wrap_names::serving as naming;
-use wrap_passing::wrap_names::stood::Stood;
+use wrap_passing::{Stood, serve_addresses, serves_addresses, serving as passing};
 use wrap_sockets::serving as meeting;
 
 /// Serves a guest's call. After want of memory all is as before.
@@ -66,8 +64,8 @@ fn serve_other(
     if wrap_ends::serves_closing(request) {
         return wrap_ends::serve_closing(system, stood, next_id, p, t, request, transfer);
     }
-    if naming::serves(request) {
-        return naming::serve_addresses(system, stood, next_id, p, t, request, transfer);
+    if serves_addresses(request) {
+        return serve_addresses(system, stood, next_id, p, t, request, transfer);
     }
     if wrap_ends::serves(request) {
         return wrap_ends::serve_exit(system, stood, next_id, p, t, request, transfer);

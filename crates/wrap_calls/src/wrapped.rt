@@ -13,7 +13,7 @@ use std::marker::Model;
 use sys_abi::transfer::Transfer;
 use sys_abi::{Signal, Tid, VPid};
 use wrap_passing::taking::take_signal;
-use wrap_passing::wrap_names::stood::{Change, Stood};
+use wrap_passing::{Change, Stood};
 
 /// A system that stands for a kernel part, which is what a caller sees of it.
 pub struct Wrapped {

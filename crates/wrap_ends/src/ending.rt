@@ -15,7 +15,7 @@ use crate::reaping::reap_all;
 use crate::threads::{end_threads, forget_thread};
 use host_tables::System;
 use sys_abi::{RealPid, VPid};
-use wrap_names::host_processes::leave;
+use wrap_names::leave;
 use wrap_names::stood::Stood;
 
 /// Ends a process: its descriptors close, what it owned has no owner, its children have no parent and its

@@ -27,4 +27,4 @@ pub use close_calls::close_at;
 pub use close_serving::{serve_closing, serves as serves_closing};
 pub use ending::end_process;
 pub use serving::{serve_exit, serves};
-pub use wrap_names::host_processes::is_wait4_ready;
+pub use wrap_names::is_wait4_ready;

@@ -11,7 +11,7 @@ ghost use Rattle.wrap_ends.specs.Ending.{EndsAs, EndsOne, EndsThread, without_th
 use host_tables::System;
 use sys_abi::{RealPid, VPid};
 use virt_ids::Ids;
-use wrap_names::host_processes::exit_thread;
+use wrap_names::exit_thread;
 
 /// How many threads a process has at most.
 const THREAD_LIMIT: u32 = 64;

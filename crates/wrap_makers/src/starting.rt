@@ -43,10 +43,7 @@ pub(crate) fn start(
     let Ok(_) = add_number(&mut system.ids, &mut system.conns, number, child, maker) else {
         return KernelReply::Memory;
     };
-    let reply = told_as(
-        number,
-        wrap_names::host_processes::clone(&mut system.kernel, who, flags),
-    );
+    let reply = told_as(number, wrap_names::clone(&mut system.kernel, who, flags));
     if is_done(reply) {
         return reply;
     }

@@ -6,7 +6,7 @@ ghost use Rattle.plain_tables.specs.Tables.{changed_at, made_more};
 ghost use Rattle.wrap_names.specs.Wrapping as words;
 
 use conn_table::ConnTable;
-use host_streams::host_tables::KernelReply;
+use host_streams::KernelReply;
 use sys_abi::{Maker, VPid};
 
 /// Whether the call gave a value.

@@ -25,4 +25,4 @@ pub mod ports;
 pub mod serving;
 pub mod stood;
 
-pub use host_streams::host_processes;
+pub use host_streams::{clone, exit_thread, is_wait4_ready, leave};

@@ -15,8 +15,7 @@ ghost use Rattle.wrap_names.specs.Wrapping.{IsWrapped};
 use crate::naming::leads_to_pipe;
 use conn_table::ConnTable;
 use fd_book::{Book, Object};
-use host_streams::host_tables::System;
-use host_streams::{Held, held_at};
+use host_streams::{Held, System, held_at};
 use sys_abi::errors::{EBADF, ENOTSOCK};
 use sys_abi::{DescId, Errno, RealPid, VPid, VirtAddr};
 

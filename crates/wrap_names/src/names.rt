@@ -14,7 +14,7 @@ ghost use Rattle.wrap_names.specs.Ends.{end_in};
 use crate::look_ups::address_of;
 use conn_table::ConnTable;
 use fd_book::Object;
-use host_streams::host_tables::System;
+use host_streams::System;
 use plain_ports::addresses::PAIR_BYTES;
 use plain_process::handlers::word_in;
 use sys_abi::transfer::Transfer;

@@ -7,8 +7,7 @@ ghost use Rattle.wrap_names.specs.Naming as words;
 
 use conn_table::ConnTable;
 use fd_book::Object;
-use host_streams::held_at;
-use host_streams::host_tables::System;
+use host_streams::{System, held_at};
 use sys_abi::{ConnId, DescId, Maker, RealPid, VPid};
 
 /// Numbers of what a process makes are below this one, so that a call has room for those that it takes.

@@ -8,7 +8,7 @@ ghost use Rattle.plain_ports.specs.Told.{told, itself, same_address};
 ghost use Rattle.host_streams.specs.OfHostTables.Requests as requests;
 ghost use Rattle.wrap_names.specs.Wrapping.{IsWrapped};
 
-use host_streams::host_tables::System;
+use host_streams::System;
 use sys_abi::errors::EADDRINUSE;
 use sys_abi::{Errno, VirtAddr};
 

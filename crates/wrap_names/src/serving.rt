@@ -17,7 +17,7 @@ use crate::numbers::caller_of;
 use crate::stood::Stood;
 use call_table::Request;
 use fd_book::Object;
-use host_streams::host_tables::{KernelReply, System};
+use host_streams::{KernelReply, System};
 use plain_ports::addresses::PAIR_BYTES;
 use plain_ports::look_ups::across;
 use sys_abi::errors::ENOTCONN;

@@ -15,4 +15,8 @@ pub mod taking;
 pub mod telling;
 
 pub use host_kernel::{is_read_ready, is_write_ready};
-pub use wrap_names;
+pub use wrap_names::look_ups::address_of;
+pub use wrap_names::naming::{leads_to_pipe, made_by, named, next_desc};
+pub use wrap_names::ports::has_port;
+pub use wrap_names::serving::{serve_addresses, serves as serves_addresses};
+pub use wrap_names::stood::{Change, Stood};
