@@ -1,12 +1,10 @@
 -- The first turn of threads and of processes, where some were passed over.
-use Rattle.std.proofs.Common.{◌≡◌, ℕ, List, [], ◌∷◌, Option, Some, None, refl, sym, ap, ◌∙◌}
-use Rattle.std.specs.Prelude.{option_map}
+use Rattle.std.proofs.Common.{◌≡◌, ℕ, List, [], ◌∷◌, Some, None, refl, ap}
 use Rattle.std.specs.Option.{option_or}
 use Rattle.std.specs.FinMap as map
 use Rattle.sys_abi.specs.declared.identity.VPid.{VPid}
 use Rattle.plain_machine.specs.declared.plain.Plain.{Plain}
-use Rattle.plain_process.specs.declared.user_part.UserPart.{UserPart}
-use Rattle.trace_log.specs.Turns.{Place, Due, InTurn, turn_of, first_thread, first_turn, threads_in}
+use Rattle.trace_log.specs.Turns.{Place, turn_of, first_thread, first_turn, threads_in}
 
 module _ (g : Plain) (p : VPid) (processes : List VPid) where
   pub no_thread : first_thread g p processes [] ≡ None

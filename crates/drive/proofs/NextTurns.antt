@@ -1,9 +1,7 @@
 -- What a new round begins with, and what follows a turn.
 use Rattle.std.proofs.Common.{◌≡◌, ℕ, Bool, true, false, cond, List, [], ◌∷◌, Option, Some, None, refl, sym, ap, ◌∙◌, map as each}
 use Rattle.std.specs.Prelude.{option_map, is_some}
-use Rattle.std.specs.Option.{option_or}
 use Rattle.std.specs.FinMap as map
-use Rattle.sys_abi.specs.declared.identity.VPid.{VPid}
 use Rattle.sys_abi.specs.declared.identity.Dir.{Dir}
 use Rattle.sys_abi.specs.declared.record.Record.{Record}
 use Rattle.sys_abi.specs.declared.record.Record.TheVariants.{User, Call, Deliver}
@@ -11,7 +9,7 @@ use Rattle.plain_machine.specs.declared.plain.Plain.{Plain}
 use Rattle.plain_tables.specs.Tables.{pid}
 use Rattle.checkpointer.specs.DidVariants.{Delivered, Served, Ran}
 use Rattle.checkpointer.specs.HandedOn.{IsDid, first_signal}
-use Rattle.trace_log.specs.Turns.{Place, Due, Arrival, InTurn, Upcoming, NewRound, After, coming, first_turn, goes_on, round_of, new_round, next_turn, same_turn, after_turn, stands_in, due_at, round_from}
+use Rattle.trace_log.specs.Turns.{Due, Arrival, InTurn, Upcoming, NewRound, coming, first_turn, goes_on, round_of, new_round, next_turn, same_turn, after_turn, stands_in, due_at}
 use Rattle.drive.specs.declared.rounds.Rounds.{Rounds}
 use Rattle.drive.specs.declared.rounds.Turn.{Turn}
 use Rattle.drive.specs.declared.rounds.Come.TheVariants as has_come

@@ -1,5 +1,5 @@
 -- One record that was chosen: it is due, and the round comes past it.
-use Rattle.std.proofs.Common.{◌≡◌, ℕ, ◌==◌, ◌&&◌, true, false, List, ◌∷◌, Option, Some, refl, sym, ap, subst, ◌∙◌, arith}
+use Rattle.std.proofs.Common.{◌≡◌, ℕ, ◌==◌, ◌&&◌, true, false, Some, refl, sym, ap, ◌∙◌, arith}
 use Rattle.std.proofs.lemmas.Bool.Decides.{nat_tests}
 use Rattle.std.specs.FinMap as map
 use Rattle.sys_abi.specs.declared.identity.Dir.{Dir}
@@ -8,7 +8,7 @@ use Rattle.sys_abi.specs.declared.record.Record.TheVariants.{User, Call, Deliver
 use Rattle.views.proofs.MapLaws.{true_false}
 use Rattle.trace_log.specs.Trace.{TraceState}
 use Rattle.trace_log.specs.Requests.{is_mark}
-use Rattle.trace_log.specs.Turns.{Place, Due, Arrival, InTurn, After, coming, missing_in, is_due_at, is_arrival, is_same_dir}
+use Rattle.trace_log.specs.Turns.{Due, Arrival, InTurn, After, coming, missing_in, is_arrival, is_same_dir}
 use Rattle.plain_machine.specs.declared.plain.Plain.{Plain}
 use Rattle.plain_machine.specs.Tests.{is_work}
 use Rattle.checkpointer.specs.HandedOn.{Did}

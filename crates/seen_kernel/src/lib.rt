@@ -2,33 +2,15 @@
 //!
 //! A system over real numbers is made up of tables; an image has the kernel part of the plain machine for
 //! which they stand. [`kernel_of`] makes it while a stage of a checkpoint holds the system, of the owners and
-//! the bytes that the stage keeps, and [`kernel_at`] where none does, and all bytes have arrived.
+//! the bytes that the stage keeps, and [`kernel_at`] where none does, and all bytes have arrived. Each call
+//! below makes one map of that kernel part: it walks over the real table, and puts what it finds at the
+//! virtual number that is paired with the real one. Directions are made from the lists of a drain, and owners
+//! come from a map beside the book, where a checkpoint notes them before processes elect leaders by them.
 //!
-//! Proved: whichever kernel part the system stands for, what is made is that one, with all its bytes arrived,
-//! so there is no other. An end of a datagram pair has no image, and a kernel part is told that has none.
-//! Nothing of the system is changed. Not proved: that none is made only where memory is wanted, and how long
-//! a call takes.
-//!
-//! # Between processes
-//!
-//! What the tables of a system stand for of a kernel part between processes is its channels with their
-//! directions, its listeners, and its files.
-//!
-//! Proved: what is made is the map of each kernel part for which the tables stand, whichever it is. The
-//! directions are made from the lists of a drain, with all their bytes arrived. Each call takes memory for
-//! what it makes alone, and changes nothing.
-//!
-//! # Processes, descriptors and open descriptions
-//!
-//! A system holds tables over the numbers that its nodes handed out, and an image tells by virtual ones. Each
-//! call here makes one map of that kernel part of them: it
-//! walks over the real table, and puts what it finds at the virtual number that is paired with the real one.
-//! Owners of descriptions come from a map beside the book, where a checkpoint notes them before processes
-//! elect leaders by them.
-//!
-//! Proved: whichever map the tables stand for, that is the one that a call makes, so there is no other. An
-//! end of a datagram pair has no image, and descriptions are told where none is one. Not proved: that it
-//! makes none only where memory is wanted, and how long it takes; for each entry it goes down a tree or two.
+//! Proved: whichever kernel part or map the tables stand for, what is made is that one, with all its bytes
+//! arrived, so there is no other. An end of a datagram pair has no image, and a kernel part and descriptions
+//! are told where none is one. Nothing of the system is changed. Not proved: that none is made only where
+//! memory is wanted, and how long a call takes; for each entry it goes down a tree or two.
 #![tactic(auto)]
 
 pub mod channels;

@@ -1,5 +1,4 @@
-//! What cases of worked runs are run on: inputs, sinks and a folder in memory, and how what the top
-//! call leaves is printed.
+//! Inputs, sinks and a folder in memory for worked runs, and how what the top call leaves is printed.
 //!
 //! A `Bench` makes calls of the top in its folder, `sweeps` makes many of them, with faults and
 //! crashes, `Chain` joins what a launch and its restarts did, and `printing` prints what a call

@@ -1,6 +1,5 @@
-use Rattle.std.proofs.Common.{◌≡◌, ℕ, [], ◌∷◌, ◌++◌, length, refl, sym, ap, ◌∙◌, append_assoc, append-nil, arith, map as each}
+use Rattle.std.proofs.Common.{◌++◌, length, sym, ap, ◌∙◌, append-nil, arith, map as each}
 use Rattle.std.proofs.lemmas.List.{length-append, length-map}
-use Rattle.std.specs.FinMap as map
 use Rattle.views.proofs.MapValues.{keys-map_values}
 use Rattle.plain_tables.specs.Tables.{pid}
 use Rattle.checkpointer.specs.OfGuestProc.Guests.{GuestPart}

@@ -1,4 +1,4 @@
-use Rattle.std.proofs.Common.{◌≡◌, true, false, sym, ap, subst, ◌∙◌, refl}
+use Rattle.std.proofs.Common.{true, false, sym, ap, subst, ◌∙◌, refl}
 use Rattle.std.specs.Prelude.{is_some}
 use Rattle.checkpointer.specs.HandedOn.{plain_of, first_signal, IsDid}
 use Rattle.drive.specs.Scheduling.{place_in}

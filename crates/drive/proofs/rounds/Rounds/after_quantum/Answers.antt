@@ -1,4 +1,4 @@
-use Rattle.std.proofs.Common.{◌≡◌, true, false, sym, ap, ◌∙◌, refl}
+use Rattle.std.proofs.Common.{true, false, sym, ap, ◌∙◌, refl}
 use Rattle.checkpointer.specs.HandedOn.{plain_of}
 use Rattle.plain_process.specs.Steps.{user_step}
 use Rattle.trace_log.specs.Turns.{stands_in}

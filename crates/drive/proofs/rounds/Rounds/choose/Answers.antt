@@ -1,4 +1,4 @@
-use Rattle.std.proofs.Common.{◌≡◌, sym, ap, subst, ◌∙◌, refl}
+use Rattle.std.proofs.Common.{subst, ◌∙◌}
 use Rattle.checkpointer.specs.HandedOn.{plain_of}
 use Rattle.drive.specs.Scheduling.{IsComeSo, chosen}
 use Rattle.drive.proofs.NextTurns.{worked_due, new_due, arrived_due}

@@ -1,4 +1,4 @@
-use Rattle.std.proofs.Common.{◌≡◌, sym, ap, ◌∙◌, map as each}
+use Rattle.std.proofs.Common.{sym, ap, ◌∙◌, map as each}
 use Rattle.std.specs.Prelude.{option_map}
 use Rattle.plain_tables.specs.Tables.{pid}
 use Rattle.checkpointer.specs.HandedOn.{plain_of}

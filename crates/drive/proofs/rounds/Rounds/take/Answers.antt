@@ -1,13 +1,12 @@
 use Rattle.std.proofs.Common.{◌≡◌, sym, ap, subst, ◌∙◌}
 use Rattle.std.specs.Prelude.{Some, Result, Err}
-use Rattle.checkpointer.specs.HandedOn.{Did}
 use Rattle.checkpointer.specs.HandedOn.{Stop}
 use Rattle.checkpointer.specs.HandedOn.{plain_of}
 use Rattle.edge_io.specs.Sunk.{sunk}
 use Rattle.drive.specs.declared.rounds.Come.TheVariants as has_come
 use Rattle.drive.specs.declared.rounds.Made.{Made}
 use Rattle.drive.specs.declared.rounds.Made.TheVariants as made_was
-use Rattle.drive.specs.Scheduling.{CanTake, Spoils, chosen, rest_of}
+use Rattle.drive.specs.Scheduling.{CanTake, Spoils, chosen}
 use Rattle.drive.proofs.Taking.{Taken, worked, failed, arrived}
 use Rattle.drive.proofs.rounds.Rounds.take.Goals as goal
 
