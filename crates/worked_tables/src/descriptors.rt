@@ -1,6 +1,6 @@
-use crate::asserting::{holds, same};
+use crate::asserting::holds;
 use fd_book::{Book, BookFault, Desc, Object};
-use std::alloc::Global;
+use std::alloc::{AllocGlobal, Global};
 use std::process::Abort;
 use sys_abi::{DescId, Fd, RealPid, VPid};
 
@@ -14,11 +14,18 @@ const CONSOLE: Desc = Desc {
     owner: None,
 };
 
+const MAKER: VPid = VPid(40000);
+
+const ZEROTH: DescId = DescId { pid: MAKER, num: 0 };
+
+const FIRST: DescId = DescId { pid: MAKER, num: 1 };
+
+const THIRD: DescId = DescId { pid: MAKER, num: 3 };
+
+const FOURTH: DescId = DescId { pid: MAKER, num: 4 };
+
 fn name(num: u32) -> DescId {
-    DescId {
-        pid: VPid(40000),
-        num,
-    }
+    DescId { pid: MAKER, num }
 }
 
 /// A new description at the lowest free number of the parent; `BadFd` where it is there already.
@@ -46,120 +53,55 @@ fn dup_to(book: &mut Book, fd: u32, to: u32) -> Result<Option<DescId>, BookFault
     book.dup_to(PARENT, Fd(fd), Fd(to), false)
 }
 
-/// The parent's descriptors for the child; `BadFd` where the child has one.
-fn fork(book: &mut Book) -> Result<(), BookFault> {
-    if book.next_fd(CHILD, None).is_some() {
-        return Err(BookFault::BadFd);
+/// Whether the descriptor 0 is doubled until the parent has 256.
+fn fills(book: &mut Book) -> bool {
+    let mut all = true;
+    for number in 1..256 {
+        all &= book.dup(PARENT, Fd(0)) == Ok(Fd(number));
     }
-    Ok(book.fork_table(PARENT, CHILD)?)
+    all && book.free(PARENT) == 0
 }
 
-/// Whether these processes hold the description.
-fn are_holders(alloc: Global, book: &Book, id: DescId, processes: &[RealPid]) -> bool {
-    match book.holders(alloc, id) {
-        Ok(holders) => holders.as_slice() == processes,
+/// Whether a child has the parent's descriptors once they are forked for it; not where it has one before.
+fn is_forked(alloc: Global, book: &mut Book) -> bool {
+    if book.next_fd(CHILD, None).is_some() {
+        return false;
+    }
+    let is_done = book.fork_table(PARENT, CHILD).is_ok()
+        && book.cloexec(CHILD, Fd(1)) == Some(true);
+    match book.holders(alloc, FIRST) {
+        Ok(holders) => is_done && holders.as_slice() == [PARENT, CHILD].as_slice(),
         Err(_) => false,
     }
 }
 
-/// The descriptor 0 is doubled until the parent has 256.
-fn fill(rt: &impl Abort, book: &mut Book) {
-    for number in 1..256 {
-        same(rt, book.dup(PARENT, Fd(0)), Ok(Fd(number)));
-    }
+/// Whether descriptors that are put at their numbers are found there.
+fn are_put_back(book: &mut Book) -> bool {
+    place_at(book, PARENT, 255, 5).is_ok()
+        && place_at(book, PARENT, 2, 5).is_ok()
+        && place_at(book, CHILD, 0, 3).is_ok()
+        && book.free(PARENT) == 254
+        && book.next_fd(PARENT, Some(Fd(2))) == Some(Fd(255))
+        && book.next_fd(PARENT, Some(Fd(255))).is_none()
+        && book.next_desc(None) == Some(THIRD)
+        && book.next_desc(Some(THIRD)) == Some(name(5))
 }
 
-#[test]
-fn up_to_256_descriptors_at_the_lowest_free_numbers(rt: HostRuntime) {
-    let mut book = Book::new(rt.alloc());
-    same(&rt, place(&mut book, 0, false), Ok(Fd(0)));
-    fill(&rt, &mut book);
-    same(&rt, book.free(PARENT), 0);
-    same(&rt, book.dup(PARENT, Fd(0)), Err(BookFault::TooMany));
-    same(&rt, place(&mut book, 1, false), Err(BookFault::TooMany));
-    same(&rt, book.dup(PARENT, Fd(256)), Err(BookFault::BadFd));
-    same(&rt, book.close(PARENT, Fd(7)), Ok(None));
-    same(&rt, book.close(PARENT, Fd(7)), Err(BookFault::BadFd));
-    same(
-        &rt,
-        book.dup_from(PARENT, Fd(0), 8, true),
-        Err(BookFault::TooMany),
-    );
-    same(&rt, book.dup_from(PARENT, Fd(0), 7, true), Ok(Fd(7)));
-    same(&rt, book.cloexec(PARENT, Fd(7)), Some(true));
-}
-
-/// The parent's first four descriptors, each of its own description.
-fn place_four(rt: &impl Abort, book: &mut Book) {
-    for number in 0..4 {
-        same(rt, place(book, number, false), Ok(Fd(number)));
-    }
-}
-
-#[test]
-fn a_descriptor_put_over_an_open_one(rt: HostRuntime) {
-    let mut book = Book::new(rt.alloc());
-    place_four(&rt, &mut book);
-    same(&rt, dup_to(&mut book, 3, 9), Ok(None));
-    same(&rt, place(&mut book, 4, true), Ok(Fd(4)));
-    same(&rt, dup_to(&mut book, 3, 4), Ok(Some(name(4))));
-    same(&rt, book.desc(name(4)).copied(), None);
-    same(&rt, book.get(PARENT, Fd(4)), Some(name(3)));
-    same(&rt, dup_to(&mut book, 3, 4), Ok(None));
-    same(&rt, dup_to(&mut book, 8, 4), Err(BookFault::BadFd));
-    same(&rt, book.close(PARENT, Fd(1)), Ok(Some(name(1))));
-    same(&rt, place(&mut book, 4, false), Ok(Fd(1)));
-}
-
-#[test]
-fn a_description_of_two_processes_closed_by_each(rt: HostRuntime) {
-    let mut book = Book::new(rt.alloc());
-    same(&rt, place(&mut book, 0, false), Ok(Fd(0)));
-    same(&rt, place(&mut book, 1, true), Ok(Fd(1)));
-    same(&rt, fork(&mut book), Ok(()));
-    same(&rt, book.cloexec(CHILD, Fd(1)), Some(true));
-    holds(
-        &rt,
-        are_holders(rt.alloc(), &book, name(1), &[PARENT, CHILD]),
-    );
-    same(&rt, book.close(CHILD, Fd(1)), Ok(None));
-    same(&rt, book.close(PARENT, Fd(1)), Ok(Some(name(1))));
-    same(&rt, book.end_table(PARENT), Some((Fd(0), None)));
-    same(&rt, book.end_table(PARENT), None);
-    same(&rt, book.end_table(CHILD), Some((Fd(0), Some(name(0)))));
-    same(&rt, book.next_desc(None), None);
-}
-
-#[test]
-fn descriptors_put_back_at_their_numbers(rt: HostRuntime) {
-    let mut book = Book::new(rt.alloc());
-    same(&rt, place_at(&mut book, PARENT, 255, 5), Ok(()));
-    same(&rt, place_at(&mut book, PARENT, 2, 5), Ok(()));
-    same(&rt, place_at(&mut book, CHILD, 0, 3), Ok(()));
-    same(&rt, book.free(PARENT), 254);
-    same(&rt, book.next_fd(PARENT, Some(Fd(2))), Some(Fd(255)));
-    same(&rt, book.next_fd(PARENT, Some(Fd(255))), None);
-    same(&rt, book.next_desc(None), Some(name(3)));
-    same(&rt, book.next_desc(Some(name(3))), Some(name(5)));
-}
-
-const CHANGED: Desc = Desc {
+const COUNTER: Desc = Desc {
     object: Object::Counter { value: 3 },
     flags: 0x802,
     owner: Some(CHILD),
 };
 
-#[test]
-fn descriptions_and_flags_are_changed(rt: HostRuntime) {
-    let mut book = Book::new(rt.alloc());
-    same(&rt, place(&mut book, 5, false), Ok(Fd(0)));
+/// Whether what is set of the description 5 and of the descriptor 0 is so then.
+fn is_changed(book: &mut Book) -> bool {
     book.set_owner(name(5), Some(CHILD));
     book.set_flags(name(5), 0x802);
     book.set_object(name(5), Object::Counter { value: 3 });
     book.set_cloexec(PARENT, Fd(0), true);
-    same(&rt, book.desc(name(5)).copied(), Some(CHANGED));
-    same(&rt, book.owner(name(5)), Some(CHILD));
-    same(&rt, book.cloexec(PARENT, Fd(0)), Some(true));
+    book.desc(name(5)).copied() == Some(COUNTER)
+        && book.owner(name(5)) == Some(CHILD)
+        && book.cloexec(PARENT, Fd(0)) == Some(true)
 }
 
 const FILE: Object = Object::File {
@@ -167,18 +109,128 @@ const FILE: Object = Object::File {
     offset: 9,
 };
 
-#[test]
-fn a_file_and_the_owners_of_descriptions(rt: HostRuntime) {
-    let mut book = Book::new(rt.alloc());
-    same(&rt, place(&mut book, 5, false), Ok(Fd(0)));
-    same(&rt, place(&mut book, 6, false), Ok(Fd(1)));
+/// Whether the descriptions 5 and 6, owned by the child and the parent, lose an owner that goes.
+fn is_disowned(book: &mut Book) -> bool {
     book.set_owner(name(5), Some(CHILD));
     book.set_owner(name(6), Some(PARENT));
     book.set_object(name(6), FILE);
-    same(&rt, book.has_file(4), true);
-    same(&rt, book.has_file(9), false);
+    let is_found = book.has_file(4) && !book.has_file(9);
     book.disown(CHILD);
     book.whole();
-    same(&rt, book.owner(name(5)), None);
-    same(&rt, book.owner(name(6)), Some(PARENT));
+    is_found && book.owner(name(5)).is_none() && book.owner(name(6)) == Some(PARENT)
+}
+
+/// Calls and what they answer. Where none is named the process is the parent, and the descriptor 0.
+enum Step {
+    Place(u32, bool, Result<Fd, BookFault>),
+    /// The descriptor is doubled until none of the numbers is free.
+    Fill,
+    Dup(u32, Result<Fd, BookFault>),
+    /// At this number or above, to be closed on exec.
+    DupFrom(u32, Result<Fd, BookFault>),
+    DupTo(u32, u32, Result<Option<DescId>, BookFault>),
+    /// The description is gone, and the descriptor is of another one.
+    Replaced(DescId, u32, DescId),
+    Close(RealPid, u32, Result<Option<DescId>, BookFault>),
+    /// The descriptor is closed on exec.
+    Cloexec(u32),
+    Forked,
+    EndTable(RealPid, Option<(Fd, Option<DescId>)>),
+    /// No description is left.
+    Empty,
+    PutBack,
+    Changed,
+    Disowned,
+}
+
+/// Whether the step is answered so.
+fn answers(alloc: Global, book: &mut Book, step: &Step) -> bool {
+    match *step {
+        Step::Place(num, cloexec, answer) => place(book, num, cloexec) == answer,
+        Step::Fill => fills(book),
+        Step::Dup(fd, answer) => book.dup(PARENT, Fd(fd)) == answer,
+        Step::DupFrom(least, answer) => book.dup_from(PARENT, Fd(0), least, true) == answer,
+        Step::DupTo(fd, to, answer) => dup_to(book, fd, to) == answer,
+        Step::Replaced(gone, fd, id) => {
+            book.desc(gone).is_none() && book.get(PARENT, Fd(fd)) == Some(id)
+        }
+        Step::Close(process, fd, answer) => book.close(process, Fd(fd)) == answer,
+        Step::Cloexec(fd) => book.cloexec(PARENT, Fd(fd)) == Some(true),
+        Step::Forked => is_forked(alloc, book),
+        Step::EndTable(process, answer) => book.end_table(process) == answer,
+        Step::Empty => book.next_desc(None).is_none(),
+        Step::PutBack => are_put_back(book),
+        Step::Changed => is_changed(book),
+        Step::Disowned => is_disowned(book),
+    }
+}
+
+/// Each call of a new book answers so.
+fn follow(rt: &(impl Abort + AllocGlobal), steps: &[Step]) {
+    let mut book = Book::new(rt.alloc());
+    for step in steps {
+        holds(rt, answers(rt.alloc(), &mut book, step));
+    }
+}
+
+#[rattlefmt::skip]
+static FULL: [Step; 10] = [
+    Step::Place(0, false, Ok(Fd(0))), Step::Fill, Step::Dup(0, Err(BookFault::TooMany)),
+    Step::Place(1, false, Err(BookFault::TooMany)), Step::Dup(256, Err(BookFault::BadFd)),
+    Step::Close(PARENT, 7, Ok(None)), Step::Close(PARENT, 7, Err(BookFault::BadFd)),
+    Step::DupFrom(8, Err(BookFault::TooMany)), Step::DupFrom(7, Ok(Fd(7))), Step::Cloexec(7),
+];
+
+#[test]
+fn up_to_256_descriptors_at_the_lowest_free_numbers(rt: HostRuntime) {
+    follow(&rt, &FULL);
+}
+
+#[rattlefmt::skip]
+static PUT_OVER: [Step; 12] = [
+    Step::Place(0, false, Ok(Fd(0))), Step::Place(1, false, Ok(Fd(1))),
+    Step::Place(2, false, Ok(Fd(2))), Step::Place(3, false, Ok(Fd(3))), Step::DupTo(3, 9, Ok(None)),
+    Step::Place(4, true, Ok(Fd(4))), Step::DupTo(3, 4, Ok(Some(FOURTH))),
+    Step::Replaced(FOURTH, 4, THIRD), Step::DupTo(3, 4, Ok(None)),
+    Step::DupTo(8, 4, Err(BookFault::BadFd)), Step::Close(PARENT, 1, Ok(Some(FIRST))),
+    Step::Place(4, false, Ok(Fd(1))),
+];
+
+#[test]
+fn a_descriptor_put_over_an_open_one(rt: HostRuntime) {
+    follow(&rt, &PUT_OVER);
+}
+
+#[rattlefmt::skip]
+static CLOSED_BY_EACH: [Step; 9] = [
+    Step::Place(0, false, Ok(Fd(0))), Step::Place(1, true, Ok(Fd(1))), Step::Forked,
+    Step::Close(CHILD, 1, Ok(None)), Step::Close(PARENT, 1, Ok(Some(FIRST))),
+    Step::EndTable(PARENT, Some((Fd(0), None))), Step::EndTable(PARENT, None),
+    Step::EndTable(CHILD, Some((Fd(0), Some(ZEROTH)))), Step::Empty,
+];
+
+#[test]
+fn a_description_of_two_processes_closed_by_each(rt: HostRuntime) {
+    follow(&rt, &CLOSED_BY_EACH);
+}
+
+#[test]
+fn descriptors_put_back_at_their_numbers(rt: HostRuntime) {
+    follow(&rt, &[Step::PutBack]);
+}
+
+#[test]
+fn descriptions_and_flags_are_changed(rt: HostRuntime) {
+    follow(&rt, &[Step::Place(5, false, Ok(Fd(0))), Step::Changed]);
+}
+
+static OWNERS: [Step; 3] = [
+    Step::Place(5, false, Ok(Fd(0))),
+    Step::Place(6, false, Ok(Fd(1))),
+    Step::Disowned,
+];
+
+#[test]
+fn a_file_and_the_owners_of_descriptions(rt: HostRuntime) {
+    follow(&rt, &OWNERS);
 }
