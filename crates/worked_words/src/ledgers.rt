@@ -4,6 +4,7 @@ ghost use Rattle.std.specs.FinMap as map;
 ghost use Rattle.turn_cell.specs.Turns.{is_held};
 ghost use Rattle.turn_cell.specs.Views.{cell_of, held_by};
 
+use crate::asserting::holds;
 use std::alloc::{AllocError, Global};
 use std::process::Abort;
 use std::sync::Wait;
@@ -116,13 +117,13 @@ fn two_passes(alloc: Global) -> Result<TwoPasses, Fail>
 }
 
 fn entered(rt: &impl Abort, ledger: &Ledger, want: &[u32]) {
-    assert_eq!(rt; ledger.entries.as_slice(), want);
+    assert!(rt; ledger.entries.as_slice() == want);
 }
 
 /// How often each of the two numbers was added.
 fn counted(rt: &impl Abort, ledger: &Ledger, sevens: u32, nines: u32) {
-    assert_eq!(rt; ledger.counts.get(7), Some(&sevens));
-    assert_eq!(rt; ledger.counts.get(9), Some(&nines));
+    holds(rt, ledger.counts.get(7).copied() == Some(sevens));
+    holds(rt, ledger.counts.get(9).copied() == Some(nines));
 }
 
 #[test]
@@ -133,7 +134,7 @@ fn one_thread_takes_turns_with_two_passes(rt: HostRuntime) -> Result<(), Fail> {
     let (seven, again) = add_many(&rt, &cell, seven, 7, 1);
     let pass = cell.join(&rt, seven, nine);
     let ledger = cell.close(&rt, pass);
-    assert!(rt; added && also && again);
+    holds(&rt, added && also && again);
     entered(&rt, &ledger, &[7, 7, 9, 7]);
     counted(&rt, &ledger, 3, 1);
     Ok(())
@@ -170,8 +171,8 @@ fn two_threads_add_to_one_history(rt: HostRuntime) -> Result<(), Fail> {
     let two = two_passes(rt.alloc())?;
     let (cell, pass, all) = add_in_threads(&rt, two);
     let ledger = cell.close(&rt, pass);
-    assert!(rt; all);
-    assert_eq!(rt; ledger.entries.len(), 200);
+    holds(&rt, all);
+    holds(&rt, ledger.entries.len() == 200);
     counted(&rt, &ledger, 100, 100);
     Ok(())
 }

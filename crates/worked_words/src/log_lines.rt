@@ -1,8 +1,10 @@
 // The lines of a log, and after which records a checkpoint is asked for.
-use crate::asserting::{holds, same};
-use std::test::Fail;
+ghost use Rattle.std.specs.Prelude.{◌<◌, IfSome};
+
+use crate::asserting::{holds, same_bytes};
+use std::process::Abort;
 use sys_abi::{Cause, ConnId, Dir, Fd, Kind, Record, Tid, VPid};
-use trace_log::{Schedule, log_text};
+use trace_log::{Schedule, Tally, log_text};
 
 const PROCESS: VPid = VPid(40000);
 
@@ -18,7 +20,7 @@ const DRAINED: Record = Record::Drained {
 };
 
 /// Seven checkpoints, the third of which drains twice.
-const CHECKPOINTS: [Record; 10] = [
+static CHECKPOINTS: [Record; 10] = [
     Record::Refused {
         cause: Cause::Unsupported {
             p: VPid(40001),
@@ -57,10 +59,9 @@ checkpoint 7 lapsed
 ";
 
 #[test]
-fn lines_of_a_log(rt: HostRuntime) -> Result<(), Fail> {
-    let text = log_text(rt.alloc(), &CHECKPOINTS)?;
-    same(&rt, text.as_slice(), LINES.as_bytes());
-    Ok(())
+fn lines_of_a_log(rt: HostRuntime) {
+    let text = log_text(rt.alloc(), &CHECKPOINTS).expect(&rt, "memory");
+    same_bytes(&rt, text.as_slice(), LINES.as_bytes());
 }
 
 const CALL: Record = Record::Call {
@@ -68,37 +69,74 @@ const CALL: Record = Record::Call {
     t: Tid(40000),
 };
 
+/// A record, and what holds after it.
+enum Step {
+    /// A record of work. The schedule then asks, or doesn't.
+    Work(bool),
+    /// A cut of this generation, which then is the greatest, and unfinished.
+    Cut(u64),
+    /// The set of this generation is complete. So many records of work came before.
+    Complete(u64, u64),
+}
+
+/// Whether that holds after the record.
+fn answers(schedule: Schedule, tally: &mut Tally, step: &Step) -> bool
+    requires { IfSome schedule.every (λ every. 0 < every) }
+{
+    if tally.work == u64::MAX {
+        return false;
+    }
+    match *step {
+        Step::Work(asks) => {
+            tally.pass(&CALL);
+            schedule.asks(*tally) == asks
+        }
+        Step::Cut(generation) => {
+            tally.pass(&Record::Cut { generation });
+            tally.greatest == generation && tally.is_unfinished
+        }
+        Step::Complete(generation, work) => {
+            tally.pass(&Record::Complete { generation });
+            !tally.is_unfinished && tally.work == work
+        }
+    }
+}
+
+/// It holds after each record of a run.
+fn follow(rt: &impl Abort, schedule: Schedule, steps: &[Step])
+    requires { IfSome schedule.every (λ every. 0 < every) }
+{
+    let mut tally = schedule.first_tally();
+    for step in steps {
+        holds(rt, answers(schedule, &mut tally, step));
+    }
+}
+
 const EVERY_SECOND: Schedule = Schedule {
     every: Some(2),
     opening: 7,
 };
 
+static SECONDS: [Step; 6] = [
+    Step::Work(false),
+    Step::Work(true),
+    Step::Work(false),
+    Step::Work(true),
+    Step::Cut(8),
+    Step::Complete(8, 4),
+];
+
 #[test]
 fn every_second_work_record_asks(rt: HostRuntime) {
-    let mut tally = EVERY_SECOND.first_tally();
-    tally.pass(&CALL);
-    holds(&rt, !EVERY_SECOND.asks(tally));
-    tally.pass(&CALL);
-    holds(&rt, EVERY_SECOND.asks(tally));
-    tally.pass(&CALL);
-    holds(&rt, !EVERY_SECOND.asks(tally));
-    tally.pass(&CALL);
-    holds(&rt, EVERY_SECOND.asks(tally));
-    tally.pass(&Record::Cut { generation: 8 });
-    same(&rt, tally.greatest, 8);
-    holds(&rt, tally.is_unfinished);
-    tally.pass(&Record::Complete { generation: 8 });
-    holds(&rt, !tally.is_unfinished);
-    same(&rt, tally.work, 4);
+    follow(&rt, EVERY_SECOND, &SECONDS);
 }
+
+const SPENT: Schedule = Schedule {
+    every: Some(1),
+    opening: u64::MAX - 1,
+};
 
 #[test]
 fn no_generation_is_left_to_ask_for(rt: HostRuntime) {
-    let spent = Schedule {
-        every: Some(1),
-        opening: u64::MAX - 1,
-    };
-    let mut tally = spent.first_tally();
-    tally.pass(&CALL);
-    holds(&rt, !spent.asks(tally));
+    follow(&rt, SPENT, &[Step::Work(false)]);
 }

@@ -1,9 +1,8 @@
 // The bytes of traces, and the places of those that are damaged: what no clause can say is that the
 // formats are these.
-use crate::asserting::same;
+use crate::asserting::{holds, same_bytes};
 use std::alloc::{AllocError, Global};
 use std::process::Abort;
-use std::test::Fail;
 use sys_abi::{Cause, ConnId, Dir, Fd, Kind, Record, Signal, Tid, VPid};
 use trace_log::{Trace, TraceFault};
 
@@ -39,7 +38,7 @@ const WITHOUT_A_SET: [[u8; 16]; 5] = [
 
 /// Each differs in one field from a record's bytes.
 #[rattlefmt::skip]
-const DAMAGED: [[u8; 16]; 20] = [
+static DAMAGED: [[u8; 16]; 20] = [
     // no such kind
     [0, 0, 0, 0, 0, 0, 0, 0, 0, 0, 0, 0, 0, 0, 0, 0],
     [11, 0, 0, 0, 0, 0, 0, 0, 0, 0, 0, 0, 0, 0, 0, 0],
@@ -67,46 +66,32 @@ const DAMAGED: [[u8; 16]; 20] = [
     [9, 1, 3, 0, 0x40, 0x9C, 0, 0, 5, 1, 0, 0, 0, 0, 0, 0],
 ];
 
-fn bytes(rt: &impl Abort, given: &[u8], want: &[u8]) {
-    assert_eq!(rt; given, want);
-}
-
-fn records(rt: &impl Abort, given: &[Record], want: &[Record]) {
-    assert_eq!(rt; given, want);
-}
-
 /// Why the bytes are no trace.
 fn fault(alloc: Global, bytes: &[u8]) -> Option<TraceFault> {
     Trace::from_bytes(alloc, bytes).err()
 }
 
 /// Asserts that the trace is written as these bytes, and read from them.
-fn assert_both_ways(
-    rt: &(impl Abort + AllocGlobal),
-    trace: &Trace,
-    want: &[u8],
-) -> Result<(), Fail> {
-    let written = trace.to_bytes(rt.alloc())?;
-    bytes(rt, written.as_slice(), want);
-    let read = Trace::from_bytes(rt.alloc(), want)?;
-    records(rt, read.as_slice(), trace.as_slice());
-    Ok(())
+fn assert_both_ways(rt: &(impl Abort + AllocGlobal), trace: &Trace, want: &[u8]) {
+    let written = trace.to_bytes(rt.alloc()).expect(rt, "memory");
+    same_bytes(rt, written.as_slice(), want);
+    let read = Trace::from_bytes(rt.alloc(), want).expect(rt, "a trace");
+    holds(rt, read.as_slice() == trace.as_slice());
 }
 
 #[test]
-fn file_of_a_trace(rt: HostRuntime) -> Result<(), Fail> {
+fn file_of_a_trace(rt: HostRuntime) {
     let alloc = rt.alloc();
     let mut trace = Trace::new(alloc);
-    trace.reserve(2)?;
+    trace.reserve(2).expect(&rt, "memory");
     trace.append(STEPS);
-    same(&rt, trace.room(), 1);
-    records(&rt, trace.as_slice(), &[STEPS]);
-    assert_both_ways(&rt, &trace, &STEPS_BYTES)?;
+    holds(&rt, trace.room() == 1);
+    holds(&rt, trace.as_slice() == [STEPS].as_slice());
+    assert_both_ways(&rt, &trace, &STEPS_BYTES);
     let short = fault(alloc, &STEPS_BYTES[..15]);
-    same(&rt, short, Some(TraceFault::Bad(0)));
+    holds(&rt, short == Some(TraceFault::Bad(0)));
     let cut_off = fault(alloc, &[STEPS_BYTES, STEPS_BYTES].as_flattened()[..31]);
-    same(&rt, cut_off, Some(TraceFault::Bad(16)));
-    Ok(())
+    holds(&rt, cut_off == Some(TraceFault::Bad(16)));
 }
 
 const P: VPid = VPid(40001);
@@ -137,9 +122,9 @@ fn calls_channels_and_sets(alloc: Global) -> Result<Trace, AllocError> {
 }
 
 #[test]
-fn bytes_of_calls_channels_and_sets(rt: HostRuntime) -> Result<(), Fail> {
-    let trace = calls_channels_and_sets(rt.alloc())?;
-    assert_both_ways(&rt, &trace, CALLS_CHANNELS_AND_SETS.as_flattened())
+fn bytes_of_calls_channels_and_sets(rt: HostRuntime) {
+    let trace = calls_channels_and_sets(rt.alloc()).expect(&rt, "memory");
+    assert_both_ways(&rt, &trace, CALLS_CHANNELS_AND_SETS.as_flattened());
 }
 
 const DATAGRAM: Record = Record::Refused {
@@ -174,19 +159,15 @@ fn without_a_set(alloc: Global) -> Result<Trace, AllocError> {
 }
 
 #[test]
-fn bytes_of_checkpoints_without_a_set(rt: HostRuntime) -> Result<(), Fail> {
-    let trace = without_a_set(rt.alloc())?;
-    assert_both_ways(&rt, &trace, WITHOUT_A_SET.as_flattened())
+fn bytes_of_checkpoints_without_a_set(rt: HostRuntime) {
+    let trace = without_a_set(rt.alloc()).expect(&rt, "memory");
+    assert_both_ways(&rt, &trace, WITHOUT_A_SET.as_flattened());
 }
 
 fn assert_bad_at(rt: &(impl Abort + AllocGlobal), damaged: &[u8; 16], place: u64) {
     let bytes = [STEPS_BYTES, *damaged, STEPS_BYTES];
     let found = fault(rt.alloc(), bytes.as_flattened());
-    same(
-        rt,
-        (*damaged, found),
-        (*damaged, Some(TraceFault::Bad(place))),
-    );
+    holds(rt, found == Some(TraceFault::Bad(place)));
 }
 
 fn assert_each_bad_at(rt: &(impl Abort + AllocGlobal), damages: &[[u8; 16]], place: u64) {
@@ -209,11 +190,7 @@ fn assert_rests(rt: &(impl Abort + AllocGlobal), bytes: &[u8]) {
             17..=31 => Some(TraceFault::Bad(16)),
             _ => Some(TraceFault::Bad(32)),
         };
-        same(
-            rt,
-            (length, fault(rt.alloc(), &bytes[..length])),
-            (length, want),
-        );
+        holds(rt, fault(rt.alloc(), &bytes[..length]) == want);
     }
 }
 
