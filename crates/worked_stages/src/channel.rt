@@ -7,10 +7,9 @@ ghost use Rattle.wire_channels.specs.Directions.{standing};
 ghost use Rattle.worked_stages.specs.Alone.{IsAlone};
 ghost use Rattle.worked_stages.specs.Ticks.{ticked};
 
-use crate::checks::{came, holds};
+use crate::checks::holds;
 use std::alloc::Global;
 use std::process::Abort;
-use std::test::Fail;
 use sys_abi::{ConnId, Dir, RealPid, VPid};
 use wire_net::{AgentEnd, Net, NetFault, Place};
 
@@ -29,20 +28,11 @@ pub(crate) const SECOND: Dir = Dir {
     side: 1,
 };
 
-pub(crate) const CLIENT: RealPid = RealPid {
-    node: 0,
-    pid: 2_000,
-};
+pub(crate) const CLIENT: RealPid = RealPid { node: 0, pid: 2000 };
 
-pub(crate) const SERVER: RealPid = RealPid {
-    node: 1,
-    pid: 2_000,
-};
+pub(crate) const SERVER: RealPid = RealPid { node: 1, pid: 2000 };
 
-pub(crate) const STRANGER: RealPid = RealPid {
-    node: 1,
-    pid: 2_001,
-};
+pub(crate) const STRANGER: RealPid = RealPid { node: 1, pid: 2001 };
 
 pub(crate) const ENDS: [AgentEnd; 2] = [
     AgentEnd {
@@ -58,7 +48,7 @@ pub(crate) const ENDS: [AgentEnd; 2] = [
 ];
 
 /// A network with that channel, on which nothing was sent, and no other.
-fn with_channel(rt: &impl Abort, alloc: Global) -> Result<Net, NetFault>
+pub(crate) fn one_channel(rt: &impl Abort, alloc: Global) -> Result<Net, NetFault>
     ensures new { IfOk result (λ net. net.channels ≡ map.insert map.empty CONN new_channel) }
     ensures alone { IfOk result (λ net. IsAlone CONN net.channels) }
 {
@@ -68,15 +58,6 @@ fn with_channel(rt: &impl Abort, alloc: Global) -> Result<Net, NetFault>
     Ok(net)
 }
 
-/// That network in a box.
-pub(crate) fn one_channel(rt: &impl Abort, alloc: Global) -> Result<Box<Net>, Fail>
-    ensures new { IfOk result (λ net. net.value.channels ≡ map.insert map.empty CONN new_channel) }
-    ensures alone { IfOk result (λ net. IsAlone CONN net.value.channels) }
-{
-    let net = with_channel(rt, alloc)?;
-    Ok(Box::new(alloc, net)?)
-}
-
 /// The whole text is sent.
 pub(crate) fn say(rt: &impl Abort, net: &mut Net, d: Dir, text: &[u8])
     requires side { d.side < 2 }
@@ -84,7 +65,7 @@ pub(crate) fn say(rt: &impl Abort, net: &mut Net, d: Dir, text: &[u8])
     requires alone { IsAlone CONN net.old.channels }
     ensures { IsAlone CONN net.new.channels }
 {
-    came(rt, net.send(d, text), text.len() as u32);
+    holds(rt, net.send(d, text) == Ok(text.len() as u32));
 }
 
 pub(crate) fn shut(net: &mut Net, d: Dir)

@@ -3,7 +3,7 @@ ghost use Rattle.worked_stages.specs.Alone.{IsAlone};
 ghost use Rattle.worked_stages.specs.Handed.{IsHanded};
 
 use crate::channel::{CONN, ENDS, FIRST, SECOND, carry, one_channel, say, shut};
-use crate::checks::{queues, reads, same};
+use crate::checks::{holds, reads};
 use crate::drains::{self, lists};
 use crate::refills;
 use refill_core::Refill;
@@ -22,9 +22,9 @@ fn refilled(rt: &impl Abort, net: &mut Net, drained: DrainedNet, room: CutRoom)
 
 /// Asserts whether the first direction is ended, and what stands in its queues. The other one is empty.
 fn stands(rt: &impl Abort, net: &Net, is_ended: bool, first: [u32; 3]) {
-    assert_eq!(rt; net.is_ended(FIRST), is_ended);
-    queues(rt, net, FIRST, first);
-    queues(rt, net, SECOND, [0, 0, 0]);
+    holds(rt, net.is_ended(FIRST) == is_ended);
+    holds(rt, net.counts(FIRST) == first);
+    holds(rt, net.counts(SECOND) == [0, 0, 0]);
 }
 
 /// The first direction is drained of this text, which comes back. Between, this stands in its queues.
@@ -46,29 +46,41 @@ fn comes_back(
     Ok(())
 }
 
+fn in_order(rt: &(impl Abort + AllocGlobal), net: &mut Net) -> Result<(), Fail>
+    requires { IsAlone CONN net.old.channels }
+{
+    say(rt, net, FIRST, b"ninebytes");
+    carry(net, 5, 3);
+    holds(rt, net.counts(FIRST) == [4, 2, 3]);
+    comes_back(rt, net, b"ninebytes", false, [0, 0, 0])?;
+    stands(rt, net, false, [0, 0, 9]);
+    let mut xfer = Transfer::new(rt.alloc())?;
+    reads(rt, net, FIRST, 100, &mut xfer, b"ninebytes");
+    Ok(())
+}
+
 #[test]
 fn bytes_of_all_three_queues_come_back_in_order(rt: HostRuntime) -> Result<(), Fail> {
     let mut net = one_channel(&rt, rt.alloc())?;
-    say(&rt, &mut net, FIRST, b"ninebytes");
-    carry(&mut net, 5, 3);
-    queues(&rt, &net, FIRST, [4, 2, 3]);
-    comes_back(&rt, &mut net, b"ninebytes", false, [0, 0, 0])?;
-    stands(&rt, &net, false, [0, 0, 9]);
+    in_order(&rt, &mut net)
+}
+
+fn in_place(rt: &(impl Abort + AllocGlobal), net: &mut Net) -> Result<(), Fail>
+    requires { IsAlone CONN net.old.channels }
+{
+    say(rt, net, FIRST, b"the last words");
+    shut(net, FIRST);
+    comes_back(rt, net, b"the last words", true, [0, 0, 14])?;
+    stands(rt, net, true, [0, 0, 14]);
+    holds(rt, net.carried(FIRST) == 14);
     let mut xfer = Transfer::new(rt.alloc())?;
-    reads(&rt, &mut net, FIRST, 100, &mut xfer, b"ninebytes");
+    reads(rt, net, FIRST, 100, &mut xfer, b"the last words");
+    reads(rt, net, FIRST, 100, &mut xfer, b"");
     Ok(())
 }
 
 #[test]
 fn a_channel_that_has_ended_keeps_its_bytes_in_the_network(rt: HostRuntime) -> Result<(), Fail> {
     let mut net = one_channel(&rt, rt.alloc())?;
-    say(&rt, &mut net, FIRST, b"the last words");
-    shut(&mut net, FIRST);
-    comes_back(&rt, &mut net, b"the last words", true, [0, 0, 14])?;
-    stands(&rt, &net, true, [0, 0, 14]);
-    same(&rt, net.carried(FIRST), 14);
-    let mut xfer = Transfer::new(rt.alloc())?;
-    reads(&rt, &mut net, FIRST, 100, &mut xfer, b"the last words");
-    reads(&rt, &mut net, FIRST, 100, &mut xfer, b"");
-    Ok(())
+    in_place(&rt, &mut net)
 }

@@ -1,7 +1,7 @@
 //! Two channels are published, and looked up.
+use crate::checks::holds;
 use discovery::Directory;
 use std::process::Abort;
-use std::test::Fail;
 use sys_abi::{ConnId, RealAddr, VPid};
 
 const FIRST: ConnId = ConnId {
@@ -24,30 +24,23 @@ const THERE: RealAddr = RealAddr {
     port: 20000,
 };
 
-/// Where the channel can be reached, which is looked up.
-fn found(rt: &impl Abort, directory: &mut Directory, id: ConnId, want: Option<RealAddr>) {
-    assert_eq!(rt; directory.find(id), want);
-}
-
-/// Whether it was looked up since it was published.
-fn asked(rt: &impl Abort, directory: &Directory, id: ConnId, want: bool) {
-    assert_eq!(rt; directory.asked(id), want);
+fn publish(rt: &impl Abort, directory: &mut Directory) {
+    holds(rt, directory.find(FIRST).is_none());
+    holds(rt, !directory.asked(FIRST));
+    holds(rt, directory.publish(FIRST, HERE).is_ok());
+    holds(rt, directory.publish(SECOND, THERE).is_ok());
+    holds(rt, !directory.asked(FIRST));
+    holds(rt, directory.find(FIRST) == Some(HERE));
+    holds(rt, directory.asked(FIRST));
+    holds(rt, !directory.asked(SECOND));
+    holds(rt, directory.publish(FIRST, THERE).is_ok());
+    holds(rt, !directory.asked(FIRST));
+    holds(rt, directory.find(FIRST) == Some(THERE));
+    holds(rt, directory.find(SECOND) == Some(THERE));
 }
 
 #[test]
-fn the_last_publication_counts(rt: HostRuntime) -> Result<(), Fail> {
-    let mut directory = Box::new(rt.alloc(), Directory::new(rt.alloc()))?;
-    found(&rt, &mut directory, FIRST, None);
-    asked(&rt, &directory, FIRST, false);
-    directory.publish(FIRST, HERE)?;
-    directory.publish(SECOND, THERE)?;
-    asked(&rt, &directory, FIRST, false);
-    found(&rt, &mut directory, FIRST, Some(HERE));
-    asked(&rt, &directory, FIRST, true);
-    asked(&rt, &directory, SECOND, false);
-    directory.publish(FIRST, THERE)?;
-    asked(&rt, &directory, FIRST, false);
-    found(&rt, &mut directory, FIRST, Some(THERE));
-    found(&rt, &mut directory, SECOND, Some(THERE));
-    Ok(())
+fn the_last_publication_counts(rt: HostRuntime) {
+    let mut directory = Directory::new(rt.alloc());
+    publish(&rt, &mut directory);
 }

@@ -6,7 +6,7 @@ ghost use Rattle.worked_stages.specs.Handed.{IsDraining, IsHanded};
 use crate::channel::{
     CLIENT, CONN, ENDS, FIRST, SECOND, SERVER, STRANGER, one_channel, say, shut, stands, tick,
 };
-use crate::checks::{bytes, holds, queues, same, stepped};
+use crate::checks::holds;
 use drain_core::{Drain, drain_laws};
 use std::alloc::{AllocError, Global};
 use std::process::Abort;
@@ -59,18 +59,17 @@ pub(crate) fn finished(rt: &impl Abort, net: &Net, drain: Drain) -> (DrainedNet,
     drain.finish(net)
 }
 
-/// The list of a direction, of which the bytes were left in place or not.
-fn list(rt: &impl Abort, given: &DirBytes, in_place: bool, text: &[u8]) {
-    assert_eq!(rt; given.in_place, in_place);
-    bytes(rt, given.bytes.as_slice(), text);
+/// Whether the list has this text, which was left in place or not.
+fn is_list(list: &DirBytes, in_place: bool, text: &[u8]) -> bool {
+    list.in_place == in_place && list.bytes.as_slice() == text
 }
 
 /// What was drained of both directions.
 pub(crate) fn lists(rt: &impl Abort, drained: &DrainedNet, in_place: bool, texts: [&[u8]; 2]) {
     let lists = drained.lists.as_slice();
-    assert_eq!(rt; lists.len(), 2);
-    list(rt, &lists[0], in_place, texts[0]);
-    list(rt, &lists[1], in_place, texts[1]);
+    holds(rt, lists.len() == 2);
+    holds(rt, is_list(&lists[0], in_place, texts[0]));
+    holds(rt, is_list(&lists[1], in_place, texts[1]));
 }
 
 /// The drain goes on to its end, and gives these lists.
@@ -82,31 +81,51 @@ fn gives(rt: &impl Abort, net: &mut Net, mut drain: Drain, in_place: bool, texts
     lists(rt, &drained, in_place, texts);
 }
 
+/// A stranger has nothing to do, and the client moves what it can at once.
+fn first_steps(rt: &impl Abort, net: &mut Net, drain: &mut Drain)
+    requires { IsDraining net.old.channels ENDS drain.old }
+    ensures { IsDraining net.new.channels ENDS drain.new }
+{
+    holds(rt, step(net, drain, STRANGER) == Stepped::Finished);
+    holds(rt, step(net, drain, CLIENT) == Stepped::Moved);
+    holds(rt, step(net, drain, CLIENT) == Stepped::Again);
+}
+
+fn empties(rt: &(impl Abort + AllocGlobal), net: &mut Net) -> Result<(), Fail>
+    requires { IsAlone CONN net.old.channels }
+{
+    say(rt, net, FIRST, b"hello");
+    say(rt, net, SECOND, b"good morning");
+    let mut drain = begin(rt.alloc(), net)?;
+    first_steps(rt, net, &mut drain);
+    gives(rt, net, drain, false, [b"hello", b"good morning"]);
+    holds(rt, net.counts(FIRST) == [0, 0, 0]);
+    holds(rt, net.counts(SECOND) == [0, 0, 0]);
+    holds(rt, net.carried(FIRST) == 21);
+    Ok(())
+}
+
 #[test]
 fn both_ways_are_emptied(rt: HostRuntime) -> Result<(), Fail> {
     let mut net = one_channel(&rt, rt.alloc())?;
-    say(&rt, &mut net, FIRST, b"hello");
-    say(&rt, &mut net, SECOND, b"good morning");
-    let mut drain = begin(rt.alloc(), &net)?;
-    stepped(&rt, step(&mut net, &mut drain, STRANGER), Stepped::Finished);
-    stepped(&rt, step(&mut net, &mut drain, CLIENT), Stepped::Moved);
-    stepped(&rt, step(&mut net, &mut drain, CLIENT), Stepped::Again);
-    gives(&rt, &mut net, drain, false, [b"hello", b"good morning"]);
-    queues(&rt, &net, FIRST, [0, 0, 0]);
-    queues(&rt, &net, SECOND, [0, 0, 0]);
-    same(&rt, net.carried(FIRST), 21);
+    empties(&rt, &mut net)
+}
+
+fn leaves(rt: &(impl Abort + AllocGlobal), net: &mut Net) -> Result<(), Fail>
+    requires { IsAlone CONN net.old.channels }
+{
+    say(rt, net, FIRST, b"the last words");
+    shut(net, FIRST);
+    let drain = begin(rt.alloc(), net)?;
+    holds(rt, !drain.has_work(net, SERVER));
+    holds(rt, !drain.is_done(net));
+    gives(rt, net, drain, true, [b"the last words", b""]);
+    holds(rt, net.counts(FIRST) == [0, 0, 14]);
     Ok(())
 }
 
 #[test]
 fn a_channel_that_has_ended_is_left_in_place(rt: HostRuntime) -> Result<(), Fail> {
     let mut net = one_channel(&rt, rt.alloc())?;
-    say(&rt, &mut net, FIRST, b"the last words");
-    shut(&mut net, FIRST);
-    let drain = begin(rt.alloc(), &net)?;
-    holds(&rt, !drain.has_work(&net, SERVER));
-    holds(&rt, !drain.is_done(&net));
-    gives(&rt, &mut net, drain, true, [b"the last words", b""]);
-    queues(&rt, &net, FIRST, [0, 0, 14]);
-    Ok(())
+    leaves(&rt, &mut net)
 }

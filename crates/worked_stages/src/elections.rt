@@ -1,11 +1,10 @@
 //! Two processes share a description, and vote.
 ghost use Rattle.std.specs.Prelude.{◌<◌};
 
+use crate::checks::holds;
 use fd_book::{Book, Desc, Object};
 use leader_vote::{leader, vote};
-use std::alloc::{AllocError, Global};
 use std::process::Abort;
-use std::test::Fail;
 use sys_abi::{DescId, Fd, RealPid, VPid};
 
 const PARENT: RealPid = RealPid { node: 0, pid: 1000 };
@@ -14,6 +13,12 @@ const CHILD: RealPid = RealPid { node: 0, pid: 1001 };
 
 const STRANGER: RealPid = RealPid { node: 1, pid: 1000 };
 
+const CONSOLE: Desc = Desc {
+    object: Object::Console,
+    flags: 2,
+    owner: None,
+};
+
 fn name(num: u32) -> DescId {
     DescId {
         pid: VPid(40000),
@@ -21,67 +26,47 @@ fn name(num: u32) -> DescId {
     }
 }
 
-/// A descriptor at a number that is free.
-fn place_at(
-    rt: &impl Abort,
-    book: &mut Book,
-    p: RealPid,
-    fd: u32,
-    num: u32,
-) -> Result<(), AllocError>
+/// Puts a descriptor at a number, and tells whether it was free and the descriptor is there now.
+fn place(book: &mut Book, p: RealPid, fd: u32, num: u32) -> bool
     requires { fd < 256 }
 {
-    let console = Desc {
-        object: Object::Console,
-        flags: 2,
-        owner: None,
-    };
-    assert!(rt; book.get(p, Fd(fd)).is_none());
-    book.place_at(p, Fd(fd), name(num), console, false)
+    book.get(p, Fd(fd)).is_none() && book.place_at(p, Fd(fd), name(num), CONSOLE, false).is_ok()
 }
 
-/// A book in which the parent holds description 0.
-fn one_holder(rt: &impl Abort, alloc: Global) -> Result<Box<Book>, AllocError> {
-    let mut book = Box::new(alloc, Book::new(alloc))?;
-    place_at(rt, &mut book, PARENT, 0, 0)?;
-    Ok(book)
-}
-
-/// The child holds description 0 too, and description 1 alone.
-fn two_holders(rt: &impl Abort, alloc: Global) -> Result<Box<Book>, AllocError> {
-    let mut book = one_holder(rt, alloc)?;
-    place_at(rt, &mut book, CHILD, 255, 0)?;
-    place_at(rt, &mut book, CHILD, 3, 1)?;
-    Ok(book)
-}
-
-/// Who leads the description.
-fn leads(rt: &impl Abort, book: &Book, num: u32, want: Option<RealPid>) {
-    assert_eq!(rt; leader(book, name(num)), want);
+/// The parent holds description 0, and the child too, which holds description 1 alone.
+fn both_vote(rt: &impl Abort, book: &mut Book) {
+    holds(rt, place(book, PARENT, 0, 0));
+    holds(rt, place(book, CHILD, 255, 0));
+    holds(rt, place(book, CHILD, 3, 1));
+    holds(rt, leader(book, name(0)).is_none());
+    vote(book, PARENT);
+    holds(rt, leader(book, name(0)) == Some(PARENT));
+    vote(book, CHILD);
+    holds(rt, leader(book, name(0)) == Some(CHILD));
+    vote(book, PARENT);
+    holds(rt, leader(book, name(0)) == Some(PARENT));
+    holds(rt, leader(book, name(1)) == Some(CHILD));
 }
 
 #[test]
-fn the_last_setter_leads(rt: HostRuntime) -> Result<(), Fail> {
-    let mut book = two_holders(&rt, rt.alloc())?;
-    leads(&rt, &book, 0, None);
-    vote(&mut book, PARENT);
-    leads(&rt, &book, 0, Some(PARENT));
-    vote(&mut book, CHILD);
-    leads(&rt, &book, 0, Some(CHILD));
-    vote(&mut book, PARENT);
-    leads(&rt, &book, 0, Some(PARENT));
-    leads(&rt, &book, 1, Some(CHILD));
-    Ok(())
+fn the_last_setter_leads(rt: HostRuntime) {
+    let mut book = Book::new(rt.alloc());
+    both_vote(&rt, &mut book);
 }
 
-#[test]
-fn a_voter_leads_only_what_it_holds(rt: HostRuntime) -> Result<(), Fail> {
-    let mut book = one_holder(&rt, rt.alloc())?;
-    vote(&mut book, STRANGER);
-    leads(&rt, &book, 0, None);
-    leads(&rt, &book, 7, None);
+/// The parent holds description 0.
+fn one_votes(rt: &impl Abort, book: &mut Book) {
+    holds(rt, place(book, PARENT, 0, 0));
+    vote(book, STRANGER);
+    holds(rt, leader(book, name(0)).is_none());
+    holds(rt, leader(book, name(7)).is_none());
     book.set_owner(name(0), Some(CHILD));
-    vote(&mut book, PARENT);
-    leads(&rt, &book, 0, Some(PARENT));
-    Ok(())
+    vote(book, PARENT);
+    holds(rt, leader(book, name(0)) == Some(PARENT));
+}
+
+#[test]
+fn a_voter_leads_only_what_it_holds(rt: HostRuntime) {
+    let mut book = Book::new(rt.alloc());
+    one_votes(&rt, &mut book);
 }

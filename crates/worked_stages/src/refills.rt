@@ -6,7 +6,7 @@ ghost use Rattle.refill_core.specs.Refills.{Fits};
 ghost use Rattle.worked_stages.specs.Taken.{taken};
 
 use crate::channel::{CLIENT, CONN, ENDS, FIRST, SECOND, SERVER, STRANGER, one_channel, tick};
-use crate::checks::{holds, queues, reads, same, stepped};
+use crate::checks::{holds, reads};
 use refill_core::{Refill, refill_laws};
 use std::alloc::{AllocError, Global};
 use std::process::Abort;
@@ -82,45 +82,43 @@ pub(crate) fn finish(rt: &impl Abort, net: &mut Net, mut refill: Refill)
     refill.finish(net);
 }
 
-/// Both directions are filled with these bytes.
-fn fill(
-    rt: &(impl Abort + AllocGlobal),
-    net: &mut Net,
-    first: &[u8],
-    second: &[u8],
-) -> Result<(), AllocError>
-    requires net { net.old.channels ≡ map.insert map.empty CONN new_channel }
-    requires first { length first.now ≤ 65536 }
-    requires second { length second.now ≤ 65536 }
+fn fills(rt: &(impl Abort + AllocGlobal), net: &mut Net) -> Result<(), Fail>
+    requires { net.old.channels ≡ map.insert map.empty CONN new_channel }
 {
-    let refill = begin(rt.alloc(), net, first, second)?;
+    let refill = begin(rt.alloc(), net, b"hello", b"good morning")?;
     finish(rt, net, refill);
+    let mut xfer = Transfer::new(rt.alloc())?;
+    reads(rt, net, FIRST, 100, &mut xfer, b"hello");
+    reads(rt, net, SECOND, 100, &mut xfer, b"good morning");
+    holds(rt, net.carried(FIRST) == 21);
+    holds(rt, net.carried(SECOND) == 21);
     Ok(())
 }
 
 #[test]
 fn both_ways_are_filled_again(rt: HostRuntime) -> Result<(), Fail> {
     let mut net = one_channel(&rt, rt.alloc())?;
-    fill(&rt, &mut net, b"hello", b"good morning")?;
-    let mut xfer = Transfer::new(rt.alloc())?;
-    reads(&rt, &mut net, FIRST, 100, &mut xfer, b"hello");
-    reads(&rt, &mut net, SECOND, 100, &mut xfer, b"good morning");
-    same(&rt, net.carried(FIRST), 21);
-    same(&rt, net.carried(SECOND), 21);
-    Ok(())
+    fills(&rt, &mut net)
+}
+
+/// The client sends the length and the rest of the frame of the other direction, and waits then.
+fn first_steps(rt: &impl Abort, net: &mut Net, refill: &mut Refill)
+    requires { Fits net.old.channels refill.old }
+{
+    holds(rt, refill.step(net, STRANGER) == Stepped::Finished);
+    holds(rt, refill.step(net, CLIENT) == Stepped::Moved);
+    holds(rt, net.counts(FIRST) == [4, 0, 0]);
+    holds(rt, refill.step(net, CLIENT) == Stepped::Moved);
+    holds(rt, net.counts(FIRST) == [16, 0, 0]);
+    holds(rt, refill.step(net, CLIENT) == Stepped::Again);
+    holds(rt, refill.has_work(net, CLIENT));
+    holds(rt, !refill.is_done(net));
 }
 
 #[test]
 fn an_agent_sends_the_frame_first_and_waits_for_its_own_bytes(rt: HostRuntime) -> Result<(), Fail> {
     let mut net = one_channel(&rt, rt.alloc())?;
     let mut refill = begin(rt.alloc(), &net, b"hello", b"good morning")?;
-    stepped(&rt, refill.step(&mut net, STRANGER), Stepped::Finished);
-    stepped(&rt, refill.step(&mut net, CLIENT), Stepped::Moved);
-    queues(&rt, &net, FIRST, [4, 0, 0]);
-    stepped(&rt, refill.step(&mut net, CLIENT), Stepped::Moved);
-    queues(&rt, &net, FIRST, [16, 0, 0]);
-    stepped(&rt, refill.step(&mut net, CLIENT), Stepped::Again);
-    holds(&rt, refill.has_work(&net, CLIENT));
-    holds(&rt, !refill.is_done(&net));
+    first_steps(&rt, &mut net, &mut refill);
     Ok(())
 }
