@@ -1,16 +1,6 @@
-ghost use Rattle.std.specs.Prelude.{◌≡◌, true};
-
-use std::fmt::Debug;
 use std::process::Abort;
 
-/// Asserts that two values are one.
-pub fn same<T: PartialEq + Debug + Drop>(rt: &impl Abort, given: T, want: T) {
-    assert_eq!(rt; given, want);
-}
-
-/// Asserts it, so that what follows may stand on it.
-pub fn holds(rt: &impl Abort, is_so: bool)
-    ensures { is_so ≡ true }
-{
-    assert!(rt; is_so);
+/// Asserts that each step of a table was answered as the table says: so many in turn of so many.
+pub fn all(rt: &impl Abort, answered: usize, steps: usize) {
+    assert_eq!(rt; answered, steps);
 }

@@ -3,11 +3,10 @@
 ghost use Rattle.std.specs.Prelude.{◌≡◌, is_some, OnOk, true};
 ghost use Rattle.plain_process.specs.Buffers.{lent};
 
-use crate::asserts::same;
-use crate::guests::{NEW, THREAD, WORD, image_of, started, thread_of};
+use crate::guests::hello;
+use crate::steps::{NEW, Step, THREAD, WORD, go_on};
 use call_table::Request;
 use guest_proc::Guest;
-use image_process::ProcImage;
 use std::alloc::Global;
 use std::test::Fail;
 use sys_abi::{Transfer, VPid};
@@ -23,11 +22,11 @@ const FORK: Request = Request::Clone {
 
 /// The child of a fork of the first thread.
 #[tactic(auto, unfolding(plain_process::specs::Put::made_by))]
-fn child_of(alloc: Global, guest: &Guest) -> Result<Box<Guest>, Fail> {
+fn child_of(alloc: Global, guest: &Guest) -> Result<Guest, Fail> {
     let mut child = guest.fork_guest(alloc, THREAD)?;
     lend(alloc, &mut child, &FORK)?;
     child.settle(VPid(NEW.0), &FORK);
-    Ok(Box::new(alloc, child)?)
+    Ok(child)
 }
 
 /// Asserts that the fork has what it needs of its process's memory.
@@ -39,28 +38,20 @@ fn lend(alloc: Global, guest: &mut Guest, request: &Request) -> Result<(), Fail>
     Ok(())
 }
 
-/// The first word of a page of an image.
-fn first_word(image: &ProcImage, number: u32) -> Result<u32, Fail> {
-    for page in &image.pages {
-        if page.number == number {
-            return Ok(page.frame.page.word(0));
-        }
-    }
-    Err(Fail::from("no page"))
-}
+static CHILD: [Step; 7] = [
+    Step::Pid(40_001),
+    Step::NextThread(0, Some(NEW)),
+    Step::Register(NEW, 2, 0x7FFF_8000),
+    Step::Register(NEW, 4, 0),
+    Step::Register(NEW, 10, 0),
+    Step::ClearTid(NEW, WORD),
+    Step::Word(WORD / 4096, 40_001),
+];
 
 #[test]
 fn a_fork_makes_a_child(rt: HostRuntime) -> Result<(), Fail> {
-    let guest = started(rt.alloc())?;
-    let child = child_of(rt.alloc(), &guest)?;
-    same(&rt, child.pid(), VPid(40_001));
-    same(&rt, child.next_thread(0), Some(NEW));
-    let image = image_of(rt.alloc(), &child)?;
-    let made = thread_of(&image, NEW)?;
-    same(&rt, made.regs.x[2], 0x7FFF_8000);
-    same(&rt, made.regs.x[4], 0);
-    same(&rt, made.regs.x[10], 0);
-    same(&rt, made.clear_tid, WORD);
-    same(&rt, first_word(&image, WORD / 4096)?, 40_001);
+    let guest = hello(rt.alloc())?;
+    let mut child = child_of(rt.alloc(), &guest)?;
+    go_on(&rt, &mut child, &CHILD);
     Ok(())
 }

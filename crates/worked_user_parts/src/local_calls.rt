@@ -1,22 +1,8 @@
 // Calls that a process answers alone, with memory to spare: pages and waiters at values worked out by hand.
-use crate::asserts::same;
-use crate::guests::{THREAD, pages, started};
+use crate::guests::follow;
+use crate::steps::Step;
 use call_table::Request;
-use guest_proc::Guest;
-use std::alloc::{AllocError, Global};
 use std::test::Fail;
-
-/// How many pages the process has after a call that it answers alone.
-fn pages_after(alloc: Global, guest: &mut Guest, call: &Request) -> Result<usize, AllocError> {
-    guest.local(alloc, THREAD, call)?;
-    pages(alloc, guest)
-}
-
-/// How many threads wait after it.
-fn waiters_after(alloc: Global, guest: &mut Guest, call: &Request) -> Result<usize, AllocError> {
-    guest.local(alloc, THREAD, call)?;
-    Ok(guest.image(alloc)?.waiters.len())
-}
 
 const MORE: Request = Request::Brk { address: 0x12001 };
 
@@ -53,22 +39,30 @@ const WAKE: Request = Request::Futex {
     timeout: 0,
 };
 
+static HEAP_AND_MAPPINGS: [Step; 8] = [
+    Step::Local(MORE),
+    Step::Pages(68),
+    Step::Local(MAP),
+    Step::Pages(70),
+    Step::Local(UNMAP),
+    Step::Pages(69),
+    Step::Local(LESS),
+    Step::Pages(67),
+];
+
 #[test]
 fn the_heap_and_mappings_come_and_go(rt: HostRuntime) -> Result<(), Fail> {
-    let alloc = rt.alloc();
-    let mut guest = started(alloc)?;
-    same(&rt, pages_after(alloc, &mut guest, &MORE)?, 68);
-    same(&rt, pages_after(alloc, &mut guest, &MAP)?, 70);
-    same(&rt, pages_after(alloc, &mut guest, &UNMAP)?, 69);
-    same(&rt, pages_after(alloc, &mut guest, &LESS)?, 67);
-    Ok(())
+    follow(&rt, &HEAP_AND_MAPPINGS)
 }
+
+static WAITING: [Step; 4] = [
+    Step::Local(WAIT),
+    Step::Waiters(1),
+    Step::Local(WAKE),
+    Step::Waiters(0),
+];
 
 #[test]
 fn a_thread_waits_and_is_woken(rt: HostRuntime) -> Result<(), Fail> {
-    let alloc = rt.alloc();
-    let mut guest = started(alloc)?;
-    same(&rt, waiters_after(alloc, &mut guest, &WAIT)?, 1);
-    same(&rt, waiters_after(alloc, &mut guest, &WAKE)?, 0);
-    Ok(())
+    follow(&rt, &WAITING)
 }

@@ -1,19 +1,14 @@
 // Programs that write their own code: the next instruction reads the word as the store left it, whoever
 // stored it. Each was assembled by a stock assembler (binutils 2.40), for one page to read, write and
 // execute.
-ghost use Rattle.std.specs.Prelude.{◌≤◌};
-
-use crate::asserts::same;
-use crate::guests::{NEW, THREAD, add_thread, image_of, thread_of};
+use crate::steps::{NEW, Step, THREAD, go_on, started};
 use call_table::Request;
-use elf32::read_elf;
-use guest_proc::{Guest, Ran};
-use std::alloc::Global;
+use std::alloc::{AllocError, Global};
+use std::process::Abort;
 use std::test::Fail;
-use sys_abi::{Signal, Tid, VPid};
 
 /// The head of a file of one segment, which is the whole file, at 0x10000; the program begins at 0x10054.
-const HEAD: [u8; 84] = [
+static HEAD: [u8; 84] = [
     0x7F, 0x45, 0x4C, 0x46, 0x01, 0x01, 0x01, 0x00, 0x00, 0x00, 0x00, 0x00, 0x00, 0x00, 0x00, 0x00,
     0x02, 0x00, 0xF3, 0x00, 0x01, 0x00, 0x00, 0x00, 0x54, 0x00, 0x01, 0x00, 0x34, 0x00, 0x00, 0x00,
     0x00, 0x00, 0x00, 0x00, 0x00, 0x00, 0x00, 0x00, 0x34, 0x00, 0x20, 0x00, 0x01, 0x00, 0x00, 0x00,
@@ -23,7 +18,7 @@ const HEAD: [u8; 84] = [
 ];
 
 /// Stores `addi a0, zero, 7` over the word behind the store.
-const NEXT_WORD: [u32; 12] = [
+static NEXT_WORD: [u32; 12] = [
     0x0000_0297,
     0x0142_A303,
     0x0062_A623,
@@ -39,7 +34,7 @@ const NEXT_WORD: [u32; 12] = [
 ];
 
 /// Calls a function, stores `addi a0, a0, 16` over its first word, and calls it again.
-const SAME_PAGE: [u32; 12] = [
+static SAME_PAGE: [u32; 12] = [
     0x0000_0297,
     0x0000_0513,
     0x0180_00EF,
@@ -55,7 +50,7 @@ const SAME_PAGE: [u32; 12] = [
 ];
 
 /// Makes `addi a0, zero, 80` of the word behind the stores by one of a byte and one of a half-word.
-const BYTE_AND_HALF: [u32; 12] = [
+static BYTE_AND_HALF: [u32; 12] = [
     0x0000_0297,
     0x0050_0313,
     0x0062_8BA3,
@@ -71,7 +66,7 @@ const BYTE_AND_HALF: [u32; 12] = [
 ];
 
 /// Counts in a loop, and in it stores `ecall` over the store itself.
-const ITSELF: [u32; 12] = [
+static ITSELF: [u32; 12] = [
     0x0000_0297,
     0x0182_A303,
     0x0015_0513,
@@ -87,7 +82,7 @@ const ITSELF: [u32; 12] = [
 ];
 
 /// Stands at a call, over which the thread that it makes stores `addi a0, zero, 9`.
-const CALLER: [u32; 12] = [
+static CALLER: [u32; 12] = [
     0x0000_0073,
     0x0000_0297,
     0x0102_A303,
@@ -104,7 +99,7 @@ const CALLER: [u32; 12] = [
 
 /// Counts in a loop, over whose jump the handler behind it stores `ecall`. The action lies behind the
 /// handler.
-const HANDLED: [u32; 12] = [
+static HANDLED: [u32; 12] = [
     0x0015_0513,
     0xFFDF_F06F,
     0x0000_0297,
@@ -127,85 +122,82 @@ const ACTION: Request = Request::RtSigaction {
     size: 8,
 };
 
-/// The start of a program of these words.
-fn started(alloc: Global, code: &[u32; 12]) -> Result<Box<Guest>, Fail> {
+/// The file of a program of these words.
+fn file_of(alloc: Global, code: &[u32; 12]) -> Result<Vec<u8>, AllocError> {
     let mut bytes = Vec::new(alloc);
     bytes.extend_from_slice(&HEAD)?;
     for word in code {
         bytes.extend_from_slice(&word.to_le_bytes())?;
     }
-    let program = read_elf(alloc, bytes.as_slice())?;
-    let guest = Guest::load(alloc, VPid(THREAD.0), &program, b"own\0")?;
-    Ok(Box::new(alloc, guest)?)
+    Ok(bytes)
 }
 
-/// How far a thread runs with room for so many instructions, and whether it stands at a call then.
-fn run(guest: &mut Guest, t: Tid, room: u32) -> (u32, bool)
-    requires { 1 ≤ room }
-{
-    if !guest.has_thread(t) {
-        return (0, false);
-    }
-    let (count, ran) = guest.run(t, room);
-    (count, matches!(ran, Ran::Asks(_)))
+/// Each call of the start of the program answers so.
+fn follow(rt: &(impl Abort + AllocGlobal), code: &[u32; 12], steps: &[Step]) -> Result<(), Fail> {
+    let file = file_of(rt.alloc(), code)?;
+    let mut guest = started(rt.alloc(), file.as_slice(), b"own\0")?;
+    go_on(rt, &mut guest, steps);
+    Ok(())
 }
 
-/// Delivers signal 10.
-fn deliver(guest: &mut Guest) {
-    if guest.has_thread(THREAD) {
-        guest.deliver(THREAD, Signal(10), false);
-    }
-}
+static NEXT_WORD_RUN: [Step; 2] = [
+    Step::Run(THREAD, 100, (4, true)),
+    Step::Register(THREAD, 10, 7),
+];
 
-/// The first argument's register of the first thread, a0.
-fn a0(alloc: Global, guest: &Guest) -> Result<u32, Fail> {
-    let image = image_of(alloc, guest)?;
-    Ok(thread_of(&image, THREAD)?.regs.x[10])
-}
-
-/// How far a program runs until it stands at a call, and its a0 then.
-fn ran(alloc: Global, code: &[u32; 12]) -> Result<(u32, bool, u32), Fail> {
-    let mut guest = started(alloc, code)?;
-    let (count, asks) = run(&mut guest, THREAD, 100);
-    Ok((count, asks, a0(alloc, &guest)?))
-}
+static BYTE_AND_HALF_RUN: [Step; 2] = [
+    Step::Run(THREAD, 100, (6, true)),
+    Step::Register(THREAD, 10, 80),
+];
 
 #[test]
 fn the_next_word_is_written(rt: HostRuntime) -> Result<(), Fail> {
-    same(&rt, ran(rt.alloc(), &NEXT_WORD)?, (4, true, 7));
-    same(&rt, ran(rt.alloc(), &BYTE_AND_HALF)?, (6, true, 80));
-    Ok(())
+    follow(&rt, &NEXT_WORD, &NEXT_WORD_RUN)?;
+    follow(&rt, &BYTE_AND_HALF, &BYTE_AND_HALF_RUN)
 }
+
+static SAME_PAGE_RUN: [Step; 2] = [
+    Step::Run(THREAD, 100, (10, true)),
+    Step::Register(THREAD, 10, 17),
+];
+
+static ITSELF_RUN: [Step; 2] = [
+    Step::Run(THREAD, 100, (6, true)),
+    Step::Register(THREAD, 10, 2),
+];
 
 #[test]
 fn the_page_under_the_program_counter_is_written(rt: HostRuntime) -> Result<(), Fail> {
-    same(&rt, ran(rt.alloc(), &SAME_PAGE)?, (10, true, 17));
-    same(&rt, ran(rt.alloc(), &ITSELF)?, (6, true, 2));
-    Ok(())
+    follow(&rt, &SAME_PAGE, &SAME_PAGE_RUN)?;
+    follow(&rt, &ITSELF, &ITSELF_RUN)
 }
+
+static CALLER_RUN: [Step; 5] = [
+    Step::Run(THREAD, 100, (0, true)),
+    Step::AddThread,
+    Step::Run(NEW, 100, (3, true)),
+    Step::Run(THREAD, 100, (4, true)),
+    Step::Register(THREAD, 10, 9),
+];
 
 #[test]
 fn another_thread_writes_the_code(rt: HostRuntime) -> Result<(), Fail> {
-    let mut guest = started(rt.alloc(), &CALLER)?;
-    same(&rt, run(&mut guest, THREAD, 100), (0, true));
-    add_thread(rt.alloc(), &mut guest)?;
-    same(&rt, run(&mut guest, NEW, 100), (3, true));
-    same(&rt, run(&mut guest, THREAD, 100), (4, true));
-    same(&rt, a0(rt.alloc(), &guest)?, 9);
-    Ok(())
+    follow(&rt, &CALLER, &CALLER_RUN)
 }
+
+/// The answer of the call that sets the action goes on behind the program's first word.
+static HANDLED_RUN: [Step; 8] = [
+    Step::Local(ACTION),
+    Step::Run(THREAD, 3, (3, false)),
+    Step::Deliver,
+    Step::Run(THREAD, 5, (5, false)),
+    Step::Run(THREAD, 100, (0, true)),
+    Step::Local(Request::RtSigreturn),
+    Step::Run(THREAD, 100, (1, true)),
+    Step::Register(THREAD, 10, 2),
+];
 
 #[test]
 fn a_handler_writes_the_code_that_it_interrupts(rt: HostRuntime) -> Result<(), Fail> {
-    let mut guest = started(rt.alloc(), &HANDLED)?;
-    // The answer goes on behind the program's first word.
-    guest.local(rt.alloc(), THREAD, &ACTION)?;
-    same(&rt, run(&mut guest, THREAD, 3), (3, false));
-    deliver(&mut guest);
-    same(&rt, run(&mut guest, THREAD, 5), (5, false));
-    same(&rt, run(&mut guest, THREAD, 100), (0, true));
-    guest.local(rt.alloc(), THREAD, &Request::RtSigreturn)?;
-    same(&rt, run(&mut guest, THREAD, 100), (1, true));
-    same(&rt, a0(rt.alloc(), &guest)?, 2);
-    Ok(())
+    follow(&rt, &HANDLED, &HANDLED_RUN)
 }
