@@ -1,5 +1,6 @@
 // Two sets put one after another, with a crash or a fault of the folder at each call.
-use crate::asserts::{holds, same};
+use crate::asserts::holds;
+use crate::folders::left_after;
 use image_store::{SetBytes, Store, StoreFault};
 use set_disk::MemFolder;
 use std::alloc::{AllocError, Global};
@@ -7,9 +8,9 @@ use std::process::Abort;
 use std::test::Fail;
 use views::list_of::ListOf;
 
-pub const FIRST: [&str; 2] = ["shared", "process"];
+pub static FIRST: [&str; 2] = ["shared", "process"];
 
-const SECOND: [&str; 3] = ["SHARED", "", "third"];
+static SECOND: [&str; 3] = ["SHARED", "", "third"];
 
 pub fn set_of(alloc: Global, texts: &[&str]) -> Result<SetBytes, AllocError> {
     let mut files = Vec::new(alloc);
@@ -20,48 +21,50 @@ pub fn set_of(alloc: Global, texts: &[&str]) -> Result<SetBytes, AllocError> {
 }
 
 fn has_files(set: &SetBytes, texts: &[&str]) -> bool {
-    set.files.len() == texts.len()
-        && set
-            .files
-            .iter()
-            .zip(texts)
-            .all(|(file, text)| file.as_slice() == text.as_bytes())
+    if set.files.len() != texts.len() {
+        return false;
+    }
+    for (file, text) in set.files.iter().zip(texts) {
+        if file.as_slice() != text.as_bytes() {
+            return false;
+        }
+    }
+    true
 }
 
-/// Asserts that the set that counts has these files.
-fn assert_files(
-    rt: &(impl Abort + AllocGlobal),
+/// Whether the set that counts has these files.
+pub fn counts_with(
+    alloc: Global,
     folder: &mut MemFolder,
     texts: &[&str],
-) -> Result<(), StoreFault> {
-    let store = Store::open_store(rt.alloc(), folder, 0)?;
-    let set = store.get_set(rt.alloc(), folder)?;
-    holds(rt, has_files(&set, texts));
-    Ok(())
+) -> Result<bool, StoreFault> {
+    let store = Store::open_store(alloc, folder, 0)?;
+    let set = store.get_set(alloc, folder)?;
+    Ok(has_files(&set, texts))
 }
 
-/// The generation of the set that counts, or 0 where none does.
-fn generation_in(alloc: Global, folder: &mut MemFolder) -> Result<u64, StoreFault> {
+/// The slot and the generation of the set that counts.
+pub fn counting(alloc: Global, folder: &mut MemFolder) -> Result<Option<(u32, u64)>, StoreFault> {
     let store = Store::open_store(alloc, folder, 0)?;
     match store.last() {
-        Some(info) => Ok(info.generation),
-        None => Ok(0),
+        Some(info) => Ok(Some((info.slot, info.generation))),
+        None => Ok(None),
     }
 }
 
-/// Asserts that this generation's set counts, or none at 0. The call and the pattern say where.
-fn assert_counts(
-    rt: &(impl Abort + AllocGlobal),
-    folder: &mut MemFolder,
-    place: (u64, u8),
-    generation: u64,
-) -> Result<(), StoreFault> {
-    let found = generation_in(rt.alloc(), folder)?;
-    same(rt, (place, found), (place, generation));
+/// Whether this generation's set counts, with its files, or none at 0.
+fn counts(alloc: Global, folder: &mut MemFolder, generation: u64) -> Result<bool, StoreFault> {
+    let found = match counting(alloc, folder)? {
+        Some((_, found)) => found,
+        None => 0,
+    };
+    if found != generation {
+        return Ok(false);
+    }
     match generation {
-        0 => Ok(()),
-        1 => assert_files(rt, folder, &FIRST),
-        _ => assert_files(rt, folder, &SECOND),
+        0 => Ok(true),
+        1 => counts_with(alloc, folder, &FIRST),
+        _ => counts_with(alloc, folder, &SECOND),
     }
 }
 
@@ -72,12 +75,10 @@ fn assert_left(
     call: u64,
     pattern: u8,
     generation: u64,
-) -> Result<(), StoreFault> {
-    holds(rt, 1 <= call);
-    holds(rt, call <= folder.calls());
-    holds(rt, pattern < 3);
-    let mut image = folder.crash_image(rt.alloc(), call, pattern)?;
-    assert_counts(rt, &mut image, (call, pattern), generation)
+) -> Result<(), AllocError> {
+    let mut left = left_after(rt, folder, call, pattern)?;
+    holds(rt, counts(rt.alloc(), &mut left, generation) == Ok(true));
+    Ok(())
 }
 
 /// Opens an empty folder and puts both sets. Counts the sets that were put.
@@ -85,40 +86,33 @@ fn assert_left(
 fn put_both(
     rt: &(impl Abort + AllocGlobal),
     folder: &mut MemFolder,
-    sets: &[SetBytes; 2],
+    first: &SetBytes,
+    second: &SetBytes,
     done: &mut u64,
 ) -> Result<(), StoreFault> {
     let alloc = rt.alloc();
     let store = Store::open_store(alloc, folder, 0)?;
     holds(rt, store.last().is_none());
-    holds(rt, sets[0].files.len() == 2);
-    holds(rt, sets[1].files.len() == 3);
-    let (store, one) = store.put_set(alloc, folder, &sets[0])?;
+    holds(rt, first.files.len() == 2);
+    holds(rt, second.files.len() == 3);
+    let (store, one) = store.put_set(alloc, folder, first)?;
     *done = one;
-    let (store, two) = store.put_set(alloc, folder, &sets[1])?;
+    let (store, two) = store.put_set(alloc, folder, second)?;
     *done = two;
     let set = store.get_set(alloc, folder)?;
     holds(rt, has_files(&set, &SECOND));
     Ok(())
 }
 
-fn both(alloc: Global) -> Result<[SetBytes; 2], AllocError> {
-    let first = set_of(alloc, &FIRST)?;
-    let second = set_of(alloc, &SECOND)?;
-    Ok([first, second])
-}
-
-/// A folder into which both sets were put, and how many were, where these calls are to fail, and what came
-/// of it.
+/// Puts both sets into an empty folder. Counts the sets that were put.
 fn run(
     rt: &(impl Abort + AllocGlobal),
-    fails: &[u64],
-) -> Result<(MemFolder, u64, Option<StoreFault>), AllocError> {
-    let sets = both(rt.alloc())?;
-    let mut folder = MemFolder::new(rt.alloc(), fails)?;
-    let mut done = 0;
-    let fault = put_both(rt, &mut folder, &sets, &mut done).err();
-    Ok((folder, done, fault))
+    folder: &mut MemFolder,
+    done: &mut u64,
+) -> Result<(), StoreFault> {
+    let first = set_of(rt.alloc(), &FIRST)?;
+    let second = set_of(rt.alloc(), &SECOND)?;
+    put_both(rt, folder, &first, &second, done)
 }
 
 /// Asserts what a crash in this pattern leaves. The sets are put by the calls 4 to 14 and 15 to 27.
@@ -127,7 +121,7 @@ fn assert_pattern(
     folder: &MemFolder,
     pattern: u8,
     written: u64,
-) -> Result<(), StoreFault> {
+) -> Result<(), AllocError> {
     for call in 14..26 {
         assert_left(rt, folder, call, pattern, 1)?;
     }
@@ -135,34 +129,42 @@ fn assert_pattern(
     assert_left(rt, folder, 27, pattern, 2)
 }
 
+/// A pattern, and which set counts after a crash at the write that opens the gate. Pattern 1 alone keeps it.
+static PATTERNS: [(u8, u64); 3] = [(0, 1), (1, 2), (2, 1)];
+
 #[test]
 fn a_crash_leaves_the_old_set_or_the_new(rt: HostRuntime) -> Result<(), Fail> {
-    let (folder, done, fault) = run(&rt, &[])?;
-    same(&rt, (done, folder.calls(), fault), (2, 34, None));
-    // The write that opens the gate is kept by pattern 1 alone.
-    assert_pattern(&rt, &folder, 0, 1)?;
-    assert_pattern(&rt, &folder, 1, 2)?;
-    assert_pattern(&rt, &folder, 2, 1)?;
+    let mut folder = MemFolder::new(rt.alloc(), &[])?;
+    let mut done = 0;
+    let answer = run(&rt, &mut folder, &mut done);
+    holds(&rt, answer == Ok(()) && done == 2 && folder.calls() == 34);
+    for (pattern, written) in &PATTERNS {
+        holds(
+            &rt,
+            assert_pattern(&rt, &folder, *pattern, *written).is_ok(),
+        );
+    }
     Ok(())
 }
 
 /// Asserts that a run is refused of which this call fails, and which set counts then.
-fn assert_refused(rt: &(impl Abort + AllocGlobal), call: u64) -> Result<(), Fail> {
-    let (mut folder, done, fault) = run(rt, &[call])?;
-    same(rt, (call, fault), (call, Some(StoreFault::DiskFault)));
+fn assert_refused(rt: &(impl Abort + AllocGlobal), call: u64) -> Result<(), AllocError> {
+    let mut folder = MemFolder::new(rt.alloc(), &[call])?;
+    let mut done = 0;
+    let answer = run(rt, &mut folder, &mut done);
+    holds(rt, answer == Err(StoreFault::DiskFault));
     // At the last sync of a set its gate is open, so the set counts though its call failed.
-    let counts = match call {
+    let generation = match call {
         14 | 27 => done.saturating_add(1),
         _ => done,
     };
-    assert_counts(rt, &mut folder, (call, 0), counts)?;
+    holds(rt, counts(rt.alloc(), &mut folder, generation) == Ok(true));
     Ok(())
 }
 
 #[test]
-fn each_call_of_the_folder_fails_once(rt: HostRuntime) -> Result<(), Fail> {
+fn each_call_of_the_folder_fails_once(rt: HostRuntime) {
     for call in 1..35 {
-        assert_refused(&rt, call)?;
+        holds(&rt, assert_refused(&rt, call).is_ok());
     }
-    Ok(())
 }

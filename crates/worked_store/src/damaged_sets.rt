@@ -1,9 +1,9 @@
 // Which set counts, and where it is damaged.
-use crate::asserts::{holds, same};
-use crate::crashes::{FIRST, set_of};
+use crate::asserts::holds;
+use crate::crashes::{FIRST, counting, set_of};
 use image_store::{Damage, Store, StoreFault};
 use set_disk::{DiskFault, FileName, Folder, MemFolder};
-use std::alloc::Global;
+use std::alloc::{AllocError, Global};
 use std::process::Abort;
 use std::test::Fail;
 
@@ -12,7 +12,7 @@ type Row = ([&'static [u8]; 2], Option<(u32, u64)>);
 
 const FIVE: &[u8] = b"\x01DMTSET1\x05\0\0\0\0\0\0\0";
 
-const ROWS: [Row; 8] = [
+static ROWS: [Row; 8] = [
     ([b"", b""], None),
     ([FIVE, b""], Some((0, 5))),
     ([FIVE, FIVE], Some((0, 5))),
@@ -26,27 +26,26 @@ const ROWS: [Row; 8] = [
     ([b"\0DMTSET1\x05\0\0\0\0\0\0\0", b"\x01"], None),
 ];
 
-fn counting(alloc: Global, folder: &mut MemFolder) -> Result<Option<(u32, u64)>, StoreFault> {
-    let store = Store::open_store(alloc, folder, 0)?;
-    Ok(store.last().map(|info| (info.slot, info.generation)))
+fn manifest_of(slot: u32) -> FileName {
+    FileName { slot, index: 0 }
 }
 
-fn assert_row(rt: &(impl Abort + AllocGlobal), row: &Row) -> Result<(), Fail> {
-    let (fronts, want) = row;
-    let mut folder = MemFolder::new(rt.alloc(), &[])?;
-    folder.write_at(FileName { slot: 0, index: 0 }, 0, fronts[0])?;
-    folder.write_at(FileName { slot: 1, index: 0 }, 0, fronts[1])?;
-    let found = counting(rt.alloc(), &mut folder)?;
-    same(rt, (*fronts, found), (*fronts, *want));
-    Ok(())
+/// Whether that set counts in a folder with these fronts.
+fn counts_so(alloc: Global, row: &Row) -> Result<bool, AllocError> {
+    let ([first, second], want) = row;
+    let mut folder = MemFolder::new(alloc, &[])?;
+    Ok(
+        folder.write_at(manifest_of(0), 0, first).is_ok()
+            && folder.write_at(manifest_of(1), 0, second).is_ok()
+            && counting(alloc, &mut folder) == Ok(*want),
+    )
 }
 
 #[test]
-fn which_set_counts(rt: HostRuntime) -> Result<(), Fail> {
+fn which_set_counts(rt: HostRuntime) {
     for row in &ROWS {
-        assert_row(&rt, row)?;
+        holds(&rt, counts_so(rt.alloc(), row) == Ok(true));
     }
-    Ok(())
 }
 
 /// Writes over a file of slot 0, or cuts it.
@@ -57,21 +56,17 @@ enum Change {
 }
 
 fn make(folder: &mut MemFolder, change: &Change) -> Result<(), DiskFault> {
-    match change {
+    match *change {
         Change::Write(index, at, text) => {
-            let index = *index;
-            folder.write_at(FileName { slot: 0, index }, *at, text.as_bytes())
+            folder.write_at(FileName { slot: 0, index }, at, text.as_bytes())
         }
-        Change::Cut(index, len) => {
-            let index = *index;
-            folder.cut(FileName { slot: 0, index }, *len)
-        }
+        Change::Cut(index, len) => folder.cut(FileName { slot: 0, index }, len),
     }
 }
 
 /// Puts the first set into an empty folder.
 #[tactic(auto, unfolding(image_store::specs::StoreStates::generation_after))]
-fn put_first(rt: &(impl Abort + AllocGlobal), folder: &mut MemFolder) -> Result<(), Fail> {
+fn put_first(rt: &(impl Abort + AllocGlobal), folder: &mut MemFolder) -> Result<(), StoreFault> {
     let alloc = rt.alloc();
     let store = Store::open_store(alloc, folder, 0)?;
     holds(rt, store.last().is_none());
@@ -92,7 +87,7 @@ fn damage_at(file: u32, offset: u64) -> Option<StoreFault> {
 }
 
 /// A change of the first set, and the file and the place at which it is damaged then.
-const CHANGES: [(Change, u32, u64); 7] = [
+static CHANGES: [(Change, u32, u64); 7] = [
     (Change::Write(0, 1, "d"), 0, 1),
     (Change::Cut(0, 35), 0, 35),
     (Change::Write(0, 36, "x"), 0, 36),
@@ -102,24 +97,26 @@ const CHANGES: [(Change, u32, u64); 7] = [
     (Change::Cut(2, 6), 2, 6),
 ];
 
-fn assert_damaged(
+/// Whether the first set is damaged there after this change.
+fn is_damaged(
     rt: &(impl Abort + AllocGlobal),
     change: &Change,
     want: Option<StoreFault>,
-) -> Result<(), Fail> {
+) -> Result<bool, AllocError> {
     let mut folder = MemFolder::new(rt.alloc(), &[])?;
-    put_first(rt, &mut folder)?;
-    make(&mut folder, change)?;
-    same(rt, refusal(rt.alloc(), &mut folder)?, want);
-    Ok(())
+    Ok(
+        put_first(rt, &mut folder).is_ok()
+            && make(&mut folder, change).is_ok()
+            && refusal(rt.alloc(), &mut folder) == Ok(want),
+    )
 }
 
 #[test]
-fn where_a_set_is_damaged(rt: HostRuntime) -> Result<(), Fail> {
+fn where_a_set_is_damaged(rt: HostRuntime) {
     for (change, file, offset) in &CHANGES {
-        assert_damaged(&rt, change, damage_at(*file, *offset))?;
+        let answer = is_damaged(&rt, change, damage_at(*file, *offset));
+        holds(&rt, answer == Ok(true));
     }
-    Ok(())
 }
 
 /// A manifest of generation 5 with one file, which is empty.
@@ -129,8 +126,11 @@ const MANIFEST: &[u8] = b"\x01DMTSET1\x05\0\0\0\0\0\0\0\x01\0\0\0\0\0\0\0\0\0\0\
 fn a_missing_file_and_no_set(rt: HostRuntime) -> Result<(), Fail> {
     let alloc = rt.alloc();
     let mut folder = MemFolder::new(alloc, &[])?;
-    same(&rt, refusal(alloc, &mut folder)?, Some(StoreFault::NoSet));
-    folder.write_at(FileName { slot: 1, index: 0 }, 0, MANIFEST)?;
-    same(&rt, refusal(alloc, &mut folder)?, damage_at(1, 0));
+    holds(
+        &rt,
+        refusal(alloc, &mut folder) == Ok(Some(StoreFault::NoSet)),
+    );
+    holds(&rt, folder.write_at(manifest_of(1), 0, MANIFEST).is_ok());
+    holds(&rt, refusal(alloc, &mut folder) == Ok(damage_at(1, 0)));
     Ok(())
 }

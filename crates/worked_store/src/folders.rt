@@ -1,14 +1,40 @@
 // What a crash leaves of a file in a folder in memory.
-use crate::asserts::{holds, same};
+use crate::asserts::holds;
 use set_disk::{DiskFault, FileName, Folder, MemFolder};
-use std::alloc::{AllocError, Global};
+use std::alloc::AllocError;
 use std::process::Abort;
-use std::test::Fail;
 
 pub const NAME: FileName = FileName { slot: 0, index: 1 };
 
 pub const OTHER: FileName = FileName { slot: 1, index: 0 };
 
+/// What a torn write leaves in place of a byte.
+const FILLER: u8 = 0xA5;
+
+/// Whether the file has these bytes, with `#` for the filler, or is not there, where they are `-`.
+pub fn shows<F: Folder>(folder: &mut F, name: FileName, want: &str) -> Result<bool, DiskFault> {
+    let Some(len) = folder.len(name)? else {
+        return Ok(want == "-");
+    };
+    let mut buffer = [0; 16];
+    let Some(bytes) = buffer.get_mut(..len as usize) else {
+        return Ok(false);
+    };
+    folder.read_at(name, 0, bytes)?;
+    show_filler(bytes);
+    Ok(&*bytes == want.as_bytes())
+}
+
+/// Puts `#` in place of the filler.
+fn show_filler(bytes: &mut [u8]) {
+    for byte in bytes {
+        if *byte == FILLER {
+            *byte = b'#';
+        }
+    }
+}
+
+/// A call on the file.
 #[derive(Clone, Copy)]
 enum Step {
     Write(u64, &'static str),
@@ -19,32 +45,6 @@ enum Step {
 
 /// A call on the file, and what a crash right after it leaves of the file, by pattern.
 type Row = (Step, [&'static str; 3]);
-
-/// The file's bytes, with `#` for the filler, or `-` where it is not there.
-pub fn shown<F: Folder>(
-    alloc: Global,
-    folder: &mut F,
-    name: FileName,
-) -> Result<String, DiskFault> {
-    let Some(len) = folder.len(name)? else {
-        return Ok(String::from_str(alloc, "-")?);
-    };
-    let mut bytes = vec![in alloc; 0; len as usize]?;
-    folder.read_at(name, 0, &mut bytes)?;
-    Ok(text_of(alloc, &bytes)?)
-}
-
-fn text_of(alloc: Global, bytes: &[u8]) -> Result<String, AllocError> {
-    let mut text = String::new(alloc);
-    for byte in bytes {
-        text.push(if *byte == 0xA5 {
-            '#'
-        } else {
-            char::from(*byte)
-        })?;
-    }
-    Ok(text)
-}
 
 fn make(folder: &mut MemFolder, step: &Step) -> Result<(), DiskFault> {
     match step {
@@ -64,51 +64,57 @@ fn make_each(rt: &impl Abort, folder: &mut MemFolder, fails: &[u64], rows: &[Row
     for (step, _) in rows {
         call = call.wrapping_add(1);
         let fault = fails.contains(&call).then_some(DiskFault::Failed);
-        let found = make(folder, step).err();
-        same(rt, (call, found), (call, fault));
+        holds(rt, make(folder, step).err() == fault);
     }
 }
 
-fn assert_image(
+/// What a crash in this pattern leaves right after the call.
+pub fn left_after(
     rt: &(impl Abort + AllocGlobal),
     folder: &MemFolder,
     call: u64,
     pattern: u8,
-    want: &str,
-) -> Result<(), Fail> {
+) -> Result<MemFolder, AllocError> {
     holds(rt, 1 <= call);
     holds(rt, call <= folder.calls());
     holds(rt, pattern < 3);
-    let mut left = folder.crash_image(rt.alloc(), call, pattern)?;
-    same(rt, left.calls(), 0);
-    let text = shown(rt.alloc(), &mut left, NAME)?;
-    same(rt, (call, pattern, text.as_str()), (call, pattern, want));
-    Ok(())
+    folder.crash_image(rt.alloc(), call, pattern)
 }
 
-/// Compares the image that a crash after each call leaves, in each pattern.
+/// Whether a folder in which no call was made shows this of the file.
+fn is_image(folder: &mut MemFolder, want: &str) -> bool {
+    folder.calls() == 0 && shows(folder, NAME, want) == Ok(true)
+}
+
+/// Asserts what a crash right after the call leaves of the file, by pattern.
 fn assert_images(
     rt: &(impl Abort + AllocGlobal),
     folder: &MemFolder,
-    rows: &[Row],
-) -> Result<(), Fail> {
-    let mut call = 0u64;
-    for (_, [none, all, torn]) in rows {
-        call = call.wrapping_add(1);
-        assert_image(rt, folder, call, 0, none)?;
-        assert_image(rt, folder, call, 1, all)?;
-        assert_image(rt, folder, call, 2, torn)?;
+    call: u64,
+    images: &[&str; 3],
+) -> Result<(), DiskFault> {
+    let mut pattern = 0u8;
+    for want in images {
+        let mut left = left_after(rt, folder, call, pattern)?;
+        holds(rt, is_image(&mut left, want));
+        pattern = pattern.wrapping_add(1);
     }
     Ok(())
 }
 
-fn compare(rt: &(impl Abort + AllocGlobal), fails: &[u64], rows: &[Row]) -> Result<(), Fail> {
+/// Makes the calls, of which those with these numbers are to fail, and compares what crashes leave.
+fn compare(rt: &(impl Abort + AllocGlobal), fails: &[u64], rows: &[Row]) -> Result<(), DiskFault> {
     let mut folder = MemFolder::new(rt.alloc(), fails)?;
     make_each(rt, &mut folder, fails, rows);
-    assert_images(rt, &folder, rows)
+    let mut call = 0u64;
+    for (_, images) in rows {
+        call = call.wrapping_add(1);
+        assert_images(rt, &folder, call, images)?;
+    }
+    Ok(())
 }
 
-const CALLS: [Row; 13] = [
+static CALLS: [Row; 13] = [
     (Step::Write(0, "abc"), ["-", "abc", "###"]),
     (Step::Sync, ["abc", "abc", "abc"]),
     (Step::Write(1, "XYZ"), ["abc", "aXYZ", "a###"]),
@@ -125,11 +131,11 @@ const CALLS: [Row; 13] = [
 ];
 
 #[test]
-fn images_of_writes_cuts_and_syncs(rt: HostRuntime) -> Result<(), Fail> {
-    compare(&rt, &[7], &CALLS)
+fn images_of_writes_cuts_and_syncs(rt: HostRuntime) {
+    holds(&rt, compare(&rt, &[7], &CALLS).is_ok());
 }
 
-const FAILED_CALLS: [Row; 9] = [
+static FAILED_CALLS: [Row; 9] = [
     (Step::Write(0, "x"), ["-", "-", "#"]),
     (Step::Write(0, "abc"), ["-", "abc", "###"]),
     (Step::Sync, ["-", "abc", "###"]),
@@ -142,23 +148,52 @@ const FAILED_CALLS: [Row; 9] = [
 ];
 
 #[test]
-fn images_of_calls_that_fail(rt: HostRuntime) -> Result<(), Fail> {
-    compare(&rt, &[1, 3, 5, 7, 9], &FAILED_CALLS)
+fn images_of_calls_that_fail(rt: HostRuntime) {
+    holds(&rt, compare(&rt, &[1, 3, 5, 7, 9], &FAILED_CALLS).is_ok());
+}
+
+/// A call on a file of this name, and what it finds.
+enum Named {
+    Cut(FileName),
+    Write(FileName, &'static str),
+    /// From this place on: how many bytes came, and what the buffer has then.
+    Read(FileName, u64, usize, [u8; 2]),
+    Shows(FileName, &'static str),
+}
+
+/// Whether the call finds so.
+fn finds(folder: &mut MemFolder, buffer: &mut [u8; 2], call: &Named) -> Result<bool, DiskFault> {
+    match *call {
+        Named::Cut(name) => folder.cut(name, 0)?,
+        Named::Write(name, text) => folder.write_at(name, 0, text.as_bytes())?,
+        Named::Read(name, at, count, left) => {
+            return Ok(folder.read_at(name, at, buffer)? == count && *buffer == left);
+        }
+        Named::Shows(name, want) => return shows(folder, name, want),
+    }
+    Ok(true)
+}
+
+static NAMED: [Named; 6] = [
+    Named::Cut(NAME),
+    Named::Read(NAME, 0, 0, [7, 7]),
+    Named::Write(OTHER, "other"),
+    Named::Write(NAME, ""),
+    Named::Shows(NAME, ""),
+    Named::Read(OTHER, 4, 1, [b'r', 7]),
+];
+
+/// Each call in an empty folder finds so.
+fn follow(rt: &(impl Abort + AllocGlobal), calls: &[Named]) -> Result<(), DiskFault> {
+    let mut folder = MemFolder::new(rt.alloc(), &[])?;
+    let mut buffer = [7; 2];
+    for call in calls {
+        holds(rt, finds(&mut folder, &mut buffer, call) == Ok(true));
+    }
+    Ok(())
 }
 
 #[test]
-fn files_by_name(rt: HostRuntime) -> Result<(), Fail> {
-    let alloc = rt.alloc();
-    let mut folder = MemFolder::new(alloc, &[])?;
-    folder.cut(NAME, 0)?;
-    let mut buf = [7; 2];
-    let count = folder.read_at(NAME, 0, &mut buf)?;
-    same(&rt, (count, buf), (0, [7, 7]));
-    folder.write_at(OTHER, 0, b"other")?;
-    folder.write_at(NAME, 0, b"")?;
-    let name = shown(alloc, &mut folder, NAME)?;
-    same(&rt, name.as_str(), "");
-    let count = folder.read_at(OTHER, 4, &mut buf)?;
-    same(&rt, (count, buf), (1, [b'r', 7]));
-    Ok(())
+fn files_by_name(rt: HostRuntime) {
+    holds(&rt, follow(&rt, &NAMED).is_ok());
 }

@@ -1,6 +1,8 @@
 ghost use Rattle.std.specs.Prelude.{◌≡◌, All, IfOk, length};
 ghost use Rattle.store_runs.specs.StoreRuns.{IsSmall};
 
+use crate::asserts::holds;
+use crate::crashes::counts_with;
 use image_store::{SetBytes, Store, StoreFault};
 use set_disk::MemFolder;
 use std::alloc::{AllocError, Global};
@@ -41,36 +43,30 @@ fn put_each(
 {
     let alloc = rt.alloc();
     let store = Store::open_store(alloc, folder, 0)?;
-    assert!(rt; store.last().is_none());
+    holds(rt, store.last().is_none());
     put_all(store, alloc, folder, sets)
 }
 
-/// The set that counts in the folder has one image, and that is this text.
-fn assert_counts(
+/// Puts both sets into an empty folder. Tells the slot and the generation of the last one.
+fn last_put(
     rt: &(impl Abort + AllocGlobal),
     folder: &mut MemFolder,
-    text: &str,
-) -> Result<(), StoreFault> {
-    let alloc = rt.alloc();
-    let store = Store::open_store(alloc, folder, 0)?;
-    let set = store.get_set(alloc, folder)?;
-    assert!(rt; set.files.len() == 1);
-    assert!(rt;
-        set.files
-            .iter()
-            .all(|file| file.as_slice() == text.as_bytes())
-    );
-    Ok(())
+) -> Result<Option<(u32, u64)>, StoreFault> {
+    let sets = both(rt.alloc())?;
+    let store = put_each(rt, folder, &sets)?;
+    match store.last() {
+        Some(info) => Ok(Some((info.slot, info.generation))),
+        None => Ok(None),
+    }
 }
 
 #[test]
 fn a_run_of_two_sets_leaves_the_second_one(rt: HostRuntime) -> Result<(), Fail> {
-    let alloc = rt.alloc();
-    let sets = both(alloc)?;
-    let mut folder = MemFolder::new(alloc, &[])?;
-    let store = put_each(&rt, &mut folder, &sets)?;
-    let last = store.last().map(|info| (info.slot, info.generation));
-    assert_eq!(&rt; last, Some((1, 2)));
-    assert_counts(&rt, &mut folder, SECOND)?;
+    let mut folder = MemFolder::new(rt.alloc(), &[])?;
+    holds(&rt, last_put(&rt, &mut folder) == Ok(Some((1, 2))));
+    holds(
+        &rt,
+        counts_with(rt.alloc(), &mut folder, &[SECOND]) == Ok(true),
+    );
     Ok(())
 }
