@@ -1,14 +1,12 @@
 // Shared images.
-use crate::asserts::same;
+use crate::asserts::holds;
 use image_codec::{ProcessEntry, ReadFault, Shared, write_shared};
 use shared_reader::read_shared;
 use std::alloc::Global;
-use std::process::Abort;
-use std::test::Fail;
 use sys_abi::{DescId, VPid};
 
 /// The image of a start: process 40000, with the console on descriptors 0, 1 and 2.
-pub const START: [u8; 129] = [
+pub static START: [u8; 129] = [
     b'D', b'M', b'T', b'S', b'H', b'R', b'0', b'1', 0x41, 0x9C, 0, 0, 1, 0, 0, 0,
     // No file, no channel, and the console, open for both.
     0, 0, 0, 0, 0, 0, 0, 0, 1, 0, 0, 0, 0x40, 0x9C, 0, 0, 0, 0, 0, 0, 0, 2, 0, 0, 0, 0, 0, 0, 0,
@@ -26,36 +24,39 @@ const CONSOLE: DescId = DescId {
     num: 0,
 };
 
-fn read(alloc: Global, bytes: &[u8]) -> Result<Box<Shared>, Fail> {
-    let image = read_shared(alloc, bytes)?;
-    Ok(Box::new(alloc, image)?)
-}
-
-/// What the image that bytes spell is written as.
-fn written(alloc: Global, bytes: &[u8]) -> Result<Vec<u8>, ReadFault> {
-    let image = read_shared(alloc, bytes)?;
-    Ok(write_shared(alloc, &image)?)
-}
-
-fn assert_process_of_start(rt: &impl Abort, process: &ProcessEntry) {
-    same(rt, process.pid, VPid(40000));
-    same(rt, process.descriptors.len(), 3);
-    for descriptor in &process.descriptors {
-        same(rt, descriptor.desc, CONSOLE);
+/// Whether it is the process of a start.
+fn is_process_of_start(process: &ProcessEntry) -> bool {
+    if process.pid != VPid(40000) || process.descriptors.len() != 3 {
+        return false;
     }
+    for descriptor in &process.descriptors {
+        if descriptor.desc != CONSOLE {
+            return false;
+        }
+    }
+    true
+}
+
+fn is_start(image: &Shared) -> bool {
+    if image.next_id != 40001 || image.next_file != 1 || image.processes.len() != 1 {
+        return false;
+    }
+    for process in &image.processes {
+        if !is_process_of_start(process) {
+            return false;
+        }
+    }
+    true
+}
+
+/// Whether the bytes spell the image of a start, which is written as they are.
+fn spells_start(alloc: Global, bytes: &[u8]) -> Result<bool, ReadFault> {
+    let image = read_shared(alloc, bytes)?;
+    let written = write_shared(alloc, &image)?;
+    Ok(is_start(&image) && written.as_slice() == bytes)
 }
 
 #[test]
-fn image_of_a_start(rt: HostRuntime) -> Result<(), Fail> {
-    let alloc = rt.alloc();
-    let start = read(alloc, &START)?;
-    same(&rt, start.next_id, 40001);
-    same(&rt, start.next_file, 1);
-    same(&rt, start.processes.len(), 1);
-    for process in &start.processes {
-        assert_process_of_start(&rt, process);
-    }
-    let bytes = written(alloc, &START)?;
-    same(&rt, bytes.as_slice(), START.as_slice());
-    Ok(())
+fn image_of_a_start(rt: HostRuntime) {
+    holds(&rt, spells_start(rt.alloc(), &START) == Ok(true));
 }
