@@ -1,9 +1,9 @@
-use crate::asserting::{Case, answers_each, fails, gives, has, is_marked};
-use crate::kernels::{Call, first_process};
+use crate::kernels::{Call, Change, Look};
+use crate::steps::{Step, follow};
 use plain_machine::FIRST_PID;
 use std::test::Fail;
 use sys_abi::errors::{EBADF, EINVAL, EMFILE, ESRCH};
-use sys_abi::flags::{O_CLOEXEC, O_CREAT, O_NONBLOCK, O_RDWR};
+use sys_abi::flags::{AT_FDCWD, O_CLOEXEC, O_CREAT, O_NONBLOCK, O_RDWR};
 use sys_abi::{Errno, Reply};
 
 const BAD: Reply = Reply::Error(Errno(EBADF));
@@ -12,113 +12,121 @@ const INVALID: Reply = Reply::Error(Errno(EINVAL));
 
 const NO_PROCESS: Reply = Reply::Error(Errno(ESRCH));
 
+const TOO_MANY: Reply = Reply::Error(Errno(EMFILE));
+
+static LEAST: [Step; 7] = [
+    Step::Ask(Call::Dup(7), BAD),
+    Step::Ask(Call::Dup(0), Reply::Value(3)),
+    Step::Ask(Call::Dup(3), Reply::Value(4)),
+    Step::Ask(Call::Close(0), Reply::Value(0)),
+    Step::Ask(Call::Dup(4), Reply::Value(0)),
+    Step::See(Look::Mark(0, false)),
+    Step::See(Look::Counts([8, 2, 0, 0])),
+];
+
 #[test]
 fn the_free_descriptor_is_the_least(rt: HostRuntime) -> Result<(), Fail> {
-    let mut caller = first_process(rt.alloc())?;
-    fails(&rt, caller.dup(7)?, EBADF);
-    gives(&rt, caller.dup(0)?, 3);
-    gives(&rt, caller.dup(3)?, 4);
-    gives(&rt, caller.close(0)?, 0);
-    gives(&rt, caller.dup(4)?, 0);
-    is_marked(&rt, &caller, 0, false)?;
-    has(&rt, &caller, [8, 2, 0, 0]);
-    Ok(())
+    follow(&rt, &LEAST)
 }
+
+static NONE_FREE: [Step; 5] = [
+    Step::Put(Change::FillDescriptors),
+    Step::Ask(Call::Dup(0), TOO_MANY),
+    Step::Ask(Call::Dup(256), BAD),
+    Step::Ask(Call::Close(255), Reply::Value(0)),
+    Step::Ask(Call::Dup(0), Reply::Value(255)),
+];
 
 #[test]
 fn no_descriptor_is_free(rt: HostRuntime) -> Result<(), Fail> {
-    let mut caller = first_process(rt.alloc())?;
-    caller.fill_descriptors()?;
-    fails(&rt, caller.dup(0)?, EMFILE);
-    fails(&rt, caller.dup(256)?, EBADF);
-    gives(&rt, caller.close(255)?, 0);
-    gives(&rt, caller.dup(0)?, 255);
-    Ok(())
+    follow(&rt, &NONE_FREE)
 }
 
-/// What dup3 is asked for, and its answer.
-const DUPS: [Case; 8] = [
-    (7, 7, 1, BAD),
-    (0, 0, 0, INVALID),
-    (0, 5, O_CLOEXEC + 1, INVALID),
-    (0, 256, O_NONBLOCK, INVALID),
-    (0, 256, 0, BAD),
-    (0, 0xFFFF_FFFF, O_CLOEXEC, BAD),
-    (0, 255, O_CLOEXEC, Reply::Value(255)),
-    (0, 5, 0, Reply::Value(5)),
+static DUP3_ERRORS: [Step; 10] = [
+    Step::Ask(Call::Dup3(7, 7, 1), BAD),
+    Step::Ask(Call::Dup3(0, 0, 0), INVALID),
+    Step::Ask(Call::Dup3(0, 5, O_CLOEXEC + 1), INVALID),
+    Step::Ask(Call::Dup3(0, 256, O_NONBLOCK), INVALID),
+    Step::Ask(Call::Dup3(0, 256, 0), BAD),
+    Step::Ask(Call::Dup3(0, 0xFFFF_FFFF, O_CLOEXEC), BAD),
+    Step::Ask(Call::Dup3(0, 255, O_CLOEXEC), Reply::Value(255)),
+    Step::Ask(Call::Dup3(0, 5, 0), Reply::Value(5)),
+    Step::See(Look::Mark(255, true)),
+    Step::See(Look::Mark(5, false)),
 ];
 
 #[test]
 fn errors_of_dup3(rt: HostRuntime) -> Result<(), Fail> {
-    let mut caller = first_process(rt.alloc())?;
-    answers_each(&rt, &mut caller, Call::Dup3, &DUPS)?;
-    is_marked(&rt, &caller, 255, true)?;
-    is_marked(&rt, &caller, 5, false)?;
-    Ok(())
+    follow(&rt, &DUP3_ERRORS)
 }
+
+static DUP3_CLOSES: [Step; 5] = [
+    Step::Ask(
+        Call::Open(AT_FDCWD, b"a\0", O_CREAT + O_RDWR),
+        Reply::Value(3),
+    ),
+    Step::Ask(Call::Unlink(AT_FDCWD, b"a\0", 0), Reply::Value(0)),
+    Step::See(Look::Counts([7, 3, 0, 1])),
+    Step::Ask(Call::Dup3(0, 3, 0), Reply::Value(3)),
+    Step::See(Look::Counts([7, 2, 0, 0])),
+];
 
 #[test]
 fn dup3_closes_first(rt: HostRuntime) -> Result<(), Fail> {
-    let mut caller = first_process(rt.alloc())?;
-    gives(&rt, caller.open_a(O_CREAT + O_RDWR)?, 3);
-    gives(&rt, caller.unlink_a()?, 0);
-    has(&rt, &caller, [7, 3, 0, 1]);
-    gives(&rt, caller.ask(Call::Dup3, 0, 3, 0)?, 3);
-    has(&rt, &caller, [7, 2, 0, 0]);
-    Ok(())
+    follow(&rt, &DUP3_CLOSES)
 }
 
-/// What fcntl is asked for, one after the other, and its answers.
-const COMMANDS: [Case; 32] = [
-    (7, 5, 256, BAD),
-    (0, 0, 256, INVALID),
-    (0, 1030, 256, INVALID),
-    (0, 0, 5, Reply::Value(5)),
-    (0, 0, 5, Reply::Value(6)),
-    (0, 1030, 0, Reply::Value(3)),
-    (3, 1, 0, Reply::Value(1)),
-    (5, 1, 0, Reply::Value(0)),
-    (5, 2, 3, Reply::Value(0)),
-    (5, 1, 0, Reply::Value(1)),
-    (6, 1, 0, Reply::Value(0)),
-    (5, 2, 2, Reply::Value(0)),
-    (5, 1, 0, Reply::Value(0)),
-    (0, 3, 0, Reply::Value(2)),
-    (0, 4, 0xFFFF_FFFF, Reply::Value(0)),
-    (1, 3, 0, Reply::Value(0xC02)),
-    (0, 4, 0x401, Reply::Value(0)),
-    (5, 3, 0, Reply::Value(0x402)),
-    (0, 9, 0, Reply::Value(0)),
-    (0, 8, FIRST_PID, Reply::Value(0)),
-    (1, 9, 0, Reply::Value(FIRST_PID)),
-    (0, 8, FIRST_PID + 1, NO_PROCESS),
-    (0, 8, FIRST_PID + 2, NO_PROCESS),
-    (0, 8, 0xFFFF_FFFF, NO_PROCESS),
-    (0, 9, 0, Reply::Value(FIRST_PID)),
-    (0, 8, 0, Reply::Value(0)),
-    (0, 9, 0, Reply::Value(0)),
-    (0, 5, 0, INVALID),
-    (0, 10, 0, INVALID),
-    (0, 1031, 0, INVALID),
-    (0, 0, 255, Reply::Value(255)),
-    (0, 1030, 255, Reply::Error(Errno(EMFILE))),
+static COMMANDS: [Step; 32] = [
+    Step::Ask(Call::Fcntl(7, 5, 256), BAD),
+    Step::Ask(Call::Fcntl(0, 0, 256), INVALID),
+    Step::Ask(Call::Fcntl(0, 1030, 256), INVALID),
+    Step::Ask(Call::Fcntl(0, 0, 5), Reply::Value(5)),
+    Step::Ask(Call::Fcntl(0, 0, 5), Reply::Value(6)),
+    Step::Ask(Call::Fcntl(0, 1030, 0), Reply::Value(3)),
+    Step::Ask(Call::Fcntl(3, 1, 0), Reply::Value(1)),
+    Step::Ask(Call::Fcntl(5, 1, 0), Reply::Value(0)),
+    Step::Ask(Call::Fcntl(5, 2, 3), Reply::Value(0)),
+    Step::Ask(Call::Fcntl(5, 1, 0), Reply::Value(1)),
+    Step::Ask(Call::Fcntl(6, 1, 0), Reply::Value(0)),
+    Step::Ask(Call::Fcntl(5, 2, 2), Reply::Value(0)),
+    Step::Ask(Call::Fcntl(5, 1, 0), Reply::Value(0)),
+    Step::Ask(Call::Fcntl(0, 3, 0), Reply::Value(2)),
+    Step::Ask(Call::Fcntl(0, 4, 0xFFFF_FFFF), Reply::Value(0)),
+    Step::Ask(Call::Fcntl(1, 3, 0), Reply::Value(0xC02)),
+    Step::Ask(Call::Fcntl(0, 4, 0x401), Reply::Value(0)),
+    Step::Ask(Call::Fcntl(5, 3, 0), Reply::Value(0x402)),
+    Step::Ask(Call::Fcntl(0, 9, 0), Reply::Value(0)),
+    Step::Ask(Call::Fcntl(0, 8, FIRST_PID), Reply::Value(0)),
+    Step::Ask(Call::Fcntl(1, 9, 0), Reply::Value(FIRST_PID)),
+    Step::Ask(Call::Fcntl(0, 8, FIRST_PID + 1), NO_PROCESS),
+    Step::Ask(Call::Fcntl(0, 8, FIRST_PID + 2), NO_PROCESS),
+    Step::Ask(Call::Fcntl(0, 8, 0xFFFF_FFFF), NO_PROCESS),
+    Step::Ask(Call::Fcntl(0, 9, 0), Reply::Value(FIRST_PID)),
+    Step::Ask(Call::Fcntl(0, 8, 0), Reply::Value(0)),
+    Step::Ask(Call::Fcntl(0, 9, 0), Reply::Value(0)),
+    Step::Ask(Call::Fcntl(0, 5, 0), INVALID),
+    Step::Ask(Call::Fcntl(0, 10, 0), INVALID),
+    Step::Ask(Call::Fcntl(0, 1031, 0), INVALID),
+    Step::Ask(Call::Fcntl(0, 0, 255), Reply::Value(255)),
+    Step::Ask(Call::Fcntl(0, 1030, 255), TOO_MANY),
 ];
 
 #[test]
 fn commands_of_fcntl(rt: HostRuntime) -> Result<(), Fail> {
-    let mut caller = first_process(rt.alloc())?;
-    answers_each(&rt, &mut caller, Call::Fcntl, &COMMANDS)
+    follow(&rt, &COMMANDS)
 }
+
+static LAST_CLOSES: [Step; 7] = [
+    Step::Ask(Call::Close(3), BAD),
+    Step::Ask(Call::Close(0), Reply::Value(0)),
+    Step::Ask(Call::Close(0), BAD),
+    Step::Ask(Call::Close(1), Reply::Value(0)),
+    Step::See(Look::Counts([4, 2, 0, 0])),
+    Step::Ask(Call::Close(2), Reply::Value(0)),
+    Step::See(Look::Counts([3, 1, 0, 0])),
+];
 
 #[test]
 fn the_last_descriptor_closes(rt: HostRuntime) -> Result<(), Fail> {
-    let mut caller = first_process(rt.alloc())?;
-    fails(&rt, caller.close(3)?, EBADF);
-    gives(&rt, caller.close(0)?, 0);
-    fails(&rt, caller.close(0)?, EBADF);
-    gives(&rt, caller.close(1)?, 0);
-    has(&rt, &caller, [4, 2, 0, 0]);
-    gives(&rt, caller.close(2)?, 0);
-    has(&rt, &caller, [3, 1, 0, 0]);
-    Ok(())
+    follow(&rt, &LAST_CLOSES)
 }

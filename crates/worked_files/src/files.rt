@@ -1,8 +1,5 @@
-use crate::asserting::{
-    Case, answers_each, fails, gives, has, is_file, is_long, is_marked, is_number, replies,
-};
-use crate::kernels::{Call, Caller, first_process, with_file};
-use std::process::Abort;
+use crate::kernels::{Call, Change, Look};
+use crate::steps::{Step, follow};
 use std::test::Fail;
 use sys_abi::errors::{
     EBADF, EEXIST, EINVAL, EMFILE, ENAMETOOLONG, ENFILE, ENOENT, ENOSPC, ESPIPE,
@@ -19,190 +16,196 @@ const TOO_LONG: Reply = Reply::Error(Errno(ENAMETOOLONG));
 
 const NO_FILE: Reply = Reply::Error(Errno(ENOENT));
 
+const NO_SPACE: Reply = Reply::Error(Errno(ENOSPC));
+
+const NO_NUMBER: Reply = Reply::Error(Errno(ENFILE));
+
 const BAD: Reply = Reply::Error(Errno(EBADF));
 
 const INVALID: Reply = Reply::Error(Errno(EINVAL));
 
-/// A directory, a path and flags, one after the other, and the answers.
-type Named = (u32, &'static [u8], u32, Reply);
-
-const OPENS: [Named; 12] = [
-    (0, &LONG, 3, BAD),
-    (AT_FDCWD - 1, b"a\0", 0, BAD),
-    (AT_FDCWD, &LONG, 3, TOO_LONG),
-    (AT_FDCWD, b"a", 3, TOO_LONG),
-    (AT_FDCWD, b"\0a\0", 3, NO_FILE),
-    (AT_FDCWD, b"a\0", 3 + O_CREAT, INVALID),
-    (AT_FDCWD, b"a\0", O_EXCL, NO_FILE),
-    (AT_FDCWD, b"a\0", O_CREAT + O_EXCL, Reply::Value(3)),
-    (
-        AT_FDCWD,
-        b"a\0",
-        O_CREAT + O_EXCL,
+static OPENS: [Step; 13] = [
+    Step::Ask(Call::Open(0, &LONG, 3), BAD),
+    Step::Ask(Call::Open(AT_FDCWD - 1, b"a\0", 0), BAD),
+    Step::Ask(Call::Open(AT_FDCWD, &LONG, 3), TOO_LONG),
+    Step::Ask(Call::Open(AT_FDCWD, b"a", 3), TOO_LONG),
+    Step::Ask(Call::Open(AT_FDCWD, b"\0a\0", 3), NO_FILE),
+    Step::Ask(Call::Open(AT_FDCWD, b"a\0", 3 + O_CREAT), INVALID),
+    Step::Ask(Call::Open(AT_FDCWD, b"a\0", O_EXCL), NO_FILE),
+    Step::Ask(
+        Call::Open(AT_FDCWD, b"a\0", O_CREAT + O_EXCL),
+        Reply::Value(3),
+    ),
+    Step::Ask(
+        Call::Open(AT_FDCWD, b"a\0", O_CREAT + O_EXCL),
         Reply::Error(Errno(EEXIST)),
     ),
-    (AT_FDCWD, b"a\0b\0", O_EXCL, Reply::Value(4)),
-    (AT_FDCWD, b"a/b\0", O_CREAT, Reply::Value(5)),
-    (AT_FDCWD, b"a\0", O_CREAT, Reply::Value(6)),
+    Step::Ask(Call::Open(AT_FDCWD, b"a\0b\0", O_EXCL), Reply::Value(4)),
+    Step::Ask(Call::Open(AT_FDCWD, b"a/b\0", O_CREAT), Reply::Value(5)),
+    Step::Ask(Call::Open(AT_FDCWD, b"a\0", O_CREAT), Reply::Value(6)),
+    Step::See(Look::Counts([10, 6, 2, 2])),
 ];
-
-fn open_each(rt: &impl Abort, caller: &mut Caller, cases: &[Named]) -> Result<(), Fail> {
-    for (directory, path, flags, want) in cases {
-        replies(rt, caller.open(*directory, path, *flags)?, *want);
-    }
-    Ok(())
-}
 
 #[test]
 fn errors_of_openat(rt: HostRuntime) -> Result<(), Fail> {
-    let mut caller = first_process(rt.alloc())?;
-    open_each(&rt, &mut caller, &OPENS)?;
-    has(&rt, &caller, [10, 6, 2, 2]);
-    Ok(())
+    follow(&rt, &OPENS)
 }
+
+/// A name of 255 bytes, as four lines of 64, of which the last one ends in a zero byte.
+const NAME: &[u8] = b"aaaaaaaaaaaaaaaaaaaaaaaaaaaaaaaaaaaaaaaaaaaaaaaaaaaaaaaaaaaaaaaa\
+    aaaaaaaaaaaaaaaaaaaaaaaaaaaaaaaaaaaaaaaaaaaaaaaaaaaaaaaaaaaaaaaa\
+    aaaaaaaaaaaaaaaaaaaaaaaaaaaaaaaaaaaaaaaaaaaaaaaaaaaaaaaaaaaaaaaa\
+    aaaaaaaaaaaaaaaaaaaaaaaaaaaaaaaaaaaaaaaaaaaaaaaaaaaaaaaaaaaaaaa\0";
+
+static LONG_NAME: [Step; 1] = [Step::Ask(Call::Open(AT_FDCWD, NAME, O_CREAT), Reply::Value(3))];
 
 #[test]
 fn a_name_of_255_bytes(rt: HostRuntime) -> Result<(), Fail> {
-    let mut caller = first_process(rt.alloc())?;
-    let mut path = LONG;
-    path[255] = 0;
-    gives(&rt, caller.open(AT_FDCWD, &path, O_CREAT)?, 3);
-    Ok(())
+    follow(&rt, &LONG_NAME)
 }
+
+static NO_DESCRIPTOR: [Step; 5] = [
+    Step::Put(Change::FillDescriptors),
+    Step::Ask(Call::Open(AT_FDCWD, b"a\0", 0), Reply::Error(Errno(EMFILE))),
+    Step::Put(Change::Made(0xFFFF_FFFC)),
+    Step::Ask(Call::Open(AT_FDCWD, b"a\0", 0), NO_NUMBER),
+    Step::Ask(Call::Open(AT_FDCWD, b"a\0", 3), INVALID),
+];
 
 #[test]
 fn no_number_comes_before_no_descriptor(rt: HostRuntime) -> Result<(), Fail> {
-    let mut caller = first_process(rt.alloc())?;
-    caller.fill_descriptors()?;
-    fails(&rt, caller.open_a(0)?, EMFILE);
-    caller.has_made(0xFFFF_FFFC)?;
-    fails(&rt, caller.open_a(0)?, ENFILE);
-    fails(&rt, caller.open_a(3)?, EINVAL);
-    Ok(())
+    follow(&rt, &NO_DESCRIPTOR)
 }
+
+static LAST_NUMBER: [Step; 5] = [
+    Step::Put(Change::AddFile),
+    Step::Put(Change::Made(0xFFFF_FFFB)),
+    Step::Ask(Call::Open(AT_FDCWD, b"a\0", 0), Reply::Value(3)),
+    Step::See(Look::Number(3, 0xFFFF_FFFB)),
+    Step::Ask(Call::Open(AT_FDCWD, b"a\0", 0), NO_NUMBER),
+];
 
 #[test]
 fn the_last_number(rt: HostRuntime) -> Result<(), Fail> {
-    let mut caller = with_file(rt.alloc())?;
-    caller.has_made(0xFFFF_FFFB)?;
-    gives(&rt, caller.open_a(0)?, 3);
-    is_number(&rt, &caller, 3, 0xFFFF_FFFB)?;
-    fails(&rt, caller.open_a(0)?, ENFILE);
-    Ok(())
+    follow(&rt, &LAST_NUMBER)
 }
 
 /// Flags that openat knows, and one that it doesn't.
 const FLAGS: u32 = O_CREAT + O_RDWR + O_APPEND + O_NONBLOCK + O_CLOEXEC + 0x1000;
 
+static OPEN_FLAGS: [Step; 9] = [
+    Step::Ask(Call::Open(AT_FDCWD, b"a\0", FLAGS), Reply::Value(3)),
+    Step::See(Look::Number(3, 1)),
+    Step::See(Look::File(3, 1)),
+    Step::See(Look::Mark(3, true)),
+    Step::Ask(Call::Fcntl(3, 3, 0), Reply::Value(0xC02)),
+    Step::Ask(Call::Open(AT_FDCWD, b"a\0", O_WRONLY), Reply::Value(4)),
+    Step::See(Look::Number(4, 2)),
+    Step::See(Look::Mark(4, false)),
+    Step::Ask(Call::Fcntl(4, 3, 0), Reply::Value(1)),
+];
+
 #[test]
 fn flags_of_an_open_file(rt: HostRuntime) -> Result<(), Fail> {
-    let mut caller = first_process(rt.alloc())?;
-    gives(&rt, caller.open_a(FLAGS)?, 3);
-    is_number(&rt, &caller, 3, 1)?;
-    is_file(&rt, &caller, 3, 1)?;
-    is_marked(&rt, &caller, 3, true)?;
-    gives(&rt, caller.ask(Call::Fcntl, 3, 3, 0)?, 0xC02);
-    gives(&rt, caller.open_a(O_WRONLY)?, 4);
-    is_number(&rt, &caller, 4, 2)?;
-    is_marked(&rt, &caller, 4, false)?;
-    gives(&rt, caller.ask(Call::Fcntl, 4, 3, 0)?, 1);
-    Ok(())
+    follow(&rt, &OPEN_FLAGS)
 }
+
+static TRUNCATION: [Step; 5] = [
+    Step::Put(Change::AddFile),
+    Step::Ask(Call::Open(AT_FDCWD, b"a\0", O_CREAT), Reply::Value(3)),
+    Step::See(Look::Length(3, 6)),
+    Step::Ask(Call::Open(AT_FDCWD, b"a\0", O_TRUNC), Reply::Value(4)),
+    Step::See(Look::Length(3, 0)),
+];
 
 #[test]
 fn truncation_in_any_mode(rt: HostRuntime) -> Result<(), Fail> {
-    let mut caller = with_file(rt.alloc())?;
-    gives(&rt, caller.open_a(O_CREAT)?, 3);
-    is_long(&rt, &caller, 3, 6)?;
-    gives(&rt, caller.open_a(O_TRUNC)?, 4);
-    is_long(&rt, &caller, 3, 0)?;
-    Ok(())
+    follow(&rt, &TRUNCATION)
 }
+
+static SPACE: [Step; 6] = [
+    Step::Put(Change::AddFile),
+    Step::Put(Change::FillFiles(2, 1024)),
+    Step::Ask(Call::Open(AT_FDCWD, b"b\0", O_CREAT), Reply::Value(3)),
+    Step::Ask(Call::Open(AT_FDCWD, b"c\0", O_CREAT), NO_SPACE),
+    Step::Ask(Call::Open(AT_FDCWD, b"c\0", 0), NO_FILE),
+    Step::Ask(Call::Open(AT_FDCWD, b"a\0", O_CREAT), Reply::Value(4)),
+];
 
 #[test]
 fn no_space_for_a_file(rt: HostRuntime) -> Result<(), Fail> {
-    let mut caller = with_file(rt.alloc())?;
-    caller.fill_files(2, 1024)?;
-    gives(&rt, caller.open(AT_FDCWD, b"b\0", O_CREAT)?, 3);
-    fails(&rt, caller.open(AT_FDCWD, b"c\0", O_CREAT)?, ENOSPC);
-    fails(&rt, caller.open(AT_FDCWD, b"c\0", 0)?, ENOENT);
-    gives(&rt, caller.open_a(O_CREAT)?, 4);
-    Ok(())
+    follow(&rt, &SPACE)
 }
+
+static LAST_FILE: [Step; 4] = [
+    Step::Put(Change::NextFile(0xFFFF_FFFE)),
+    Step::Ask(Call::Open(AT_FDCWD, b"a\0", O_CREAT), Reply::Value(3)),
+    Step::See(Look::File(3, 0xFFFF_FFFE)),
+    Step::Ask(Call::Open(AT_FDCWD, b"b\0", O_CREAT), NO_SPACE),
+];
 
 #[test]
 fn no_number_for_a_file(rt: HostRuntime) -> Result<(), Fail> {
-    let mut caller = first_process(rt.alloc())?;
-    caller.kernel.next_file = 0xFFFF_FFFE;
-    gives(&rt, caller.open_a(O_CREAT)?, 3);
-    is_file(&rt, &caller, 3, 0xFFFF_FFFE)?;
-    fails(&rt, caller.open(AT_FDCWD, b"b\0", O_CREAT)?, ENOSPC);
-    Ok(())
+    follow(&rt, &LAST_FILE)
 }
 
-const UNLINKS: [Named; 8] = [
-    (0, b"b\0", 1, BAD),
-    (AT_FDCWD, &LONG, 1, INVALID),
-    (AT_FDCWD, &LONG, 0, TOO_LONG),
-    (AT_FDCWD, b"b\0", 0, NO_FILE),
-    (AT_FDCWD, b"\0", 0, NO_FILE),
-    (AT_FDCWD, b"a", 0, TOO_LONG),
-    (AT_FDCWD, b"a\0", 0, Reply::Value(0)),
-    (AT_FDCWD, b"a\0", 0, NO_FILE),
+static UNLINKS: [Step; 10] = [
+    Step::Put(Change::AddFile),
+    Step::Ask(Call::Unlink(0, b"b\0", 1), BAD),
+    Step::Ask(Call::Unlink(AT_FDCWD, &LONG, 1), INVALID),
+    Step::Ask(Call::Unlink(AT_FDCWD, &LONG, 0), TOO_LONG),
+    Step::Ask(Call::Unlink(AT_FDCWD, b"b\0", 0), NO_FILE),
+    Step::Ask(Call::Unlink(AT_FDCWD, b"\0", 0), NO_FILE),
+    Step::Ask(Call::Unlink(AT_FDCWD, b"a", 0), TOO_LONG),
+    Step::Ask(Call::Unlink(AT_FDCWD, b"a\0", 0), Reply::Value(0)),
+    Step::Ask(Call::Unlink(AT_FDCWD, b"a\0", 0), NO_FILE),
+    Step::See(Look::Counts([6, 2, 0, 0])),
 ];
-
-fn unlink_each(rt: &impl Abort, caller: &mut Caller, cases: &[Named]) -> Result<(), Fail> {
-    for (directory, path, flags, want) in cases {
-        replies(rt, caller.unlink(*directory, path, *flags)?, *want);
-    }
-    Ok(())
-}
 
 #[test]
 fn errors_of_unlinkat(rt: HostRuntime) -> Result<(), Fail> {
-    let mut caller = with_file(rt.alloc())?;
-    unlink_each(&rt, &mut caller, &UNLINKS)?;
-    has(&rt, &caller, [6, 2, 0, 0]);
-    Ok(())
+    follow(&rt, &UNLINKS)
 }
+
+static WITHOUT_NAME: [Step; 10] = [
+    Step::Put(Change::AddFile),
+    Step::Ask(Call::Open(AT_FDCWD, b"a\0", 0), Reply::Value(3)),
+    Step::Ask(Call::Open(AT_FDCWD, b"a\0", 0), Reply::Value(4)),
+    Step::Ask(Call::Unlink(AT_FDCWD, b"a\0", 0), Reply::Value(0)),
+    Step::Ask(Call::Close(3), Reply::Value(0)),
+    Step::See(Look::Length(4, 6)),
+    Step::Ask(Call::Open(AT_FDCWD, b"a\0", O_CREAT), Reply::Value(3)),
+    Step::See(Look::File(3, 2)),
+    Step::Ask(Call::Close(4), Reply::Value(0)),
+    Step::See(Look::Counts([7, 3, 1, 1])),
+];
 
 #[test]
 fn an_open_file_outlives_its_name(rt: HostRuntime) -> Result<(), Fail> {
-    let mut caller = with_file(rt.alloc())?;
-    gives(&rt, caller.open_a(0)?, 3);
-    gives(&rt, caller.open_a(0)?, 4);
-    gives(&rt, caller.unlink_a()?, 0);
-    gives(&rt, caller.close(3)?, 0);
-    is_long(&rt, &caller, 4, 6)?;
-    gives(&rt, caller.open_a(O_CREAT)?, 3);
-    is_file(&rt, &caller, 3, 2)?;
-    gives(&rt, caller.close(4)?, 0);
-    has(&rt, &caller, [7, 3, 1, 1]);
-    Ok(())
+    follow(&rt, &WITHOUT_NAME)
 }
 
-/// What lseek is asked for, one after the other, of a file of six bytes on 3, and its answers.
-const SEEKS: [Case; 15] = [
-    (7, 0, 3, BAD),
-    (0, 0, 3, Reply::Error(Errno(ESPIPE))),
-    (3, 0, 3, INVALID),
-    (3, 4, 0, Reply::Value(4)),
-    (3, 0xFFFF_FFFF, 1, Reply::Value(3)),
-    (3, 0xFFFF_FFFC, 1, INVALID),
-    (3, 0xFFFF_FFFF, 0, INVALID),
-    (3, 0, 1, Reply::Value(3)),
-    (3, 0, 2, Reply::Value(6)),
-    (3, 0x7FFF_FFFF, 0, Reply::Value(0x7FFF_FFFF)),
-    (3, 1, 1, INVALID),
-    (3, 0x7FFF_FFFA, 2, INVALID),
-    (3, 0x7FFF_FFF9, 2, Reply::Value(0x7FFF_FFFF)),
-    (3, 0xFFFF_FFF9, 2, INVALID),
-    (3, 0xFFFF_FFFA, 2, Reply::Value(0)),
+static SEEKS: [Step; 17] = [
+    Step::Put(Change::AddFile),
+    Step::Ask(Call::Open(AT_FDCWD, b"a\0", 0), Reply::Value(3)),
+    Step::Ask(Call::Lseek(7, 0, 3), BAD),
+    Step::Ask(Call::Lseek(0, 0, 3), Reply::Error(Errno(ESPIPE))),
+    Step::Ask(Call::Lseek(3, 0, 3), INVALID),
+    Step::Ask(Call::Lseek(3, 4, 0), Reply::Value(4)),
+    Step::Ask(Call::Lseek(3, 0xFFFF_FFFF, 1), Reply::Value(3)),
+    Step::Ask(Call::Lseek(3, 0xFFFF_FFFC, 1), INVALID),
+    Step::Ask(Call::Lseek(3, 0xFFFF_FFFF, 0), INVALID),
+    Step::Ask(Call::Lseek(3, 0, 1), Reply::Value(3)),
+    Step::Ask(Call::Lseek(3, 0, 2), Reply::Value(6)),
+    Step::Ask(Call::Lseek(3, 0x7FFF_FFFF, 0), Reply::Value(0x7FFF_FFFF)),
+    Step::Ask(Call::Lseek(3, 1, 1), INVALID),
+    Step::Ask(Call::Lseek(3, 0x7FFF_FFFA, 2), INVALID),
+    Step::Ask(Call::Lseek(3, 0x7FFF_FFF9, 2), Reply::Value(0x7FFF_FFFF)),
+    Step::Ask(Call::Lseek(3, 0xFFFF_FFF9, 2), INVALID),
+    Step::Ask(Call::Lseek(3, 0xFFFF_FFFA, 2), Reply::Value(0)),
 ];
 
 #[test]
 fn offsets_of_an_open_file(rt: HostRuntime) -> Result<(), Fail> {
-    let mut caller = with_file(rt.alloc())?;
-    gives(&rt, caller.open_a(0)?, 3);
-    answers_each(&rt, &mut caller, Call::Lseek, &SEEKS)
+    follow(&rt, &SEEKS)
 }

@@ -1,16 +1,14 @@
-// The first process of a kernel part, and its calls.
+// The first process of a kernel part: its calls, what is to be seen of it, and what it can begin with.
 use plain_files::descriptors::{close, dup, dup3, fcntl};
 use plain_files::files::{lseek, openat, unlinkat};
 use plain_machine::{FIRST_PID, PlainKernel};
 use plain_tables::Object;
-use plain_tables::answer::Attempt;
+use plain_tables::answer::RowResult;
 use std::alloc::{AllocError, Global};
-use std::test::Fail;
-use sys_abi::flags::AT_FDCWD;
-use sys_abi::{Maker, Reply, VPid};
+use sys_abi::{Maker, VPid};
 use views::list_of::ListOf;
 
-pub const FIRST: VPid = VPid(FIRST_PID);
+const FIRST: VPid = VPid(FIRST_PID);
 
 /// The host of the first process.
 const HOST: u32 = 3;
@@ -20,7 +18,7 @@ const SIX: &[u8] = b"hello\n";
 
 #[derive(Drop)]
 pub struct Caller {
-    pub kernel: Box<PlainKernel>,
+    kernel: Box<PlainKernel>,
     alloc: Global,
 }
 
@@ -36,34 +34,135 @@ fn text(alloc: Global, bytes: &[u8]) -> Result<ListOf<u8>, AllocError> {
     Ok(ListOf::from_vec(bytes.to_vec(alloc)?))
 }
 
-/// The same where a file of six bytes has the name `a`.
-pub fn with_file(alloc: Global) -> Result<Caller, AllocError> {
-    let mut caller = first_process(alloc)?;
-    caller.kernel.names.insert(text(alloc, b"a")?, 1)?;
-    caller.kernel.files.insert(1, text(alloc, SIX)?)?;
-    caller.kernel.next_file = 2;
-    Ok(caller)
+/// A call of the first process.
+pub enum Call {
+    Dup(u32),
+    /// A descriptor, another one and flags.
+    Dup3(u32, u32, u32),
+    /// A descriptor, a command and its argument.
+    Fcntl(u32, u32, u32),
+    Close(u32),
+    /// A directory, a path and flags.
+    Open(u32, &'static [u8], u32),
+    /// A directory, a path and flags.
+    Unlink(u32, &'static [u8], u32),
+    /// A descriptor, an offset, and from where it counts.
+    Lseek(u32, u32, u32),
 }
 
-/// A call of a descriptor and two numbers.
-#[derive(Clone, Copy)]
-pub enum Call {
-    Dup3,
-    Fcntl,
-    Lseek,
+/// What is to be seen of a kernel part and its first process.
+pub enum Look {
+    /// How many descriptors, descriptions, names and files are there.
+    Counts([usize; 4]),
+    /// Whether exec closes a descriptor.
+    Mark(u32, bool),
+    /// The number of a descriptor's description, among those that its process made.
+    Number(u32, u32),
+    /// The number of the file that is open at a descriptor.
+    File(u32, u32),
+    /// How many bytes the file has that is open at a descriptor.
+    Length(u32, usize),
+}
+
+/// What a test puts into the kernel part.
+pub enum Change {
+    /// A file of six bytes gets the name `a`.
+    AddFile,
+    /// The process uses each descriptor.
+    FillDescriptors,
+    /// Files of these numbers are there, without a name, and the next one gets the last number.
+    FillFiles(u32, u32),
+    /// The next file gets this number.
+    NextFile(u32),
+    /// The process has made so many things.
+    Made(u32),
 }
 
 impl Caller {
-    /// It uses each descriptor.
-    pub fn fill_descriptors(&mut self) -> Result<(), AllocError> {
+    pub fn ask(&mut self, call: &Call) -> RowResult {
+        let kernel = &mut *self.kernel;
+        match *call {
+            Call::Dup(fd) => dup(kernel, self.alloc, FIRST, fd),
+            Call::Dup3(fd, to, flags) => dup3(kernel, self.alloc, FIRST, fd, to, flags),
+            Call::Fcntl(fd, command, with) => fcntl(kernel, self.alloc, FIRST, fd, command, with),
+            Call::Close(fd) => close(kernel, self.alloc, FIRST, fd),
+            Call::Open(at, path, flags) => openat(kernel, self.alloc, FIRST, at, flags, path),
+            Call::Unlink(at, path, flags) => unlinkat(kernel, self.alloc, FIRST, at, flags, path),
+            Call::Lseek(fd, by, whence) => lseek(kernel, self.alloc, FIRST, fd, by, whence),
+        }
+    }
+
+    /// Whether that is to be seen.
+    pub fn shows(&self, look: &Look) -> bool {
+        match *look {
+            Look::Counts(counts) => self.counts() == counts,
+            Look::Mark(fd, mark) => self.mark(fd) == Some(mark),
+            Look::Number(fd, number) => self.number(fd) == Some(number),
+            Look::File(fd, number) => self.file(fd) == Some(number),
+            Look::Length(fd, length) => self.length(fd) == Some(length),
+        }
+    }
+
+    fn counts(&self) -> [usize; 4] {
+        [
+            self.kernel.descriptors.len(),
+            self.kernel.descriptions.len(),
+            self.kernel.names.len(),
+            self.kernel.files.len(),
+        ]
+    }
+
+    fn mark(&self, fd: u32) -> Option<bool> {
+        let (descriptor, _) = self.kernel.held_at(FIRST, fd)?;
+        Some(descriptor.cloexec)
+    }
+
+    fn number(&self, fd: u32) -> Option<u32> {
+        let (descriptor, _) = self.kernel.held_at(FIRST, fd)?;
+        Some(descriptor.desc.num)
+    }
+
+    fn file(&self, fd: u32) -> Option<u32> {
+        let (_, description) = self.kernel.held_at(FIRST, fd)?;
+        match description.object {
+            Object::File { number, .. } => Some(number),
+            _ => None,
+        }
+    }
+
+    fn length(&self, fd: u32) -> Option<usize> {
+        let number = self.file(fd)?;
+        Some(self.kernel.files.get(number)?.len())
+    }
+
+    pub fn put(&mut self, change: &Change) -> Result<(), AllocError> {
+        match *change {
+            Change::AddFile => self.add_file(),
+            Change::FillDescriptors => self.fill_descriptors(),
+            Change::FillFiles(from, to) => self.fill_files(from, to),
+            Change::NextFile(number) => {
+                self.kernel.next_file = number;
+                Ok(())
+            }
+            Change::Made(made) => self.has_made(made),
+        }
+    }
+
+    fn add_file(&mut self) -> Result<(), AllocError> {
+        self.kernel.names.insert(text(self.alloc, b"a")?, 1)?;
+        self.kernel.files.insert(1, text(self.alloc, SIX)?)?;
+        self.kernel.next_file = 2;
+        Ok(())
+    }
+
+    fn fill_descriptors(&mut self) -> Result<(), AllocError> {
         for _ in 3..256 {
             dup(&mut self.kernel, self.alloc, FIRST, 0)?;
         }
         Ok(())
     }
 
-    /// Files of these numbers are there, without a name, and the next one gets the last number.
-    pub fn fill_files(&mut self, from: u32, to: u32) -> Result<(), AllocError> {
+    fn fill_files(&mut self, from: u32, to: u32) -> Result<(), AllocError> {
         for number in from..to {
             self.kernel.files.insert(number, ListOf::new(self.alloc))?;
         }
@@ -71,64 +170,10 @@ impl Caller {
         Ok(())
     }
 
-    /// It has made so many things.
-    pub fn has_made(&mut self, made: u32) -> Result<(), AllocError> {
+    fn has_made(&mut self, made: u32) -> Result<(), AllocError> {
         self.kernel
             .makers
             .insert(FIRST, Maker { host: HOST, made })?;
         Ok(())
-    }
-
-    /// The number of the file that is open at a descriptor.
-    pub fn file_of(&self, fd: u32) -> Result<u32, Fail> {
-        let (_, description) = self.kernel.held_at(FIRST, fd).ok_or("no descriptor")?;
-        match description.object {
-            Object::File { number, .. } => Ok(number),
-            _ => Err(Fail::from("no file")),
-        }
-    }
-
-    pub fn dup(&mut self, fd: u32) -> Result<Reply, Fail> {
-        reply(dup(&mut self.kernel, self.alloc, FIRST, fd)?)
-    }
-
-    /// What a call of a descriptor and two numbers answers.
-    pub fn ask(&mut self, call: Call, fd: u32, first: u32, second: u32) -> Result<Reply, Fail> {
-        let kernel = &mut *self.kernel;
-        match call {
-            Call::Dup3 => reply(dup3(kernel, self.alloc, FIRST, fd, first, second)?),
-            Call::Fcntl => reply(fcntl(kernel, self.alloc, FIRST, fd, first, second)?),
-            Call::Lseek => reply(lseek(kernel, self.alloc, FIRST, fd, first, second)?),
-        }
-    }
-
-    pub fn close(&mut self, fd: u32) -> Result<Reply, Fail> {
-        reply(close(&mut self.kernel, self.alloc, FIRST, fd)?)
-    }
-
-    pub fn open(&mut self, directory: u32, path: &[u8], flags: u32) -> Result<Reply, Fail> {
-        reply(openat(&mut self.kernel, self.alloc, FIRST, directory, flags, path)?)
-    }
-
-    /// An open of the file `a`.
-    pub fn open_a(&mut self, flags: u32) -> Result<Reply, Fail> {
-        self.open(AT_FDCWD, b"a\0", flags)
-    }
-
-    pub fn unlink(&mut self, directory: u32, path: &[u8], flags: u32) -> Result<Reply, Fail> {
-        reply(unlinkat(&mut self.kernel, self.alloc, FIRST, directory, flags, path)?)
-    }
-
-    /// The file `a` loses its name.
-    pub fn unlink_a(&mut self) -> Result<Reply, Fail> {
-        self.unlink(AT_FDCWD, b"a\0", 0)
-    }
-}
-
-fn reply(attempt: Attempt) -> Result<Reply, Fail> {
-    match attempt {
-        Attempt::Gives(answer) => Ok(answer.reply),
-        Attempt::Fails(error) => Ok(Reply::Error(error)),
-        Attempt::NotReady => Err(Fail::from("waits")),
     }
 }
