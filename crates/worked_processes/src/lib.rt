@@ -13,4 +13,8 @@ mod process_images;
 #[cfg(test)]
 mod process_texts;
 #[cfg(test)]
+mod reading;
+#[cfg(test)]
+mod shared_images;
+#[cfg(test)]
 mod thread_lists;

@@ -1,122 +1,117 @@
-// The bytes of process images, and the shared images beside which they are read.
-use image_codec::{ProcessEntry, Shared, ThreadEntry};
+// The bytes of process images.
 use std::alloc::{AllocError, Global};
-use sys_abi::{Life, VPid};
-use views::list_of::ListOf;
 
-const ZEROS: [u8; 4096] = [0; 4096];
-
-/// `addi a7, zero, 139`, `ecall`.
-const RETURN_CODE: [u8; 8] = [0x93, 0x08, 0xB0, 0x08, 0x73, 0x00, 0x00, 0x00];
-
-/// The page that a handler returns to.
-pub const RETURN_PAGE: u32 = 0x80000;
-
-fn thread_entries(alloc: Global, tids: &[u32]) -> Result<ListOf<ThreadEntry>, AllocError> {
-    let mut threads = ListOf::new(alloc);
-    for tid in tids {
-        threads.push(ThreadEntry {
-            tid: *tid,
-            pending: 0,
-        })?;
-    }
-    Ok(threads)
+/// What stands next in an image.
+#[derive(Clone, Copy)]
+pub enum Part {
+    Words(&'static [u32]),
+    /// So many bytes that are 0.
+    Zeros(usize),
+    /// Pages of zeros with the numbers from one up to another, and with these rights.
+    Pages(u32, u32, u8),
+    /// The page that a handler returns to.
+    ReturnPage,
+    /// Threads, each with how many contexts it has saved.
+    Threads(&'static [(u32, u32)]),
 }
 
-fn process(
-    alloc: Global,
-    number: u32,
-    life: Life,
-    tids: &[u32],
-) -> Result<ProcessEntry, AllocError> {
-    let threads = thread_entries(alloc, tids)?;
-    Ok(ProcessEntry {
-        pid: VPid(number),
-        parent: 1,
-        host: 0,
-        made: 1,
-        life,
-        pending: 0,
-        threads,
-        descriptors: ListOf::new(alloc),
-    })
-}
-
-fn shared_of(
-    alloc: Global,
-    next_id: u32,
-    processes: ListOf<ProcessEntry>,
-) -> Result<Box<Shared>, AllocError> {
-    let shared = Shared {
-        next_id,
-        next_file: 1,
-        files: ListOf::new(alloc),
-        channels: ListOf::new(alloc),
-        descriptions: ListOf::new(alloc),
-        processes,
-    };
-    Ok(Box::new(alloc, shared)?)
-}
-
-/// Process 40001 is live, and 40000 a zombie.
-pub fn live_after_zombie(alloc: Global) -> Result<Box<Shared>, AllocError> {
-    let mut processes = ListOf::new(alloc);
-    processes.push(process(alloc, 40000, Life::Zombie(0), &[])?)?;
-    processes.push(process(alloc, 40001, Life::Live, &[40001])?)?;
-    shared_of(alloc, 40002, processes)
-}
-
-/// Process 40000 with the threads 40000, 40003 and 40007.
-pub fn with_three_threads(alloc: Global) -> Result<Box<Shared>, AllocError> {
-    let mut processes = ListOf::new(alloc);
-    let tids = [40000, 40003, 40007];
-    processes.push(process(alloc, 40000, Life::Live, &tids)?)?;
-    shared_of(alloc, 40008, processes)
-}
-
-pub fn put_u32(bytes: &mut Vec<u8>, number: u32) -> Result<(), AllocError> {
-    bytes.extend_from_slice(&number.to_le_bytes())
-}
-
-pub fn put_u32s(bytes: &mut Vec<u8>, numbers: &[u32]) -> Result<(), AllocError> {
-    for number in numbers {
-        put_u32(bytes, *number)?;
-    }
-    Ok(())
-}
-
-pub fn put_page(bytes: &mut Vec<u8>, number: u32, rights: u8) -> Result<(), AllocError> {
-    put_u32(bytes, number)?;
-    bytes.push(rights)?;
-    if number == RETURN_PAGE {
-        bytes.extend_from_slice(&RETURN_CODE)?;
-        bytes.extend_from_slice(&ZEROS[8..])
-    } else {
-        bytes.extend_from_slice(&ZEROS)
-    }
-}
+/// The parts of an image after its magic, in pieces.
+pub type Image = &'static [&'static [Part]];
 
 /// What a process does by default on each signal.
-pub fn put_default_actions(bytes: &mut Vec<u8>) -> Result<(), AllocError> {
-    bytes.extend_from_slice(&ZEROS[..31 * 12])
+pub const DEFAULT_ACTIONS: Part = Part::Zeros(31 * 12);
+
+/// The rights of the page that a handler returns to, and then `addi a7, zero, 139`, `ecall`.
+static RETURN_CODE: [u8; 9] = [5, 0x93, 0x08, 0xB0, 0x08, 0x73, 0x00, 0x00, 0x00];
+
+/// The bytes of the image.
+pub fn bytes_of(alloc: Global, image: Image) -> Result<Vec<u8>, AllocError> {
+    let mut bytes = b"DMTPRC01".to_vec(alloc)?;
+    put_image(&mut bytes, image)?;
+    Ok(bytes)
 }
 
-fn put_pages(bytes: &mut Vec<u8>, pages: &[(u32, u8)]) -> Result<(), AllocError> {
-    for (number, rights) in pages {
-        put_page(bytes, *number, *rights)?;
+fn put_image(bytes: &mut Vec<u8>, image: Image) -> Result<(), AllocError> {
+    for parts in image {
+        put_parts(bytes, parts)?;
     }
     Ok(())
 }
 
-/// The image of process 40001 with these pages and this count of them. Break and break start are 0x11000,
-/// there is no waiter, and its one thread is at 0x10078, with registers that are 0.
-pub fn image_with(alloc: Global, pages: &[(u32, u8)], count: u32) -> Result<Vec<u8>, AllocError> {
-    let mut bytes = b"DMTPRC01".to_vec(alloc)?;
-    put_u32s(&mut bytes, &[40001, 0x11000, 0x11000, count])?;
-    put_pages(&mut bytes, pages)?;
-    put_default_actions(&mut bytes)?;
-    put_u32s(&mut bytes, &[0, 1, 40001])?;
-    bytes.extend_from_slice(&ZEROS[..31 * 4])?;
-    put_u32s(&mut bytes, &[0x10078, 0, 0, 0])?;
-    Ok(bytes)
+fn put_parts(bytes: &mut Vec<u8>, parts: &[Part]) -> Result<(), AllocError> {
+    for part in parts {
+        put(bytes, *part)?;
+    }
+    Ok(())
+}
+
+fn put(bytes: &mut Vec<u8>, part: Part) -> Result<(), AllocError> {
+    match part {
+        Part::Words(words) => put_words(bytes, words),
+        Part::Zeros(count) => put_zeros(bytes, count),
+        Part::Pages(first, end, rights) => put_pages(bytes, first, end, rights),
+        Part::ReturnPage => put_return_page(bytes),
+        Part::Threads(threads) => put_threads(bytes, threads),
+    }
+}
+
+fn put_word(bytes: &mut Vec<u8>, word: u32) -> Result<(), AllocError> {
+    bytes.extend_from_slice(&word.to_le_bytes())
+}
+
+fn put_words(bytes: &mut Vec<u8>, words: &[u32]) -> Result<(), AllocError> {
+    for word in words {
+        put_word(bytes, *word)?;
+    }
+    Ok(())
+}
+
+fn put_zeros(bytes: &mut Vec<u8>, count: usize) -> Result<(), AllocError> {
+    for _ in 0..count {
+        bytes.push(0)?;
+    }
+    Ok(())
+}
+
+fn put_pages(bytes: &mut Vec<u8>, first: u32, end: u32, rights: u8) -> Result<(), AllocError> {
+    for number in first..end {
+        put_word(bytes, number)?;
+        bytes.push(rights)?;
+        put_zeros(bytes, 4096)?;
+    }
+    Ok(())
+}
+
+fn put_return_page(bytes: &mut Vec<u8>) -> Result<(), AllocError> {
+    put_word(bytes, 0x80000)?;
+    bytes.extend_from_slice(&RETURN_CODE)?;
+    put_zeros(bytes, 4088)
+}
+
+fn put_threads(bytes: &mut Vec<u8>, threads: &[(u32, u32)]) -> Result<(), AllocError> {
+    for (tid, contexts) in threads {
+        put_thread(bytes, *tid, *contexts)?;
+    }
+    Ok(())
+}
+
+fn put_thread(bytes: &mut Vec<u8>, tid: u32, contexts: u32) -> Result<(), AllocError> {
+    put_word(bytes, tid)?;
+    put_registers(bytes, tid, 3)?;
+    put_word(bytes, contexts)?;
+    for i in 0..contexts {
+        put_registers(bytes, i, 2)?;
+    }
+    Ok(())
+}
+
+/// The registers x1 to x31, and so many words that follow them, from a first word on.
+fn put_registers(bytes: &mut Vec<u8>, first: u32, more: u32) -> Result<(), AllocError> {
+    for i in 0..31 {
+        put_word(bytes, first.wrapping_add(i))?;
+    }
+    for i in 0..more {
+        put_word(bytes, first.wrapping_mul(i))?;
+    }
+    Ok(())
 }
