@@ -1,15 +1,13 @@
-// A kernel part of two processes on two hosts, the calls of the tests, and what is asserted of their answers.
+// A kernel part of two processes on two hosts, the calls of the tests, and what they answer.
 use plain_machine::{FIRST_PID, PlainKernel};
 use plain_sockets::connections::{accept, connect};
 use plain_sockets::sockets::{
     bind, getpeername, getsockname, listen, setsockopt, shutdown, socket,
 };
-use plain_tables::answer::{Attempt, RowResult};
-use plain_tables::{Description, Object};
+use plain_tables::answer::{Answer, Attempt, RowResult};
 use std::alloc::{AllocError, Global};
 use std::process::Abort;
-use std::test::Fail;
-use sys_abi::{DescId, Descriptor, Reply, Slot, VPid};
+use sys_abi::{Reply, VPid};
 
 /// On host 3, whose address is 10.0.0.4.
 pub const FIRST: VPid = VPid(FIRST_PID);
@@ -66,69 +64,65 @@ pub type Step = (Call, Want);
 pub const STREAM: Call = Call::Socket(2, 1, 0);
 
 /// Two processes, each with descriptors 0, 1 and 2 of the console.
-#[derive(Drop)]
-pub struct Job {
-    pub kernel: Box<PlainKernel>,
-    pub alloc: Global,
-}
-
-/// The job after these calls of the first process, which answer what they should.
-pub fn after(rt: &impl Abort, alloc: Global, steps: &[Step]) -> Result<Job, Fail> {
+pub fn two_processes(alloc: Global) -> Result<Box<PlainKernel>, AllocError> {
     let mut kernel = Box::new(alloc, PlainKernel::empty(alloc))?;
-    kernel.add_process(alloc, FIRST.0, 3)?;
-    kernel.add_process(alloc, SECOND.0, 4)?;
-    let mut job = Job { kernel, alloc };
-    job.ask(rt, FIRST, steps)?;
-    Ok(job)
+    add_processes(&mut kernel, alloc)?;
+    Ok(kernel)
 }
 
-impl Job {
-    /// Calls of a process answer what they should, one after the other.
-    pub fn ask(&mut self, rt: &impl Abort, p: VPid, steps: &[Step]) -> Result<(), Fail> {
-        for (call, want) in steps {
-            says(
-                rt,
-                meets(serve(&mut self.kernel, self.alloc, p, *call)?, *want),
-                true,
-            );
-        }
-        Ok(())
+fn add_processes(kernel: &mut PlainKernel, alloc: Global) -> Result<(), AllocError> {
+    kernel.add_process(alloc, FIRST.0, 3)?;
+    kernel.add_process(alloc, SECOND.0, 4)
+}
+
+/// Calls of a process answer what they should, one after the other.
+pub fn ask(
+    rt: &(impl Abort + AllocGlobal),
+    kernel: &mut PlainKernel,
+    p: VPid,
+    steps: &[Step],
+) -> Result<(), AllocError> {
+    for step in steps {
+        holds(rt, answers(kernel, rt.alloc(), p, step)?);
+    }
+    Ok(())
+}
+
+/// Whether the call answers what it should.
+fn answers(
+    kernel: &mut PlainKernel,
+    alloc: Global,
+    p: VPid,
+    step: &Step,
+) -> Result<bool, AllocError> {
+    let (call, want) = *step;
+    let attempt = serve(kernel, alloc, p, call)?;
+    Ok(meets(&attempt, want))
+}
+
+fn meets(attempt: &Attempt, want: Want) -> bool {
+    match attempt {
+        Attempt::Gives(answer) => is_answer(answer, want),
+        Attempt::Fails(error) => match want {
+            Want::Fails(number) => error.0 == number,
+            _ => false,
+        },
+        Attempt::NotReady => match want {
+            Want::Waits => true,
+            _ => false,
+        },
     }
 }
 
-fn meets(attempt: Attempt, want: Want) -> bool {
-    match (attempt, want) {
-        (Attempt::Gives(answer), Want::Gives(number)) => answer.reply == Reply::Value(number),
-        (Attempt::Gives(answer), Want::Writes(bytes)) => answer.bytes.as_slice() == bytes,
-        (Attempt::Fails(error), Want::Fails(number)) => error.0 == number,
-        (Attempt::NotReady, Want::Waits) => true,
+fn is_answer(answer: &Answer, want: Want) -> bool {
+    match want {
+        Want::Gives(number) => answer.reply == Reply::Value(number),
+        Want::Writes(bytes) => answer.bytes.as_slice() == bytes,
         _ => false,
     }
 }
 
-/// Puts a description of that object behind a descriptor of the first process.
-pub fn put(kernel: &mut PlainKernel, fd: u32, object: Object) -> Result<(), AllocError> {
-    let desc = DescId {
-        pid: VPid(1),
-        num: fd,
-    };
-    let descriptor = Descriptor {
-        desc,
-        cloexec: false,
-    };
-    kernel
-        .descriptors
-        .insert(Slot { pid: FIRST, fd }, descriptor)?;
-    let description = Description {
-        object,
-        flags: 2,
-        owner: 0,
-    };
-    kernel.descriptions.insert(desc, description)?;
-    Ok(())
-}
-
-pub fn serve(kernel: &mut PlainKernel, alloc: Global, p: VPid, call: Call) -> RowResult {
+fn serve(kernel: &mut PlainKernel, alloc: Global, p: VPid, call: Call) -> RowResult {
     match call {
         Call::Socket(domain, kind, protocol) => socket(kernel, alloc, p, domain, kind, protocol),
         Call::Bind(fd, length, given) => bind(kernel, alloc, p, fd, length, given),
@@ -142,12 +136,7 @@ pub fn serve(kernel: &mut PlainKernel, alloc: Global, p: VPid, call: Call) -> Ro
     }
 }
 
-/// The number is as wanted.
-pub fn same(rt: &impl Abort, given: u32, want: u32) {
-    assert_eq!(rt; given, want);
-}
-
-/// The test's outcome is as wanted.
-pub fn says(rt: &impl Abort, given: bool, want: bool) {
-    assert_eq!(rt; given, want);
+/// Asserts it.
+pub fn holds(rt: &impl Abort, is_so: bool) {
+    assert!(rt; is_so);
 }

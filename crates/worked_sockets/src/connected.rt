@@ -1,20 +1,15 @@
 // Sockets that are bound, listeners, and connections.
 use crate::asking::Want::{Fails, Gives, Waits, Writes};
 use crate::asking::{
-    ANY_80, BEYOND_80, Call, FIRST, Job, LOOP_80, NO_PORT, OF_FAMILY_10, OTHER_80, OWN_80, OWN_258,
-    SECOND, STREAM, Step, after, put, same, says,
+    ANY_80, BEYOND_80, Call, LOOP_80, NO_PORT, OF_FAMILY_10, OTHER_80, OWN_80, OWN_258, STREAM,
+    Step,
 };
-use plain_sockets::connections::{is_accept_ready, is_connect_ready};
-use plain_tables::{Direction, Object};
-use std::alloc::{AllocError, Global};
-use std::process::Abort;
+use crate::turns::{Change, Sight, Turn, follow};
 use std::test::Fail;
 use sys_abi::errors::{
     EADDRINUSE, EADDRNOTAVAIL, EAFNOSUPPORT, EAGAIN, ECONNREFUSED, EINVAL, EISCONN, EMFILE, ENFILE,
     ENOTCONN,
 };
-use sys_abi::{ConnId, Dir, VirtAddr};
-use views::list_of::ListOf;
 
 const BINDS: &[Step] = &[
     (STREAM, Gives(3)),
@@ -46,10 +41,11 @@ const BINDS: &[Step] = &[
 /// The port is used on the first process's host alone.
 const ELSEWHERE: &[Step] = &[(STREAM, Gives(3)), (Call::Bind(3, 16, LOOP_80), Gives(0))];
 
+static BOTH_BIND: &[Turn] = &[Turn::First(BINDS), Turn::Second(ELSEWHERE)];
+
 #[test]
 fn binds(rt: HostRuntime) -> Result<(), Fail> {
-    let mut job = after(&rt, rt.alloc(), BINDS)?;
-    job.ask(&rt, SECOND, ELSEWHERE)
+    follow(&rt, BOTH_BIND)
 }
 
 /// Port 32768 of 10.0.0.4, the first automatic one.
@@ -71,11 +67,15 @@ const BINDS_THEN: &[Step] = &[
     (Call::Getsockname(4, 4), Writes(b"\x02\0\x80\x02\x10\0\0\0")),
 ];
 
+static AUTOMATIC_PORTS: &[Turn] = &[
+    Turn::First(TAKES_PORTS),
+    Turn::Change(Change::Close(4)),
+    Turn::First(BINDS_THEN),
+];
+
 #[test]
 fn automatic_ports(rt: HostRuntime) -> Result<(), Fail> {
-    let mut job = after(&rt, rt.alloc(), TAKES_PORTS)?;
-    job.kernel.close_descriptor(rt.alloc(), FIRST, 4);
-    job.ask(&rt, FIRST, BINDS_THEN)
+    follow(&rt, AUTOMATIC_PORTS)
 }
 
 const LISTENS: &[Step] = &[
@@ -94,18 +94,15 @@ const LISTENS: &[Step] = &[
     (Call::Listen(4, 0xFFFF_FFFF), Gives(0)),
 ];
 
-/// The backlog of the listener at a port of the first process's host.
-fn backlog(job: &Job, port: u32) -> Result<u32, Fail> {
-    let listening = job.kernel.listeners.get(VirtAddr { host: 3, port });
-    Ok(listening.ok_or("no listener")?.backlog)
-}
+static LISTENERS: &[Turn] = &[
+    Turn::First(LISTENS),
+    Turn::See(Sight::Backlog(80, 1)),
+    Turn::See(Sight::Backlog(258, 128)),
+];
 
 #[test]
 fn listeners(rt: HostRuntime) -> Result<(), Fail> {
-    let job = after(&rt, rt.alloc(), LISTENS)?;
-    same(&rt, backlog(&job, 80)?, 1);
-    same(&rt, backlog(&job, 258)?, 128);
-    Ok(())
+    follow(&rt, LISTENERS)
 }
 
 /// 3 listens at port 80 with a backlog of 1; 4 and 5 are sockets, 5 with O_NONBLOCK.
@@ -128,9 +125,6 @@ const CONNECTED: &[Step] = &[
     (Call::Connect(4, 16, LOOP_80), Gives(0)),
 ];
 
-/// The connection, which is the fourth thing that the first process makes.
-const CONNECTION: ConnId = ConnId { pid: FIRST, num: 4 };
-
 const WRONG_CONNECTS: &[Step] = &[
     (Call::Connect(3, 15, OF_FAMILY_10), Fails(EISCONN)),
     (Call::Connect(4, 15, OF_FAMILY_10), Fails(EINVAL)),
@@ -142,10 +136,11 @@ const WRONG_CONNECTS: &[Step] = &[
     (Call::Connect(4, 0, b""), Fails(EISCONN)),
 ];
 
+static ERRORS_OF_CONNECT: &[Turn] = &[Turn::First(LISTENING), Turn::First(WRONG_CONNECTS)];
+
 #[test]
 fn errors_of_connect(rt: HostRuntime) -> Result<(), Fail> {
-    let mut job = after(&rt, rt.alloc(), LISTENING)?;
-    job.ask(&rt, FIRST, WRONG_CONNECTS)
+    follow(&rt, ERRORS_OF_CONNECT)
 }
 
 const FROM_ANOTHER_HOST: &[Step] = &[(STREAM, Gives(3)), (Call::Connect(3, 16, OWN_80), Gives(0))];
@@ -155,11 +150,15 @@ const BY_AN_AUTOMATIC_PORT: &[Step] = &[(
     Writes(b"\x02\0\x80\0\x0A\0\0\x05\0\0\0\0\0\0\0\0\x10\0\0\0"),
 )];
 
+static ANOTHER_HOST_CONNECTS: &[Turn] = &[
+    Turn::First(LISTENING),
+    Turn::Second(FROM_ANOTHER_HOST),
+    Turn::First(BY_AN_AUTOMATIC_PORT),
+];
+
 #[test]
 fn another_host_connects(rt: HostRuntime) -> Result<(), Fail> {
-    let mut job = after(&rt, rt.alloc(), LISTENING)?;
-    job.ask(&rt, SECOND, FROM_ANOTHER_HOST)?;
-    job.ask(&rt, FIRST, BY_AN_AUTOMATIC_PORT)
+    follow(&rt, ANOTHER_HOST_CONNECTS)
 }
 
 const AT_A_FULL_QUEUE: &[Step] = &[
@@ -171,25 +170,19 @@ const AT_A_FULL_QUEUE: &[Step] = &[
     (Call::Accept(3, 0, 0), Waits),
 ];
 
+static A_FULL_QUEUE: &[Turn] = &[
+    Turn::First(CONNECTED),
+    Turn::First(&[(STREAM, Gives(6))]),
+    Turn::See(Sight::AcceptReady(3, true)),
+    Turn::See(Sight::ConnectReady(5, true)),
+    Turn::See(Sight::ConnectReady(6, false)),
+    Turn::First(AT_A_FULL_QUEUE),
+    Turn::See(Sight::AcceptReady(3, false)),
+];
+
 #[test]
 fn a_full_queue(rt: HostRuntime) -> Result<(), Fail> {
-    let mut job = after(&rt, rt.alloc(), CONNECTED)?;
-    let front = [2, 0, 0, 80, 10, 0, 0, 4, 0, 0, 0, 0, 0, 0, 0, 0];
-    job.ask(&rt, FIRST, &[(STREAM, Gives(6))])?;
-    says(&rt, is_accept_ready(&job.kernel, FIRST, 3), true);
-    says(
-        &rt,
-        is_connect_ready(&job.kernel, FIRST, 5, 16, &front),
-        true,
-    );
-    says(
-        &rt,
-        is_connect_ready(&job.kernel, FIRST, 6, 16, &front),
-        false,
-    );
-    job.ask(&rt, FIRST, AT_A_FULL_QUEUE)?;
-    says(&rt, is_accept_ready(&job.kernel, FIRST, 3), false);
-    Ok(())
+    follow(&rt, A_FULL_QUEUE)
 }
 
 const NOBODY_WAITS: &[Step] = &[
@@ -199,14 +192,16 @@ const NOBODY_WAITS: &[Step] = &[
     (Call::Accept(5, 0, 0), Fails(EAGAIN)),
 ];
 
+static NOBODY_WAITS_TO_BE_ACCEPTED: &[Turn] = &[
+    Turn::First(LISTENING),
+    Turn::First(NOBODY_WAITS),
+    Turn::Change(Change::FillFrom(6)),
+    Turn::First(&[(Call::Accept(3, 0, 0), Fails(EMFILE))]),
+];
+
 #[test]
 fn nobody_waits_to_be_accepted(rt: HostRuntime) -> Result<(), Fail> {
-    let mut job = after(&rt, rt.alloc(), LISTENING)?;
-    job.ask(&rt, FIRST, NOBODY_WAITS)?;
-    for fd in 6..256 {
-        put(&mut job.kernel, fd, Object::Console)?;
-    }
-    job.ask(&rt, FIRST, &[(Call::Accept(3, 0, 0), Fails(EMFILE))])
+    follow(&rt, NOBODY_WAITS_TO_BE_ACCEPTED)
 }
 
 const WITHOUT_CHANNELS: &[Step] = &[
@@ -214,16 +209,15 @@ const WITHOUT_CHANNELS: &[Step] = &[
     (Call::Connect(5, 16, OWN_80), Fails(ENFILE)),
 ];
 
+static NO_CHANNEL_COMES_BEFORE_WAITING: &[Turn] = &[
+    Turn::First(CONNECTED),
+    Turn::CopyConnection,
+    Turn::First(WITHOUT_CHANNELS),
+];
+
 #[test]
 fn no_channel_comes_before_waiting(rt: HostRuntime) -> Result<(), Fail> {
-    let mut job = after(&rt, rt.alloc(), CONNECTED)?;
-    let made = job.kernel.channels.get(CONNECTION).copied();
-    let channel = made.ok_or("no channel")?;
-    for num in 100..355 {
-        let conn = ConnId { pid: FIRST, num };
-        job.kernel.channels.insert(conn, channel)?;
-    }
-    job.ask(&rt, FIRST, WITHOUT_CHANNELS)
+    follow(&rt, NO_CHANNEL_COMES_BEFORE_WAITING)
 }
 
 const NAMES: &[Step] = &[
@@ -236,64 +230,46 @@ const NAMES: &[Step] = &[
     (Call::Getpeername(4, 4), Writes(b"\x02\0\0P\x10\0\0\0")),
 ];
 
+static NAMES_OF_BOTH_SIDES: &[Turn] = &[
+    Turn::First(CONNECTED),
+    Turn::First(NAMES),
+    Turn::See(Sight::Flags(6, 2)),
+];
+
 #[test]
 fn names_of_both_sides(rt: HostRuntime) -> Result<(), Fail> {
-    let mut job = after(&rt, rt.alloc(), CONNECTED)?;
-    job.ask(&rt, FIRST, NAMES)?;
-    let accepted = job.kernel.description_at(FIRST, 6);
-    same(&rt, accepted.ok_or("no stream")?.flags, 2);
-    Ok(())
+    follow(&rt, NAMES_OF_BOTH_SIDES)
 }
 
-/// Five bytes have come in a direction.
-fn sent(alloc: Global) -> Result<Direction, AllocError> {
-    Ok(Direction {
-        left: ListOf::from_vec(b"hello".to_vec(alloc)?),
-        arrived: 5,
-        ended: false,
-        unread: false,
-    })
-}
-
-/// The client shuts its side down in that way, after both sides have sent.
-fn shut(rt: &impl Abort, alloc: Global, how: u32) -> Result<Job, Fail> {
-    let mut job = after(rt, alloc, CONNECTED)?;
-    for side in 0..2 {
-        job.kernel.directions.insert(
-            Dir {
-                conn: CONNECTION,
-                side,
-            },
-            sent(alloc)?,
-        )?;
-    }
-    job.ask(rt, FIRST, &[(Call::Shutdown(4, how), Gives(0))])?;
-    Ok(job)
-}
-
-/// The direction from a side is ended, is unread, and has these bytes.
-fn is_left(rt: &impl Abort, job: &Job, side: u8, want: (bool, bool, &[u8])) -> Result<(), Fail> {
-    let direction = job.kernel.directions.get(Dir {
-        conn: CONNECTION,
-        side,
-    });
-    let direction = direction.ok_or("no direction")?;
-    says(rt, direction.ended, want.0);
-    says(rt, direction.unread, want.1);
-    says(rt, direction.left.as_slice() == want.2, true);
-    says(rt, direction.arrived == want.2.len() as u64, true);
-    Ok(())
-}
+/// The client shuts its side down in each way, after both sides have sent.
+static SHUTDOWNS: &[&[Turn]] = &[
+    &[
+        Turn::First(CONNECTED),
+        Turn::Change(Change::Send),
+        Turn::First(&[(Call::Shutdown(4, 0), Gives(0))]),
+        Turn::See(Sight::Left(0, false, false, b"hello")),
+        Turn::See(Sight::Left(1, false, true, b"")),
+    ],
+    &[
+        Turn::First(CONNECTED),
+        Turn::Change(Change::Send),
+        Turn::First(&[(Call::Shutdown(4, 1), Gives(0))]),
+        Turn::See(Sight::Left(0, true, false, b"hello")),
+        Turn::See(Sight::Left(1, false, false, b"hello")),
+    ],
+    &[
+        Turn::First(CONNECTED),
+        Turn::Change(Change::Send),
+        Turn::First(&[(Call::Shutdown(4, 2), Gives(0))]),
+        Turn::See(Sight::Left(0, true, false, b"hello")),
+        Turn::See(Sight::Left(1, false, true, b"")),
+    ],
+];
 
 #[test]
 fn shutdowns(rt: HostRuntime) -> Result<(), Fail> {
-    let reads_no_more = shut(&rt, rt.alloc(), 0)?;
-    is_left(&rt, &reads_no_more, 0, (false, false, b"hello"))?;
-    is_left(&rt, &reads_no_more, 1, (false, true, b""))?;
-    let sends_no_more = shut(&rt, rt.alloc(), 1)?;
-    is_left(&rt, &sends_no_more, 0, (true, false, b"hello"))?;
-    is_left(&rt, &sends_no_more, 1, (false, false, b"hello"))?;
-    let both = shut(&rt, rt.alloc(), 2)?;
-    is_left(&rt, &both, 0, (true, false, b"hello"))?;
-    is_left(&rt, &both, 1, (false, true, b""))
+    for turns in SHUTDOWNS {
+        follow(&rt, turns)?;
+    }
+    Ok(())
 }

@@ -10,3 +10,5 @@ mod asking;
 mod connected;
 #[cfg(test)]
 mod made;
+#[cfg(test)]
+mod turns;

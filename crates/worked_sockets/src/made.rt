@@ -1,15 +1,13 @@
 // Sockets that are made, what is no socket, and what one that isn't connected refuses.
 use crate::asking::Want::{Fails, Gives, Writes};
-use crate::asking::{Call, FIRST, OWN_80, SECOND, STREAM, Step, Want, after, put, same, says};
-use plain_machine::PlainKernel;
-use plain_tables::{Channel, ChannelEnd, ChannelKind, Object};
-use std::alloc::AllocError;
-use std::process::Abort;
+use crate::asking::{Call, FIRST, OWN_80, STREAM, Step};
+use crate::turns::{Change, Sight, Turn, follow};
+use plain_tables::{ChannelKind, Object};
 use std::test::Fail;
+use sys_abi::DescId;
 use sys_abi::errors::{
     EAFNOSUPPORT, EBADF, EINVAL, EISCONN, EMFILE, ENFILE, ENOTCONN, ENOTSOCK, EOPNOTSUPP,
 };
-use sys_abi::{ConnId, DescId, Maker, Slot};
 
 /// 4 has O_NONBLOCK and O_CLOEXEC. Also what a socket that isn't connected refuses.
 const KINDS: &[Step] = &[
@@ -31,77 +29,69 @@ const KINDS: &[Step] = &[
     (Call::Getsockname(4, 3), Writes(b"\x02\0\0\x10\0\0\0")),
 ];
 
+static KINDS_OF_SOCKETS: &[Turn] = &[
+    Turn::First(KINDS),
+    Turn::See(Sight::Flags(4, 0x802)),
+    Turn::See(Sight::Cloexec(4, true)),
+    Turn::Second(&[(STREAM, Gives(3))]),
+];
+
 #[test]
 fn kinds_of_sockets(rt: HostRuntime) -> Result<(), Fail> {
-    let mut job = after(&rt, rt.alloc(), KINDS)?;
-    let marked = job.kernel.description_at(FIRST, 4).ok_or("no socket")?;
-    same(&rt, marked.flags, 0x802);
-    let at = Slot { pid: FIRST, fd: 4 };
-    says(
-        &rt,
-        job.kernel.descriptors.get(at).ok_or("no socket")?.cloexec,
-        true,
-    );
-    job.ask(&rt, SECOND, &[(STREAM, Gives(3))])
+    follow(&rt, KINDS_OF_SOCKETS)
 }
+
+static NO_NUMBER_COMES_BEFORE_NO_DESCRIPTOR: &[Turn] = &[
+    Turn::Change(Change::FillFrom(3)),
+    Turn::Change(Change::SetMade(1)),
+    Turn::First(&[(STREAM, Fails(EMFILE))]),
+    Turn::Change(Change::SetMade(0xFFFF_FFFC)),
+    Turn::First(&[(STREAM, Fails(ENFILE))]),
+    Turn::Change(Change::SetMade(0xFFFF_FFFB)),
+    Turn::First(&[(STREAM, Fails(EMFILE))]),
+];
 
 #[test]
 fn no_number_comes_before_no_descriptor(rt: HostRuntime) -> Result<(), Fail> {
-    let mut job = after(&rt, rt.alloc(), &[])?;
-    for fd in 3..256 {
-        put(&mut job.kernel, fd, Object::Console)?;
-    }
-    for (made, error) in [(1, EMFILE), (0xFFFF_FFFC, ENFILE), (0xFFFF_FFFB, EMFILE)] {
-        job.kernel.makers.insert(FIRST, Maker { host: 3, made })?;
-        job.ask(&rt, FIRST, &[(STREAM, Fails(error))])?;
-    }
-    Ok(())
+    follow(&rt, NO_NUMBER_COMES_BEFORE_NO_DESCRIPTOR)
 }
 
-/// Each call on a descriptor, whatever else is wrong of it.
-fn calls_on(fd: u32, want: Want) -> [Step; 8] {
-    [
-        (Call::Bind(fd, 0, b""), want),
-        (Call::Listen(fd, 1), want),
-        (Call::Accept(fd, 0, 0), want),
-        (Call::Connect(fd, 0, b""), want),
-        (Call::Getsockname(fd, 16), want),
-        (Call::Getpeername(fd, 16), want),
-        (Call::Setsockopt(fd), want),
-        (Call::Shutdown(fd, 3), want),
-    ]
-}
+/// Each call on a descriptor that isn't there, whatever else is wrong of it.
+const ON_NO_DESCRIPTOR: &[Step] = &[
+    (Call::Bind(9, 0, b""), Fails(EBADF)),
+    (Call::Listen(9, 1), Fails(EBADF)),
+    (Call::Accept(9, 0, 0), Fails(EBADF)),
+    (Call::Connect(9, 0, b""), Fails(EBADF)),
+    (Call::Getsockname(9, 16), Fails(EBADF)),
+    (Call::Getpeername(9, 16), Fails(EBADF)),
+    (Call::Setsockopt(9), Fails(EBADF)),
+    (Call::Shutdown(9, 3), Fails(EBADF)),
+];
 
-const CHANNEL: ConnId = ConnId { pid: FIRST, num: 7 };
+/// Each call on a descriptor of something else.
+const ON_NO_SOCKET: &[Step] = &[
+    (Call::Bind(0, 0, b""), Fails(ENOTSOCK)),
+    (Call::Listen(0, 1), Fails(ENOTSOCK)),
+    (Call::Accept(0, 0, 0), Fails(ENOTSOCK)),
+    (Call::Connect(0, 0, b""), Fails(ENOTSOCK)),
+    (Call::Getsockname(0, 16), Fails(ENOTSOCK)),
+    (Call::Getpeername(0, 16), Fails(ENOTSOCK)),
+    (Call::Setsockopt(0), Fails(ENOTSOCK)),
+    (Call::Shutdown(0, 3), Fails(ENOTSOCK)),
+];
 
-/// An end of a channel of that kind, behind a descriptor.
-fn put_end(kernel: &mut PlainKernel, fd: u32, kind: ChannelKind) -> Result<(), AllocError> {
-    let end = ChannelEnd {
-        address: None,
-        is_open: true,
-    };
-    let channel = Channel {
-        kind,
-        first: end,
-        second: end,
-    };
-    kernel.channels.insert(CHANNEL, channel)?;
-    let stream = Object::Stream {
-        conn: CHANNEL,
-        side: 0,
-    };
-    put(kernel, fd, stream)
-}
+static WHAT_IS_NO_SOCKET: &[Turn] = &[
+    Turn::First(ON_NO_DESCRIPTOR),
+    Turn::First(ON_NO_SOCKET),
+    Turn::Change(Change::PutEnd(0, ChannelKind::Pipe)),
+    Turn::First(ON_NO_SOCKET),
+    Turn::Change(Change::Put(0, Object::Counter { value: 0 })),
+    Turn::First(ON_NO_SOCKET),
+];
 
 #[test]
 fn what_is_no_socket(rt: HostRuntime) -> Result<(), Fail> {
-    let mut job = after(&rt, rt.alloc(), &calls_on(9, Fails(EBADF)))?;
-    let steps = calls_on(0, Fails(ENOTSOCK));
-    job.ask(&rt, FIRST, &steps)?;
-    put_end(&mut job.kernel, 0, ChannelKind::Pipe)?;
-    job.ask(&rt, FIRST, &steps)?;
-    put(&mut job.kernel, 0, Object::Counter { value: 0 })?;
-    job.ask(&rt, FIRST, &steps)
+    follow(&rt, WHAT_IS_NO_SOCKET)
 }
 
 const ON_A_PAIR: &[Step] = &[
@@ -126,12 +116,16 @@ const ON_DATAGRAMS: &[Step] = &[
     (Call::Getpeername(5, 16), Writes(b"\x01\0\x02\0\0\0")),
 ];
 
+const PEER: DescId = DescId { pid: FIRST, num: 9 };
+
+static ENDS_OF_PAIRS: &[Turn] = &[
+    Turn::Change(Change::PutEnd(5, ChannelKind::Pair)),
+    Turn::First(ON_A_PAIR),
+    Turn::Change(Change::Put(5, Object::Datagram { peer: PEER })),
+    Turn::First(ON_DATAGRAMS),
+];
+
 #[test]
 fn ends_of_pairs(rt: HostRuntime) -> Result<(), Fail> {
-    let mut job = after(&rt, rt.alloc(), &[])?;
-    put_end(&mut job.kernel, 5, ChannelKind::Pair)?;
-    job.ask(&rt, FIRST, ON_A_PAIR)?;
-    let peer = DescId { pid: FIRST, num: 9 };
-    put(&mut job.kernel, 5, Object::Datagram { peer })?;
-    job.ask(&rt, FIRST, ON_DATAGRAMS)
+    follow(&rt, ENDS_OF_PAIRS)
 }
