@@ -1,11 +1,8 @@
 // What calls leave and answer that a process answers alone, where one page may be read, written and executed.
-use crate::asserting::{counts, same};
-use crate::process::{THREAD, regs_of, with_one_page};
+use crate::process::{Step, THREAD, follow, with_one_page};
 use call_table::Request;
-use plain_calls::local::local_row;
 use plain_process::UserPart;
 use std::alloc::{AllocError, Global};
-use std::process::Abort;
 use std::test::Fail;
 use sys_abi::Page;
 
@@ -16,34 +13,9 @@ fn user(alloc: Global) -> Result<Box<UserPart>, AllocError> {
     Ok(Box::new(alloc, with_one_page(alloc, page, 0x20000)?)?)
 }
 
-/// The call answers this word at once, in a0.
-fn answers(
-    rt: &(impl Abort + AllocGlobal),
-    user: &mut UserPart,
-    call: &Request,
-    want: u32,
-) -> Result<(), Fail> {
-    local_row(rt.alloc(), user, THREAD, call)?;
-    same(rt, regs_of(user)?.x[10], want);
-    Ok(())
-}
+const PLACE: Request = Request::SetTidAddress { place: 0x10008 };
 
-/// Waits on the word, where that is so much.
-fn wait(value: u32) -> Request {
-    Request::Futex {
-        address: 0x10000,
-        operation: 0,
-        value,
-        timeout: 0,
-    }
-}
-
-const WAKE: Request = Request::Futex {
-    address: 0x10000,
-    operation: 1,
-    value: 9,
-    timeout: 0,
-};
+const BRK: Request = Request::Brk { address: 0x22001 };
 
 /// Two pages at the first place for mappings.
 const MAP: Request = Request::Mmap {
@@ -55,15 +27,43 @@ const MAP: Request = Request::Mmap {
     offset: 0,
 };
 
-/// Asks for the mask, at an address.
-fn mask_to(old_set: u32) -> Request {
-    Request::RtSigprocmask {
-        how: 0,
-        set: 0,
-        old_set,
-        size: 8,
-    }
-}
+/// Asks for the mask, at an address that may be written.
+const MASK: Request = Request::RtSigprocmask {
+    how: 0,
+    set: 0,
+    old_set: 0x10010,
+    size: 8,
+};
+
+/// Asks for it where no page is.
+const MASK_NOWHERE: Request = Request::RtSigprocmask {
+    how: 0,
+    set: 0,
+    old_set: 0x50000,
+    size: 8,
+};
+
+/// Waits on the word, where that is 6.
+const WAIT_FOR_6: Request = Request::Futex {
+    address: 0x10000,
+    operation: 0,
+    value: 6,
+    timeout: 0,
+};
+
+const WAIT_FOR_5: Request = Request::Futex {
+    address: 0x10000,
+    operation: 0,
+    value: 5,
+    timeout: 0,
+};
+
+const WAKE: Request = Request::Futex {
+    address: 0x10000,
+    operation: 1,
+    value: 9,
+    timeout: 0,
+};
 
 /// A call's errors, as they stand in a0.
 const EAGAIN: u32 = 0xFFFF_FFF5;
@@ -72,31 +72,38 @@ const EFAULT: u32 = 0xFFFF_FFF2;
 
 const EINVAL: u32 = 0xFFFF_FFEA;
 
+static EACH_CALL: [Step; 10] = [
+    Step::Call(PLACE, THREAD.0),
+    Step::Call(Request::Gettid, THREAD.0),
+    Step::Call(Request::SchedYield, 0),
+    Step::Call(BRK, 0x22001),
+    Step::Pages(4),
+    Step::Call(MAP, 0x4000_0000),
+    Step::Pages(6),
+    Step::Call(MASK, 0),
+    Step::Call(MASK_NOWHERE, EFAULT),
+    Step::Call(Request::RtSigreturn, EINVAL),
+];
+
 #[test]
 fn each_call_answers_its_word(rt: HostRuntime) -> Result<(), Fail> {
     let mut user = user(rt.alloc())?;
-    let place = Request::SetTidAddress { place: 0x10008 };
-    answers(&rt, &mut user, &place, THREAD.0)?;
-    answers(&rt, &mut user, &Request::Gettid, THREAD.0)?;
-    answers(&rt, &mut user, &Request::SchedYield, 0)?;
-    answers(&rt, &mut user, &Request::Brk { address: 0x22001 }, 0x22001)?;
-    counts(&rt, user.memory.len(), 4);
-    answers(&rt, &mut user, &MAP, 0x4000_0000)?;
-    counts(&rt, user.memory.len(), 6);
-    answers(&rt, &mut user, &mask_to(0x10010), 0)?;
-    answers(&rt, &mut user, &mask_to(0x50000), EFAULT)?;
-    answers(&rt, &mut user, &Request::RtSigreturn, EINVAL)?;
+    follow(&rt, &mut user, &EACH_CALL);
     Ok(())
 }
+
+static WAITS_ON_A_WORD: [Step; 6] = [
+    Step::Call(WAIT_FOR_6, EAGAIN),
+    Step::Waiters(0),
+    Step::Call(WAIT_FOR_5, EAGAIN),
+    Step::Waiters(1),
+    Step::Call(WAKE, 1),
+    Step::Waiters(0),
+];
 
 #[test]
 fn a_thread_waits_on_a_word_that_is_as_expected(rt: HostRuntime) -> Result<(), Fail> {
     let mut user = user(rt.alloc())?;
-    answers(&rt, &mut user, &wait(6), EAGAIN)?;
-    counts(&rt, user.waiters.len(), 0);
-    answers(&rt, &mut user, &wait(5), EAGAIN)?;
-    counts(&rt, user.waiters.len(), 1);
-    answers(&rt, &mut user, &WAKE, 1)?;
-    counts(&rt, user.waiters.len(), 0);
+    follow(&rt, &mut user, &WAITS_ON_A_WORD);
     Ok(())
 }

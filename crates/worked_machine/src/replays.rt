@@ -1,8 +1,7 @@
-use crate::asserting::same;
+use crate::asserting::holds;
 use crate::process::{THREAD, regs_of, with_program};
 use id_maps::ByPid;
 use plain_machine::{Plain, PlainKernel};
-use plain_process::Regs;
 use plain_replay::{ReplayFault, replay};
 use std::alloc::{AllocError, Global};
 use std::process::Abort;
@@ -21,6 +20,9 @@ const CALLS: Record = Record::Call {
     t: THREAD,
 };
 
+/// A call's error, as it stands in a0.
+const ENOSYS: u32 = 0xFFFF_FFDA;
+
 /// The start of a job of the process with the program alone.
 fn start(alloc: Global) -> Result<Box<Plain>, AllocError> {
     let empty = Plain {
@@ -38,38 +40,47 @@ fn add(alloc: Global, plain: &mut Plain) -> Result<(), AllocError> {
     Ok(())
 }
 
-/// The registers of its thread after a trace.
-fn regs_after(alloc: Global, trace: &[Record]) -> Result<Regs, Fail> {
-    let start = start(alloc)?;
-    regs_in(replay(alloc, &start, trace))
+/// Where the thread stands, and what is in its a0.
+type Place = (u32, u32);
+
+/// A trace, and the thread's place after it, or the number of its first record that is no step.
+type Row = (&'static [Record], Result<Place, ReplayFault>);
+
+fn place_in(plain: &Plain) -> Option<Place> {
+    let regs = regs_of(plain.users.get(VPid(THREAD.0))?)?;
+    Some((regs.pc, regs.x[10]))
 }
 
-fn regs_in(found: Result<Plain, ReplayFault>) -> Result<Regs, Fail> {
+/// Whether a replay ends so.
+fn ends(found: Result<Plain, ReplayFault>, want: Result<Place, ReplayFault>) -> bool {
     match found {
-        Ok(plain) => regs_of(plain.users.get(VPid(THREAD.0)).ok_or("no process")?),
-        Err(_) => Err(Fail::from("no state")),
+        Ok(plain) => want.is_ok_and(|place| place_in(&plain) == Some(place)),
+        Err(fault) => want == Err(fault),
     }
 }
 
-/// The trace is no run: the record of this number is the first that is no step.
-fn refused(rt: &impl Abort, alloc: Global, start: &Plain, trace: &[Record], number: u64) {
-    let fault = replay(alloc, start, trace).err();
-    assert_eq!(rt; fault, Some(ReplayFault::Refused(number)));
+/// Each trace from the start of the job ends so.
+fn replayed(rt: &(impl Abort + AllocGlobal), rows: &[Row]) -> Result<(), Fail> {
+    let start = start(rt.alloc())?;
+    for row in rows {
+        holds(rt, ends(replay(rt.alloc(), &start, row.0), row.1));
+    }
+    Ok(())
 }
+
+static NOT_IMPLEMENTED: [Row; 1] = [(&[RUNS, CALLS], Ok((0x0001_0018, ENOSYS)))];
 
 #[test]
 fn a_call_that_is_not_implemented_answers_its_error(rt: HostRuntime) -> Result<(), Fail> {
-    let regs = regs_after(rt.alloc(), &[RUNS, CALLS])?;
-    same(&rt, regs.pc, 0x0001_0018);
-    same(&rt, regs.x[10], 38_u32.wrapping_neg());
-    Ok(())
+    replayed(&rt, &NOT_IMPLEMENTED)
 }
+
+static NO_STEP: [Row; 2] = [
+    (&[CALLS], Err(ReplayFault::Refused(0))),
+    (&[RUNS, CALLS, CALLS], Err(ReplayFault::Refused(2))),
+];
 
 #[test]
 fn a_call_is_no_step_before_the_thread_stands_at_it(rt: HostRuntime) -> Result<(), Fail> {
-    let alloc = rt.alloc();
-    let start = start(alloc)?;
-    refused(&rt, alloc, &start, &[CALLS], 0);
-    refused(&rt, alloc, &start, &[RUNS, CALLS, CALLS], 2);
-    Ok(())
+    replayed(&rt, &NO_STEP)
 }
