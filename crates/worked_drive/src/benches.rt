@@ -1,11 +1,11 @@
-//! What a run is made on, and the run of a computation.
+//! What a run is made on, and the run of a launch.
 ghost use Rattle.std.specs.Prelude.{◌≡◌, suc, ◌<◌, [], is_some, IfOk, IfSome};
 ghost use Rattle.image_store.specs.StoreStates.{FitsFolder, next_generation};
-ghost use Rattle.drive.specs.HandedOn.{IsReady};
+ghost use Rattle.worked_drive.specs.Ready.{IsReady};
 
-use crate::guests::guests_of;
+use crate::jobs::{Beginning, Program, begun};
 use disk_folder::{Folder, MemFolder};
-use drive::{Computation, RunStatus, Wrapped, drive};
+use drive::{RunStatus, Wrapped, drive};
 use edge_io::{MemSink, Sink};
 use image_store::Store;
 use std::alloc::{AllocError, Global};
@@ -56,28 +56,28 @@ impl Bench {
         ensures { IfOk result (λ bench. bench.value.trace.records ≡ []) }
     {
         let bench = Bench {
+            trace: empty_trace(alloc)?,
+            disk: MemFolder::new(alloc, &[])?,
             console: MemSink::new(alloc, &[])?,
             log: MemSink::new(alloc, &[])?,
-            disk: MemFolder::new(alloc, &[])?,
-            trace: empty_trace(alloc)?,
         };
         Ok(Box::new(alloc, bench)?)
     }
 
-    /// Runs a computation, with a checkpoint after each so many records of work, if any.
-    pub fn run(
+    /// Runs the launch with these words, with a checkpoint after each so many records of work, if any.
+    pub fn launch(
         &mut self,
         alloc: Global,
-        computation: Box<Computation>,
+        words: &[&str],
+        programs: &[Program],
         every: Option<u32>,
     ) -> Result<Box<Outcome>, Fail>
-        requires ready { IsReady computation.value }
         requires every { IfSome every (λ every. 0 < every) }
         requires empty { self.old.trace.records ≡ [] }
     {
         run_on(
             alloc,
-            computation,
+            begun(alloc, words, programs)?,
             every,
             &mut self.console,
             &mut self.log,
@@ -98,23 +98,21 @@ fn empty_trace(alloc: Global) -> Result<Trace, AllocError>
 /// A run with the store of the folder's sets, which is opened where there are checkpoints.
 fn run_on<O: Sink, L: Sink, F: Folder>(
     alloc: Global,
-    computation: Box<Computation>,
+    beginning: Box<Beginning>,
     every: Option<u32>,
     out: &mut O,
     log: &mut L,
     disk: &mut F,
     trace: &mut Trace,
 ) -> Result<Box<Outcome>, Fail>
-    requires ready { IsReady computation.value }
+    requires ready { IsReady beginning.value.system beginning.value.guests }
     requires every { IfSome every (λ every. 0 < every) }
     requires empty { trace.old.records ≡ [] }
 {
-    let mut computation = computation;
     let (store, opening) = opened(alloc, every, disk)?;
-    let guests = guests_of(alloc, &mut computation.guests)?;
-    let kernel = Box::into_inner(computation).into_kernel();
+    let Beginning { system, guests } = Box::into_inner(beginning);
     let (back, status) = drive(
-        alloc, kernel, guests, every, opening, store, out, log, disk, trace,
+        alloc, system, guests, every, opening, store, out, log, disk, trace,
     );
     outcome_of(alloc, back, status)
 }

@@ -1,11 +1,11 @@
 //! A checkpoint drains the channels and fills them again.
-ghost use Rattle.std.specs.Prelude.{◌≡◌, []};
+ghost use Rattle.std.specs.Prelude.{◌≡◌, ◌<◌, [], IfSome};
 
-use crate::asserts::same;
-use crate::benches::Bench;
-use crate::jobs::begun;
-use drive::{RunEnd, RunStatus, Wrapped};
+use crate::asserts::holds;
+use crate::benches::{Bench, Outcome};
+use drive::{RunEnd, RunStatus};
 use std::alloc::Global;
+use std::process::Abort;
 use std::test::Fail;
 use sys_abi::{ConnId, Dir, VPid};
 
@@ -40,69 +40,67 @@ const CHANNEL: ConnId = ConnId {
     num: 1,
 };
 
+const FROM_SIDE_0: Dir = Dir {
+    conn: CHANNEL,
+    side: 0,
+};
+
+const FROM_SIDE_1: Dir = Dir {
+    conn: CHANNEL,
+    side: 1,
+};
+
 /// The line of the one checkpoint.
 const LINE: &str = "checkpoint 1 complete: generation 1, drained 5\n";
 
-/// How a run of the program ended, and how many bytes each direction of the channel has carried then.
-#[derive(Clone, Copy)]
-struct Carried {
-    status: RunStatus,
-    first: u64,
-    second: u64,
-}
+/// After six records of work, so right after the read of 2, and no other.
+const ONE_CHECKPOINT: Option<u32> = Some(6);
 
-/// Runs the program with a checkpoint after six records of work, so right after the read of 2, and no other.
-fn with_checkpoint(alloc: Global, bench: &mut Bench) -> Result<Carried, Fail>
-    requires { bench.old.trace.records ≡ [] }
+/// Runs the program with a checkpoint after each so many records of work, if any. Whether it gets stuck,
+/// with so many bytes carried from each side of the channel.
+fn carries(
+    alloc: Global,
+    bench: &mut Bench,
+    every: Option<u32>,
+    carried: [u64; 2],
+) -> Result<bool, Fail>
+    requires every { IfSome every (λ every. 0 < every) }
+    requires empty { bench.old.trace.records ≡ [] }
 {
-    let computation = begun(alloc, &["launch", "0:pair"], &[("pair", PAIR)])?;
-    let outcome = bench.run(alloc, computation, Some(6))?;
-    Ok(carried_by(outcome.status, &outcome.system))
+    let outcome = bench.launch(alloc, &["launch", "0:pair"], &[("pair", PAIR)], every)?;
+    Ok(has_carried(&outcome, carried))
 }
 
-fn without_checkpoint(alloc: Global, bench: &mut Bench) -> Result<Carried, Fail>
-    requires { bench.old.trace.records ≡ [] }
+fn has_carried(outcome: &Outcome, carried: [u64; 2]) -> bool {
+    let net = &outcome.system.system().kernel.net;
+    outcome.status == RunStatus::Ended(RunEnd::Stuck)
+        && net.carried(FROM_SIDE_0) == carried[0]
+        && net.carried(FROM_SIDE_1) == carried[1]
+}
+
+/// The program runs so, and the log gets these lines.
+fn runs(
+    rt: &(impl Abort + AllocGlobal),
+    every: Option<u32>,
+    carried: [u64; 2],
+    lines: &str,
+) -> Result<(), Fail>
+    requires { IfSome every (λ every. 0 < every) }
 {
-    let computation = begun(alloc, &["launch", "0:pair"], &[("pair", PAIR)])?;
-    let outcome = bench.run(alloc, computation, None)?;
-    Ok(carried_by(outcome.status, &outcome.system))
-}
-
-fn carried_by(status: RunStatus, wrapped: &Wrapped) -> Carried {
-    let net = &wrapped.system().kernel.net;
-    Carried {
-        status,
-        first: net.carried(Dir {
-            conn: CHANNEL,
-            side: 0,
-        }),
-        second: net.carried(Dir {
-            conn: CHANNEL,
-            side: 1,
-        }),
-    }
+    let mut bench = Bench::new(rt.alloc())?;
+    holds(rt, carries(rt.alloc(), &mut bench, every, carried)?);
+    holds(rt, bench.log.bytes() == lines.as_bytes());
+    Ok(())
 }
 
 /// Of side 0 come the 7 bytes, a cookie of 16, a frame of 4 without bytes, and the 5 bytes sent again. Of
 /// side 1 come a cookie and a frame with the 5 bytes that its agent had drained.
 #[test]
 fn what_is_drained_is_sent_again(rt: HostRuntime) -> Result<(), Fail> {
-    let mut bench = Bench::new(rt.alloc())?;
-    let found = with_checkpoint(rt.alloc(), &mut bench)?;
-    same(&rt, found.status, RunStatus::Ended(RunEnd::Stuck));
-    same(&rt, found.first, 32);
-    same(&rt, found.second, 25);
-    same(&rt, bench.log.bytes(), LINE.as_bytes());
-    Ok(())
+    runs(&rt, ONE_CHECKPOINT, [32, 25], LINE)
 }
 
 #[test]
 fn without_a_checkpoint_nothing_is_sent_again(rt: HostRuntime) -> Result<(), Fail> {
-    let mut bench = Bench::new(rt.alloc())?;
-    let found = without_checkpoint(rt.alloc(), &mut bench)?;
-    same(&rt, found.status, RunStatus::Ended(RunEnd::Stuck));
-    same(&rt, found.first, 7);
-    same(&rt, found.second, 0);
-    same(&rt, bench.log.bytes(), "".as_bytes());
-    Ok(())
+    runs(&rt, None, [7, 0], "")
 }

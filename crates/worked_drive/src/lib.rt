@@ -11,8 +11,6 @@ mod benches;
 #[cfg(test)]
 mod checkpoints;
 #[cfg(test)]
-mod guests;
-#[cfg(test)]
 mod jobs;
 #[cfg(test)]
 mod nodes;

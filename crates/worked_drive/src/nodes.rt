@@ -1,14 +1,12 @@
 //! Two processes on two hosts, each on a node of its own.
 ghost use Rattle.std.specs.Prelude.{◌≡◌, []};
 
-use crate::asserts::same;
+use crate::asserts::holds;
 use crate::benches::{Bench, Outcome};
-use crate::jobs::begun;
 use drive::{RunEnd, RunStatus};
 use std::alloc::Global;
 use std::test::Fail;
 use sys_abi::RealPid;
-use virt_ids::IdFault;
 
 /// Writes its own number on the console, and then reads on a stream pair on which nothing comes.
 const FIRST: &str = " addi sp, sp, -32\n\
@@ -97,42 +95,30 @@ const ON_NODE_1: RealPid = RealPid {
     pid: 1_000,
 };
 
-/// How a run ended, and the real numbers of its two processes.
-#[derive(Clone, Copy)]
-struct Numbers {
-    status: RunStatus,
-    first: Result<RealPid, IdFault>,
-    second: Result<RealPid, IdFault>,
-}
-
-fn run_both(alloc: Global, bench: &mut Bench) -> Result<Numbers, Fail>
+/// Runs both programs. Whether they get stuck, and each has the first number of its node.
+fn have_numbers(alloc: Global, bench: &mut Bench) -> Result<bool, Fail>
     requires { bench.old.trace.records ≡ [] }
 {
-    let computation = begun(
+    let outcome = bench.launch(
         alloc,
         &["launch", "--nodes", "2", "0:a.elf", "1:b.elf"],
         &[("a.elf", FIRST), ("b.elf", SECOND)],
+        None,
     )?;
-    let outcome = bench.run(alloc, computation, None)?;
-    Ok(numbers_of(&outcome))
+    Ok(are_numbered(&outcome))
 }
 
-fn numbers_of(outcome: &Outcome) -> Numbers {
+fn are_numbered(outcome: &Outcome) -> bool {
     let ids = &outcome.system.system().ids;
-    Numbers {
-        status: outcome.status,
-        first: ids.real_pid(40_000),
-        second: ids.real_pid(40_001),
-    }
+    outcome.status == RunStatus::Ended(RunEnd::Stuck)
+        && ids.real_pid(40_000) == Ok(ON_NODE_0)
+        && ids.real_pid(40_001) == Ok(ON_NODE_1)
 }
 
 #[test]
 fn each_node_has_numbers_of_its_own(rt: HostRuntime) -> Result<(), Fail> {
     let mut bench = Bench::new(rt.alloc())?;
-    let found = run_both(rt.alloc(), &mut bench)?;
-    same(&rt, found.status, RunStatus::Ended(RunEnd::Stuck));
-    same(&rt, found.first, Ok(ON_NODE_0));
-    same(&rt, found.second, Ok(ON_NODE_1));
-    same(&rt, bench.console.bytes(), CONSOLE.as_slice());
+    holds(&rt, have_numbers(rt.alloc(), &mut bench)?);
+    holds(&rt, bench.console.bytes() == CONSOLE.as_slice());
     Ok(())
 }
