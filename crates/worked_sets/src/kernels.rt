@@ -8,8 +8,9 @@ use std::alloc::{AllocError, Global};
 use std::io;
 use sys_abi::{Life, VPid};
 
-/// Adds a line.
-pub fn add_line(text: &mut String, line: &String) -> Result<(), AllocError> {
+/// Adds a line, where there was memory to make it.
+pub fn add_line(text: &mut String, line: Result<String, AllocError>) -> Result<(), AllocError> {
+    let line = line?;
     text.push_str("\n  ")?;
     text.push_str(line.as_str())
 }
@@ -48,6 +49,7 @@ fn kernel_text(alloc: Global, k: &PlainKernel) -> Result<String, AllocError> {
 }
 
 fn add_entries(alloc: Global, text: &mut String, k: &PlainKernel) -> Result<(), AllocError> {
+    add_names(alloc, text, k)?;
     add_files(alloc, text, k)?;
     add_channels(alloc, text, k)?;
     add_descriptions(alloc, text, k)?;
@@ -55,14 +57,18 @@ fn add_entries(alloc: Global, text: &mut String, k: &PlainKernel) -> Result<(), 
     add_descriptors(alloc, text, k)
 }
 
-fn add_files(alloc: Global, text: &mut String, k: &PlainKernel) -> Result<(), AllocError> {
+fn add_names(alloc: Global, text: &mut String, k: &PlainKernel) -> Result<(), AllocError> {
     for (name, number) in k.names.iter() {
         let name = digits(alloc, name.as_slice())?;
-        add_line(text, &format!(in alloc; "name {name}: file {number}")?)?;
+        add_line(text, format!(in alloc; "name {name}: file {number}"))?;
     }
+    Ok(())
+}
+
+fn add_files(alloc: Global, text: &mut String, k: &PlainKernel) -> Result<(), AllocError> {
     for (number, bytes) in k.files.iter() {
         let bytes = digits(alloc, bytes.as_slice())?;
-        add_line(text, &format!(in alloc; "file {number}: {bytes}")?)?;
+        add_line(text, format!(in alloc; "file {number}: {bytes}"))?;
     }
     Ok(())
 }
@@ -72,8 +78,8 @@ fn add_processes(alloc: Global, text: &mut String, k: &PlainKernel) -> Result<()
         add_process(alloc, text, *pid, process)?;
     }
     for (pid, maker) in k.makers.iter() {
-        let line = format!(in alloc; "maker {}: host {}, made {}", pid.0, maker.host, maker.made)?;
-        add_line(text, &line)?;
+        let line = format!(in alloc; "maker {}: host {}, made {}", pid.0, maker.host, maker.made);
+        add_line(text, line)?;
     }
     Ok(())
 }
@@ -88,11 +94,11 @@ fn add_process(
     let line = format!(in alloc;
         "process {}: parent {}, {life}, pending {:X}",
         pid.0, process.parent, process.pending
-    )?;
-    add_line(text, &line)?;
+    );
+    add_line(text, line)?;
     for (tid, pending) in process.threads.iter() {
-        let line = format!(in alloc; "thread {tid} of {}: pending {pending:X}", pid.0)?;
-        add_line(text, &line)?;
+        let line = format!(in alloc; "thread {tid} of {}: pending {pending:X}", pid.0);
+        add_line(text, line)?;
     }
     Ok(())
 }
@@ -114,8 +120,8 @@ fn add_descriptors(alloc: Global, text: &mut String, k: &PlainKernel) -> Result<
         let line = format!(in alloc;
             "descriptor {} of {}: description {} {}{closing}",
             slot.fd, slot.pid.0, descriptor.desc.pid.0, descriptor.desc.num
-        )?;
-        add_line(text, &line)?;
+        );
+        add_line(text, line)?;
     }
     Ok(())
 }

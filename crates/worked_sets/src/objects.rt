@@ -13,8 +13,8 @@ pub fn add_channels(alloc: Global, text: &mut String, k: &PlainKernel) -> Result
         let line = format!(in alloc;
             "channel {} {}: {kind}, {first}, {second}",
             conn.pid.0, conn.num
-        )?;
-        add_line(text, &line)?;
+        );
+        add_line(text, line)?;
     }
     add_directions(alloc, text, k)?;
     add_listeners(alloc, text, k)
@@ -42,8 +42,8 @@ fn add_directions(alloc: Global, text: &mut String, k: &PlainKernel) -> Result<(
         let line = format!(in alloc;
             "direction {} {} from {}: {state}",
             from.conn.pid.0, from.conn.num, from.side
-        )?;
-        add_line(text, &line)?;
+        );
+        add_line(text, line)?;
     }
     Ok(())
 }
@@ -61,8 +61,8 @@ fn add_listeners(alloc: Global, text: &mut String, k: &PlainKernel) -> Result<()
         let line = format!(in alloc;
             "listener {}:{}: backlog {}{waiting}",
             address.host, address.port, listening.backlog
-        )?;
-        add_line(text, &line)?;
+        );
+        add_line(text, line)?;
     }
     Ok(())
 }
@@ -85,8 +85,8 @@ pub fn add_descriptions(
         let line = format!(in alloc;
             "description {} {}: {object}, flags {:X}, owner {}",
             id.pid.0, id.num, description.flags, description.owner
-        )?;
-        add_line(text, &line)?;
+        );
+        add_line(text, line)?;
     }
     Ok(())
 }

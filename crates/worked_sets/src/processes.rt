@@ -11,8 +11,8 @@ pub fn add_process(alloc: Global, text: &mut String, p: &ProcImage) -> Result<()
         p.break_end,
         p.pages.len(),
         p.waiters.len()
-    )?;
-    add_line(text, &line)?;
+    );
+    add_line(text, line)?;
     for thread in &p.threads {
         add_thread(alloc, text, thread)?;
     }
@@ -26,6 +26,6 @@ fn add_thread(alloc: Global, text: &mut String, thread: &ThreadImage) -> Result<
         thread.part.regs.pc,
         thread.part.mask,
         thread.part.contexts.len()
-    )?;
-    add_line(text, &line)
+    );
+    add_line(text, line)
 }
