@@ -1,9 +1,9 @@
 //! Worked cases, one a line: reads them from standard input, and writes what comes of each.
 //!
 //! A line `== PART` begins a part: words of instructions, ELF files, command lines of larger jobs, or, as the
-//! last one, texts for the assembler. The module of each says how its lines read. `stdin` has the cases, and `stdout` what comes of them, worked out
-//! elsewhere: by the manual, from the rules of the format, from the grammar, and by a model. Nothing is proved here but
-//! that the program is safe and ends.
+//! last one, texts for the assembler. The module of each says how its lines read. `stdin` has the cases, and
+//! `stdout` what comes of them, worked out elsewhere: by the manual, from the rules of the format, from the
+//! grammar, and by a model. Nothing is proved here but that the program is safe and ends.
 #![tactic(auto)]
 
 mod assembling;
