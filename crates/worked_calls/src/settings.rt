@@ -42,14 +42,15 @@ fn prepare_file(
         )?,
         ("raw", [name, guest]) => put_raw(alloc, bench, guests, name.as_str(), guest.as_str())?,
         ("poke", [name, place, value]) => {
-            let value = byte(numbers.read(value.as_str())?)?;
-            let place = unsigned(place.as_str())? as usize;
-            bench.setting.poke(name.as_str(), place, value)?;
+            poke(
+                bench,
+                numbers,
+                name.as_str(),
+                place.as_str(),
+                value.as_str(),
+            )?;
         }
-        ("cut", [name, length]) => {
-            let length = unsigned(length.as_str())? as usize;
-            bench.setting.cut(name.as_str(), length)?;
-        }
+        ("cut", [name, length]) => cut(bench, name.as_str(), length.as_str())?,
         ("append", [name, other, start]) => {
             append(alloc, bench, name.as_str(), other.as_str(), start.as_str())?;
         }
@@ -99,6 +100,25 @@ fn put_raw(
     let file = Vec::from_slice(alloc, guest_of(guests, guest)?.bytes.as_slice())?;
     bench.setting.put_file(name, file)?;
     Ok(())
+}
+
+/// Puts a byte at a place of a file.
+fn poke(
+    bench: &mut Bench,
+    numbers: &Numbers,
+    name: &str,
+    place: &str,
+    value: &str,
+) -> Result<(), CaseFault> {
+    let value = byte(numbers.read(value)?)?;
+    let place = unsigned(place)? as usize;
+    bench.setting.poke(name, place, value)
+}
+
+/// Leaves of a file its first bytes, so many.
+fn cut(bench: &mut Bench, name: &str, length: &str) -> Result<(), CaseFault> {
+    let length = unsigned(length)? as usize;
+    bench.setting.cut(name, length)
 }
 
 /// Puts what another file has from a place on behind a file.
