@@ -4,7 +4,7 @@
     tools/break_values.py [CRATE..]       crates of tests; none: all of them
 
 In each file of tests one number becomes greater by one: the last one of an answer in a table of cases, or
-else that of an assertion, or else any of a table. All files of a crate are changed at once, in a copy, and
+else that of an assertion or a comparison, or else any of a table, first of tables of steps. All files of a crate are changed at once, in a copy, and
 its tests are run without proofs (`rt try --test`). Where no test of a file fails, it is changed alone,
 since tests of another file may use its table, and then by its next number: some rows of a table are what
 tests begin with. The programs among the crates of tests need none of this: what they print is compared
@@ -23,9 +23,11 @@ import tempfile
 from pathlib import Path
 
 TOP = Path(__file__).resolve().parent.parent
-TRIES = 3  # of numbers of a file
-TABLE = re.compile(r"^(?:pub )?const \w+: &?\[[^=]*= &?\[(.*?)\n\];", re.M | re.S)
-ASSERTION = re.compile(r"^ +(?:same|came|gives|bytes|same_bytes|found|answers)\w*\(.*\d.*\);$", re.M)
+TRIES = 4  # of numbers of a file
+TABLE = re.compile(r"^(?:pub )?(?:const|static) \w+: &?\[([^=]*)= &?\[(.*?)\n\];", re.M | re.S)
+OF_NUMBERS = re.compile(r"[ui](?:8|16|32|64|size)\b")
+ASSERTION = re.compile(r"^ +(?:same|came|gives|bytes|same_bytes|found|answers|holds)\w*\(.*\d.*\);$", re.M)
+COMPARISON = re.compile(r"^ +.*== .*\d.*$", re.M)
 ANSWER = re.compile(r"(?:Value|Gives|Some|Ok)\(\s*$")
 NUMBER = re.compile(r"(?<![\w.])(?:0x[0-9A-Fa-f_]+|\d[\d_]*)(?![\w.])")
 FAILED = re.compile(r"^test (\w+)::\S+ \.\.\. FAILED", re.M)
@@ -51,11 +53,14 @@ def numbers(text, start, end, of_answers):
 
 def places(text):
     """The numbers that tests expect: of answers in tables, of assertions, then any of tables."""
-    tables = [it.span(1) for it in TABLE.finditer(text)]
+    found = sorted(TABLE.finditer(text), key=lambda it: bool(OF_NUMBERS.match(it[1])))
+    tables = [it.span(2) for it in found]
     for span in tables:
         yield from numbers(text, *span, of_answers=True)
     for found in ASSERTION.finditer(text):
         yield from numbers(text, text.rfind(", ", *found.span()), found.end(), of_answers=False)
+    for found in COMPARISON.finditer(text):
+        yield from numbers(text, text.find("== ", *found.span()), found.end(), of_answers=False)
     for span in tables:
         yield from numbers(text, *span, of_answers=False)
 
