@@ -27,7 +27,7 @@ TRIES = 4  # of numbers of a file
 TABLE = re.compile(r"^(?:pub )?(?:const|static) \w+: &?\[([^=]*)= &?\[(.*?)\n\];", re.M | re.S)
 OF_NUMBERS = re.compile(r"[ui](?:8|16|32|64|size)\b")
 ASSERTION = re.compile(r"^ +(?:same|came|gives|bytes|same_bytes|found|answers|holds)\w*\(.*\d.*\);$", re.M)
-COMPARISON = re.compile(r"^ +.*== .*\d.*$", re.M)
+COMPARISON = re.compile(r"^ +.*[!=]= .*\d.*$", re.M)
 ANSWER = re.compile(r"(?:Value|Gives|Some|Ok)\(\s*$")
 NUMBER = re.compile(r"(?<![\w.])(?:0x[0-9A-Fa-f_]+|\d[\d_]*)(?![\w.])")
 FAILED = re.compile(r"^test (\w+)::\S+ \.\.\. FAILED", re.M)
@@ -45,10 +45,10 @@ def can_break(text, found):
     return line.count('"') % 2 == 0 and not line.endswith("; ") and int(found[0].replace("_", ""), 0) < 2**31
 
 
-def numbers(text, start, end, of_answers):
-    """The last number between two places, of those that an answer has, or of any."""
+def numbers(text, start, end, of_answers, most=1):
+    """The last numbers between two places, so many, of those that an answer has, or of any, the last first."""
     found = [it for it in NUMBER.finditer(text, start, end) if can_break(text, it)]
-    return [it for it in found if not of_answers or ANSWER.search(text[: it.start()])][-1:]
+    return [it for it in reversed(found) if not of_answers or ANSWER.search(text[: it.start()])][:most]
 
 
 def places(text):
@@ -60,9 +60,9 @@ def places(text):
     for found in ASSERTION.finditer(text):
         yield from numbers(text, text.rfind(", ", *found.span()), found.end(), of_answers=False)
     for found in COMPARISON.finditer(text):
-        yield from numbers(text, text.find("== ", *found.span()), found.end(), of_answers=False)
+        yield from numbers(text, text.find("= ", *found.span()), found.end(), of_answers=False)
     for span in tables:
-        yield from numbers(text, *span, of_answers=False)
+        yield from numbers(text, *span, of_answers=False, most=TRIES)
 
 
 def broken(text, nth=0):
