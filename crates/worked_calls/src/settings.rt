@@ -41,6 +41,20 @@ fn prepare_file(
             guest.as_str(),
         )?,
         ("raw", [name, guest]) => put_raw(alloc, bench, guests, name.as_str(), guest.as_str())?,
+        _ => return change_file(alloc, bench, numbers, directive, words),
+    }
+    Ok(true)
+}
+
+/// Carries out a directive that changes a file, and answers whether it is one.
+fn change_file(
+    alloc: Global,
+    bench: &mut Bench,
+    numbers: &Numbers,
+    directive: &str,
+    words: &[String],
+) -> Result<bool, CaseFault> {
+    match (directive, words) {
         ("poke", [name, place, value]) => {
             poke(
                 bench,
