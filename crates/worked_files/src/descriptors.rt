@@ -1,3 +1,4 @@
+// Calls on descriptors, and what each leaves.
 use crate::kernels::{Call, Change, Look};
 use crate::steps::{Step, follow};
 use plain_machine::FIRST_PID;

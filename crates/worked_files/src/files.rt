@@ -1,3 +1,4 @@
+// Calls that open and unlink files, and what each leaves.
 use crate::kernels::{Call, Change, Look};
 use crate::steps::{Step, follow};
 use std::test::Fail;

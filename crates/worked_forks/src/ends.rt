@@ -1,3 +1,4 @@
+// Processes and threads that end, and what each end leaves.
 use crate::kernels::{Came, Change, FIRST, FORK, THREAD};
 use crate::looks::{Look, Table};
 use crate::steps::{Step, follow};

@@ -1,3 +1,4 @@
+// Calls that make processes and threads.
 use crate::kernels::{Came, Change, FIRST, FORK, HOST, THREAD};
 use crate::looks::{Look, Table};
 use crate::steps::{Step, follow, follow_each};

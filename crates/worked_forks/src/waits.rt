@@ -1,3 +1,4 @@
+// Calls that await children.
 use crate::kernels::{Came, Change, FIRST, FORK};
 use crate::looks::{Look, Table};
 use crate::steps::{Step, follow};

@@ -1,4 +1,4 @@
-// Calls on a kernel part with one process, and what they leave there.
+// Calls on a kernel part that begins with one process, and what they leave there.
 ghost use Rattle.std.specs.Prelude.{◌≡◌};
 
 use crate::asserting::holds;

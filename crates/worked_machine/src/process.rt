@@ -72,7 +72,7 @@ pub enum Step {
     Run(u32),
     StandsAt(u32),
     /// The word in t2.
-    T2(u32),
+    InT2(u32),
     /// The byte at an address.
     Byte(u32, u8),
     /// In its next step the thread stands at a call that no row has, with number 0.
@@ -88,7 +88,7 @@ fn answers(alloc: Global, user: &mut UserPart, step: &Step) -> bool {
         Step::Waiters(count) => user.waiters.len() == count,
         Step::Run(count) => user_steps(count, user, THREAD).is_ok(),
         Step::StandsAt(address) => regs_of(user).is_some_and(|regs| regs.pc == address),
-        Step::T2(word) => regs_of(user).is_some_and(|regs| regs.x[7] == word),
+        Step::InT2(word) => regs_of(user).is_some_and(|regs| regs.x[7] == word),
         Step::Byte(address, byte) => has_byte(alloc, user, address, byte),
         Step::AsksForCall0 => asks_for_call_0(user),
         Step::HasNoThread(thread) => matches!(user_step(user, thread), UserStep::NoThread),

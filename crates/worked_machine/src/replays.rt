@@ -1,3 +1,4 @@
+// Traces that are replayed, or refused at a record.
 use crate::asserting::holds;
 use crate::process::{THREAD, regs_of, with_program};
 use id_maps::ByPid;

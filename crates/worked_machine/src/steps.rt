@@ -6,7 +6,7 @@ use sys_abi::Tid;
 static TO_ITS_CALL: [Step; 6] = [
     Step::Run(5),
     Step::StandsAt(0x0001_0014),
-    Step::T2(4),
+    Step::InT2(4),
     Step::Byte(0x0001_0044, 0xFE),
     Step::AsksForCall0,
     Step::HasNoThread(Tid(1)),

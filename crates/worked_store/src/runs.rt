@@ -1,3 +1,4 @@
+// A run of sets, each put after the other.
 ghost use Rattle.std.specs.Prelude.{◌≡◌, All, IfOk, length};
 ghost use Rattle.store_runs.specs.StoreRuns.{IsSmall};
 

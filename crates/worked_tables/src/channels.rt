@@ -1,3 +1,4 @@
+// The table of channels, addresses and makers.
 use crate::asserting::holds;
 use conn_table::{Conn, ConnFault, ConnTable};
 use std::alloc::AllocGlobal;

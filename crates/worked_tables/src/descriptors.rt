@@ -1,3 +1,4 @@
+// The book of descriptors and open descriptions.
 use crate::asserting::holds;
 use fd_book::{Book, BookFault, Desc, Object};
 use std::alloc::{AllocGlobal, Global};

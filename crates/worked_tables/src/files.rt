@@ -1,3 +1,4 @@
+// The table of files and their names.
 ghost use Rattle.std.specs.Prelude.{◌≤◌};
 
 use crate::asserting::holds;

@@ -1,3 +1,4 @@
+// Virtual numbers and addresses beside real ones.
 use crate::asserting::holds;
 use sys_abi::{RealAddr, RealPid, VirtAddr};
 use virt_ids::{IdFault, Ids};

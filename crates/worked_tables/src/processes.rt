@@ -1,3 +1,4 @@
+// The book of processes, threads and signals.
 use crate::asserting::holds;
 use proc_book::{ProcFault, Procs, Waiting};
 use std::alloc::AllocGlobal;

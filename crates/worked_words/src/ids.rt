@@ -1,3 +1,4 @@
+// Copies of numbers, pages and transfers.
 use crate::asserting::{holds, is_copied, same_bytes};
 use sys_abi::{
     ConnId, DescId, Dir, Fd, Page, RealAddr, RealPid, Signal, Slot, Tid, Transfer, VPid, VirtAddr,

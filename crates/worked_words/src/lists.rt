@@ -1,3 +1,4 @@
+// Lists and maps that grow and are copied.
 use crate::asserting::{holds, is_copied};
 use views::duplicate::Duplicate;
 use views::list_of::ListOf;

@@ -1,3 +1,4 @@
+// Maps by each kind of number.
 use crate::asserting::holds;
 use id_maps::{ByAddress, ByConn, ByDesc, ByDir, ByName, ByPid, BySlot};
 use sys_abi::{ConnId, DescId, Dir, Slot, VPid, VirtAddr};

@@ -1,3 +1,4 @@
+// Inputs and sinks, in memory and of the host.
 use crate::asserting::{holds, same_bytes};
 use edge_io::host_inputs::LONGEST_FILE;
 use edge_io::{HostInputs, HostSink, InputFault, Inputs, MemInputs, MemSink, Sink, SinkFault};
