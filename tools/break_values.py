@@ -4,11 +4,11 @@
     tools/break_values.py [CRATE..]       crates of tests; none: all of them
 
 In each file of tests one number becomes greater by one: the last one of an answer in a table of cases, or
-else that of an assertion or a comparison, or else any of a table, first of tables of steps. All files of a crate are changed at once, in a copy, and
-its tests are run without proofs (`rt try --test`). Where no test of a file fails, it is changed alone,
-since tests of another file may use its table, and then by its next number: some rows of a table are what
-tests begin with. The programs among the crates of tests need none of this: what they print is compared
-with a file.
+else that of an assertion or a comparison, or else any of a table, first of tables of steps. All files of a
+crate are changed at once, in a copy, and its tests are run without proofs (`rt try --test`). Where no test of
+a file fails, it is changed alone, since tests of another file may use its table, and then by its next number:
+some rows of a table are what tests begin with. The programs among the crates of tests need none of this: what
+they print is compared with a file.
 
 A line is written for each file. The status is 1 where no test fails for a file, and 2 where there is no
 such crate.
@@ -46,7 +46,7 @@ def can_break(text, found):
 
 
 def numbers(text, start, end, of_answers, most=1):
-    """The last numbers between two places, so many, of those that an answer has, or of any, the last first."""
+    """So many of the last numbers between two places, of those of answers or of any, the last first."""
     found = [it for it in NUMBER.finditer(text, start, end) if can_break(text, it)]
     return [it for it in reversed(found) if not of_answers or ANSWER.search(text[: it.start()])][:most]
 

@@ -3,10 +3,11 @@
 
     tools/compare_with_binutils.py [TEXTS [FIRST_SEED]]
 
-It wants `riscv64-unknown-elf-as`, `-ld` and `-objcopy` (Debian's package binutils-riscv64-unknown-elf). The texts are those
-of crates/worked_lines/stdin that have a file, and random ones. Each is put into the GNU assembler's language line by line:
-`li`, `la` and `call` are written as the instructions that they stand for, since the GNU assembler chooses others, and
-`.align` as `.balign 4`. The bytes behind the headers must be the same. It ends with status 1 where they differ.
+It wants `riscv64-unknown-elf-as`, `-ld` and `-objcopy` (Debian's package binutils-riscv64-unknown-elf). The
+texts are those of crates/worked_lines/stdin that have a file, and random ones. Each is put into the GNU
+assembler's language line by line: `li`, `la` and `call` are written as the instructions that they stand for,
+since the GNU assembler chooses others, and `.align` as `.balign 4`. The bytes behind the headers must be the
+same. It ends with status 1 where they differ.
 """
 
 import pathlib

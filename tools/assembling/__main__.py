@@ -1,4 +1,4 @@
-"""Prints what crates/worked_lines must print for the texts of its standard input, or makes the file of a text.
+"""Prints what crates/worked_lines must print for the texts of its stdin, or makes the file of a text.
 
     python3 tools/assembling
     python3 tools/assembling examples/ring.s examples/ring.elf

@@ -1,4 +1,4 @@
-"""The worked cases of the assembler, a part of those of crates/worked_lines: texts, and what is to be printed."""
+"""The worked cases of the assembler, a part of those of crates/worked_lines: texts, and what is printed."""
 
 import pathlib
 
